@@ -1,0 +1,77 @@
+//! Measures the library as it is built. `bench tokens` cuts the text on standard input into its tokens,
+//! again and again, and prints a line for each round: `lex NANOSECONDS COUNT`, the count being that of
+//! the tokens. `bench query` reads it as a request, drops the tree, and prints
+//! `parse NANOSECONDS ANSWER` for each round, the answer being `accepted` or `refused`.
+#![tactic(auto)]
+
+use graphql_parser::lexer::{Token, Tokens};
+use graphql_parser::parse_query;
+use std::time::Instant;
+use std::{env, io};
+
+const ROUNDS: u32 = 15;
+
+const USAGE: &str = "usage: bench tokens|query < TEXT";
+
+fn main(rt: HostRuntime) -> io::Result<()> {
+    let mut words = env::args(&rt)?;
+    words.next();
+    let mode = words.next();
+    match mode.as_ref().map(|word| word.as_str()) {
+        Some("tokens") => time_tokens(&rt),
+        Some("query") => time_query(&rt),
+        _ => println!(rt; "{USAGE}"),
+    }
+}
+
+fn time_tokens(rt: &HostRuntime) -> io::Result<()> {
+    let text = io::read_to_string(rt.alloc(), rt.stdin())?;
+    let mut mixed = 0;
+    for _ in 0..ROUNDS {
+        let start = Instant::now(rt)?;
+        let seen = look_over(text.as_str());
+        let time = start.elapsed(rt)?.as_nanos();
+        let count = seen.count;
+        mixed ^= seen.mixed;
+        println!(rt; "lex {time} {count}")?;
+    }
+    // What was seen is used, so that no round can be left out.
+    println!(rt; "mixed {mixed}")
+}
+
+fn time_query(rt: &HostRuntime) -> io::Result<()> {
+    let text = io::read_to_string(rt.alloc(), rt.stdin())?;
+    for _ in 0..ROUNDS {
+        let start = Instant::now(rt)?;
+        let is_accepted = parse_query(rt.alloc(), text.as_str()).is_ok();
+        let time = start.elapsed(rt)?.as_nanos();
+        let answer = if is_accepted { "accepted" } else { "refused" };
+        println!(rt; "parse {time} {answer}")?;
+    }
+    Ok(())
+}
+
+// How many tokens a text has, and a number that hangs on each of them.
+#[derive(Clone, Copy)]
+struct Survey {
+    count: usize,
+    mixed: usize,
+}
+
+fn look_over(text: &str) -> Survey {
+    let mut tokens = Tokens::new(text);
+    let mut seen = Survey { count: 0, mixed: 0 };
+    while !tokens.is_ended() {
+        let token = tokens.next_token();
+        seen.count = seen.count.wrapping_add(1);
+        seen.mixed = seen.mixed.wrapping_add(number_of(&token));
+    }
+    seen
+}
+
+#[inline(always)]
+fn number_of(token: &Token) -> usize {
+    (token.pos.line ^ token.pos.column)
+        .wrapping_add(token.text.len())
+        .wrapping_add(token.start)
+}

@@ -1,0 +1,175 @@
+//! The program's work, over any reader and writers.
+ghost use Rattle.std.specs.Prelude.{◌≡◌, ◌≢◌, ◌≤◌, ◌↔◌, ◌∷◌, [], Err, IsSome, IfErr, IfOk, IfSome, codes, map, string_bytes};
+ghost use Rattle.gqlparse.specs.declared.program.Stop.TheVariants.{NoMemory, Usage};
+
+use crate::listing::listing;
+use graphql_parser::{Error, parse_query};
+use std::alloc::{AllocError, Global};
+use std::io::{ErrorKind, Read, Write};
+
+// What is read from standard input.
+#[derive(Clone, Copy)]
+enum Command {
+    Query,
+}
+
+// A text's answer: the lines for standard output, or those for standard error.
+#[derive(Drop)]
+enum Answer {
+    Accepted(String),
+    Refused(String),
+    // The parser found no memory. These two lines are fixed, so that they need none.
+    OutOfMemory,
+}
+
+// Why there is no answer.
+#[derive(Clone, Copy)]
+enum Stop {
+    Usage,
+    Unreadable,
+    NotText,
+    Unwritable,
+    NoMemory,
+}
+
+impl From<AllocError> for Stop {
+    ghost from_gives = { λ _ stop. stop ≡ NoMemory };
+
+    fn from(_refused: AllocError) -> Stop {
+        Stop::NoMemory
+    }
+}
+
+impl Stop {
+    fn line(self) -> &'static str {
+        match self {
+            Stop::Usage => "usage: gqlparse query|schema\n",
+            Stop::Unreadable => "error: cannot read standard input\n",
+            Stop::NotText => "error: input is not UTF-8\n",
+            Stop::Unwritable => "error: cannot write standard output\n",
+            Stop::NoMemory => "error: out of memory\n",
+        }
+    }
+}
+
+/// Does the work of the program: reads a text from `input` to its end, and writes what it defines to
+/// `out`, or why it is refused to `err`.
+///
+/// `words` are the arguments without the program's name; `query` alone is served. The answer is the exit
+/// status: 0 for an accepted text, 1 for a refused one, and 2 for wrong arguments, input that cannot be
+/// read or is no UTF-8, output that cannot be written, and memory that is refused outside the parser.
+/// Everything that goes to `out` is built before the first write. A write to `err` that fails changes no
+/// status.
+pub fn run<R: Read, O: Write, E: Write>(
+    alloc: Global,
+    words: &[String],
+    input: &mut R,
+    out: &mut O,
+    err: &mut E,
+) -> u8
+    ensures status { result ≤ 2 }
+    // Wrong arguments are told before anything is read,
+    ensures usage { ((map string_bytes words.now ≡ codes "query" ∷ []) → ⊥) → (result ≡ 2) × (input.new ≡ input.old) × (out.new ≡ out.old) }
+    // an accepted text says nothing on standard error,
+    ensures accepted { result ≡ 0 → err.new ≡ err.old }
+    // and a refused one nothing on standard output.
+    ensures refused { result ≡ 1 → out.new ≡ out.old }
+{
+    match answer_to(alloc, words, input) {
+        Ok(Answer::Accepted(lines)) => {
+            if write_whole(out, lines.as_str()) {
+                return 0;
+            }
+            write_whole(err, Stop::Unwritable.line());
+            2
+        }
+        Ok(Answer::Refused(lines)) => {
+            write_whole(err, lines.as_str());
+            1
+        }
+        Ok(Answer::OutOfMemory) => {
+            write_whole(err, "error: out of memory\nat []\n");
+            1
+        }
+        Err(stop) => {
+            write_whole(err, stop.line());
+            2
+        }
+    }
+}
+
+/// Says on `err` that memory was refused outside the parser, and gives the exit status for that.
+pub fn out_of_memory<E: Write>(err: &mut E) -> u8
+    ensures { result ≡ 2 }
+{
+    write_whole(err, Stop::NoMemory.line());
+    2
+}
+
+// Whether all of the text was written.
+fn write_whole<W: Write>(to: &mut W, text: &str) -> bool {
+    to.write_all(text.as_bytes()).is_ok() && to.flush().is_ok()
+}
+
+fn answer_to<R: Read>(alloc: Global, words: &[String], input: &mut R) -> Result<Answer, Stop>
+    ensures usage { ((map string_bytes words.now ≡ codes "query" ∷ []) → ⊥) → (result ≡ Err Usage) × (input.new ≡ input.old) }
+    ensures served { map string_bytes words.now ≡ codes "query" ∷ [] → result ≢ Err Usage }
+{
+    let Some(command) = command_of(words) else {
+        return Err(Stop::Usage);
+    };
+    let text = read(alloc, input)?;
+    let lines = match command {
+        Command::Query => match parse_query(alloc, text.as_str()) {
+            Ok(document) => Ok(listing(alloc, &document)?),
+            Err(error) => Err(error),
+        },
+    };
+    Ok(match lines {
+        Ok(lines) => Answer::Accepted(lines),
+        Err(Error::OutOfMemory) => Answer::OutOfMemory,
+        Err(error) => Answer::Refused(refusal(alloc, &error)?),
+    })
+}
+
+fn command_of(words: &[String]) -> Option<Command>
+    ensures { IsSome result ↔ (map string_bytes words.now ≡ codes "query" ∷ []) }
+{
+    match words {
+        [word] => command_named(word.as_str()),
+        _ => None,
+    }
+}
+
+fn command_named(name: &str) -> Option<Command>
+    ensures { IsSome result ↔ (name.now ≡ codes "query") }
+{
+    if name == "query" {
+        Some(Command::Query)
+    } else {
+        None
+    }
+}
+
+// The whole input.
+fn read<R: Read>(alloc: Global, input: &mut R) -> Result<String, Stop>
+    ensures whole { IfOk result (λ text. IfSome (R.remaining input.old) (λ bytes. string_bytes text ≡ bytes)) }
+    ensures stops { IfErr result (λ stop. stop ≢ Usage) }
+{
+    let mut bytes = Vec::new(alloc);
+    if let Err(error) = input.read_to_end(&mut bytes) {
+        return Err(match error.kind() {
+            ErrorKind::OutOfMemory => Stop::NoMemory,
+            _ => Stop::Unreadable,
+        });
+    }
+    String::from_utf8(bytes).map_err(|_| Stop::NotText)
+}
+
+// The two lines of a refused text.
+fn refusal(alloc: Global, error: &Error) -> Result<String, AllocError> {
+    let Ok(places) = serde_json::to_string(alloc, &error.positions()) else {
+        return Err(AllocError);
+    };
+    format!(in alloc; "error: {error}\nat {places}\n")
+}

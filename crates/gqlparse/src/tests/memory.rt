@@ -1,0 +1,110 @@
+//! A run that meets the end of memory.
+use crate::fakes::{FailingReader, FailingWriter};
+use crate::run;
+use std::alloc::{AllocError, Global};
+use std::process::Abort;
+use std::str;
+use std::test::Fail;
+
+const MANY: usize = 1_000_000;
+
+const BLOCKS: usize = 100_000;
+
+// Blocks of memory, which no one uses.
+type Blocks = Vec<Vec<u8>>;
+
+// Takes all memory that is left, in blocks whose bytes are never touched. False where more blocks would
+// be needed than `blocks` has room for.
+fn take_all(alloc: Global, blocks: &mut Blocks) -> Result<bool, AllocError> {
+    let mut size = 1usize << 34;
+    for _ in 0..32 {
+        for _ in 0..BLOCKS {
+            if blocks.len() == blocks.capacity() {
+                return Ok(false);
+            }
+            let Ok(block) = Vec::with_capacity(alloc, size) else {
+                break;
+            };
+            blocks.push(block)?;
+        }
+        size /= 2;
+    }
+    Ok(true)
+}
+
+// Blocks of growing sizes, and behind each of them a small one in `between`, so that what is given back
+// of them is not joined into larger pieces.
+fn pieces(alloc: Global, between: &mut Blocks) -> Result<Blocks, AllocError> {
+    let mut pieces = Vec::with_capacity(alloc, 300)?;
+    for i in 0..300usize {
+        pieces.push(Vec::with_capacity(alloc, 24 + 16 * i)?)?;
+        between.push(Vec::with_capacity(alloc, 24)?)?;
+    }
+    Ok(pieces)
+}
+
+fn writer(alloc: Global) -> Result<FailingWriter, AllocError> {
+    Ok(FailingWriter {
+        held: Vec::with_capacity(alloc, 256)?,
+        step: 64,
+        calls_left: MANY,
+    })
+}
+
+// A status, and what goes to standard output and to standard error.
+type Outcome<'a> = (u8, &'a str, &'a str);
+
+const OUTSIDE_THE_PARSER: Outcome<'static> = (2, "", "error: out of memory\n");
+
+const INSIDE_THE_PARSER: Outcome<'static> = (1, "", "error: out of memory\nat []\n");
+
+// Runs the program on a text again and again, with a piece of memory more each time. Each run must end as
+// `told`, or for want of memory, and some as each of the three.
+fn run_with_more_and_more(
+    rt: &impl Abort,
+    alloc: Global,
+    text: &[u8],
+    told: Outcome<'_>,
+) -> Result<(), AllocError> {
+    let mut blocks = Vec::with_capacity(alloc, BLOCKS)?;
+    let pieces = pieces(alloc, &mut blocks)?;
+    let mut words = Vec::new(alloc);
+    words.push(String::from_str(alloc, "query")?)?;
+    let mut out = writer(alloc)?;
+    let mut err = writer(alloc)?;
+    let outcomes = [told, INSIDE_THE_PARSER, OUTSIDE_THE_PARSER];
+    let mut met = [false; 3];
+    assert!(rt; take_all(alloc, &mut blocks)?, "memory has no end here");
+    for piece in pieces {
+        let mut input = FailingReader {
+            left: text,
+            step: 2,
+            calls_left: MANY,
+        };
+        out.held.clear();
+        err.held.clear();
+        let status = run(alloc, words.as_slice(), &mut input, &mut out, &mut err);
+        let out = str::from_utf8(out.held.as_slice()).expect(rt, "text");
+        let err = str::from_utf8(err.held.as_slice()).expect(rt, "text");
+        let ended = (status, out, err);
+        let which = outcomes.iter().position(|outcome| *outcome == ended);
+        met[which.expect(rt, "one of the three")] = true;
+        drop(piece);
+    }
+    drop(blocks);
+    assert_eq!(rt; met, [true; 3]);
+    Ok(())
+}
+
+#[test]
+fn an_accepted_text(rt: HostRuntime) -> Result<(), Fail> {
+    run_with_more_and_more(&rt, rt.alloc(), b"{a}", (0, "query 1:1\n", ""))?;
+    Ok(())
+}
+
+#[test]
+fn a_refused_text(rt: HostRuntime) -> Result<(), Fail> {
+    let told = "error: syntax error at 1:4\nat [{\"line\":1,\"column\":4}]\n";
+    run_with_more_and_more(&rt, rt.alloc(), b"{a ?}", (1, "", told))?;
+    Ok(())
+}

@@ -1,0 +1,194 @@
+//! What a run prints, and the status that it ends with.
+use crate::fakes::{FailingReader, FailingWriter};
+use crate::run;
+use std::alloc::{AllocError, Global};
+use std::process::Abort;
+use std::str;
+use std::test::Fail;
+
+const MANY: usize = 1_000_000;
+
+const USAGE: &str = "usage: gqlparse query|schema\n";
+
+// What a run is given, and what it must do.
+#[derive(Clone, Copy)]
+struct Row<'a> {
+    words: &'a [&'a str],
+    input: &'a [u8],
+    // The calls after which the input, standard output and standard error fail.
+    reads: usize,
+    writes: usize,
+    complaints: usize,
+    status: u8,
+    out: &'a str,
+    err: &'a str,
+}
+
+fn strings(alloc: Global, words: &[&str]) -> Result<Vec<String>, AllocError> {
+    let mut strings = Vec::new(alloc);
+    for word in words {
+        strings.push(String::from_str(alloc, word)?)?;
+    }
+    Ok(strings)
+}
+
+fn writer(alloc: Global, calls_left: usize) -> FailingWriter {
+    FailingWriter {
+        held: Vec::new(alloc),
+        step: 3,
+        calls_left,
+    }
+}
+
+fn holds(rt: &impl Abort, alloc: Global, row: &Row<'_>) -> Result<(), AllocError> {
+    let words = strings(alloc, row.words)?;
+    let mut input = FailingReader {
+        left: row.input,
+        step: 2,
+        calls_left: row.reads,
+    };
+    let mut out = writer(alloc, row.writes);
+    let mut err = writer(alloc, row.complaints);
+    let status = run(alloc, words.as_slice(), &mut input, &mut out, &mut err);
+    assert_eq!(rt; str::from_utf8(err.held.as_slice()), Ok(row.err));
+    assert_eq!(rt; str::from_utf8(out.held.as_slice()), Ok(row.out));
+    assert_eq!(rt; status, row.status);
+    Ok(())
+}
+
+// A run of `gqlparse query` in which nothing fails.
+fn query<'a>(input: &'a [u8], status: u8, out: &'a str, err: &'a str) -> Row<'a> {
+    Row {
+        words: &["query"],
+        input,
+        reads: MANY,
+        writes: MANY,
+        complaints: MANY,
+        status,
+        out,
+        err,
+    }
+}
+
+#[test]
+fn accepted_texts_are_listed(rt: HostRuntime) -> Result<(), Fail> {
+    for (text, lines) in [
+        (b"{a}".as_slice(), "query 1:1\n"),
+        (b"\r\n # none\n {a b}\n", "query 3:2\n"),
+    ] {
+        holds(&rt, rt.alloc(), &query(text, 0, lines, ""))?;
+    }
+    Ok(())
+}
+
+#[test]
+fn refused_texts_are_told(rt: HostRuntime) -> Result<(), Fail> {
+    for (text, lines) in [
+        (
+            b"{a ?}".as_slice(),
+            "error: syntax error at 1:4\nat [{\"line\":1,\"column\":4}]\n",
+        ),
+        (
+            b"",
+            "error: syntax error at 1:1\nat [{\"line\":1,\"column\":1}]\n",
+        ),
+        (
+            b"{\n}",
+            "error: syntax error at 2:1\nat [{\"line\":2,\"column\":1}]\n",
+        ),
+    ] {
+        holds(&rt, rt.alloc(), &query(text, 1, "", lines))?;
+    }
+    Ok(())
+}
+
+#[test]
+fn wrong_arguments_are_told_before_anything_is_read(rt: HostRuntime) -> Result<(), Fail> {
+    for words in [
+        [].as_slice(),
+        &[""],
+        &["Query"],
+        &["query "],
+        &["schema"],
+        &["query", "query"],
+        &["query", "schema"],
+        &["-h"],
+    ] {
+        let row = Row {
+            words,
+            reads: 0,
+            ..query(b"{a}", 2, "", USAGE)
+        };
+        holds(&rt, rt.alloc(), &row)?;
+    }
+    Ok(())
+}
+
+#[test]
+fn input_that_cannot_be_read(rt: HostRuntime) -> Result<(), Fail> {
+    let line = "error: cannot read standard input\n";
+    for reads in [0, 1, 2] {
+        let row = Row {
+            reads,
+            ..query(b"{a}", 2, "", line)
+        };
+        holds(&rt, rt.alloc(), &row)?;
+    }
+    Ok(())
+}
+
+#[test]
+fn input_that_is_not_text(rt: HostRuntime) -> Result<(), Fail> {
+    let line = "error: input is not UTF-8\n";
+    for bytes in [b"\xff".as_slice(), b"{a}\xc3", b"{a} # \xed\xa0\x80"] {
+        holds(&rt, rt.alloc(), &query(bytes, 2, "", line))?;
+    }
+    Ok(())
+}
+
+#[test]
+fn output_that_cannot_be_written(rt: HostRuntime) -> Result<(), Fail> {
+    let line = "error: cannot write standard output\n";
+    for (writes, out) in [(0, ""), (2, "query ")] {
+        let row = Row {
+            writes,
+            ..query(b"{a}", 2, out, line)
+        };
+        holds(&rt, rt.alloc(), &row)?;
+    }
+    Ok(())
+}
+
+#[test]
+fn complaints_that_cannot_be_written_change_no_status(rt: HostRuntime) -> Result<(), Fail> {
+    let alloc = rt.alloc();
+    let refused = Row {
+        complaints: 0,
+        ..query(b"{a ?}", 1, "", "")
+    };
+    holds(&rt, alloc, &refused)?;
+    let cut_short = Row {
+        complaints: 1,
+        ..query(b"{a ?}", 1, "", "err")
+    };
+    holds(&rt, alloc, &cut_short)?;
+    let wrong = Row {
+        words: &["schema"],
+        complaints: 0,
+        ..query(b"{a}", 2, "", "")
+    };
+    holds(&rt, alloc, &wrong)?;
+    let unreadable = Row {
+        reads: 1,
+        complaints: 0,
+        ..query(b"{a}", 2, "", "")
+    };
+    holds(&rt, alloc, &unreadable)?;
+    let unwritable = Row {
+        writes: 0,
+        complaints: 0,
+        ..query(b"{a}", 2, "", "")
+    };
+    holds(&rt, alloc, &unwritable)?;
+    Ok(())
+}

@@ -1,0 +1,11 @@
+pub mod Parts
+pub mod Theory
+pub mod TokenTests
+pub mod Good
+pub mod Blind
+pub mod Extra
+pub mod Whole
+pub mod Loop
+pub mod Productions
+pub mod Loops
+pub mod Headline

@@ -1,0 +1,2 @@
+-- Public: what an error says, and where it stands.
+pub mod Errors

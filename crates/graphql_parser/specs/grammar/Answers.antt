@@ -1,0 +1,41 @@
+-- What the answer of a parser of requests says of the tokens of its text.
+use Rattle.std.specs.Prelude.{◌≡◌, ℕ, None, Result, Ok, Err, List, ◌++◌, codes, string_bytes}
+use Rattle.std.specs.Fmt.{decimal}
+use Rattle.graphql_syntax.specs.declared.pos.Pos.{Pos}
+use Rattle.graphql_syntax.specs.declared.types.executable.ExecutableDocument.{ExecutableDocument}
+use Rattle.graphql_syntax.specs.tokens.Token.{Token}
+use Rattle.graphql_syntax.specs.trees.RequestViews.{document_tree}
+use Rattle.graphql_parser.specs.declared.error.Error.{Error}
+use Rattle.graphql_parser.specs.declared.error.Error.TheVariants.{Syntax, MultipleRoots, MissingQueryRoot, MultipleOperations, OperationDuplicated, FragmentDuplicated, MissingOperation, RecursionLimitExceeded, OutOfMemory}
+use Rattle.graphql_parser.specs.grammar.Limits.{Limits}
+use Rattle.graphql_parser.specs.grammar.Fronts.{IsTheTree, RefusedToken, syntax, limit}
+use Rattle.graphql_parser.specs.grammar.Request.{Definition, request}
+use Rattle.graphql_parser.specs.grammar.Placeless.{placeless_definitions}
+use Rattle.graphql_parser.specs.grammar.Documents.{document_of}
+
+-- the definitions are the one tree of the tokens
+abbrev pub AreTheDefinitions : Limits → List Token → List Definition → Type 0
+AreTheDefinitions limits tokens ds = IsTheTree request placeless_definitions limits tokens ds
+
+-- `syntax error at L:C`
+abbrev pub syntax_message : Pos → List ℕ
+syntax_message place = codes "syntax error at " ++ (decimal place.line ++ codes ":" ++ decimal place.column)
+
+-- what an error says
+abbrev pub Tells : Limits → List Token → Error → Type 0
+Tells limits tokens (Syntax message start end) =
+    (refused : RefusedToken request limits tokens syntax) × (start ≡ refused.token.pos) × (end ≡ None) × (string_bytes message ≡ syntax_message start)
+Tells limits tokens RecursionLimitExceeded = RefusedToken request limits tokens limit
+Tells limits tokens OutOfMemory = Unit {0}
+-- No request of one operation breaks a rule of documents, and schemas are read by another parser.
+Tells limits tokens (MultipleOperations anonymous operation) = ⊥
+Tells limits tokens (OperationDuplicated operation first second) = ⊥
+Tells limits tokens (FragmentDuplicated fragment first second) = ⊥
+Tells limits tokens MissingOperation = ⊥
+Tells limits tokens (MultipleRoots root schema pos) = ⊥
+Tells limits tokens (MissingQueryRoot pos) = ⊥
+
+-- what an answer says
+abbrev pub Answers : Limits → List Token → Result ExecutableDocument Error → Type 0
+Answers limits tokens (Ok document) = (ds : List Definition) × AreTheDefinitions limits tokens ds × (document_tree document ≡ document_of ds)
+Answers limits tokens (Err error) = Tells limits tokens error

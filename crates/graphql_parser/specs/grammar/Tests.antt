@@ -1,0 +1,47 @@
+-- Tests of one token. They look at its kind and its spelling, and never at its place.
+use Rattle.std.specs.Prelude.{ℕ, Bool, true, false, not, ◌&&◌, ◌||◌, List, [], ◌∷◌, codes}
+use Rattle.std.specs.Str.{bytes_eq}
+use Rattle.graphql_syntax.specs.tokens.Token.{Bare}
+use Rattle.graphql_syntax.specs.declared.lexer.TokenKind.{TokenKind}
+use Rattle.graphql_syntax.specs.declared.lexer.TokenKind.TheVariants.{Punct, Name, End}
+use Prim.Native.String.{String}
+
+abbrev pub Test : Type 0
+Test = Bare → Bool
+
+abbrev pub is_punct : TokenKind → Bool
+is_punct Punct = true
+is_punct other = false
+
+abbrev pub is_name : TokenKind → Bool
+is_name Name = true
+is_name other = false
+
+abbrev pub is_end : TokenKind → Bool
+is_end End = true
+is_end other = false
+
+-- the spelling is one of these words
+abbrev pub is_among : List ℕ → List String → Bool
+is_among spelling [] = false
+is_among spelling (word ∷ words) = bytes_eq spelling (codes word) || is_among spelling words
+
+-- this punctuator
+abbrev pub punct : String → Test
+punct word t = is_punct t.kind && bytes_eq t.spelling (codes word)
+
+-- the name that is this word
+abbrev pub keyword : String → Test
+keyword word t = is_name t.kind && bytes_eq t.spelling (codes word)
+
+-- any name
+abbrev pub any_name : Test
+any_name t = is_name t.kind
+
+-- any name but these words
+abbrev pub name_but : List String → Test
+name_but words t = is_name t.kind && not (is_among t.spelling words)
+
+-- the end of the text
+abbrev pub the_end : Test
+the_end t = is_end t.kind

@@ -1,0 +1,13 @@
+-- What a cursor shows.
+use Rattle.std.specs.Prelude.{ℕ, List, ◌∷◌}
+use Rattle.graphql_syntax.specs.tokens.Token.{Token}
+
+-- the token in hand, those behind it, and how many were taken from the lexer
+pub record Ahead : Type 0 where
+  pub hand : Token
+  pub behind : List Token
+  pub taken : ℕ
+
+-- the tokens ahead, the one in hand first
+abbrev pub tokens : Ahead → List Token
+tokens a = a.hand ∷ a.behind

@@ -1,0 +1,15 @@
+-- The error that a refusal becomes.
+use Rattle.std.specs.Prelude.{◌≡◌, None, string_bytes}
+use Rattle.graphql_syntax.specs.declared.pos.Pos.{Pos}
+use Rattle.graphql_parser.specs.declared.error.Error.{Error}
+use Rattle.graphql_parser.specs.declared.error.Error.TheVariants.{Syntax, RecursionLimitExceeded, OutOfMemory}
+use Rattle.graphql_parser.specs.declared.parse.Refusal.{Refusal}
+use Rattle.graphql_parser.specs.declared.parse.Refusal.TheVariants as refusals
+use Rattle.graphql_parser.specs.grammar.Answers.{syntax_message}
+
+-- the error of a refusal at this place; for want of memory it may be no other than that
+abbrev pub IsErrorOf : Refusal → Pos → Error → Type 0
+IsErrorOf refusal place (Syntax message start end) = (refusal ≡ refusals.Syntax) × (start ≡ place) × (end ≡ None) × (string_bytes message ≡ syntax_message start)
+IsErrorOf refusal place RecursionLimitExceeded = refusal ≡ refusals.Limit
+IsErrorOf refusal place OutOfMemory = Unit {0}
+IsErrorOf refusal place other = ⊥

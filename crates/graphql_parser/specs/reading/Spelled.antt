@@ -1,0 +1,12 @@
+-- Tests of a token by bytes that the code hands in.
+use Rattle.std.specs.Prelude.{ℕ, ◌&&◌, List}
+use Rattle.std.specs.Str.{bytes_eq}
+use Rattle.graphql_parser.specs.grammar.Tests.{Test, is_punct, is_name}
+
+-- `punct` of the text that has these bytes
+abbrev pub punct_of : List ℕ → Test
+punct_of bytes t = is_punct t.kind && bytes_eq t.spelling bytes
+
+-- `keyword` of the text that has these bytes
+abbrev pub keyword_of : List ℕ → Test
+keyword_of bytes t = is_name t.kind && bytes_eq t.spelling bytes

@@ -1,0 +1,181 @@
+//! Reading a text token by token, with one token in hand.
+ghost use Rattle.std.specs.Prelude.{◌≡◌, ◌+◌, ◌&&◌, false};
+ghost use Rattle.std.specs.Str.{bytes_eq};
+ghost use Rattle.graphql_syntax.specs.tokens.Cuts.{is_last, EndsOnce};
+ghost use Rattle.graphql_syntax.specs.tokens.Seen.{seen};
+ghost use Rattle.graphql_parser.specs.declared.parse.Refusal.TheVariants.{Memory, Syntax};
+ghost use Rattle.graphql_parser.specs.grammar.Tests as tests;
+ghost use Rattle.graphql_parser.specs.reading.Ahead.{tokens as ahead};
+ghost use Rattle.graphql_parser.specs.reading.Errors.{IsErrorOf};
+ghost use Rattle.graphql_parser.specs.reading.Given.{Gives, GivesWhole};
+ghost use Rattle.graphql_parser.specs.reading.Outcome.{one_at};
+ghost use Rattle.graphql_parser.specs.reading.Spelled.{punct_of};
+
+mod executable;
+
+use crate::error::Error;
+pub use executable::parse_query;
+use graphql_syntax::lexer::{Token, TokenKind, Tokens};
+use graphql_syntax::pos::Pos;
+use std::alloc::{AllocError, AllocFailed, Global};
+use std::marker::Model;
+
+/// Why a reader stopped.
+#[derive(Clone, Copy, Debug, PartialEq, Eq)]
+enum Refusal {
+    Memory,
+    /// No document goes on with the token in hand.
+    Syntax,
+    /// Only a document that nests deeper than is allowed goes on with the token in hand.
+    Limit,
+}
+
+/// What a reader gives.
+type Reading<T> = Result<T, Refusal>;
+
+impl From<AllocError> for Refusal {
+    ghost from_gives = { λ _ e. e ≡ Memory };
+
+    fn from(_refused: AllocError) -> Refusal {
+        Refusal::Memory
+    }
+}
+
+impl<T: Drop> From<AllocFailed<T>> for Refusal {
+    ghost from_gives = { λ _ e. e ≡ Memory };
+
+    fn from(_refused: AllocFailed<T>) -> Refusal {
+        Refusal::Memory
+    }
+}
+
+fn is_punct(kind: TokenKind) -> bool
+    ensures { result ≡ tests.is_punct kind }
+{
+    matches!(kind, TokenKind::Punct)
+}
+
+fn is_name(kind: TokenKind) -> bool
+    ensures { result ≡ tests.is_name kind }
+{
+    matches!(kind, TokenKind::Name)
+}
+
+fn is_end(kind: TokenKind) -> bool
+    ensures { result ≡ tests.is_end kind }
+{
+    matches!(kind, TokenKind::End)
+}
+
+fn syntax_error(alloc: Global, start: Pos) -> Error
+    ensures { IsErrorOf Syntax start result }
+{
+    match format!(in alloc; "syntax error at {start}") {
+        Ok(message) => Error::Syntax {
+            message,
+            start,
+            end: None,
+        },
+        Err(_) => Error::OutOfMemory,
+    }
+}
+
+/// The tokens of a text that are still to be read. The first is in hand; the others are taken
+/// from the lexer one by one, each when the one before it is used up.
+#[derive(Drop)]
+struct Cursor<'a> {
+    tokens: Tokens<'a>,
+    hand: Token<'a>,
+}
+
+impl<'a> Model for Cursor<'a> {
+    ghost use Rattle.graphql_parser.specs.reading.Ahead.{Ahead};
+
+    ghost Value = { Ahead };
+
+    ghost use Rattle.graphql_parser.specs.reading.Cursor.{shown, IsReading};
+
+    ghost view = { shown };
+
+    ghost invariant = { IsReading };
+}
+
+impl<'a> Cursor<'a> {
+    fn new(mut tokens: Tokens<'a>) -> Cursor<'a>
+        requires { EndsOnce tokens.left }
+        ensures { ahead result ≡ tokens.entry.left }
+    {
+        let hand = tokens.next_token();
+        Cursor { tokens, hand }
+    }
+
+    // Field by field: a copy of the whole would carry the padding along.
+    #[inline(never)]
+    fn advance(&mut self)
+        requires { is_last self.old.hand.bare.kind ≡ false }
+        ensures left { ahead self.new ≡ self.old.behind }
+        ensures taken { self.new.taken ≡ self.old.taken + 1 }
+    {
+        let next = self.tokens.next_token();
+        self.hand.kind = next.kind;
+        self.hand.text = next.text;
+        self.hand.start = next.start;
+        self.hand.pos = next.pos;
+    }
+
+    fn is_at_punct(&self, text: &str) -> bool
+        ensures { result ≡ punct_of text.now self.now.hand.bare }
+    {
+        is_punct(self.hand.kind) && self.hand.text == text
+    }
+
+    fn is_at_name(&self) -> bool
+        ensures { result ≡ tests.any_name self.now.hand.bare }
+    {
+        is_name(self.hand.kind)
+    }
+
+    fn expect_punct(&mut self, text: &str) -> Reading<Token<'a>>
+        ensures { Gives seen result self.old self.new (one_at (punct_of text.now)) }
+    {
+        if !self.is_at_punct(text) {
+            return Err(Refusal::Syntax);
+        }
+        let token = self.hand;
+        self.advance();
+        Ok(token)
+    }
+
+    fn expect_name(&mut self) -> Reading<Token<'a>>
+        ensures { Gives seen result self.old self.new (one_at tests.any_name) }
+    {
+        if !self.is_at_name() {
+            return Err(Refusal::Syntax);
+        }
+        let token = self.hand;
+        self.advance();
+        Ok(token)
+    }
+
+    /// The end of the text has to be in hand. It stays there.
+    fn expect_end(&self) -> Reading<()>
+        ensures { GivesWhole (λ _. self.now.hand) result self.now self.now (one_at tests.the_end) }
+    {
+        if is_end(self.hand.kind) {
+            Ok(())
+        } else {
+            Err(Refusal::Syntax)
+        }
+    }
+
+    /// The error of a refusal; the refused token is in hand.
+    fn error(&self, alloc: Global, refusal: Refusal) -> Error
+        ensures { IsErrorOf refusal self.now.hand.pos result }
+    {
+        match refusal {
+            Refusal::Memory => Error::OutOfMemory,
+            Refusal::Limit => Error::RecursionLimitExceeded,
+            Refusal::Syntax => syntax_error(alloc, self.hand.pos),
+        }
+    }
+}

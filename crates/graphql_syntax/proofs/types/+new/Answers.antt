@@ -1,0 +1,46 @@
+use Rattle.std.proofs.Common.{ℕ, ◌≡◌, ◌++◌, ◌∷◌, [], Option, None, Some, refl, sym, ap, ◌∙◌, IfOk, MatchOption, lit<, subst, false}
+use Rattle.std.proofs.lemmas.List.{append_cancel_right}
+use Rattle.std.proofs.lemmas.Str.Pattern.{strip_prefix_char, strip_suffix_char}
+use Rattle.graphql_syntax.specs.calls.TypeText.{IsTypeOf}
+use Rattle.graphql_syntax.specs.trees.TypeTree.{TypeTree, type_tree, type_text, mark}
+use Rattle.graphql_syntax.specs.declared.types.Type.{«Type» as TypeReference}
+use Rattle.graphql_syntax.proofs.TypeTexts.{no_type, list_type, one_type}
+use Rattle.graphql_syntax.proofs.types.+new.Goals as goal
+
+pub Type::new-returns-in-Some-clause-shown : goal.Type::new-returns-in-Some-clause-shown
+Type::new-returns-in-Some-clause-shown t c =
+    let suffix = strip_suffix_char 33 c.args.text.now (Some c.in-Some.rest) c.in-Some.ensures.cases (lit< tt) in
+    subst (λ text. IfOk c.type_of.result (λ (answer : Option TypeReference). MatchOption answer ((t' : TypeTree) → ¬ IsTypeOf text t') (λ t'. IsTypeOf text (type_tree t')))) (sym suffix) c.type_of.ensures
+
+pub Type::new-returns-in-Some-clause-one : goal.Type::new-returns-in-Some-clause-one
+Type::new-returns-in-Some-clause-one t c = one_type c.args.text.now
+
+pub Type::new-returns-in-None-clause-one : goal.Type::new-returns-in-None-clause-one
+Type::new-returns-in-None-clause-one t c = one_type c.args.text.now
+
+pub type_text::type_of-returns-in_default : goal.type_text::type_of-returns-in_default
+type_text::type_of-returns-in_default t c =
+    let begins = rw c.in_default.is at (strip_prefix_char 91 c.args.text.now c.strip_prefix.result c.strip_prefix.ensures.cases (lit< tt)) in
+    ((λ b. begins b.0 (sym c.in_ok-new.ensures ∙ b.1), λ yes e. c.requires.1.1 yes (e.0, sym c.in_ok-new.ensures ∙ e.1)), ap (λ s. s ++ mark c.args.nullable) c.in_ok-new.ensures)
+
+pub type_text::type_of-returns-in_default-strip_suffix : goal.type_text::type_of-returns-in_default-strip_suffix
+type_text::type_of-returns-in_default-strip_suffix t c =
+    let prefix = strip_prefix_char 91 c.args.text.now (Some c.in-Some.after) c.in-Some.ensures.cases (lit< tt) in
+    let ends = rw c.in_default-strip_suffix.is at (strip_suffix_char 93 c.in-Some.after.now c.strip_suffix.result c.strip_suffix.ensures.cases (lit< tt)) in
+    no_type c.args.text.now c.in-Some.after.now c.args.nullable prefix c.requires.1.1 (λ t' proper e. ends (type_text t') e)
+
+pub type_text::type_of-returns-in_default-2 : goal.type_text::type_of-returns-in_default-2
+type_text::type_of-returns-in_default-2 t c =
+    let prefix = strip_prefix_char 91 c.args.text.now (Some c.in-Some.after) c.in-Some.ensures.cases (lit< tt) in
+    let suffix = strip_suffix_char 93 c.in-Some.after.now (Some c.in-Some-strip_suffix.inside) c.in-Some-strip_suffix.ensures.cases (lit< tt) in
+    let none = rw c.in_default-2.is at c.in_ok-item.ensures.shown in
+    no_type c.args.text.now c.in-Some.after.now c.args.nullable prefix c.requires.1.1
+    (λ t' proper e. none t' (proper, append_cancel_right (type_text t') c.in-Some-strip_suffix.inside.now (93 ∷ []) (sym e ∙ suffix)))
+
+pub type_text::type_of-returns : goal.type_text::type_of-returns
+type_text::type_of-returns t c =
+    let prefix = strip_prefix_char 91 c.args.text.now (Some c.in-Some.after) c.in-Some.ensures.cases (lit< tt) in
+    let suffix = strip_suffix_char 93 c.in-Some.after.now (Some c.in-Some-strip_suffix.inside) c.in-Some-strip_suffix.ensures.cases (lit< tt) in
+    let shown : IsTypeOf c.in-Some-strip_suffix.inside.now (type_tree c.in_ok-new-2.field-0.value) =
+    rw c.in_ok-new-2.ensures.ok (rw c.in-Some-2.is at c.in_ok-item.ensures.shown) in
+    list_type c.args.text.now c.in-Some.after.now c.in-Some-strip_suffix.inside.now c.args.nullable (type_tree c.in_ok-new-2.field-0.value) prefix suffix shown

@@ -1,0 +1,18 @@
+-- What a lexer shows.
+use Rattle.std.specs.Prelude.{◌≡◌, ◌≤◌, ℕ, false, if◌then◌else◌, List, [], take, drop}
+use Rattle.std.specs.Str.{chars}
+use Rattle.graphql_syntax.specs.tokens.Token.{Token, Lexing}
+use Rattle.graphql_syntax.specs.inner.Reading.{tokens}
+use Rattle.graphql_syntax.specs.inner.Lexing.{RunsOver}
+use Rattle.graphql_syntax.specs.declared.lexer.Tokens.TheInside.{Inside}
+
+-- the tokens from this byte offset on
+abbrev pub tokens_at : List ℕ → ℕ → List Token
+tokens_at bytes at = tokens (chars (take at bytes)) (chars (drop at bytes))
+
+abbrev pub shown : Inside → Lexing
+shown a = record { left = if a.is_ended then [] else tokens_at a.text.now a.places.cursor.offset; taken = a.taken }
+
+pub record IsLexing (a : Inside) : Type 0 where
+  pub runs : RunsOver a.text.now a.places
+  pub counted : a.is_ended ≡ false → a.taken ≤ a.places.cursor.offset

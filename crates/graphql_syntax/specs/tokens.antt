@@ -1,0 +1,14 @@
+-- Public: places, and the token list of a text.
+pub mod BlockText
+pub mod Blocks
+pub mod Classes
+pub mod Cuts
+pub mod Edition
+pub mod Ignored
+pub mod Numbers
+pub mod Place
+pub mod Proper
+pub mod Seen
+pub mod Spelling
+pub mod Strings
+pub mod Token

@@ -1,0 +1,20 @@
+-- Tokens as clauses see them.
+use Rattle.std.specs.Prelude.{ℕ, List}
+use Rattle.graphql_syntax.specs.declared.pos.Pos.{Pos}
+use Rattle.graphql_syntax.specs.declared.lexer.TokenKind.{TokenKind}
+
+-- a kind, and the bytes of the spelling
+pub record Bare : Type 0 where
+  pub kind : TokenKind
+  pub spelling : List ℕ
+
+-- a bare token with its byte offset and its place
+pub record Token : Type 0 where
+  pub bare : Bare
+  pub start : ℕ
+  pub pos : Pos
+
+-- what a lexer shows: the tokens still to come, and how many it has given
+pub record Lexing : Type 0 where
+  pub left : List Token
+  pub taken : ℕ

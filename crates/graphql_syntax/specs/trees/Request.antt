@@ -1,0 +1,124 @@
+-- Request trees: what a request stands for, as plain data with every place.
+use Rattle.std.specs.Prelude.{ℕ, List, [], ◌∷◌, Option}
+use Rattle.graphql_syntax.specs.declared.pos.Pos.{Pos}
+use Rattle.graphql_syntax.specs.declared.pos.Positioned.{Positioned}
+use Rattle.graphql_syntax.specs.declared.types.OperationType.{OperationType}
+use Rattle.graphql_syntax.specs.trees.TypeTree.{TypeTree}
+use Rattle.graphql_syntax.specs.trees.ValueTree.{Tree}
+
+-- the bytes of a name
+abbrev pub Name : Type 0
+Name = List ℕ
+
+-- the same place, with another node
+abbrev pub placed : {A B : Type 0} → (A → B) → Positioned A → Positioned B
+placed f p = record { pos = p.pos; node = f p.node }
+
+-- a name and its value
+abbrev pub Argument : Type 0
+Argument = Positioned Name × Positioned Tree
+
+-- in source order
+abbrev pub Arguments : Type 0
+Arguments = List Argument
+
+pub record Directive : Type 0 where
+  pub name : Positioned Name
+  pub arguments : Arguments
+
+abbrev pub Directives : Type 0
+Directives = List (Positioned Directive)
+
+pub record VariableDefinition : Type 0 where
+  pub name : Positioned Name
+  pub var_type : Positioned TypeTree
+  pub directives : Directives
+  pub default_value : Option (Positioned Tree)
+
+-- the type that a fragment applies to
+pub record TypeCondition : Type 0 where
+  pub on : Positioned Name
+
+pub record FragmentSpread : Type 0 where
+  pub fragment_name : Positioned Name
+  pub directives : Directives
+
+-- ---- selections, and the sets in them
+
+mutual
+  pub data Selection : Type 0 where
+    field :
+        (pos : Pos) →
+        (alias : Option (Positioned Name)) →
+        (name : Positioned Name) →
+        (arguments : Arguments) →
+        (directives : Directives) →
+        (set_pos : Pos) →
+        (selection_set : SelectionSet) →
+        Selection
+    fragment_spread : Positioned FragmentSpread → Selection
+    inline_fragment :
+        (pos : Pos) →
+        (type_condition : Option (Positioned TypeCondition)) →
+        (directives : Directives) →
+        (set_pos : Pos) →
+        (selection_set : SelectionSet) →
+        Selection
+
+  -- selections with their places, in source order
+  pub data SelectionSet : Type 0 where
+    no_selections : SelectionSet
+    selection_and : Pos → Selection → SelectionSet → SelectionSet
+
+-- the set of a list of selections
+abbrev pub set_of : List (Positioned Selection) → SelectionSet
+set_of [] = no_selections
+set_of (x ∷ xs) = selection_and x.pos x.node (set_of xs)
+
+-- the list of a set's selections
+abbrev pub selections_of : SelectionSet → List (Positioned Selection)
+selections_of no_selections = []
+selections_of (selection_and pos x xs) = record { pos = pos; node = x } ∷ selections_of xs
+
+pub record Field : Type 0 where
+  pub alias : Option (Positioned Name)
+  pub name : Positioned Name
+  pub arguments : Arguments
+  pub directives : Directives
+  pub selection_set : Positioned SelectionSet
+
+pub record InlineFragment : Type 0 where
+  pub type_condition : Option (Positioned TypeCondition)
+  pub directives : Directives
+  pub selection_set : Positioned SelectionSet
+
+-- a field as a selection
+abbrev pub of_field : Positioned Field → Selection
+of_field f = field f.pos f.node.alias f.node.name f.node.arguments f.node.directives f.node.selection_set.pos f.node.selection_set.node
+
+-- an inline fragment as a selection
+abbrev pub of_inline_fragment : Positioned InlineFragment → Selection
+of_inline_fragment i = inline_fragment i.pos i.node.type_condition i.node.directives i.node.selection_set.pos i.node.selection_set.node
+
+-- ---- definitions
+
+pub record OperationDefinition : Type 0 where
+  pub ty : OperationType
+  pub variable_definitions : List (Positioned VariableDefinition)
+  pub directives : Directives
+  pub selection_set : Positioned SelectionSet
+
+pub record FragmentDefinition : Type 0 where
+  pub type_condition : Positioned TypeCondition
+  pub directives : Directives
+  pub selection_set : Positioned SelectionSet
+
+-- one operation without a name, or operations under their names, in source order
+pub data Operations : Type 0 where
+  single : Positioned OperationDefinition → Operations
+  multiple : List (Name × Positioned OperationDefinition) → Operations
+
+-- a request: its operations, and its fragments under their names, in source order
+pub record Document : Type 0 where
+  pub operations : Operations
+  pub fragments : List (Name × Positioned FragmentDefinition)
