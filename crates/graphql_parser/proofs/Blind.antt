@@ -19,7 +19,7 @@ pub record Blind {A : Type 0} (p : Limits → Rel A) (placeless : A → A) : Typ
 
 -- ---- lists
 
-no-bares : (y : List Token) → bares y ≡ [] → y ≡ []
+pub no-bares : (y : List Token) → bares y ≡ [] → y ≡ []
 no-bares [] e = refl
 no-bares (t ∷ y) e = absurd cc
 
@@ -36,7 +36,7 @@ pub record Splits (u v y : List Token) : Type 0 where
   pub first : bares u ≡ bares front
   pub second : bares v ≡ bares back
 
-splits : (u v y : List Token) → bares (u ++ v) ≡ bares y → Splits u v y
+pub splits : (u v y : List Token) → bares (u ++ v) ≡ bares y → Splits u v y
 splits [] v y e = record { front = []; back = y; joined = refl; first = refl; second = e }
 splits (t ∷ u) v [] e = absurd cc
 splits (t ∷ u) v (s ∷ y) e =

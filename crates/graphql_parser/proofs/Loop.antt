@@ -40,16 +40,20 @@ repeat-fuel first r takes (suc n) (suc m) (t ∷ ts) h k =
     let same = behind-same r takes (t ∷ ts) (repeat_at n first r) (repeat_at m first r) (λ rest less. repeat-fuel first r takes n m rest (omega (arith, h, less)) (omega (arith, k, less))) (r (t ∷ ts)) refl in
     ap (λ (k : Outcome (_ × List _)). cond (first t.bare) (cons-all k) (Read [] (t ∷ ts))) same
 
-many-more : {A : Type 0} (first : Test) (r : Reader A) → Takes r → (t : Token) (ts : List Token) → first t.bare ≡ true → many_at first r (t ∷ ts) ≡ cons-all (behind (r (t ∷ ts)) (many_at first r))
+pub many-more : {A : Type 0} (first : Test) (r : Reader A) → Takes r → (t : Token) (ts : List Token) → first t.bare ≡ true → many_at first r (t ∷ ts) ≡ cons-all (behind (r (t ∷ ts)) (many_at first r))
 unfolding many_at
 many-more first r takes t ts e =
     let n = length (t ∷ ts) in
     let same = behind-same r takes (t ∷ ts) (repeat_at n first r) (many_at first r) (λ rest less. repeat-fuel first r takes n (suc (length rest)) rest less (omega arith)) (r (t ∷ ts)) refl in
     rw e (ap (λ (k : Outcome (_ × List _)). cons-all k) same)
 
-many-stops : {A : Type 0} (first : Test) (r : Reader A) (t : Token) (ts : List Token) → first t.bare ≡ false → many_at first r (t ∷ ts) ≡ Read [] (t ∷ ts)
+pub many-stops : {A : Type 0} (first : Test) (r : Reader A) (t : Token) (ts : List Token) → first t.bare ≡ false → many_at first r (t ∷ ts) ≡ Read [] (t ∷ ts)
 unfolding many_at
 many-stops first r t ts e = rw e refl
+
+pub many-plus : {A : Type 0} (first : Test) (r : Reader A) → Takes r → (t : Token) (ts : List Token) → first t.bare ≡ true → many_at first r (t ∷ ts) ≡ plus_at first r (t ∷ ts)
+unfolding plus_at
+many-plus first r takes t ts e = many-more first r takes t ts e
 
 pub many-nothing : {A : Type 0} (first : Test) (r : Reader A) → many_at first r [] ≡ Refused syntax []
 unfolding many_at

@@ -1,13 +1,13 @@
 -- What a loop of the code that reads one or more keeps.
-use Rattle.std.proofs.Common.{◌≡◌, true, false, List, [], ◌∷◌, ◌++◌, map, refl, sym, ap, ◌∙◌, Ok, Err, arith}
+use Rattle.std.proofs.Common.{◌≡◌, suc, ◌≤◌, true, false, List, [], ◌∷◌, ◌++◌, length, map, refl, sym, ap, ◌∙◌, Result, Ok, Err, arith}
 use Rattle.graphql_parser.specs.declared.parse.Refusal.{Refusal}
 use Rattle.graphql_parser.specs.declared.parse.Refusal.TheVariants.{Memory, Syntax, Limit}
 use Rattle.graphql_parser.specs.grammar.Tests.{Test}
 use Rattle.graphql_parser.specs.grammar.Fronts.{syntax, limit}
 use Rattle.graphql_parser.specs.reading.Ahead.{Ahead, tokens}
 use Rattle.graphql_parser.specs.reading.Given.{Gives, GoesOn, Refuses}
-use Rattle.graphql_parser.specs.reading.Outcome.{Read, Reader, plus_at, with_front}
-use Rattle.graphql_parser.proofs.Loop.{Takes, loop-goes, loop-ends, loop-stops, loop-starts}
+use Rattle.graphql_parser.specs.reading.Outcome.{Read, Reader, many_at, plus_at, with_front}
+use Rattle.graphql_parser.proofs.Loop.{Takes, loop-goes, loop-ends, loop-stops, loop-starts, many-plus, many-stops}
 
 -- From the first token on, all that is read is these items, and what the tokens ahead give; and the
 -- cursor has gone on.
@@ -15,11 +15,14 @@ pub record Kept {Y : Type 0} (first : Test) (r : Reader Y) (initial now : Ahead)
   pub told : plus_at first r (tokens initial) ≡ with_front items (plus_at first r (tokens now))
   pub on : GoesOn initial now
 
-go-on : (a b c : Ahead) → GoesOn a b → GoesOn b c → GoesOn a c
-go-on a b c h k = omega (arith, h, k)
+pub go-on : (a b c : Ahead) → GoesOn a b → GoesOn b c → GoesOn a c
+go-on a b c h k = (k.0 ∙ h.0, omega (arith, h.1, k.1))
+
+pub stays : (a : Ahead) → GoesOn a a
+stays a = (refl, omega arith)
 
 pub begins : {Y : Type 0} (first : Test) (r : Reader Y) (initial : Ahead) → Kept first r initial initial []
-begins first r initial = record { told = loop-starts (plus_at first r (tokens initial)); on = omega arith }
+begins first r initial = record { told = loop-starts (plus_at first r (tokens initial)); on = stays initial }
 
 refuses : {Y : Type 0} (first : Test) (r : Reader Y) (initial now next : Ahead) (items : List Y) (e : Refusal) → Kept first r initial now items → Refuses e now next r → Refuses e initial next (plus_at first r)
 refuses first r initial now next items Memory kept h = tt
@@ -47,3 +50,24 @@ ends view first r initial now next items more x kept h at is = (
       ∙ ap (λ (l : List _). Read l (tokens next)) (sym (ap (map view) is ∙ one-more view items x)),
   go-on initial now next kept.on h.1,
 )
+
+-- fewer tokens are ahead
+pub shorter : {X Y : Type 0} (view : X → Y) (r : Reader Y) (now next : Ahead) (x : X) → Takes r → Gives view (Ok x) now next r → suc (length next.behind) ≤ length now.behind
+shorter view r now next x takes h = let less = takes (tokens now) (view x) (tokens next) h.0 in omega (arith, less)
+
+-- ---- any number
+
+-- what is given by what one reader reads here is given by what another reads
+pub there : {X Y : Type 0} (view : X → Y) (result : Result X Refusal) (old new : Ahead) (r s : Reader Y) → r (tokens old) ≡ s (tokens old) → Gives view result old new r → Gives view result old new s
+there view (Ok x) old new r s e h = (sym e ∙ h.0, h.1)
+there view (Err Memory) old new r s e h = (tt, h.1)
+there view (Err Syntax) old new r s e h = (sym e ∙ h.0, h.1)
+there view (Err Limit) old new r s e h = (sym e ∙ h.0, h.1)
+
+-- where one begins, any number is one or more
+pub any-number : {X Y : Type 0} (view : X → List Y) (result : Result X Refusal) (first : Test) (r : Reader Y) (old new : Ahead) → Takes r → first old.hand.bare ≡ true → Gives view result old new (plus_at first r) → Gives view result old new (many_at first r)
+any-number view result first r old new takes at h = there view result old new (plus_at first r) (many_at first r) (sym (many-plus first r takes old.hand old.behind at)) h
+
+-- and where none begins, it is none
+pub none-there : {Y : Type 0} (first : Test) (r : Reader Y) (now : Ahead) → first now.hand.bare ≡ false → (many_at first r (tokens now) ≡ Read [] (tokens now)) × GoesOn now now
+none-there first r now at = (many-stops first r now.hand now.behind at, stays now)

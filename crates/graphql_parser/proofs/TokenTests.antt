@@ -1,5 +1,5 @@
 -- What a token is that passes a test, and tokens that pass it.
-use Rattle.std.proofs.Common.{◌≡◌, ℕ, Bool, true, false, not, ◌&&◌, IsTrue, List, [], ◌∷◌, codes, nat_lt, ◌++◌, refl, sym, ap, ap₂, subst, eq-eqb, arith}
+use Rattle.std.proofs.Common.{◌≡◌, ℕ, Bool, true, false, not, ◌&&◌, ◌||◌, IsTrue, ◌⊎◌, inl, inr, List, [], ◌∷◌, codes, nat_lt, ◌++◌, refl, sym, ap, ap₂, subst, eq-eqb, arith}
 use Rattle.std.proofs.lemmas.Bool.Decides.{nat_tests}
 use Rattle.std.specs.Char.{IsScalar}
 use Rattle.std.specs.List.{AllByRecursion}
@@ -13,7 +13,7 @@ use Rattle.graphql_syntax.specs.tokens.Spelling.{IsPunct, IsName}
 use Rattle.graphql_syntax.specs.declared.lexer.TokenKind.{TokenKind}
 use Rattle.graphql_syntax.specs.declared.lexer.TokenKind.TheVariants.{Punct, Name, End}
 use Rattle.graphql_parser.specs.grammar.Tests.{Test, is_punct, is_name, is_end, is_among, punct, keyword, any_name, name_but, the_end}
-use Rattle.graphql_parser.specs.grammar.Fronts.{nowhere}
+use Rattle.graphql_parser.specs.grammar.Places.{nowhere}
 use Rattle.graphql_parser.proofs.Theory.{Within, anything, IsInner}
 use Prim.Native.String.{String}
 
@@ -101,6 +101,31 @@ name_but-within words {g} h = record { by = λ t e. subst (λ (t : Bare). IsTrue
 pub the_end-within : {g : Test} → ((spelling : List ℕ) → IsTrue (g (ended spelling))) → Within the_end g
 the_end-within {g} h = record { by = λ t e. subst (λ (t : Bare). IsTrue (g t)) (sym (the_end-is t e)) (h t.spelling) }
 
+-- both of two tests, and either of two
+
+both-pass : (w v : Bool) → IsTrue w → IsTrue v → IsTrue (w && v)
+both-pass true v e h = h
+both-pass false v e h = absurd cc
+
+one-passes : (w v : Bool) → IsTrue (w || v) → IsTrue w ⊎ IsTrue v
+one-passes true v e = inl refl
+one-passes false v e = inr e
+
+pub within-then : {f g h : Test} → Within f g → Within g h → Within f h
+within-then m n = record { by = λ t e. n.by t (m.by t e) }
+
+pub within-both : {f g h : Test} → Within f g → Within f h → Within f (λ t. g t && h t)
+within-both {f} {g} {h} m n = record { by = λ t e. both-pass (g t) (h t) (m.by t e) (n.by t e) }
+
+pub within-first : (g h : Test) → Within (λ t. g t && h t) g
+within-first g h = record { by = λ t e. first-part (g t) (h t) e }
+
+pub within-second : (g h : Test) → Within (λ t. g t && h t) h
+within-second g h = record { by = λ t e. second-part (g t) (h t) e }
+
+pub within-either : {f g h : Test} → Within f h → Within g h → Within (λ t. f t || g t) h
+within-either {f} {g} {h} m n = record { by = λ t e. elim (one-passes (f t) (g t) e) [ inl k ↦ m.by t k | inr k ↦ n.by t k ] }
+
 -- ---- tests that no last token passes
 
 pub punct-inner : (word : String) → IsInner (punct word)
@@ -140,7 +165,7 @@ ascii-scalar c h = rw (h2 c h) refl
     h2 : (c : ℕ) → nat_lt c 128 ≡ true → nat_lt c 55296 ≡ true
     h2 c h = grind (arith, nat_tests)
 
-ascii-scalars : (w : List ℕ) → are-ascii w ≡ true → AllByRecursion IsScalar w
+pub ascii-scalars : (w : List ℕ) → are-ascii w ≡ true → AllByRecursion IsScalar w
 ascii-scalars [] e = tt
 ascii-scalars (c ∷ cs) e = (ascii-scalar c (first-part (nat_lt c 128) (are-ascii cs) e), ascii-scalars cs (second-part (nat_lt c 128) (are-ascii cs) e))
 
@@ -148,7 +173,7 @@ ascii-byte : (c : ℕ) → nat_lt c 128 ≡ true → encode c ≡ c ∷ []
 unfolding encode
 ascii-byte c h = rw h refl
 
-ascii-bytes : (w : List ℕ) → are-ascii w ≡ true → encode_utf8_all w ≡ w
+pub ascii-bytes : (w : List ℕ) → are-ascii w ≡ true → encode_utf8_all w ≡ w
 ascii-bytes [] e = refl
 ascii-bytes (c ∷ cs) e = ap₂ (λ (u v : List ℕ). u ++ v) (ascii-byte c (first-part (nat_lt c 128) (are-ascii cs) e)) (ascii-bytes cs (second-part (nat_lt c 128) (are-ascii cs) e))
 

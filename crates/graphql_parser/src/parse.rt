@@ -1,8 +1,10 @@
 //! Reading a text token by token, with one token in hand.
-ghost use Rattle.std.specs.Prelude.{◌≡◌, ◌+◌, ◌&&◌, false};
+ghost use Rattle.std.specs.Prelude.{◌≡◌, ◌≢◌, ◌≤◌, ◌+◌, length, ◌&&◌, false, []};
 ghost use Rattle.std.specs.Str.{bytes_eq};
 ghost use Rattle.graphql_syntax.specs.tokens.Cuts.{is_last, EndsOnce};
+ghost use Rattle.graphql_syntax.specs.tokens.Proper.{AreProperButFaults, IsProper};
 ghost use Rattle.graphql_syntax.specs.tokens.Seen.{seen};
+ghost use Rattle.graphql_syntax.specs.tokens.Token.{left};
 ghost use Rattle.graphql_parser.specs.declared.parse.Refusal.TheVariants.{Memory, Syntax};
 ghost use Rattle.graphql_parser.specs.grammar.Tests as tests;
 ghost use Rattle.graphql_parser.specs.reading.Ahead.{tokens as ahead};
@@ -11,10 +13,18 @@ ghost use Rattle.graphql_parser.specs.reading.Given.{Gives, GivesWhole};
 ghost use Rattle.graphql_parser.specs.reading.Outcome.{one_at};
 ghost use Rattle.graphql_parser.specs.reading.Spelled.{punct_of};
 
+mod arguments;
 mod executable;
+mod request;
+mod rules;
+mod selections;
+mod types;
+mod value;
+mod variables;
+mod words;
 
 use crate::error::Error;
-pub use executable::parse_query;
+pub use request::{parse_query, parse_query_from, parse_query_limited};
 use graphql_syntax::lexer::{Token, TokenKind, Tokens};
 use graphql_syntax::pos::Pos;
 use std::alloc::{AllocError, AllocFailed, Global};
@@ -61,6 +71,24 @@ fn is_name(kind: TokenKind) -> bool
     matches!(kind, TokenKind::Name)
 }
 
+fn is_number(kind: TokenKind) -> bool
+    ensures { result ≡ tests.is_number kind }
+{
+    matches!(kind, TokenKind::Number)
+}
+
+fn is_string(kind: TokenKind) -> bool
+    ensures { result ≡ tests.is_string kind }
+{
+    matches!(kind, TokenKind::String)
+}
+
+fn is_block(kind: TokenKind) -> bool
+    ensures { result ≡ tests.is_block kind }
+{
+    matches!(kind, TokenKind::Block)
+}
+
 fn is_end(kind: TokenKind) -> bool
     ensures { result ≡ tests.is_end kind }
 {
@@ -102,11 +130,25 @@ impl<'a> Model for Cursor<'a> {
 
 impl<'a> Cursor<'a> {
     fn new(mut tokens: Tokens<'a>) -> Cursor<'a>
-        requires { EndsOnce tokens.left }
-        ensures { ahead result ≡ tokens.entry.left }
+        requires { left tokens ≢ [] }
+        ensures left { ahead result ≡ left tokens.entry }
+        ensures whole { result.whole ≡ tokens.entry.whole }
+        ensures taken { result.taken ≡ tokens.entry.taken + 1 }
+        ensures ends { EndsOnce (left tokens.entry) }
+        ensures proper { AreProperButFaults (left tokens.entry) }
     {
         let hand = tokens.next_token();
         Cursor { tokens, hand }
+    }
+
+    /// The tokens that are still to come, behind the one in hand.
+    fn into_tokens(self) -> Tokens<'a>
+        ensures left { left result ≡ self.entry.behind }
+        ensures whole { result.whole ≡ self.entry.whole }
+        ensures taken { result.taken ≡ self.entry.taken }
+        ensures within { result.taken ≤ length result.whole }
+    {
+        self.tokens
     }
 
     // Field by field: a copy of the whole would carry the padding along.
@@ -115,12 +157,22 @@ impl<'a> Cursor<'a> {
         requires { is_last self.old.hand.bare.kind ≡ false }
         ensures left { ahead self.new ≡ self.old.behind }
         ensures taken { self.new.taken ≡ self.old.taken + 1 }
+        ensures whole { self.new.whole ≡ self.old.whole }
     {
         let next = self.tokens.next_token();
         self.hand.kind = next.kind;
         self.hand.text = next.text;
         self.hand.start = next.start;
         self.hand.pos = next.pos;
+    }
+
+    /// The token in hand.
+    #[inline(always)]
+    fn hand(&self) -> Token<'a>
+        ensures token { seen result ≡ self.now.hand }
+        ensures proper { is_last self.now.hand.bare.kind ≡ false → IsProper self.now.hand }
+    {
+        self.hand
     }
 
     fn is_at_punct(&self, text: &str) -> bool

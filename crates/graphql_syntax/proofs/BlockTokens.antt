@@ -5,6 +5,7 @@ use Rattle.std.specs.List.{concat}
 use Rattle.graphql_syntax.specs.tokens.BlockText.{begins_quotes}
 use Rattle.graphql_syntax.specs.tokens.Blocks.{closes, IsBlockUnit, AreBlockUnits}
 use Rattle.graphql_syntax.specs.inner.Quoted.{past_block_from, past_block, quotes, NoQuote, IsRunOfQuotes}
+use Rattle.graphql_syntax.proofs.Options.{some_same}
 
 -- ---- steps
 
@@ -116,9 +117,6 @@ quotes_front (a ∷ []) rest h = absurd (omega arith)
 quotes_front (a ∷ b ∷ []) rest h = absurd (omega arith)
 quotes_front (a ∷ b ∷ c ∷ []) rest h = absurd (omega arith)
 quotes_front (a ∷ b ∷ c ∷ d ∷ x) rest h = refl
-
-some_same : {A : Type 0} (x y : A) → Some x ≡ Some y → x ≡ y
-some_same x y e = cc
 
 closed_here : (c : ℕ) (cs rest : List ℕ) → closes (c ∷ cs) ≡ true → drop 2 cs ≡ rest → (c ∷ cs) ≡ three_quotes ++ rest
 closed_here c [] rest h e = absurd (grind (arith, nat_tests))

@@ -68,7 +68,8 @@ abbrev unit_at : List ℕ → Option (ℕ × ℕ)
 unit_at [] = None
 unit_at (x ∷ xs) = cond (is_plain x) (Some (x, 1)) (escape_at (x ∷ xs))
 
-escape_front : (u : List ℕ) (c : ℕ) → EscapeMeans u c → (w : List ℕ) × (u ≡ 92 ∷ w)
+-- an escape begins with a backslash
+pub escape_front : (u : List ℕ) (c : ℕ) → EscapeMeans u c → (w : List ℕ) × (u ≡ 92 ∷ w)
 escape_front u c (inl w) = (w.0 ∷ [], w.1)
 escape_front u c (inr (inl w)) = (117 ∷ w.0.0, w.0.1)
 escape_front u c (inr (inr (inl w))) = (117 ∷ 123 ∷ (w.0 ++ 125 ∷ []), w.1)

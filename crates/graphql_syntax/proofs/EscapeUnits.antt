@@ -10,6 +10,7 @@ use lib.Utf8.{scalar, scalar_cases}
 use Rattle.graphql_syntax.specs.tokens.Edition.{Later}
 use Rattle.graphql_syntax.specs.tokens.Strings.{Escape, quote, backslash, slash, backspace, form_feed, line_feed, carriage_return, tab, IsEscape, AreHexDigits, hex_value, IsFourDigitEscape, IsBracedEscape, IsHighHalf, IsLowHalf, IsPair, IsLaterEscape}
 use Rattle.graphql_syntax.specs.inner.Escapes.{letter_value, hex_number, four_digits, pair_value, scalar_of, with_len, braced_by, braced_at, low_half_at, pair_with, pair_at, numbered_by, numbered_at, number_at, escape_at}
+use Rattle.graphql_syntax.proofs.Options.{some_same}
 use Rattle.graphql_syntax.proofs.Escapes.{hex_digit_only}
 
 -- a unit that begins with a backslash
@@ -32,9 +33,6 @@ cond_some false x v e = absurd (cc)
 cond_other : {A : Type 0} (b : Bool) (x : Option A) (v : A) → cond b None x ≡ Some v → (b ≡ false) × (x ≡ Some v)
 cond_other true x v e = absurd (cc)
 cond_other false x v e = (refl, e)
-
-some_same : {A : Type 0} (x y : A) → Some x ≡ Some y → x ≡ y
-some_same x y e = cc
 
 pub both : (a b : Bool) → (a && b) ≡ true → (a ≡ true) × (b ≡ true)
 both true b e = (refl, e)

@@ -17,9 +17,11 @@ pub mod FirstBytes
 pub mod Integers
 pub mod Lexes
 pub mod Lists
+pub mod Meanings
 pub mod Nexts
 pub mod Numbers
 pub mod Numerals
+pub mod Options
 pub mod Places
 pub mod Propers
 pub mod QuotedAhead

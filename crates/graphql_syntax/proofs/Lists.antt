@@ -1,5 +1,6 @@
 -- `tokens` is the one list that `Cuts` relates to a text.
-use Rattle.std.proofs.Common.{◌≡◌, ◌≢◌, ℕ, zero, suc, ◌+◌, ◌≤◌, ◌<◌, Bool, true, false, cond, ◌⊎◌, List, [], ◌∷◌, ◌++◌, length, refl, sym, ap, ◌∙◌, arith, inl, inr, subst, length-append}
+use Rattle.std.proofs.Common.{◌≡◌, ◌≢◌, ℕ, zero, suc, ◌+◌, ◌≤◌, ◌<◌, Bool, true, false, cond, ◌⊎◌, List, [], ◌∷◌, ◌++◌, length, drop, refl, sym, ap, ◌∙◌, arith, inl, inr, subst, length-append}
+use Rattle.std.proofs.Math.Seq.{drop-nil}
 use Rattle.std.specs.List.{concat}
 use Rattle.graphql_syntax.specs.tokens.Edition.{Edition, October2021, Later}
 use Rattle.graphql_syntax.specs.tokens.Spelling.{Begins}
@@ -182,6 +183,13 @@ ends_step here after t ts ih (inr (inr b)) = one_ends t ts (ap (λ x. is_last x.
 pub cuts_ends : (front text : List ℕ) (ts : List Token) → Cuts Later front text ts → EndsOnce ts
 cuts_ends front text [] c = absurd c
 cuts_ends front text (t ∷ ts) c = ends_step (front ++ concat c.0) c.1 t ts (λ f r d. cuts_ends f r ts d) c.4
+
+-- what is left of a list that ends once ends once, where something is left
+pub ends_drop : (n : ℕ) (ts : List Token) → EndsOnce ts → drop n ts ≢ [] → EndsOnce (drop n ts)
+ends_drop zero ts e some = e
+ends_drop (suc n) [] e some = absurd e
+ends_drop (suc n) (t ∷ []) e some = absurd (some (drop-nil n))
+ends_drop (suc n) (t ∷ u ∷ ts) e some = ends_drop n (u ∷ ts) e.1 some
 
 short_by : (b : Bool) (ts : List Token) (n : ℕ) → length ts ≤ n → length (cond b [] ts) ≤ n
 short_by true ts n h = omega arith

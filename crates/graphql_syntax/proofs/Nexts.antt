@@ -15,6 +15,7 @@ use Rattle.graphql_syntax.specs.inner.Quoted.{past_string, past_block}
 use Rattle.graphql_syntax.specs.inner.Reading.{next, past_char, past_points, past_word, found, triple, double, quoted}
 use Rattle.graphql_syntax.specs.declared.lexer.TokenKind.{TokenKind}
 use Rattle.graphql_syntax.specs.declared.lexer.TokenKind.TheVariants.{Punct, Name, Number, String, Block, Fault, End}
+use Rattle.graphql_syntax.proofs.Options.{some_same}
 use Rattle.graphql_syntax.proofs.Skips.{IsRest}
 use Rattle.graphql_syntax.proofs.Numbers.{Allows, number_is, number_only, begins_number, number_head, number_alone}
 use Rattle.graphql_syntax.proofs.StringTokens.{string_is, string_only, content_head}
@@ -34,9 +35,6 @@ IsNext text kind rest =
     Found kind text rest
     ⊎ (((text ≡ []) × (kind ≡ End) × (rest ≡ []))
     ⊎ ((text ≢ []) × (kind ≡ Fault) × (rest ≡ text)))
-
-some_same : {A : Type 0} (x y : A) → Some x ≡ Some y → x ≡ y
-some_same x y e = cc
 
 -- from what a reader of the kind gives
 found_is : (kind : TokenKind) (c : ℕ) (cs : List ℕ) (read : Option (List ℕ)) → ((rest : List ℕ) → read ≡ Some rest → Found kind (c ∷ cs) rest)

@@ -8,10 +8,8 @@ use Rattle.graphql_syntax.specs.inner.Numerals.{past_optional, past_whole, past_
 use Rattle.graphql_syntax.specs.inner.Numbers.{unless_forbidden, past_number}
 use Rattle.graphql_syntax.specs.inner.Reading.{past_char}
 use Rattle.graphql_syntax.specs.inner.Lexing.{rest_if}
+use Rattle.graphql_syntax.proofs.Options.{some_same}
 use Rattle.graphql_syntax.proofs.Numerals.{numeral_takes, Heads, is_point, numeral_only}
-
-some_same : {A : Type 0} (x y : A) → Some x ≡ Some y → x ≡ y
-some_same x y e = cc
 
 -- what follows a number allows it
 abbrev pub Allows : List ℕ → Type 0

@@ -5,6 +5,7 @@ use Rattle.std.proofs.lemmas.List.{append-nil}
 use Rattle.std.specs.Char.{is_ascii_digit}
 use Rattle.graphql_syntax.specs.tokens.Numbers.{AllDigits, AreDigits, is_minus, is_sign, is_e, IsOptional, IsWhole, IsFraction, IsExponent, IsNumber}
 use Rattle.graphql_syntax.specs.inner.Numerals.{past_optional, past_all, past_digits, past_whole, past_fraction, past_exponent, then_past, past_numeral, is_nothing, is_numeral}
+use Rattle.graphql_syntax.proofs.Options.{some_same}
 
 -- the text is a text of the set, and then the rest
 pub record Takes (P : List ℕ → Type 0) (text rest : List ℕ) : Type 0 where
@@ -13,9 +14,6 @@ pub record Takes (P : List ℕ → Type 0) (text rest : List ℕ) : Type 0 where
   pub whole : text ≡ part ++ rest
 
 -- ---- what is passed is in the set
-
-some_same : {A : Type 0} (x y : A) → Some x ≡ Some y → x ≡ y
-some_same x y e = cc
 
 optional_takes : (p : ℕ → Bool) (text : List ℕ) → Takes (IsOptional p) text (past_optional p text)
 optional_takes p [] = record { part = []; is = inl refl; whole = refl }
@@ -131,7 +129,6 @@ whole_only (c ∷ cs) rest (inr n) h =
     ap (λ b. cond b (Some (cs ++ rest)) (past_digits (c ∷ (cs ++ rest)))) n.0 ∙ digits_only (c ∷ cs) rest (n.1, n.2) h
 
 fraction_only : (w rest : List ℕ) → IsFraction w → Heads is_ascii_digit rest → Heads is_point rest → past_fraction (w ++ rest) ≡ Some rest
-unfolding is_point
 fraction_only [] [] a h p = refl
 fraction_only [] (c ∷ cs) a h p = ap (λ b. cond b (past_digits cs) (Some (c ∷ cs))) p
 fraction_only (c ∷ cs) rest a h p = ap (λ d. past_fraction (d ∷ (cs ++ rest))) a.0 ∙ digits_only cs rest a.1 h
@@ -153,7 +150,6 @@ exponent_only (c ∷ cs) rest a h p =
     ∙ ap past_digits after ∙ digits_only digits rest a.1.4 h
 
 exponent_heads : (w rest : List ℕ) → IsExponent w → Heads is_ascii_digit rest → Heads is_point rest → Heads is_ascii_digit (w ++ rest) × Heads is_point (w ++ rest)
-unfolding is_point
 exponent_heads [] rest a h p = (h, p)
 exponent_heads (c ∷ cs) rest a h p = let e = a.0 in (grind (arith, nat_tests), grind (arith, nat_tests))
 

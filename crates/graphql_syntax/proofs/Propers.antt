@@ -1,5 +1,5 @@
 -- Each token of a text's list but a fault is proper.
-use Rattle.std.proofs.Common.{◌≡◌, ℕ, Bool, true, false, ◌&&◌, List, [], ◌∷◌, ◌++◌, refl, sym, ap, inl, inr, subst}
+use Rattle.std.proofs.Common.{◌≡◌, ℕ, zero, suc, Bool, true, false, ◌&&◌, List, [], ◌∷◌, ◌++◌, drop, refl, sym, ap, inl, inr, subst}
 use Rattle.std.specs.List.{concat, AllByRecursion}
 use Rattle.std.specs.Char.{IsScalar}
 use Rattle.std.specs.Str.{chars, IsUtf8, all_scalars}
@@ -57,3 +57,9 @@ cuts_proper front text [] h c = absurd c
 cuts_proper front text (t ∷ ts) h c =
     let s = scalars_split (concat c.0) c.1 (subst AreScalars c.2 h) in
     proper_step (front ++ concat c.0) c.1 t ts s.1 (λ f r k d. cuts_proper f r ts k d) c.4
+
+-- and so is what is left of the list
+pub proper_drop : (n : ℕ) (ts : List Token) → AreProperButFaults ts → AreProperButFaults (drop n ts)
+proper_drop zero ts p = p
+proper_drop (suc n) [] p = tt
+proper_drop (suc n) (t ∷ ts) p = proper_drop n ts p.1

@@ -10,7 +10,8 @@ use Rattle.graphql_syntax.specs.inner.Running.{ahead}
 use Rattle.graphql_syntax.specs.inner.Lexing.{RunsOver, IsFirstByte}
 use Rattle.graphql_syntax.specs.declared.pos.running.RunningPlace.{RunningPlace}
 use Rattle.graphql_syntax.proofs.Ahead.{first_low, first_not}
-use Rattle.graphql_syntax.proofs.StringTokens.{string_plain, string_quote, string_stuck, string_escape, escape_chars, escape_some}
+use Rattle.graphql_syntax.proofs.Contents.{escape_some}
+use Rattle.graphql_syntax.proofs.StringTokens.{string_plain, string_quote, string_stuck, string_escape, escape_chars}
 
 -- the rest of the bytes, as a slice, from the place on
 pub escape_ahead : (bytes : List ℕ) (a : RunningPlace) (i : ℕ) → RunsOver bytes a → i ≡ a.cursor.offset → escape_at (take (length bytes - i) (drop i bytes)) ≡ escape_at (ahead a)

@@ -9,8 +9,9 @@ use Rattle.graphql_syntax.specs.tokens.Edition.{Later}
 use Rattle.graphql_syntax.specs.tokens.Strings.{is_plain, UnitMeans, UnitsMean, IsContent}
 use Rattle.graphql_syntax.specs.inner.Escapes.{escape_at}
 use Rattle.graphql_syntax.specs.inner.Quoted.{past_unit, past_string_from, past_string}
+use Rattle.graphql_syntax.proofs.Options.{some_same}
 use Rattle.graphql_syntax.proofs.EscapeUnits.{EscapeMeans, escape_reads, escape_found}
-use Rattle.graphql_syntax.proofs.Contents.{escape_ascii}
+use Rattle.graphql_syntax.proofs.Contents.{escape_front, escape_ascii, escape_some}
 
 -- ---- steps
 
@@ -37,20 +38,6 @@ other_step c cs p q = rw (p, q) refl
 pub string_stuck : (c : ℕ) (cs : List ℕ) → is_plain c ≡ false → eqb c 34 ≡ false → escape_at (c ∷ cs) ≡ None → past_string (c ∷ cs) ≡ None
 unfolding past_string
 string_stuck c cs p q e = other_step c cs p q ∙ ap (λ o. past_unit o (λ n. past_string_from n cs)) e
-
--- an escape begins with a backslash
-escape_head : (u : List ℕ) (c : ℕ) → EscapeMeans u c → (t : List ℕ) × (u ≡ 92 ∷ t)
-escape_head u c (inl w) = (w.0 ∷ [], w.1)
-escape_head u c (inr (inl w)) = (117 ∷ w.0.0, w.0.1)
-escape_head u c (inr (inr (inl w))) = (117 ∷ 123 ∷ (w.0 ++ 125 ∷ []), w.1)
-escape_head u c (inr (inr (inr w))) = (117 ∷ (w.5.0 ++ w.1), w.4 ∙ ap (λ x. x ++ w.1) w.5.1)
-
--- so it has characters
-pub escape_some : (text : List ℕ) (v n : ℕ) → escape_at text ≡ Some (v, n) → (1 ≤ n) × (n ≤ length text)
-escape_some text v n e =
-    let f = escape_found text v n e in
-    let h = escape_head f.unit v f.means in
-    (omega (arith, f.long, ap length h.1), omega (arith, f.long, ap length f.whole, length-append f.unit f.rest))
 
 pub escape_within : (text : List ℕ) (v n : ℕ) → escape_at text ≡ Some (v, n) → n ≤ length text
 escape_within text v n e = (escape_some text v n e).1
@@ -108,9 +95,6 @@ closed_unit unit text rest v m k =
       means = (v ∷ k.means.0, (unit ∷ s.0, ap (λ x. unit ++ x) s.1, (m, s.2)));
     }
 
-some_same : {A : Type 0} (x y : A) → Some x ≡ Some y → x ≡ y
-some_same x y e = cc
-
 closed_from : (n : ℕ) (text rest : List ℕ) → length text ≤ n → past_string text ≡ Some rest → Closed text rest
 closed_from n [] rest h e = let none = string_end [] refl in absurd (cc)
 closed_from zero (c ∷ cs) rest h e = absurd (omega arith)
@@ -144,7 +128,7 @@ plain_step u rest c is p = ap (λ x. past_string (x ++ rest)) is ∙ string_plai
 
 escape_step : (u rest : List ℕ) (c : ℕ) → EscapeMeans u c → past_string (u ++ rest) ≡ past_string rest
 escape_step u rest c m =
-    let h = escape_head u c m in
+    let h = escape_front u c m in
     let t = h.0 ++ rest in
     let whole : u ++ rest ≡ 92 ∷ t = ap (λ x. x ++ rest) h.1 in
     let r : escape_at (92 ∷ t) ≡ Some (c, length u) = ap escape_at (sym whole) ∙ escape_reads u rest c m in
@@ -178,7 +162,7 @@ content_head c cs m = by m.1.0 m.0 m.1.1 m.1.2
         let p : is_plain v ≡ true = w.1 in
         ap (λ d. eqb d 34) is ∙ grind (arith, nat_tests)
     unit u us v e (inr w) =
-        let h = escape_head u v w in
+        let h = escape_front u v w in
         let same : (c ∷ cs) ≡ 92 ∷ (h.0 ++ us) = e ∙ ap (λ x. x ++ us) h.1 in
         let is : c ≡ 92 = cc in
         ap (λ d. eqb d 34) is

@@ -1,6 +1,7 @@
 -- Inner: what the code keeps and finds, on the way to the public definitions.
 pub mod Blocks
 pub mod Calculator
+pub mod Contents
 pub mod Cursor
 pub mod Escapes
 pub mod Lexer

@@ -174,7 +174,7 @@ impl<'a> Model for Tokens<'a> {
 impl<'a> Tokens<'a> {
     ghost use Rattle.std.specs.Prelude.{◌≡◌, ◌≢◌, ◌≤◌, ◌+◌, length, IsTrue, ◌↔◌, List, [], ◌∷◌};
     ghost use Rattle.std.specs.Str.{chars};
-    ghost use Rattle.graphql_syntax.specs.tokens.Token.{Token as SpecToken};
+    ghost use Rattle.graphql_syntax.specs.tokens.Token.{Token as SpecToken, left};
     ghost use Rattle.graphql_syntax.specs.tokens.Edition.{October2021};
     ghost use Rattle.graphql_syntax.specs.tokens.Cuts.{Cuts, EndsOnce, HasNoFault};
     ghost use Rattle.graphql_syntax.specs.tokens.Proper.{IsCutInto, AreProperButFaults};
@@ -185,16 +185,16 @@ impl<'a> Tokens<'a> {
     /// stand in comments and strings (this project's choice).
     pub fn new(text: &'a str) -> Tokens<'a>
         // The tokens to come are those into which the text is cut,
-        ensures cut { IsCutInto text.entry.now result.left }
+        ensures cut { IsCutInto text.entry.now (left result) }
         // and no others.
-        ensures only { (ts : List SpecToken) → IsCutInto text.entry.now ts → ts ≡ result.left }
+        ensures only { (ts : List SpecToken) → IsCutInto text.entry.now ts → ts ≡ left result }
         // A text that the former edition cuts without a fault is cut into the same tokens now.
-        ensures former { (ts : List SpecToken) → HasNoFault ts → Cuts October2021 [] (chars text.entry.now) ts → ts ≡ result.left }
+        ensures former { (ts : List SpecToken) → HasNoFault ts → Cuts October2021 [] (chars text.entry.now) ts → ts ≡ left result }
         // One of them is an end or a fault, and it is the last.
-        ensures ends { EndsOnce result.left }
+        ensures ends { EndsOnce (left result) }
         // Each but a fault has a spelling of its kind.
-        ensures proper { AreProperButFaults result.left }
-        ensures short { length result.left ≤ length (chars text.entry.now) + 1 }
+        ensures proper { AreProperButFaults (left result) }
+        ensures short { length (left result) ≤ length (chars text.entry.now) + 1 }
         ensures none { result.taken ≡ 0 }
     {
         Tokens {
@@ -208,9 +208,16 @@ impl<'a> Tokens<'a> {
     /// The next token, where the last was not given yet: as `next`, without the `Option`.
     #[inline(always)]
     pub fn next_token(&mut self) -> Token<'a>
-        requires { self.old.left ≢ [] }
-        ensures token { self.old.left ≡ seen result ∷ self.new.left }
+        requires { left self.old ≢ [] }
+        ensures token { left self.old ≡ seen result ∷ left self.new }
         ensures taken { self.new.taken ≡ self.old.taken + 1 }
+        ensures whole { self.new.whole ≡ self.old.whole }
+        // It has given no more tokens than there are.
+        ensures within { self.new.taken ≤ length self.new.whole }
+        // Of those that were left, one is an end or a fault, and it is the last.
+        ensures ends { EndsOnce (left self.old) }
+        // Each of them, but a fault, has a spelling of its kind.
+        ensures proper { AreProperButFaults (left self.old) }
     {
         let bytes = self.text.as_bytes();
         let mut places = self.places;
@@ -241,7 +248,13 @@ impl<'a> Tokens<'a> {
     /// Whether it has given the last token, `End` or `Fault`.
     #[inline(always)]
     pub fn is_ended(&self) -> bool
-        ensures { IsTrue result ↔ (self.now.left ≡ []) }
+        ensures ended { IsTrue result ↔ (left self.now ≡ []) }
+        // Wherever it is, where tokens are left, one of them is an end or a fault, and it is the last.
+        ensures ends { left self.now ≢ [] → EndsOnce (left self.now) }
+        // Each that is left, but a fault, has a spelling of its kind.
+        ensures proper { AreProperButFaults (left self.now) }
+        // It has given no more tokens than there are.
+        ensures within { self.now.taken ≤ length self.now.whole }
     {
         self.is_ended
     }
@@ -250,12 +263,13 @@ impl<'a> Tokens<'a> {
 impl<'a> Iterator for Tokens<'a> {
     ghost use Rattle.std.specs.Iterator.{item_count};
     ghost use Rattle.graphql_syntax.specs.tokens.Seen.{GivesToken};
+    ghost use Rattle.graphql_syntax.specs.tokens.Token.{left};
 
     type Item = Token<'a>;
 
     ghost next_gives = { GivesToken };
 
-    ghost remaining = { item_count (λ s. s.left) };
+    ghost remaining = { item_count left };
 
     #[inline(always)]
     fn next(&mut self) -> Option<Token<'a>> {

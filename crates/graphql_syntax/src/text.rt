@@ -1,6 +1,6 @@
 //! What strings and block strings mean.
 
-ghost use Rattle.std.specs.Prelude.{◌≡◌, ◌≤◌, ◌+◌, drop, length, IfOk, IfSome, IfNone, List, ℕ, string_bytes};
+ghost use Rattle.std.specs.Prelude.{◌≡◌, ◌≤◌, ◌+◌, drop, length, slice_index, IfOk, IfSome, IfNone, List, ℕ, string_bytes};
 ghost use Rattle.std.specs.List.{prefix_len};
 ghost use Rattle.std.specs.Str.{chars};
 ghost use Rattle.graphql_syntax.specs.tokens.BlockText.{block_value};
@@ -13,6 +13,14 @@ pub(crate) mod escape;
 use block::{first_text, last_text, layout_of, push_lines};
 use escape::escape_at;
 use std::alloc::{AllocError, Global};
+
+// The byte at `at`, or 0 past the end.
+#[inline(always)]
+fn byte(bytes: &[u8], at: usize) -> u8
+    ensures { result ≡ slice_index bytes.now at }
+{
+    if at < bytes.len() { bytes[at] } else { 0 }
+}
 
 #[inline(always)]
 fn is_plain(b: u8) -> bool

@@ -1,12 +1,12 @@
 -- Fronts that some tree completes, and the first token whose front none completes.
 -- A front is a beginning of a list of tokens.
 use Rattle.std.specs.Prelude.{◌≡◌, ℕ, suc, ◌<◌, ◌≤◌, List, ◌∷◌, ◌++◌, length, take, map}
-use Rattle.graphql_syntax.specs.declared.pos.Pos.{Pos}
 use Rattle.graphql_syntax.specs.tokens.Token.{Bare, Token}
 use Rattle.graphql_syntax.specs.tokens.Proper.{AreProper}
 use Rattle.graphql_parser.specs.grammar.Tests.{the_end}
 use Rattle.graphql_parser.specs.grammar.Relations.{Rel, one, ◌⨾◌, mapped}
 use Rattle.graphql_parser.specs.grammar.Limits.{Limits}
+use Rattle.graphql_parser.specs.grammar.Places.{nowhere}
 
 -- the trees of a list of tokens within limits
 abbrev pub Grammar : Type 0 → Type 1
@@ -69,9 +69,6 @@ pub record RefusedToken {A : Type 0} (g : Grammar A) (limits : Limits) (tokens :
   pub no_tree : (tree : A) → ¬ (g limits tokens tree)
 
 -- ---- the one tree
-
-abbrev pub nowhere : Pos
-nowhere = record { line = 0; column = 0 }
 
 abbrev pub without_place : Token → Token
 without_place t = record { bare = t.bare; start = 0; pos = nowhere }

@@ -1,5 +1,5 @@
 -- How deep a document may nest.
-use Rattle.std.specs.Prelude.{ℕ}
+use Rattle.std.specs.Prelude.{ℕ, ◌≤◌}
 
 -- a budget for each of the three things that nest: selection sets, values and types
 pub record Limits : Type 0 where
@@ -10,3 +10,7 @@ pub record Limits : Type 0 where
 -- the limits where the caller chooses none
 unfoldable pub default_limits : Limits
 default_limits = record { selections = 64; values = 64; types = 64 }
+
+-- limits that a caller can choose
+abbrev pub IsAllowed : Limits → Type 0
+IsAllowed limits = (limits.selections ≤ 256) × (limits.values ≤ 256) × (limits.types ≤ 256)

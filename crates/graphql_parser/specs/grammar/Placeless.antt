@@ -2,7 +2,7 @@
 use Rattle.std.specs.Prelude.{List, map, option_map}
 use Rattle.graphql_syntax.specs.declared.pos.Positioned.{Positioned}
 use Rattle.graphql_syntax.specs.trees.Request.{Argument, Directive, VariableDefinition, TypeCondition, FragmentSpread, Selection, SelectionSet, field, fragment_spread, inline_fragment, no_selections, selection_and, OperationDefinition, FragmentDefinition}
-use Rattle.graphql_parser.specs.grammar.Fronts.{nowhere}
+use Rattle.graphql_parser.specs.grammar.Places.{nowhere}
 use Rattle.graphql_parser.specs.grammar.Request.{Definition, operation, fragment}
 
 -- the node without its place, and what is inside it without places too

@@ -1,6 +1,6 @@
 -- The notation of the grammar: relations between the tokens of a phrase and its tree, and how they are put together.
 use Rattle.std.specs.Prelude.{◌≡◌, ◌⊎◌, IsTrue, Option, Some, None, List, [], ◌∷◌, ◌++◌}
-use Rattle.graphql_syntax.specs.tokens.Token.{Token}
+use Rattle.graphql_syntax.specs.tokens.Token.{Bare, Token}
 use Rattle.graphql_parser.specs.grammar.Tests.{Test}
 
 -- these tokens are a phrase, with this tree
@@ -10,6 +10,10 @@ Rel A = List Token → A → Type 0
 -- one token that passes the test
 abbrev pub one : Test → Rel Token
 one test used t = (used ≡ t ∷ []) × IsTrue (test t.bare)
+
+-- one token that passes the test, with what it means
+abbrev pub meaning : {A : Type 0} → Test → (Bare → A → Type 0) → Rel (Token × A)
+meaning test means used x = (used ≡ x.0 ∷ []) × IsTrue (test x.0.bare) × means x.0.bare x.1
 
 -- a phrase of p, and behind it one of q
 pub record Then {A B : Type 0} (p : Rel A) (q : Rel B) (used : List Token) (a : A) (b : B) : Type 0 where

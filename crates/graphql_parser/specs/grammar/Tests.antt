@@ -3,6 +3,7 @@ use Rattle.std.specs.Prelude.{ℕ, Bool, true, false, not, ◌&&◌, ◌||◌, L
 use Rattle.std.specs.Str.{bytes_eq}
 use Rattle.graphql_syntax.specs.tokens.Token.{Bare}
 use Rattle.graphql_syntax.specs.declared.lexer.TokenKind.{TokenKind}
+use Rattle.graphql_syntax.specs.declared.lexer.TokenKind.TheVariants as kinds
 use Rattle.graphql_syntax.specs.declared.lexer.TokenKind.TheVariants.{Punct, Name, End}
 use Prim.Native.String.{String}
 
@@ -16,6 +17,18 @@ is_punct other = false
 abbrev pub is_name : TokenKind → Bool
 is_name Name = true
 is_name other = false
+
+abbrev pub is_number : TokenKind → Bool
+is_number kinds.Number = true
+is_number other = false
+
+abbrev pub is_string : TokenKind → Bool
+is_string kinds.String = true
+is_string other = false
+
+abbrev pub is_block : TokenKind → Bool
+is_block kinds.Block = true
+is_block other = false
 
 abbrev pub is_end : TokenKind → Bool
 is_end End = true
@@ -41,6 +54,16 @@ any_name t = is_name t.kind
 -- any name but these words
 abbrev pub name_but : List String → Test
 name_but words t = is_name t.kind && not (is_among t.spelling words)
+
+-- any number, any string, any block string
+abbrev pub any_number : Test
+any_number t = is_number t.kind
+
+abbrev pub any_string : Test
+any_string t = is_string t.kind
+
+abbrev pub any_block : Test
+any_block t = is_block t.kind
 
 -- the end of the text
 abbrev pub the_end : Test

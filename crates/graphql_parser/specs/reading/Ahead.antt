@@ -2,8 +2,9 @@
 use Rattle.std.specs.Prelude.{ℕ, List, ◌∷◌}
 use Rattle.graphql_syntax.specs.tokens.Token.{Token}
 
--- the token in hand, those behind it, and how many were taken from the lexer
+-- the tokens of the text, the token in hand, those behind it, and how many were taken from the lexer
 pub record Ahead : Type 0 where
+  pub whole : List Token
   pub hand : Token
   pub behind : List Token
   pub taken : ℕ

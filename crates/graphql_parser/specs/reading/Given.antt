@@ -22,9 +22,9 @@ abbrev pub ToldWhole : {X Y : Type 0} → (X → Y) → Result X Refusal → Ahe
 ToldWhole view (Ok x) old new r = r (tokens old) ≡ Read (view x) new.behind
 ToldWhole view (Err refusal) old new r = Refuses refusal old new r
 
--- the cursor takes tokens, and gives none back
+-- the cursor takes tokens of its text, and gives none back
 abbrev pub GoesOn : Ahead → Ahead → Type 0
-GoesOn old new = old.taken ≤ new.taken
+GoesOn old new = (new.whole ≡ old.whole) × (old.taken ≤ new.taken)
 
 abbrev pub Gives : {X Y : Type 0} → (X → Y) → Result X Refusal → Ahead → Ahead → Reader Y → Type 0
 Gives view result old new r = Told view result old new r × GoesOn old new

@@ -1,6 +1,6 @@
 -- Reading a list of tokens from left to right, with one token in sight.
 use Rattle.std.specs.Prelude.{ℕ, zero, suc, cond, Option, Some, None, List, [], ◌∷◌, ◌++◌, length}
-use Rattle.graphql_syntax.specs.tokens.Token.{Token}
+use Rattle.graphql_syntax.specs.tokens.Token.{Bare, Token}
 use Rattle.graphql_parser.specs.grammar.Tests.{Test, the_end}
 use Rattle.graphql_parser.specs.grammar.Relations.{cons}
 use Rattle.graphql_parser.specs.grammar.Fronts.{Verdict, syntax, limit}
@@ -22,6 +22,16 @@ abbrev pub ◌>>=◌ : {A B : Type 0} → Outcome A → (A → List Token → Ou
 abbrev pub one_at : Test → Reader Token
 one_at test [] = Refused syntax []
 one_at test (t ∷ ts) = cond (test t.bare) (Read t ts) (Refused syntax (t ∷ ts))
+
+-- the token in sight with what it means, if it means anything
+abbrev pub meant : {A : Type 0} → Token → List Token → Option A → Outcome (Token × A)
+meant t ts None = Refused syntax (t ∷ ts)
+meant t ts (Some a) = Read (t, a) ts
+
+-- one token that passes the test, with what it means
+abbrev pub meaning_at : {A : Type 0} → Test → (Bare → Option A) → Reader (Token × A)
+meaning_at test value [] = Refused syntax []
+meaning_at test value (t ∷ ts) = cond (test t.bare) (meant t ts (value t.bare)) (Refused syntax (t ∷ ts))
 
 -- the token in sight, which stays
 abbrev pub peek_at : Reader Token

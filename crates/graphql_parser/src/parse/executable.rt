@@ -1,79 +1,112 @@
-//! Readers of requests.
-ghost use Rattle.std.specs.Prelude.{◌≡◌, List};
-ghost use Rattle.graphql_syntax.specs.tokens.Proper.{IsCutInto};
-ghost use Rattle.graphql_syntax.specs.tokens.Token.{Token as SpecToken};
+//! Readers of operations, fragments and requests.
+ghost use Rattle.std.specs.Prelude.{◌≡◌, true};
+ghost use Rattle.graphql_syntax.specs.tokens.Seen.{seen};
 ghost use Rattle.graphql_syntax.specs.trees.Request as request;
-ghost use Rattle.graphql_syntax.specs.trees.RequestViews.{selection_tree, selection_trees, selection_set_tree, operation_tree};
-ghost use Rattle.graphql_parser.specs.grammar.Answers.{Answers};
-ghost use Rattle.graphql_parser.specs.grammar.Limits.{default_limits};
-ghost use Rattle.graphql_parser.specs.grammar.Request.{field_named};
+ghost use Rattle.graphql_syntax.specs.trees.RequestViews.{directive_tree, variable_definition_tree, selection_set_tree};
+ghost use Rattle.graphql_parser.specs.grammar.Selections.{fragment_name};
+ghost use Rattle.graphql_parser.specs.reading.ArgumentViews.{trees_in};
+ghost use Rattle.graphql_parser.specs.reading.Arguments.{directives_at};
+ghost use Rattle.graphql_parser.specs.reading.Definitions.{definition_tree, in_definitions, maybe_name_at, given_variables_at, worded_at};
 ghost use Rattle.graphql_parser.specs.reading.Given.{Gives, GivesWhole};
-ghost use Rattle.graphql_parser.specs.reading.Request.{field_at, fields_at, selection_set_at, operation_at, request_at};
-ghost use Rattle.graphql_parser.specs.reading.Views.{in_fields, in_definitions};
+ghost use Rattle.graphql_parser.specs.reading.Outcome.{one_at};
+ghost use Rattle.graphql_parser.specs.reading.Request.{own_set_at, short_operation_at, operation_type_at, fragment_at, definition_first, definition_at, definitions_at, request_at};
 
-use super::{Cursor, Reading};
-use crate::Result;
-use graphql_syntax::lexer::Tokens;
-use graphql_syntax::pos::{Pos, Positioned};
+use super::arguments::read_directives;
+use super::selections::{read_selection_set, read_type_condition};
+use super::variables::read_maybe_variable_definitions;
+use super::{Cursor, Reading, Refusal};
+use crate::limits::Limits;
+use graphql_syntax::lexer::Token;
+use graphql_syntax::pos::Positioned;
 use graphql_syntax::types::{
-    DocumentOperations, ExecutableDocument, Field, OperationDefinition, OperationType, Selection,
-    SelectionSet,
+    Directive, FragmentDefinition, OperationDefinition, OperationType, SelectionSet,
+    VariableDefinition,
 };
 use graphql_syntax::value::Name;
-use indexmap::IndexMap;
 use std::alloc::Global;
 
-// A field without a set has an empty one, which stands nowhere.
-const NOWHERE: Pos = Pos { line: 0, column: 0 };
-
-fn plain_field(alloc: Global, name: Positioned<Name>) -> Positioned<Selection>
-    ensures { request.placed selection_tree result ≡ field_named name }
-{
-    let pos = name.pos;
-    let field = Field {
-        alias: None,
-        name,
-        arguments: Vec::new(alloc),
-        directives: Vec::new(alloc),
-        selection_set: Positioned::new(SelectionSet::new(alloc), NOWHERE),
-    };
-    Positioned::new(Selection::Field(Positioned::new(field, pos)), pos)
+/// A definition, before the rules of documents are looked at.
+#[derive(Drop)]
+pub(super) enum Definition {
+    /// An operation, with its name where it has one.
+    Operation(Option<Name>, Positioned<OperationDefinition>),
+    /// A fragment, with its name.
+    Fragment(Name, Positioned<FragmentDefinition>),
 }
 
-fn read_field(alloc: Global, cursor: &mut Cursor) -> Reading<Positioned<Selection>>
-    ensures { Gives (request.placed selection_tree) result cursor.old cursor.new field_at }
-{
-    let token = cursor.expect_name()?;
-    let name = Name::new(alloc, token.text)?;
-    Ok(plain_field(alloc, Positioned::new(name, token.pos)))
-}
+impl<'a> Cursor<'a> {
+    fn is_at_definition(&self) -> bool
+        ensures { result ≡ definition_first self.now.hand.bare }
+    {
+        self.is_at_punct("{")
+            || self.is_at_keyword("query")
+            || self.is_at_keyword("mutation")
+            || self.is_at_keyword("subscription")
+            || self.is_at_keyword("fragment")
+    }
 
-fn read_fields(alloc: Global, cursor: &mut Cursor) -> Reading<Vec<Positioned<Selection>>>
-    ensures { Gives in_fields result cursor.old cursor.new fields_at }
-{
-    let mut fields = Vec::new(alloc);
-    loop {
-        let field = read_field(alloc, cursor)?;
-        fields.push(field)?;
-        if !cursor.is_at_name() {
-            return Ok(fields);
+    fn expect_fragment_name(&mut self) -> Reading<Token<'a>>
+        ensures { Gives seen result self.old self.new (one_at fragment_name) }
+    {
+        if !self.is_at_fragment_name() {
+            return Err(Refusal::Syntax);
         }
+        Ok(self.take())
+    }
+
+    /// The keyword of an operation, and the kind that it tells.
+    fn expect_operation_type(&mut self) -> Reading<(Token<'a>, OperationType)>
+        ensures { Gives (λ x. (seen x.0, x.1)) result self.old self.new operation_type_at }
+    {
+        let kind = if self.is_at_keyword("query") {
+            OperationType::Query
+        } else if self.is_at_keyword("mutation") {
+            OperationType::Mutation
+        } else if self.is_at_keyword("subscription") {
+            OperationType::Subscription
+        } else {
+            return Err(Refusal::Syntax);
+        };
+        Ok((self.take(), kind))
     }
 }
 
-fn read_set(alloc: Global, cursor: &mut Cursor) -> Reading<Positioned<SelectionSet>>
-    ensures { Gives (request.placed selection_set_tree) result cursor.old cursor.new selection_set_at }
+/// The set of a definition, whose nesting isn't counted.
+fn read_own_set(
+    alloc: Global,
+    cursor: &mut Cursor,
+    limits: Limits,
+) -> Reading<Positioned<SelectionSet>>
+    ensures { Gives (request.placed selection_set_tree) result cursor.old cursor.new (own_set_at limits) }
 {
-    let brace = cursor.expect_punct("{")?;
-    let items = read_fields(alloc, cursor)?;
-    cursor.expect_punct("}")?;
-    Ok(Positioned::new(SelectionSet { items }, brace.pos))
+    read_selection_set(alloc, cursor, limits.values(), limits.selections())
 }
 
-fn read_operation(alloc: Global, cursor: &mut Cursor) -> Reading<Positioned<OperationDefinition>>
-    ensures { Gives (request.placed operation_tree) result cursor.old cursor.new operation_at }
+fn read_own_directives(
+    alloc: Global,
+    cursor: &mut Cursor,
+    limits: Limits,
+) -> Reading<Vec<Positioned<Directive>>>
+    ensures { Gives (trees_in (request.placed directive_tree)) result cursor.old cursor.new (directives_at true limits.values) }
 {
-    let selection_set = read_set(alloc, cursor)?;
+    read_directives(alloc, cursor, limits.values())
+}
+
+fn read_own_variables(
+    alloc: Global,
+    cursor: &mut Cursor,
+    limits: Limits,
+) -> Reading<Vec<Positioned<VariableDefinition>>>
+    ensures { Gives (trees_in (request.placed variable_definition_tree)) result cursor.old cursor.new (given_variables_at limits) }
+{
+    read_maybe_variable_definitions(alloc, cursor, limits.values(), limits.types())
+}
+
+/// The short form of a query: its set alone.
+fn read_short_operation(alloc: Global, cursor: &mut Cursor, limits: Limits) -> Reading<Definition>
+    ensures { Gives definition_tree result cursor.old cursor.new (short_operation_at limits) }
+{
+    let selection_set = read_own_set(alloc, cursor, limits)?;
     let pos = selection_set.pos;
     let operation = OperationDefinition {
         ty: OperationType::Query,
@@ -81,33 +114,89 @@ fn read_operation(alloc: Global, cursor: &mut Cursor) -> Reading<Positioned<Oper
         directives: Vec::new(alloc),
         selection_set,
     };
-    Ok(Positioned::new(operation, pos))
+    Ok(Definition::Operation(None, Positioned::new(operation, pos)))
 }
 
-fn read_request(alloc: Global, cursor: &mut Cursor) -> Reading<Positioned<OperationDefinition>>
-    ensures { GivesWhole in_definitions result cursor.old cursor.new (request_at default_limits) }
+fn read_maybe_name(alloc: Global, cursor: &mut Cursor) -> Reading<Option<Name>>
+    ensures { Gives (λ name. name) result cursor.old cursor.new maybe_name_at }
 {
-    let operation = read_operation(alloc, cursor)?;
-    cursor.expect_end()?;
-    Ok(operation)
-}
-
-/// Reads a request (GraphQL October 2021, section 2): gives its one tree, with the place of each node.
-///
-/// The grammar that is read so far is one set of plain fields, as `{a b}`. Memory is taken for the tree
-/// alone; the text is only borrowed.
-///
-/// Errors: `Syntax` where the text has no tree, at the first token with which no request goes on from
-/// what stands before it, with the message `syntax error at L:C`; `OutOfMemory` where memory was refused.
-pub fn parse_query(alloc: Global, text: &str) -> Result<ExecutableDocument>
-    ensures { (tokens : List SpecToken) → IsCutInto text.now tokens → Answers default_limits tokens result }
-{
-    let mut cursor = Cursor::new(Tokens::new(text));
-    match read_request(alloc, &mut cursor) {
-        Ok(operation) => Ok(ExecutableDocument {
-            operations: DocumentOperations::Single(operation),
-            fragments: IndexMap::new(alloc),
-        }),
-        Err(refusal) => Err(cursor.error(alloc, refusal)),
+    if !cursor.is_at_name() {
+        return Ok(None);
     }
+    let token = cursor.take();
+    let name = Name::new(alloc, token.text)?;
+    Ok(Some(name))
+}
+
+/// An operation that begins with its keyword.
+fn read_operation(alloc: Global, cursor: &mut Cursor, limits: Limits) -> Reading<Definition>
+    ensures { Gives definition_tree result cursor.old cursor.new (worded_at limits) }
+{
+    let (word, ty) = cursor.expect_operation_type()?;
+    let name = read_maybe_name(alloc, cursor)?;
+    let variable_definitions = read_own_variables(alloc, cursor, limits)?;
+    let directives = read_own_directives(alloc, cursor, limits)?;
+    let selection_set = read_own_set(alloc, cursor, limits)?;
+    let operation = OperationDefinition {
+        ty,
+        variable_definitions,
+        directives,
+        selection_set,
+    };
+    Ok(Definition::Operation(name, Positioned::new(operation, word.pos)))
+}
+
+fn read_fragment(alloc: Global, cursor: &mut Cursor, limits: Limits) -> Reading<Definition>
+    ensures { Gives definition_tree result cursor.old cursor.new (fragment_at limits) }
+{
+    let word = cursor.expect_keyword("fragment")?;
+    let name = cursor.expect_fragment_name()?;
+    let name = Name::new(alloc, name.text)?;
+    let type_condition = read_type_condition(alloc, cursor)?;
+    let directives = read_own_directives(alloc, cursor, limits)?;
+    let selection_set = read_own_set(alloc, cursor, limits)?;
+    let fragment = FragmentDefinition {
+        type_condition,
+        directives,
+        selection_set,
+    };
+    Ok(Definition::Fragment(name, Positioned::new(fragment, word.pos)))
+}
+
+fn read_definition(alloc: Global, cursor: &mut Cursor, limits: Limits) -> Reading<Definition>
+    ensures { Gives definition_tree result cursor.old cursor.new (definition_at limits) }
+{
+    if cursor.is_at_punct("{") {
+        read_short_operation(alloc, cursor, limits)
+    } else if cursor.is_at_keyword("fragment") {
+        read_fragment(alloc, cursor, limits)
+    } else {
+        read_operation(alloc, cursor, limits)
+    }
+}
+
+fn read_definitions(alloc: Global, cursor: &mut Cursor, limits: Limits) -> Reading<Vec<Definition>>
+    ensures { Gives in_definitions result cursor.old cursor.new (definitions_at limits) }
+{
+    let mut definitions = Vec::with_capacity(alloc, 1)?;
+    loop {
+        let definition = read_definition(alloc, cursor, limits)?;
+        definitions.push(definition)?;
+        if !cursor.is_at_definition() {
+            return Ok(definitions);
+        }
+    }
+}
+
+/// The definitions of a request. The end of the text stays in hand.
+pub(super) fn read_request(
+    alloc: Global,
+    cursor: &mut Cursor,
+    limits: Limits,
+) -> Reading<Vec<Definition>>
+    ensures { GivesWhole in_definitions result cursor.old cursor.new (request_at limits) }
+{
+    let definitions = read_definitions(alloc, cursor, limits)?;
+    cursor.expect_end()?;
+    Ok(definitions)
 }

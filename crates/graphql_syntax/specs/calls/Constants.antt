@@ -1,5 +1,5 @@
 -- Directives that are constant: in no argument of which a variable stands.
-use Rattle.std.specs.Prelude.{List, [], ◌∷◌, Bool, false, ◌||◌}
+use Rattle.std.specs.Prelude.{[], ◌∷◌, Bool, false, ◌||◌}
 use Rattle.graphql_syntax.specs.trees.Request.{Arguments, Directive}
 use Rattle.graphql_syntax.specs.trees.ValueTree.{has_variable}
 

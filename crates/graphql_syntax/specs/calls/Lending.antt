@@ -1,5 +1,5 @@
 -- What is lent of a selection: the directives of its own case.
-use Rattle.std.specs.Prelude.{List, Vec}
+use Rattle.std.specs.Prelude.{Vec}
 use Rattle.std.specs.Borrow.{Lends, MutBor, Fml}
 use Rattle.std.specs.declared.alloc.Global.{Global}
 use denote.RattleType.{RattleType}

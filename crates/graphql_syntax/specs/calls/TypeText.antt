@@ -1,5 +1,5 @@
 -- The type of a type text: the proper type that the text shows.
-use Rattle.std.specs.Prelude.{◌≡◌, ℕ, List, [], ◌∷◌, ◌++◌, Bool, IsTrue, codes}
+use Rattle.std.specs.Prelude.{◌≡◌, ℕ, List, ◌++◌, IsTrue, codes}
 use Rattle.graphql_syntax.specs.trees.TypeTree.{TypeTree, named, list, type_text}
 
 -- a text begins, or ends, with another

@@ -1,7 +1,7 @@
 -- Tokens of the code, as clauses see them.
 use Rattle.std.specs.Prelude.{◌≡◌, ◌+◌, Option, is_some, if◌then◌else◌}
 use Rattle.std.specs.Iterator.{YieldsFirstBy}
-use Rattle.graphql_syntax.specs.tokens.Token.{Token, Lexing}
+use Rattle.graphql_syntax.specs.tokens.Token.{Token, Lexing, left}
 use Rattle.graphql_syntax.specs.declared.lexer.Token.{Token as LentToken}
 
 abbrev pub seen : LentToken → Token
@@ -9,4 +9,4 @@ seen t = record { bare = record { kind = t.kind; spelling = t.text.now }; start 
 
 -- a call of `next` gives the first token that is left, and counts it
 abbrev pub GivesToken : Lexing → Option LentToken → Lexing → Type 0
-GivesToken s r t = YieldsFirstBy seen (λ x. x.left) s r t × (t.taken ≡ s.taken + (if is_some r then 1 else 0))
+GivesToken s r t = YieldsFirstBy seen left s r t × (t.whole ≡ s.whole) × (t.taken ≡ s.taken + (if is_some r then 1 else 0))

@@ -1,5 +1,5 @@
 -- Tokens as clauses see them.
-use Rattle.std.specs.Prelude.{ℕ, List}
+use Rattle.std.specs.Prelude.{ℕ, List, drop}
 use Rattle.graphql_syntax.specs.declared.pos.Pos.{Pos}
 use Rattle.graphql_syntax.specs.declared.lexer.TokenKind.{TokenKind}
 
@@ -14,7 +14,11 @@ pub record Token : Type 0 where
   pub start : ℕ
   pub pos : Pos
 
--- what a lexer shows: the tokens still to come, and how many it has given
+-- what a lexer shows: the tokens of its text, and how many it has given
 pub record Lexing : Type 0 where
-  pub left : List Token
+  pub whole : List Token
   pub taken : ℕ
+
+-- the tokens still to come
+abbrev pub left : Lexing → List Token
+left l = drop l.taken l.whole

@@ -1,5 +1,5 @@
 -- The test of whether two type trees are equal.
-use Rattle.std.specs.Prelude.{ℕ, List, Bool, true, false, ◌&&◌, nat_eq}
+use Rattle.std.specs.Prelude.{Bool, false, ◌&&◌, nat_eq}
 use Rattle.std.specs.Bool.{beq}
 use Rattle.std.specs.Cmp.Lexicographic.{pointwise}
 use Rattle.graphql_syntax.specs.trees.TypeTree.{TypeTree, named, list}

@@ -1,21 +1,14 @@
 //! The lines of a block string.
 
-ghost use Rattle.std.specs.Prelude.{◌≡◌, ◌≤◌, ◌<◌, ◌+◌, ◌++◌, [], false, true, drop, length, slice_index, MatchOption, OnOk, string_bytes};
+ghost use Rattle.std.specs.Prelude.{◌≡◌, ◌≤◌, ◌<◌, ◌+◌, ◌++◌, [], false, true, drop, length, MatchOption, OnOk, string_bytes};
 ghost use Rattle.std.specs.List.{prefix_len};
 ghost use Rattle.std.specs.Str.{IsUtf8};
 ghost use Rattle.graphql_syntax.specs.tokens.Place as place;
 ghost use Rattle.graphql_syntax.specs.tokens.BlockText as spec;
 ghost use Rattle.graphql_syntax.specs.inner.Blocks.{is_space as is_space_char, end_len, counted, indent_with, trimmed, written, first_line, StartsText, EndsText, IsPlainBetween, IsUnquotedBetween};
 
+use super::byte;
 use std::alloc::AllocError;
-
-// The byte at `at`, or 0 past the end.
-#[inline(always)]
-fn byte(bytes: &[u8], at: usize) -> u8
-    ensures { result ≡ slice_index bytes.now at }
-{
-    if at < bytes.len() { bytes[at] } else { 0 }
-}
 
 #[inline(always)]
 fn is_blank(b: u8) -> bool

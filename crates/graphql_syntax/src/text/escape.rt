@@ -1,20 +1,14 @@
 //! Escapes in the content of a string.
 
-ghost use Rattle.std.specs.Prelude.{◌≡◌, ◌<◌, slice_index};
+ghost use Rattle.std.specs.Prelude.{◌≡◌, ◌<◌};
 ghost use Rattle.std.specs.Char.{is_ascii_hexdigit};
 ghost use Rattle.std.specs.List.{prefix_len};
 ghost use Rattle.graphql_syntax.specs.inner.Escapes as escapes;
 
+use super::byte;
+
 // The first number past all characters.
 const PAST_CHARS: u32 = 0x11_0000;
-
-// The byte at `at`, or 0 past the end.
-#[inline(always)]
-fn byte(bytes: &[u8], at: usize) -> u8
-    ensures { result ≡ slice_index bytes.now at }
-{
-    if at < bytes.len() { bytes[at] } else { 0 }
-}
 
 // What a backslash and this letter stand for.
 fn letter_value(letter: u8) -> Option<char>

@@ -1,4 +1,4 @@
-use Rattle.std.proofs.Common.{ℕ, ◌≡◌, ◌++◌, ◌∷◌, [], Option, None, Some, refl, sym, ap, ◌∙◌, IfOk, MatchOption, lit<, subst, false}
+use Rattle.std.proofs.Common.{◌++◌, ◌∷◌, [], Option, Some, sym, ap, ◌∙◌, IfOk, MatchOption, lit<, subst}
 use Rattle.std.proofs.lemmas.List.{append_cancel_right}
 use Rattle.std.proofs.lemmas.Str.Pattern.{strip_prefix_char, strip_suffix_char}
 use Rattle.graphql_syntax.specs.calls.TypeText.{IsTypeOf}

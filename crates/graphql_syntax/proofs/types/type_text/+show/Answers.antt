@@ -1,4 +1,4 @@
-use Rattle.std.proofs.Common.{rules, ◌≡◌, ◌++◌, false, true, refl, sym, ap, ◌∙◌}
+use Rattle.std.proofs.Common.{rules, ◌≡◌, ◌++◌, false, refl, sym, ap, ◌∙◌}
 use Rattle.std.proofs.Output.{has_written_of_eq, has_written_append}
 use Rattle.graphql_syntax.specs.trees.TypeTree.{base_text, mark}
 use Rattle.graphql_syntax.proofs.TypeTexts.{text_of_base}

@@ -1,0 +1,48 @@
+//! Readers of selection sets: one loop over the sets that are open.
+ghost use Rattle.graphql_syntax.specs.trees.Request as request;
+ghost use Rattle.graphql_syntax.specs.trees.RequestViews.{selection_set_tree};
+ghost use Rattle.graphql_parser.specs.reading.Given.{Gives};
+ghost use Rattle.graphql_parser.specs.reading.Selections.{selection_set_at};
+
+mod frames;
+mod heads;
+
+use super::{Cursor, Reading};
+use frames::{Frames, OpenSet};
+use graphql_syntax::pos::Positioned;
+use graphql_syntax::types::SelectionSet;
+pub(super) use heads::read_type_condition;
+use std::alloc::Global;
+
+/// A selection set in which sets nest at most `selections` deep, and whose values nest at most
+/// `values` deep.
+pub(super) fn read_selection_set(
+    alloc: Global,
+    cursor: &mut Cursor,
+    values: usize,
+    selections: usize,
+) -> Reading<Positioned<SelectionSet>>
+    ensures { Gives (request.placed selection_set_tree) result cursor.old cursor.new (selection_set_at values selections) }
+{
+    let brace = cursor.expect_punct("{")?;
+    let mut frames = Frames::new(alloc, selections);
+    let mut own = OpenSet::new(alloc, brace.pos)?;
+    loop {
+        let nests = frames.may_nest();
+        if let Some(place) = heads::read_head(alloc, cursor, values, nests, &mut own.items)? {
+            frames.enter(own)?;
+            own = OpenSet::new(alloc, place)?;
+            continue;
+        }
+        while !cursor.is_at_selection() {
+            cursor.expect_punct("}")?;
+            match frames.leave() {
+                None => return Ok(own.close()),
+                Some(mut outer) => {
+                    outer.fill(own.close());
+                    own = outer;
+                }
+            }
+        }
+    }
+}
