@@ -1,244 +1,330 @@
 //! What the calls of a request's tree give.
 use crate::built;
+use crate::rows::{Subject, hold};
+use crate::shown::Shown;
 use graphql_parser::types::{
-    DocumentOperations, ExecutableDocument, FragmentSpread, InlineFragment, OperationsIter,
-    Selection, SelectionSet, VariableDefinition,
+    DocumentOperations, ExecutableDocument, FragmentDefinition, OperationDefinition,
+    OperationsIter, Selection, SelectionSet, VariableDefinition,
 };
 use graphql_parser::value::{ConstValue, Name, Value};
 use graphql_parser::{Pos, Positioned};
 use indexmap::IndexMap;
 use std::alloc::{AllocError, Global};
 use std::borrow::Cow;
-use std::process::Abort;
 use std::test::Fail;
 
-// The column and the text of what was found, or nothing.
-type Found<'a> = Option<(usize, &'a str)>;
+/// The argument of a name in a field, a directive and a directive without variables. Each has the arguments
+/// `b: one`, `b: two` and `c: three`, at columns 1 to 6.
+struct Argument;
 
-const ARGUMENTS: [(&str, Found<'static>); 6] = [
-    ("b", Some((2, "one"))),
-    ("c", Some((6, "three"))),
-    ("", None),
-    ("B", None),
-    ("bb", None),
-    ("d", None),
-];
-
-fn found(value: Option<&Positioned<Value>>) -> Found<'_> {
-    match value {
-        Some(
-            Positioned {
-                pos,
-                node: Value::Enum(name),
-            },
-        ) => Some((pos.column, name.as_str())),
-        _ => None,
+impl Subject for Argument {
+    fn answer(&self, alloc: Global, text: &str) -> Result<String, Fail> {
+        let mut shown = Shown::new(alloc);
+        find_in_field(alloc, &mut shown, text)?;
+        find_in_directive(alloc, &mut shown, text)?;
+        find_in_constant(alloc, &mut shown, text)?;
+        Ok(shown.finish()?)
     }
 }
 
-fn found_constant(value: Option<&Positioned<ConstValue>>) -> Found<'_> {
+fn find_in_field(alloc: Global, shown: &mut Shown, name: &str) -> Result<(), AllocError> {
+    let field = built::field(alloc, None)?;
+    write_value(shown, field.get_argument(name));
+    Ok(())
+}
+
+fn find_in_directive(alloc: Global, shown: &mut Shown, name: &str) -> Result<(), AllocError> {
+    let directive = built::directive_with(alloc, built::arguments(alloc, built::leaf(alloc, "three")?)?)?;
+    shown.word(", ");
+    write_value(shown, directive.get_argument(name));
+    Ok(())
+}
+
+fn find_in_constant(alloc: Global, shown: &mut Shown, name: &str) -> Result<(), AllocError> {
+    let directive = built::constant_directive(alloc)?;
+    shown.word(", ");
+    write_constant(shown, directive.get_argument(name));
+    Ok(())
+}
+
+fn write_value(shown: &mut Shown, value: Option<&Positioned<Value>>) {
     match value {
-        Some(
-            Positioned {
-                pos,
-                node: ConstValue::Enum(name),
-            },
-        ) => Some((pos.column, name.as_str())),
-        _ => None,
+        Some(value) => {
+            shown.value(&value.node);
+            shown.place("@", value.pos);
+        }
+        None => shown.word("none"),
+    }
+}
+
+fn write_constant(shown: &mut Shown, value: Option<&Positioned<ConstValue>>) {
+    match value {
+        Some(value) => {
+            shown.constant(&value.node);
+            shown.place("@", value.pos);
+        }
+        None => shown.word("none"),
     }
 }
 
 #[test]
 fn the_first_argument_of_a_name(rt: HostRuntime) -> Result<(), Fail> {
-    let alloc = rt.alloc();
-    let field = built::field(alloc, None)?;
-    let mut directive = built::directive(alloc, 1, "d")?.into_inner();
-    directive.arguments = built::arguments(alloc)?;
-    let constant = built::constant_directive(alloc, "d", built::constant_arguments(alloc)?)?;
-    for (name, want) in ARGUMENTS {
-        assert_eq!(rt;
-            found(field.get_argument(name)),
-            want,
-            "{name} of the field"
-        );
-        assert_eq!(rt;
-            found(directive.get_argument(name)),
-            want,
-            "{name} of the directive"
-        );
-        assert_eq!(rt;
-            found_constant(constant.get_argument(name)),
-            want,
-            "{name} of the constant"
-        );
+    hold(&rt, rt.alloc(), &Argument, ARGUMENTS)
+}
+
+const ARGUMENTS: &str = r"
+b ⇒ .one@1:2, .one@1:2, .one@1:2
+c ⇒ .three@1:6, .three@1:6, .three@1:6
+ ⇒ none, none, none
+B ⇒ none, none, none
+bb ⇒ none, none, none
+d ⇒ none, none, none
+";
+
+/// The response key of the field `f` at column 7, with an alias at column 3 where the row has one.
+struct ResponseKey;
+
+impl Subject for ResponseKey {
+    fn answer(&self, alloc: Global, text: &str) -> Result<String, Fail> {
+        let alias = if text.is_empty() { None } else { Some(built::name(alloc, 3, text)?) };
+        let field = built::field(alloc, alias)?;
+        let key = field.response_key();
+        let (name, place) = (key.node.as_str(), key.pos);
+        Ok(format!(in alloc; "{name}@{place}")?)
     }
-    Ok(())
 }
 
 #[test]
 fn the_key_of_a_response(rt: HostRuntime) -> Result<(), Fail> {
-    let alloc = rt.alloc();
-    let field = built::field(alloc, None)?;
-    let key = field.response_key();
-    assert_eq!(rt; (key.pos.column, key.node.as_str()), (7, "f"));
-    let field = built::field(alloc, Some(built::name(alloc, 3, "x")?))?;
-    let key = field.response_key();
-    assert_eq!(rt; (key.pos.column, key.node.as_str()), (3, "x"));
-    Ok(())
+    hold(&rt, rt.alloc(), &ResponseKey, RESPONSE_KEYS)
 }
 
-fn definition(
-    alloc: Global,
-    nullable: bool,
-    default_value: Option<Positioned<ConstValue>>,
-) -> Result<VariableDefinition, AllocError> {
-    Ok(VariableDefinition {
-        name: built::name(alloc, 1, "v")?,
-        var_type: built::named_type(alloc, "Int", nullable)?,
-        directives: Vec::new(alloc),
-        default_value,
-    })
+const RESPONSE_KEYS: &str = r"
+ ⇒ f@1:7
+x ⇒ x@1:3
+";
+
+/// The default of a variable whose type is `nullable` or not, without a default or with `red`.
+struct Default;
+
+impl Subject for Default {
+    fn answer(&self, alloc: Global, text: &str) -> Result<String, Fail> {
+        let default = if text.ends_with("red") {
+            Some(built::at(9, built::constant(alloc, "red")?))
+        } else {
+            None
+        };
+        let variable = built::variable(alloc, text.starts_with("nullable"), default)?;
+        let mut shown = Shown::new(alloc);
+        write_default(&mut shown, &variable);
+        Ok(shown.finish()?)
+    }
+}
+
+fn write_default(shown: &mut Shown, variable: &VariableDefinition) {
+    match variable.default_value() {
+        None => shown.word("none"),
+        Some(Cow::Borrowed(value)) => {
+            shown.word("lent ");
+            shown.constant(value);
+        }
+        Some(Cow::Owned(value)) => {
+            shown.word("made ");
+            shown.constant(&value);
+        }
+    }
 }
 
 #[test]
 fn the_default_of_a_variable(rt: HostRuntime) -> Result<(), Fail> {
-    let alloc = rt.alloc();
-    let nullable = definition(alloc, true, None)?;
-    assert!(rt; matches!(nullable.default_value(), Some(Cow::Owned(ConstValue::Null))));
-    let demanded = definition(alloc, false, None)?;
-    assert!(rt; demanded.default_value().is_none());
-    for nullable in [true, false] {
-        let default = built::at(9, built::constant(alloc, "red")?);
-        let given = definition(alloc, nullable, Some(default))?;
-        let lent = match given.default_value() {
-            Some(Cow::Borrowed(ConstValue::Enum(name))) => name.as_str() == "red",
-            _ => false,
-        };
-        assert!(rt; lent);
+    hold(&rt, rt.alloc(), &Default, DEFAULTS)
+}
+
+const DEFAULTS: &str = r"
+nullable ⇒ made null
+demanded ⇒ none
+nullable red ⇒ lent .red
+demanded red ⇒ lent .red
+";
+
+/// The directives of a selection, and again when one more was pushed to them.
+struct Directives;
+
+impl Subject for Directives {
+    fn answer(&self, alloc: Global, text: &str) -> Result<String, Fail> {
+        match text {
+            "field" => grown(alloc, Selection::Field(built::at(1, built::field(alloc, None)?))),
+            "spread" => grown(alloc, Selection::FragmentSpread(built::at(1, built::spread(alloc)?))),
+            _ => grown(alloc, Selection::InlineFragment(built::at(1, built::inline(alloc)?))),
+        }
     }
-    Ok(())
 }
 
-fn spread(alloc: Global) -> Result<Selection, AllocError> {
-    let spread = FragmentSpread {
-        fragment_name: built::name(alloc, 1, "F")?,
-        directives: Vec::from_array(alloc, [built::directive(alloc, 8, "d")?])?,
-    };
-    Ok(Selection::FragmentSpread(built::at(1, spread)))
-}
-
-fn inline(alloc: Global) -> Result<Selection, AllocError> {
-    let fragment = InlineFragment {
-        type_condition: None,
-        directives: Vec::from_array(alloc, [built::directive(alloc, 8, "d")?])?,
-        selection_set: built::no_selections(alloc),
-    };
-    Ok(Selection::InlineFragment(built::at(1, fragment)))
-}
-
-// The selection has the one directive `d`, and keeps what is written to its list.
-fn has_directives(
-    rt: &impl Abort,
-    alloc: Global,
-    selection: &mut Selection,
-) -> Result<(), AllocError> {
-    assert_eq!(rt; selection.directives().len(), 1);
-    selection
-        .directives_mut()
-        .push(built::directive(alloc, 9, "e")?)?;
-    let directives = selection.directives();
-    assert_eq!(rt; directives.len(), 2);
-    assert_eq!(rt; directives[0].node.name.node.as_str(), "d");
-    assert_eq!(rt; directives[1].node.name.node.as_str(), "e");
-    Ok(())
+fn grown(alloc: Global, mut selection: Selection) -> Result<String, Fail> {
+    let mut shown = Shown::new(alloc);
+    shown.directives(selection.directives());
+    built::push_directive(alloc, selection.directives_mut(), 9, "e")?;
+    shown.word(" then");
+    shown.directives(selection.directives());
+    Ok(shown.finish()?)
 }
 
 #[test]
 fn the_directives_of_a_selection(rt: HostRuntime) -> Result<(), Fail> {
-    let alloc = rt.alloc();
-    let mut selection = Selection::Field(built::at(1, built::field(alloc, None)?));
-    has_directives(&rt, alloc, &mut selection)?;
-    has_directives(&rt, alloc, &mut spread(alloc)?)?;
-    has_directives(&rt, alloc, &mut inline(alloc)?)?;
-    assert_eq!(rt; SelectionSet::new(alloc).items.len(), 0);
-    Ok(())
+    assert_eq!(rt; SelectionSet::new(rt.alloc()).items.len(), 0);
+    hold(&rt, rt.alloc(), &Directives, DIRECTIVES)
 }
 
-// What is left is of this length, and a copy has the same left.
-fn are_left(
-    rt: &impl Abort,
-    operations: &OperationsIter<'_>,
-    want: &[(Option<&str>, usize)],
-) -> Result<(), AllocError> {
-    let mut copy = operations.clone()?;
-    let mut count = want.len();
-    for (name, column) in want.iter().copied() {
-        assert_eq!(rt; copy.len(), count);
-        assert_eq!(rt; copy.size_hint(), (count, Some(count)));
-        let (found, operation) = copy.next().expect(rt, "an operation");
-        assert_eq!(rt; found.map(Name::as_str), name);
-        assert_eq!(rt; operation.pos.column, column);
-        count = count.wrapping_sub(1);
+const DIRECTIVES: &str = r"
+field ⇒ ␠(directive 1:8 d@1:8) then (directive 1:8 d@1:8) (directive 1:9 e@1:9)
+spread ⇒ ␠(directive 1:8 d@1:8) then (directive 1:8 d@1:8) (directive 1:9 e@1:9)
+inline ⇒ ␠(directive 1:8 d@1:8) then (directive 1:8 d@1:8) (directive 1:9 e@1:9)
+";
+
+// Queries of these names, at columns 1, 2, 3.
+fn named(alloc: Global, names: &str) -> Result<DocumentOperations, AllocError> {
+    let mut operations = IndexMap::new(alloc);
+    let mut column = 0usize;
+    for name in names.split_whitespace() {
+        column = column.wrapping_add(1);
+        operations.insert(Name::new(alloc, name)?, built::query(alloc, column))?;
     }
-    assert_eq!(rt; copy.len(), 0);
-    assert!(rt; copy.next().is_none());
-    assert!(rt; copy.next().is_none());
+    Ok(DocumentOperations::Multiple(operations))
+}
+
+fn request_of(alloc: Global, names: &str) -> Result<DocumentOperations, AllocError> {
+    if names == "single" {
+        return Ok(DocumentOperations::Single(built::query(alloc, 5)));
+    }
+    named(alloc, names)
+}
+
+/// The operations of these names, or a single one: all, and what is left when one more was given.
+struct Operations;
+
+impl Subject for Operations {
+    fn answer(&self, alloc: Global, text: &str) -> Result<String, Fail> {
+        let operations = request_of(alloc, text)?;
+        let mut shown = Shown::new(alloc);
+        let mut left = operations.iter();
+        write_left(&mut shown, &left)?;
+        for _ in 0..4 {
+            shown.word(if left.next().is_some() { ", then" } else { ", none" });
+            write_left(&mut shown, &left)?;
+        }
+        Ok(shown.finish()?)
+    }
+}
+
+// What is left, by a copy, and whether its number is told.
+fn write_left(shown: &mut Shown, operations: &OperationsIter<'_>) -> Result<(), AllocError> {
+    let mut count = 0usize;
+    for (name, operation) in operations.clone()? {
+        shown.word(" ");
+        shown.word(name.map(Name::as_str).unwrap_or("unnamed"));
+        shown.place("@", operation.pos);
+        count = count.wrapping_add(1);
+    }
+    if operations.len() != count || operations.size_hint() != (count, Some(count)) {
+        shown.word(" (not counted)");
+    }
     Ok(())
 }
 
 #[test]
 fn the_operations_of_a_request(rt: HostRuntime) -> Result<(), Fail> {
-    let alloc = rt.alloc();
-    let single = DocumentOperations::Single(built::query(alloc, 5));
-    are_left(&rt, &single.iter(), &[(None, 5)])?;
-    assert!(rt; single.get("").is_none());
+    hold(&rt, rt.alloc(), &Operations, OPERATIONS)
+}
 
-    let mut map = IndexMap::new(alloc);
-    map.insert(Name::new(alloc, "Z")?, built::query(alloc, 1))?;
-    map.insert(Name::new(alloc, "A")?, built::query(alloc, 2))?;
-    map.insert(Name::new(alloc, "M")?, built::query(alloc, 3))?;
-    let multiple = DocumentOperations::Multiple(map);
-    let mut operations = multiple.iter();
-    are_left(
-        &rt,
-        &operations,
-        &[(Some("Z"), 1), (Some("A"), 2), (Some("M"), 3)],
-    )?;
-    operations.next();
-    are_left(&rt, &operations, &[(Some("A"), 2), (Some("M"), 3)])?;
-    operations.next();
-    operations.next();
-    are_left(&rt, &operations, &[])?;
-    for (name, want) in [
-        ("A", Some(2)),
-        ("Z", Some(1)),
-        ("a", None),
-        ("", None),
-        ("ZA", None),
-    ] {
-        assert_eq!(rt; multiple.get(name).map(|o| o.pos.column), want, "{name}");
+const OPERATIONS: &str = r"
+single ⇒ ␠unnamed@1:5, then, none, none, none
+Z A M ⇒ ␠Z@1:1 A@1:2 M@1:3, then A@1:2 M@1:3, then M@1:3, then, none
+";
+
+/// The operation of a name among others, which stand behind `in`.
+struct OperationOfName;
+
+impl Subject for OperationOfName {
+    fn answer(&self, alloc: Global, text: &str) -> Result<String, Fail> {
+        let (name, names) = text.split_once(" in ").ok_or("no names")?;
+        let operations = request_of(alloc, names)?;
+        let mut shown = Shown::new(alloc);
+        match operations.get(name) {
+            Some(operation) => shown.place("", operation.pos),
+            None => shown.word("none"),
+        }
+        Ok(shown.finish()?)
     }
+}
+
+#[test]
+fn the_operation_of_a_name(rt: HostRuntime) -> Result<(), Fail> {
+    hold(&rt, rt.alloc(), &OperationOfName, OPERATIONS_OF_NAMES)
+}
+
+const OPERATIONS_OF_NAMES: &str = r"
+A in Z A M ⇒ 1:2
+Z in Z A M ⇒ 1:1
+a in Z A M ⇒ none
+ in Z A M ⇒ none
+ZA in Z A M ⇒ none
+ in single ⇒ none
+";
+
+/// The fragment of a name in a request with the fragments `F` and `G`, and how many its copy has.
+struct FragmentOfName;
+
+impl Subject for FragmentOfName {
+    fn answer(&self, alloc: Global, text: &str) -> Result<String, Fail> {
+        let document = document(alloc)?;
+        let mut shown = Shown::new(alloc);
+        match document.fragment(text) {
+            Some(fragment) => shown.place("", fragment.pos),
+            None => shown.word("none"),
+        }
+        let copy = document.clone()?;
+        shown.number(" of ", copy.fragments.len());
+        Ok(shown.finish()?)
+    }
+}
+
+fn document(alloc: Global) -> Result<ExecutableDocument, AllocError> {
+    let operations = DocumentOperations::Single(built::query(alloc, 1));
+    let fragments = fragments(alloc)?;
+    Ok(ExecutableDocument {
+        operations,
+        fragments,
+    })
+}
+
+type Fragments = IndexMap<Name, Positioned<FragmentDefinition>>;
+
+fn fragments(alloc: Global) -> Result<Fragments, AllocError> {
+    let mut fragments = IndexMap::new(alloc);
+    insert(alloc, &mut fragments, "F", 4)?;
+    insert(alloc, &mut fragments, "G", 6)?;
+    Ok(fragments)
+}
+
+fn insert(
+    alloc: Global,
+    fragments: &mut Fragments,
+    name: &str,
+    column: usize,
+) -> Result<(), AllocError> {
+    let name = Name::new(alloc, name)?;
+    fragments.insert(name, built::fragment(alloc, column)?)?;
     Ok(())
 }
 
 #[test]
 fn the_fragments_of_a_request(rt: HostRuntime) -> Result<(), Fail> {
-    let alloc = rt.alloc();
-    let mut fragments = IndexMap::new(alloc);
-    fragments.insert(Name::new(alloc, "F")?, built::fragment(alloc, 4)?)?;
-    fragments.insert(Name::new(alloc, "G")?, built::fragment(alloc, 6)?)?;
-    let document = ExecutableDocument {
-        operations: DocumentOperations::Single(built::query(alloc, 1)),
-        fragments,
-    };
-    for (name, want) in [("G", Some(6)), ("F", Some(4)), ("g", None), ("", None)] {
-        assert_eq!(rt;
-            document.fragment(name).map(|f| f.pos.column),
-            want,
-            "{name}"
-        );
-    }
-    let copy = document.clone()?;
-    assert_eq!(rt; copy.fragments.len(), 2);
-    Ok(())
+    hold(&rt, rt.alloc(), &FragmentOfName, FRAGMENTS_OF_NAMES)
 }
+
+const FRAGMENTS_OF_NAMES: &str = r"
+G ⇒ 1:6 of 2
+F ⇒ 1:4 of 2
+g ⇒ none of 2
+ ⇒ none of 2
+";

@@ -1,21 +1,35 @@
 //! Errors: what they print, and the places that they name.
-use crate::shown;
+use crate::rows::{Subject, hold};
+use crate::shown::{self, Shown};
 use graphql_parser::types::OperationType;
 use graphql_parser::value::Name;
 use graphql_parser::{Error, ErrorPositions, Pos};
 use std::alloc::{AllocError, Global};
-use std::process::Abort;
 use std::test::Fail;
 
 const A: Pos = Pos { line: 1, column: 2 };
 
 const B: Pos = Pos { line: 3, column: 4 };
 
-const A_JSON: &str = "[{\"line\":1,\"column\":2}]";
-
-const A_B_JSON: &str = "[{\"line\":1,\"column\":2},{\"line\":3,\"column\":4}]";
-
-const B_A_JSON: &str = "[{\"line\":3,\"column\":4},{\"line\":1,\"column\":2}]";
+// The error that a row speaks of.
+fn made(alloc: Global, what: &str) -> Result<Error, Fail> {
+    match what {
+        "syntax" => Ok(syntax(alloc, "syntax error at 1:2", None)?),
+        "syntax with an end" => Ok(syntax(alloc, "syntax error at 1:2", Some(B))?),
+        "syntax with another end" => Ok(syntax(alloc, "syntax error at 1:2", Some(A))?),
+        "syntax with a message" => Ok(syntax(alloc, "no\n\u{e9}", None)?),
+        "syntax without a message" => Ok(syntax(alloc, "", None)?),
+        "queries" => Ok(roots(OperationType::Query)),
+        "mutations" => Ok(roots(OperationType::Mutation)),
+        "subscriptions" => Ok(roots(OperationType::Subscription)),
+        "no query" => Ok(Error::MissingQueryRoot { pos: A }),
+        "no query elsewhere" => Ok(Error::MissingQueryRoot { pos: B }),
+        "limit" => Ok(Error::RecursionLimitExceeded),
+        "memory" => Ok(Error::OutOfMemory),
+        "refused memory" => Ok(Error::from(AllocError)),
+        request => Ok(of_request(alloc, request)?.ok_or("no such error")?),
+    }
+}
 
 fn syntax(alloc: Global, message: &str, end: Option<Pos>) -> Result<Error, AllocError> {
     Ok(Error::Syntax {
@@ -25,200 +39,168 @@ fn syntax(alloc: Global, message: &str, end: Option<Pos>) -> Result<Error, Alloc
     })
 }
 
-// Prints this text, names these places, in this order, and has an equal copy.
-fn says(
-    rt: &impl Abort,
-    alloc: Global,
-    error: &Error,
-    text: &str,
-    places: &str,
-) -> Result<(), Fail> {
-    let printed = error.to_string(alloc)?;
-    assert_eq!(rt; printed.as_str(), text);
-    let written = serde_json::to_string(alloc, &error.positions())?;
-    assert_eq!(rt; written.as_str(), places, "{text}");
-    let copy = error.clone()?;
-    assert!(rt; copy == *error, "{text}");
-    let (shown, shown_copy) = (shown::refusal(alloc, error)?, shown::refusal(alloc, &copy)?);
-    assert_eq!(rt; shown.as_str(), shown_copy.as_str());
-    Ok(())
-}
-
-#[test]
-fn errors_of_syntax_and_of_memory(rt: HostRuntime) -> Result<(), Fail> {
-    let alloc = rt.alloc();
-    says(
-        &rt,
-        alloc,
-        &syntax(alloc, "syntax error at 1:2", None)?,
-        "syntax error at 1:2",
-        A_JSON,
-    )?;
-    says(
-        &rt,
-        alloc,
-        &syntax(alloc, "no\n\u{e9}", Some(B))?,
-        "no\n\u{e9}",
-        A_B_JSON,
-    )?;
-    says(&rt, alloc, &syntax(alloc, "", None)?, "", A_JSON)?;
-    says(
-        &rt,
-        alloc,
-        &Error::RecursionLimitExceeded,
-        "recursion limit exceeded.",
-        "[]",
-    )?;
-    says(&rt, alloc, &Error::OutOfMemory, "out of memory", "[]")?;
-    says(&rt, alloc, &Error::from(AllocError), "out of memory", "[]")?;
-    Ok(())
-}
-
-#[test]
-fn errors_of_schemas(rt: HostRuntime) -> Result<(), Fail> {
-    let alloc = rt.alloc();
-    for (root, text) in [
-        (
-            OperationType::Query,
-            "multiple query roots in schema definition",
-        ),
-        (
-            OperationType::Mutation,
-            "multiple mutation roots in schema definition",
-        ),
-        (
-            OperationType::Subscription,
-            "multiple subscription roots in schema definition",
-        ),
-    ] {
-        let error = Error::MultipleRoots {
-            root,
-            schema: A,
-            pos: B,
-        };
-        says(&rt, alloc, &error, text, B_A_JSON)?;
+fn roots(root: OperationType) -> Error {
+    Error::MultipleRoots {
+        root,
+        schema: A,
+        pos: B,
     }
-    let error = Error::MissingQueryRoot { pos: A };
-    says(
-        &rt,
-        alloc,
-        &error,
-        "schema definition is missing query root",
-        A_JSON,
-    )?;
-    Ok(())
+}
+
+fn of_request(alloc: Global, what: &str) -> Result<Option<Error>, AllocError> {
+    match what {
+        "operations" => Ok(Some(Error::MultipleOperations {
+            anonymous: A,
+            operation: B,
+        })),
+        "operation twice" => Ok(Some(Error::OperationDuplicated {
+            operation: Name::new(alloc, "Q_1")?,
+            first: A,
+            second: B,
+        })),
+        "fragment twice" => Ok(Some(Error::FragmentDuplicated {
+            fragment: Name::new(alloc, "F")?,
+            first: A,
+            second: B,
+        })),
+        "no operation" => Ok(Some(Error::MissingOperation)),
+        _ => Ok(None),
+    }
+}
+
+/// What an error prints, and its places as JSON.
+struct Printed;
+
+impl Subject for Printed {
+    fn answer(&self, alloc: Global, text: &str) -> Result<String, Fail> {
+        said(alloc, &made(alloc, text)?)
+    }
+}
+
+fn said(alloc: Global, error: &Error) -> Result<String, Fail> {
+    let places = serde_json::to_string(alloc, &error.positions())?;
+    let copy = if has_equal_copy(alloc, error)? { "" } else { " with another copy" };
+    Ok(format!(in alloc; "{error} {places}{copy}")?)
+}
+
+fn has_equal_copy(alloc: Global, error: &Error) -> Result<bool, AllocError> {
+    let copy = error.clone()?;
+    let (one, other) = (shown::refusal(alloc, error)?, shown::refusal(alloc, &copy)?);
+    Ok(copy == *error && one.as_str() == other.as_str())
 }
 
 #[test]
-fn errors_of_requests(rt: HostRuntime) -> Result<(), Fail> {
-    let alloc = rt.alloc();
-    let error = Error::MultipleOperations {
-        anonymous: A,
-        operation: B,
-    };
-    says(
-        &rt,
-        alloc,
-        &error,
-        "document contains multiple operations",
-        A_B_JSON,
-    )?;
-    let error = Error::OperationDuplicated {
-        operation: Name::new(alloc, "Q_1")?,
-        first: A,
-        second: B,
-    };
-    says(
-        &rt,
-        alloc,
-        &error,
-        "operation Q_1 is defined twice",
-        B_A_JSON,
-    )?;
-    let error = Error::FragmentDuplicated {
-        fragment: Name::new(alloc, "F")?,
-        first: A,
-        second: B,
-    };
-    says(&rt, alloc, &error, "fragment F is defined twice", B_A_JSON)?;
-    let error = Error::MissingOperation;
-    says(
-        &rt,
-        alloc,
-        &error,
-        "document does not contain an operation",
-        "[]",
-    )?;
-    Ok(())
+fn what_errors_print(rt: HostRuntime) -> Result<(), Fail> {
+    hold(&rt, rt.alloc(), &Printed, WHAT_ERRORS_PRINT)
+}
+
+const WHAT_ERRORS_PRINT: &str = r#"
+syntax ⇒ syntax error at 1:2 [{"line":1,"column":2}]
+syntax with an end ⇒ syntax error at 1:2 [{"line":1,"column":2},{"line":3,"column":4}]
+syntax with a message ⇒ no␊é [{"line":1,"column":2}]
+syntax without a message ⇒ ␠[{"line":1,"column":2}]
+limit ⇒ recursion limit exceeded. []
+memory ⇒ out of memory []
+refused memory ⇒ out of memory []
+queries ⇒ multiple query roots in schema definition [{"line":3,"column":4},{"line":1,"column":2}]
+mutations ⇒ multiple mutation roots in schema definition [{"line":3,"column":4},{"line":1,"column":2}]
+subscriptions ⇒ multiple subscription roots in schema definition
+  [{"line":3,"column":4},{"line":1,"column":2}]
+no query ⇒ schema definition is missing query root [{"line":1,"column":2}]
+operations ⇒ document contains multiple operations [{"line":1,"column":2},{"line":3,"column":4}]
+operation twice ⇒ operation Q_1 is defined twice [{"line":3,"column":4},{"line":1,"column":2}]
+fragment twice ⇒ fragment F is defined twice [{"line":3,"column":4},{"line":1,"column":2}]
+no operation ⇒ document does not contain an operation []
+"#;
+
+/// How two errors, with `and` between them, compare.
+struct Equality;
+
+impl Subject for Equality {
+    fn answer(&self, alloc: Global, text: &str) -> Result<String, Fail> {
+        let (one, other) = text.split_once(" and ").ok_or("no two errors")?;
+        let one = made(alloc, one)?;
+        let other = made(alloc, other)?;
+        let answer = if one == other { "equal" } else { "different" };
+        Ok(String::from_str(alloc, answer)?)
+    }
 }
 
 #[test]
 fn every_field_counts(rt: HostRuntime) -> Result<(), Fail> {
-    let alloc = rt.alloc();
-    let error = syntax(alloc, "x", Some(B))?;
-    assert!(rt; error == syntax(alloc, "x", Some(B))?);
-    assert!(rt; error != syntax(alloc, "y", Some(B))?);
-    assert!(rt; error != syntax(alloc, "x", Some(A))?);
-    assert!(rt; error != syntax(alloc, "x", None)?);
-    assert!(rt; Error::MissingOperation != Error::RecursionLimitExceeded);
-    assert!(rt; Error::MissingQueryRoot { pos: A } != Error::MissingQueryRoot { pos: B });
-    Ok(())
+    hold(&rt, rt.alloc(), &Equality, ERRORS_THAT_ARE_COMPARED)
 }
 
-// What is left is `want`, by its number, and a copy has the same left.
-fn left(rt: &impl Abort, alloc: Global, places: &ErrorPositions, want: &str) -> Result<(), Fail> {
-    let copy = places.clone()?;
-    let count = copy.len();
-    assert_eq!(rt; copy.size_hint(), (count, Some(count)));
-    let list = copy.collect::<Vec<Pos>>(alloc)?;
-    assert_eq!(rt; list.len(), count);
-    assert_eq!(rt; places.len(), count);
-    let written = format!(in alloc; "{list:?}")?;
-    assert_eq!(rt; written.as_str(), want);
+const ERRORS_THAT_ARE_COMPARED: &str = r"
+syntax with an end and syntax with an end ⇒ equal
+syntax and syntax with a message ⇒ different
+syntax with an end and syntax with another end ⇒ different
+syntax with an end and syntax ⇒ different
+no operation and limit ⇒ different
+no query and no query elsewhere ⇒ different
+queries and mutations ⇒ different
+queries and queries ⇒ equal
+operation twice and operation twice ⇒ equal
+operation twice and fragment twice ⇒ different
+memory and refused memory ⇒ equal
+";
+
+/// What the places of an error give when they are taken from the front, by `next`, and from the back, by `back`:
+/// behind each place those that are left.
+struct BothEnds;
+
+impl Subject for BothEnds {
+    fn answer(&self, alloc: Global, text: &str) -> Result<String, Fail> {
+        let (what, steps) = text.split_once(": ").ok_or("no steps")?;
+        let error = made(alloc, what)?;
+        let mut places = error.positions();
+        let mut shown = Shown::new(alloc);
+        shown.word("all");
+        write_left(&mut shown, &places)?;
+        for step in steps.split_whitespace() {
+            let place = if step == "back" { places.next_back() } else { places.next() };
+            shown.word(" ");
+            write_place(&mut shown, place);
+            write_left(&mut shown, &places)?;
+        }
+        Ok(shown.finish()?)
+    }
+}
+
+fn write_place(shown: &mut Shown, place: Option<Pos>) {
+    match place {
+        Some(place) => shown.place("", place),
+        None => shown.word("none"),
+    }
+}
+
+// What is left, by a copy, and whether its number is told.
+fn write_left(shown: &mut Shown, places: &ErrorPositions) -> Result<(), AllocError> {
+    let mut count = 0usize;
+    shown.word(" [");
+    for place in places.clone()? {
+        shown.place(" ", place);
+        count = count.wrapping_add(1);
+    }
+    shown.word(" ]");
+    if places.len() != count || places.size_hint() != (count, Some(count)) {
+        shown.word(" (not counted)");
+    }
     Ok(())
 }
 
 #[test]
 fn places_come_from_both_ends(rt: HostRuntime) -> Result<(), Fail> {
-    let alloc = rt.alloc();
-    let error = Error::Syntax {
-        message: String::new(alloc),
-        start: Pos { line: 1, column: 2 },
-        end: Some(Pos { line: 1, column: 5 }),
-    };
-    let (start, end) = (
-        Some(Pos { line: 1, column: 2 }),
-        Some(Pos { line: 1, column: 5 }),
-    );
-
-    let mut places = error.positions();
-    left(&rt, alloc, &places, "[Pos(1:2), Pos(1:5)]")?;
-    assert_eq!(rt; places.next_back(), end);
-    left(&rt, alloc, &places, "[Pos(1:2)]")?;
-    assert_eq!(rt; places.next(), start);
-    left(&rt, alloc, &places, "[]")?;
-    for _ in 0..2 {
-        assert_eq!(rt; places.next(), None);
-        assert_eq!(rt; places.next_back(), None);
-    }
-    left(&rt, alloc, &places, "[]")?;
-
-    let mut places = error.positions();
-    assert_eq!(rt; places.next(), start);
-    left(&rt, alloc, &places, "[Pos(1:5)]")?;
-    assert_eq!(rt; places.next_back(), end);
-    assert_eq!(rt; places.next_back(), None);
-    assert_eq!(rt; places.next(), None);
-
-    let mut places = error.positions();
-    assert_eq!(rt; places.next(), start);
-    assert_eq!(rt; places.next(), end);
-    assert_eq!(rt; places.next(), None);
-
-    let mut places = error.positions();
-    assert_eq!(rt; places.next_back(), end);
-    assert_eq!(rt; places.next_back(), start);
-    assert_eq!(rt; places.next_back(), None);
-
-    left(&rt, alloc, &Error::MissingOperation.positions(), "[]")
+    hold(&rt, rt.alloc(), &BothEnds, PLACES_FROM_BOTH_ENDS)
 }
+
+const PLACES_FROM_BOTH_ENDS: &str = r"
+syntax with an end: back next next back next back ⇒
+  all [ 1:2 3:4 ] 3:4 [ 1:2 ] 1:2 [ ] none [ ] none [ ] none [ ] none [ ]
+syntax with an end: next back back next ⇒ all [ 1:2 3:4 ] 1:2 [ 3:4 ] 3:4 [ ] none [ ] none [ ]
+syntax with an end: next next next ⇒ all [ 1:2 3:4 ] 1:2 [ 3:4 ] 3:4 [ ] none [ ]
+syntax with an end: back back back ⇒ all [ 1:2 3:4 ] 3:4 [ 1:2 ] 1:2 [ ] none [ ]
+operation twice: next next ⇒ all [ 3:4 1:2 ] 3:4 [ 1:2 ] 1:2 [ ]
+syntax: back next ⇒ all [ 1:2 ] 1:2 [ ] none [ ]
+no operation: next back ⇒ all [ ] none [ ] none [ ]
+";

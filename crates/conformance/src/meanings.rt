@@ -1,116 +1,133 @@
 //! What the contents of strings and of block strings stand for.
+use crate::rows::{Subject, hold};
 use graphql_parser::text::{block_string_value, string_value};
+use std::alloc::{AllocError, Global};
 use std::test::Fail;
+
+/// What `string_value` gives: the value between `'`, or `none`.
+pub struct StringValue;
+
+impl Subject for StringValue {
+    fn answer(&self, alloc: Global, text: &str) -> Result<String, Fail> {
+        match string_value(alloc, text)? {
+            Some(value) => Ok(quoted(alloc, value.as_str())?),
+            None => Ok(String::from_str(alloc, "none")?),
+        }
+    }
+}
+
+/// What `block_string_value` gives, between `'`.
+pub struct BlockStringValue;
+
+impl Subject for BlockStringValue {
+    fn answer(&self, alloc: Global, text: &str) -> Result<String, Fail> {
+        let value = block_string_value(alloc, text)?;
+        Ok(quoted(alloc, value.as_str())?)
+    }
+}
+
+fn quoted(alloc: Global, value: &str) -> Result<String, AllocError> {
+    format!(in alloc; "'{value}'")
+}
 
 #[test]
 fn contents_of_strings(rt: HostRuntime) -> Result<(), Fail> {
-    for (content, value) in [
-        ("", ""),
-        ("abc", "abc"),
-        ("\u{e9}\u{1f600} \t\u{0}'#,", "\u{e9}\u{1f600} \t\u{0}'#,"),
-        ("\\n\\b\\u2a1A", "\n\u{8}\u{2a1a}"),
-        ("\\\"\\\\", "\"\\"),
-        ("\\/\\f\\r\\t", "/\u{c}\r\t"),
-        ("\\\\n", "\\n"),
-        ("\\u00e9\\uD7FF\\uE000", "\u{e9}\u{d7ff}\u{e000}"),
-        ("\\u0041B", "AB"),
-        ("\\u{1F600}", "\u{1f600}"),
-        ("\\uD83D\\uDE00", "\u{1f600}"),
-        ("\\ud83d\\ude00", "\u{1f600}"),
-        ("\\uD800\\uDC00\\uDBFF\\uDFFF", "\u{10000}\u{10ffff}"),
-        ("\\u{0000000041}", "A"),
-        ("\\u{0}\\u{e000}\\u{10FFFF}", "\u{0}\u{e000}\u{10ffff}"),
-        (
-            "\\u{00000000000000000000000000000000000000000000000000000000000000000042}",
-            "B",
-        ),
-    ] {
-        let found = string_value(rt.alloc(), content)?.ok_or("no content")?;
-        assert_eq!(rt; found.as_str(), value, "{content}");
-    }
-    Ok(())
+    hold(&rt, rt.alloc(), &StringValue, CONTENTS_OF_STRINGS)
 }
+
+const CONTENTS_OF_STRINGS: &str = r#"
+ ⇒ ''
+abc ⇒ 'abc'
+é⟨1F600⟩ ␉⟨0⟩'#, ⇒ 'é⟨1F600⟩ ␉⟨0⟩'#,'
+\n\b\u2a1A ⇒ '␊⟨8⟩⟨2A1A⟩'
+\"\\ ⇒ '"\'
+\/\f\r\t ⇒ '/⟨C⟩␍␉'
+\\n ⇒ '\n'
+\u00e9\uD7FF\uE000 ⇒ 'é⟨D7FF⟩⟨E000⟩'
+\u0041B ⇒ 'AB'
+\u{1F600} ⇒ '⟨1F600⟩'
+\uD83D\uDE00 ⇒ '⟨1F600⟩'
+\ud83d\ude00 ⇒ '⟨1F600⟩'
+\uD800\uDC00\uDBFF\uDFFF ⇒ '⟨10000⟩⟨10FFFF⟩'
+\u{0000000041} ⇒ 'A'
+\u{0}\u{e000}\u{10FFFF} ⇒ '⟨0⟩⟨E000⟩⟨10FFFF⟩'
+\u{⟨68×0⟩42} ⇒ 'B'
+"#;
 
 #[test]
 fn texts_that_are_no_contents_of_strings(rt: HostRuntime) -> Result<(), Fail> {
-    for content in [
-        "a\"b",
-        "\"",
-        "a\nb",
-        "\r",
-        "\\",
-        "\\x",
-        "\\U0041",
-        "\\u",
-        "\\u12",
-        "\\u12g4",
-        "\\u 041",
-        "\\u+041",
-        "\\u{}",
-        "\\u{ 41}",
-        "\\u{g}",
-        "\\u{110000}",
-        "\\u{100000000000000000041}",
-        "\\u{D800}",
-        "\\u{dfff}",
-        "\\u{41",
-        "\\uD83D",
-        "\\uD83Dx",
-        "\\uD83D\\n",
-        "\\uD83D\\u0041",
-        "\\uD83D\\uD83D",
-        "\\uDE00",
-        "\\uDE00\\uD83D",
-        "\\uD83D\\u{DE00}",
-        "\\u{D83D}\\u{DE00}",
-        "\\u{D83D}\\uDE00",
-    ] {
-        assert!(rt; string_value(rt.alloc(), content)?.is_none(), "{content}");
-    }
-    Ok(())
+    hold(&rt, rt.alloc(), &StringValue, NO_CONTENTS_OF_STRINGS)
 }
+
+const NO_CONTENTS_OF_STRINGS: &str = r#"
+a"b ⇒ none
+" ⇒ none
+a␊b ⇒ none
+␍ ⇒ none
+\ ⇒ none
+\x ⇒ none
+\U0041 ⇒ none
+\u ⇒ none
+\u12 ⇒ none
+\u12g4 ⇒ none
+\u 041 ⇒ none
+\u+041 ⇒ none
+\u{} ⇒ none
+\u{ 41} ⇒ none
+\u{g} ⇒ none
+\u{110000} ⇒ none
+\u{100000000000000000041} ⇒ none
+\u{D800} ⇒ none
+\u{dfff} ⇒ none
+\u{41 ⇒ none
+\uD83D ⇒ none
+\uD83Dx ⇒ none
+\uD83D\n ⇒ none
+\uD83D\u0041 ⇒ none
+\uD83D\uD83D ⇒ none
+\uDE00 ⇒ none
+\uDE00\uD83D ⇒ none
+\uD83D\u{DE00} ⇒ none
+\u{D83D}\u{DE00} ⇒ none
+\u{D83D}\uDE00 ⇒ none
+"#;
 
 #[test]
 fn contents_of_block_strings(rt: HostRuntime) -> Result<(), Fail> {
-    for (content, value) in [
-        ("", ""),
-        ("\r\n", ""),
-        ("\r\r\r\r\n\n\r\n\r\r", ""),
-        (" \t \n\t\n ", ""),
-        ("abc", "abc"),
-        (
-            "line 1\r\n   line 2\n     line 3\r    line 4",
-            "line 1\nline 2\n  line 3\n line 4",
-        ),
-        ("\r\r  some text\r\n \n \n ", "some text"),
-        ("\n    a\n    b\n\n    c\n", "a\nb\n\nc"),
-        // A blank line that is shorter than the common indent stays as it is,
-        ("a\n    b\n  \n    c", "a\nb\n  \nc"),
-        // and a longer one loses as much as the others.
-        ("a\n  b\n      \n  c", "a\nb\n    \nc"),
-        // The first line keeps its blanks, and counts for no indent.
-        ("  a\n    b", "  a\nb"),
-        ("  a  ", "  a  "),
-        ("   \n  a", "a"),
-        ("\n  a\n b", " a\nb"),
-        // A tab is one character of indent.
-        ("a\n\tb\n\t\tc", "a\nb\n\tc"),
-        ("\n \tb\n\t c", "b\nc"),
-        // Blanks at the ends of lines stay.
-        ("a \n b\t\n", "a \nb\t"),
-        ("a\r\rb\n\rc", "a\n\nb\n\nc"),
-        // A quoted triple quote is replaced before the lines are cut; nothing else is an escape.
-        ("x\\\"\"\"y", "x\"\"\"y"),
-        ("\n  \\\"\"\"\n   b", "\"\"\"\n b"),
-        ("\\\\\"\"\"", "\\\"\"\""),
-        ("\\n\\u{41}\\\"\\\"\"", "\\n\\u{41}\\\"\\\"\""),
-        // No other character is blank.
-        ("\n\u{a0}\n", "\u{a0}"),
-        ("\n\u{b}\n\u{c}\u{85}", "\u{b}\n\u{c}\u{85}"),
-        ("\u{2028}\n  \u{1f600}", "\u{2028}\n\u{1f600}"),
-    ] {
-        let found = block_string_value(rt.alloc(), content)?;
-        assert_eq!(rt; found.as_str(), value, "{content}");
-    }
-    Ok(())
+    hold(&rt, rt.alloc(), &BlockStringValue, CONTENTS_OF_BLOCK_STRINGS)
 }
+
+const CONTENTS_OF_BLOCK_STRINGS: &str = r#"
+ ⇒ ''
+␍␊ ⇒ ''
+␍␍␍␍␊␊␍␊␍␍ ⇒ ''
+␠␉ ␊␉␊␠ ⇒ ''
+abc ⇒ 'abc'
+line 1␍␊   line 2␊     line 3␍    line 4 ⇒ 'line 1␊line 2␊␠␠line 3␊␠line 4'
+␍␍  some text␍␊ ␊ ␊␠ ⇒ 'some text'
+␊    a␊    b␊␊    c␊ ⇒ 'a␊b␊␊c'
+-- A blank line that is shorter than the common indent stays as it is,
+a␊    b␊  ␊    c ⇒ 'a␊b␊␠␠␊c'
+-- and a longer one loses as much as the others.
+a␊  b␊      ␊  c ⇒ 'a␊b␊␠␠␠␠␊c'
+-- The first line keeps its blanks, and counts for no indent.
+␠␠a␊    b ⇒ '␠␠a␊b'
+␠␠a ␠ ⇒ '␠␠a␠␠'
+␠␠ ␊  a ⇒ 'a'
+␊  a␊ b ⇒ '␠a␊b'
+-- A tab is one character of indent.
+a␊␉b␊␉␉c ⇒ 'a␊b␊␉c'
+␊ ␉b␊␉ c ⇒ 'b␊c'
+-- Blanks at the ends of lines stay.
+a ␊ b␉␊ ⇒ 'a ␊b␉'
+a␍␍b␊␍c ⇒ 'a␊␊b␊␊c'
+-- A quoted triple quote is replaced before the lines are cut; nothing else is an escape.
+x\"""y ⇒ 'x"""y'
+␊  \"""␊   b ⇒ '"""␊ b'
+\\""" ⇒ '\"""'
+\n\u{41}\"\"" ⇒ '\n\u{41}\"\""'
+-- No other character is blank.
+␊⟨A0⟩␊ ⇒ '⟨A0⟩'
+␊⟨B⟩␊⟨C⟩⟨85⟩ ⇒ '⟨B⟩␊⟨C⟩⟨85⟩'
+⟨2028⟩␊  ⟨1F600⟩ ⇒ '⟨2028⟩␊⟨1F600⟩'
+"#;

@@ -1,51 +1,88 @@
 //! Names, and what serde writes and reads.
+use crate::rows::{Subject, hold};
 use graphql_parser::Pos;
 use graphql_parser::types::OperationType;
 use graphql_parser::value::Name;
 use serde::{Deserialize, Serialize};
-use std::alloc::Global;
+use std::alloc::{AllocError, Global};
+use std::cmp::Ordering;
 use std::hash::{DefaultHasher, Hash, Hasher};
 use std::test::Fail;
 
-fn hash_of(name: &Name) -> u64 {
+pub fn hash_of<T: Hash>(value: &T) -> u64 {
     let mut state = DefaultHasher::new();
-    name.hash(&mut state);
+    value.hash(&mut state);
     state.finish()
+}
+
+/// What a name of this text prints, between `'`.
+struct NameText;
+
+impl Subject for NameText {
+    fn answer(&self, alloc: Global, text: &str) -> Result<String, Fail> {
+        Ok(printed(alloc, &Name::new(alloc, text)?)?)
+    }
+}
+
+fn printed(alloc: Global, name: &Name) -> Result<String, AllocError> {
+    let copy = name.clone()?;
+    let is_same = copy == *name && hash_of(&copy) == hash_of(name);
+    let (text, copy) = (name.as_str(), if is_same { "" } else { " with another copy" });
+    format!(in alloc; "'{text}' '{name}'{copy}")
+}
+
+/// How two names, with `and` between them, are ordered.
+struct Order;
+
+impl Subject for Order {
+    fn answer(&self, alloc: Global, text: &str) -> Result<String, Fail> {
+        let (one, other) = text.split_once(" and ").ok_or("no two names")?;
+        let (one, other) = (Name::new(alloc, one)?, Name::new(alloc, other)?);
+        Ok(String::from_str(alloc, ordered(&one, &other))?)
+    }
+}
+
+fn ordered(one: &Name, other: &Name) -> &'static str {
+    if (one == other) != (one.cmp(other) == Ordering::Equal) || (one < other) != (other > one) {
+        return "not in order";
+    }
+    match one.cmp(other) {
+        Ordering::Less => "less",
+        Ordering::Equal => "equal",
+        Ordering::Greater => "more",
+    }
 }
 
 #[test]
 fn any_text_is_a_name(rt: HostRuntime) -> Result<(), Fail> {
-    let alloc = rt.alloc();
-    for text in ["abc", "", "0 \u{e9}\n", "query"] {
-        let name = Name::new(alloc, text)?;
-        assert_eq!(rt; name.as_str(), text);
-        let printed = format!(in alloc; "{name}")?;
-        assert_eq!(rt; printed.as_str(), text);
-        let copy = name.clone()?;
-        assert!(rt; copy == name);
-        assert_eq!(rt; hash_of(&copy), hash_of(&name));
-    }
-    Ok(())
+    hold(&rt, rt.alloc(), &NameText, NAMES)
 }
+
+const NAMES: &str = r"
+abc ⇒ 'abc' 'abc'
+ ⇒ '' ''
+0 é␊ ⇒ '0 é␊' '0 é␊'
+query ⇒ 'query' 'query'
+";
 
 #[test]
 fn names_are_ordered_by_their_bytes(rt: HostRuntime) -> Result<(), Fail> {
-    let alloc = rt.alloc();
-    for (less, more) in [
-        ("", "a"),
-        ("B", "a"),
-        ("a", "a0"),
-        ("a0", "a_"),
-        ("z", "\u{e9}"),
-    ] {
-        let (less, more) = (Name::new(alloc, less)?, Name::new(alloc, more)?);
-        assert!(rt; less < more && more > less && less != more);
-    }
-    Ok(())
+    hold(&rt, rt.alloc(), &Order, NAMES_IN_ORDER)
 }
 
-// The value is written as this text, and the text is read as this value.
-fn is_written<'a, T: Serialize + Deserialize<'a> + PartialEq + Drop>(
+const NAMES_IN_ORDER: &str = r"
+ and a ⇒ less
+B and a ⇒ less
+a and B ⇒ more
+a and a0 ⇒ less
+a0 and a_ ⇒ less
+z and é ⇒ less
+é and z ⇒ more
+a and a ⇒ equal
+";
+
+/// Whether the value is written as this text, and the text is read as this value.
+pub fn is_written<'a, T: Serialize + Deserialize<'a> + PartialEq + Drop>(
     alloc: Global,
     value: &T,
     text: &'a str,
@@ -60,20 +97,21 @@ fn serde_writes_and_reads(rt: HostRuntime) -> Result<(), Fail> {
     let alloc = rt.alloc();
     let place = Pos { line: 1, column: 5 };
     assert!(rt; is_written(alloc, &place, "{\"line\":1,\"column\":5}")?);
-    assert!(rt; is_written(alloc, &Name::new(alloc, "a \"b\"")?, "\"a \\\"b\\\"\"")?);
-    assert!(rt; is_written(alloc, &OperationType::Subscription, "\"Subscription\"")?);
+    let kind = OperationType::Subscription;
+    assert!(rt; is_written(alloc, &kind, "\"Subscription\"")?);
+    let name = Name::new(alloc, "a \"b\"")?;
+    assert!(rt; is_written(alloc, &name, "\"a \\\"b\\\"\"")?);
     Ok(())
 }
 
 #[test]
 fn kinds_of_operations_are_printed(rt: HostRuntime) -> Result<(), Fail> {
-    for (kind, text) in [
-        (OperationType::Query, "query"),
-        (OperationType::Mutation, "mutation"),
-        (OperationType::Subscription, "subscription"),
-    ] {
-        let printed = format!(in rt.alloc(); "{kind}")?;
-        assert_eq!(rt; printed.as_str(), text);
-    }
+    let (one, two, three) = (
+        OperationType::Query,
+        OperationType::Mutation,
+        OperationType::Subscription,
+    );
+    let printed = format!(in rt.alloc(); "{one} {two} {three}")?;
+    assert_eq!(rt; printed.as_str(), "query mutation subscription");
     Ok(())
 }

@@ -4,7 +4,7 @@
 //! after the word for it, as `(field 1:2 a@1:2 {0:0})`. A selection set is `{1:1 ..}`, an argument
 //! `name@1:4=value@1:6`. Strings are written between `'` as they are, an enum's name behind a point. Where
 //! two places belong to one node, as those of a selection and of the field in it, both are written only
-//! where they differ, as `1:2/1:3`.
+//! where they differ, as `1:2/1:3`. An error of syntax with the usual message and no end is `syntax 1:4`.
 mod constants;
 mod error;
 mod executable;
@@ -12,64 +12,132 @@ mod parts;
 mod schema;
 mod values;
 
-pub use executable::request;
-use graphql_parser::types::{ConstDirective, Directive, ExecutableDocument, ServiceDocument};
+use graphql_parser::types::{
+    ConstDirective, Directive, DirectiveLocation, ExecutableDocument, ServiceDocument, Type,
+};
 use graphql_parser::value::{ConstValue, Value};
-use graphql_parser::{Error, Positioned};
-pub use schema::schema_file;
+use graphql_parser::{Error, Pos, Positioned};
 use std::alloc::{AllocError, Global};
 
-/// What a call that writes to a text answers.
-pub type Written = Result<(), AllocError>;
+/// A text that is being written. A part for which there is no memory is left out, and `finish` tells.
+#[derive(Drop)]
+pub struct Shown {
+    text: String,
+    is_cut: bool,
+}
+
+impl Shown {
+    pub fn new(alloc: Global) -> Shown {
+        Shown {
+            text: String::new(alloc),
+            is_cut: false,
+        }
+    }
+
+    pub fn word(&mut self, text: &str) {
+        if self.text.push_str(text).is_err() {
+            self.is_cut = true;
+        }
+    }
+
+    /// A place, behind what stands before it.
+    pub fn place(&mut self, before: &str, place: Pos) {
+        if write!(self.text, "{before}{place}").is_err() {
+            self.is_cut = true;
+        }
+    }
+
+    /// A number, behind what stands before it.
+    pub fn number(&mut self, before: &str, number: usize) {
+        if write!(self.text, "{before}{number}").is_err() {
+            self.is_cut = true;
+        }
+    }
+
+    pub fn type_text(&mut self, ty: &Type) {
+        if write!(self.text, " {ty}").is_err() {
+            self.is_cut = true;
+        }
+    }
+
+    pub fn location(&mut self, location: DirectiveLocation) {
+        if write!(self.text, " {location:?}").is_err() {
+            self.is_cut = true;
+        }
+    }
+
+    pub fn value(&mut self, value: &Value) {
+        values::write_value(self, value);
+    }
+
+    pub fn constant(&mut self, constant: &ConstValue) {
+        constants::write_constant(self, constant);
+    }
+
+    pub fn directives(&mut self, directives: &Vec<Positioned<Directive>>) {
+        parts::write_directives(self, directives);
+    }
+
+    pub fn finish(self) -> Result<String, AllocError> {
+        if self.is_cut {
+            return Err(AllocError);
+        }
+        Ok(self.text)
+    }
+}
 
 /// The tree of a request, or the error.
 pub fn answer(
     alloc: Global,
-    answer: &Result<ExecutableDocument, Error>,
+    answer: Result<ExecutableDocument, Error>,
 ) -> Result<String, AllocError> {
-    match answer {
-        Ok(document) => request(alloc, document),
-        Err(error) => refusal(alloc, error),
+    let mut shown = Shown::new(alloc);
+    match &answer {
+        Ok(document) => executable::request(&mut shown, document),
+        Err(error) => error::write(alloc, &mut shown, error),
     }
-}
-
-/// An error, with its fields.
-pub fn refusal(alloc: Global, error: &Error) -> Result<String, AllocError> {
-    let mut out = String::new(alloc);
-    error::write(&mut out, error)?;
-    Ok(out)
+    shown.finish()
 }
 
 /// The tree of a schema file, or the error.
 pub fn schema_answer(
     alloc: Global,
-    answer: &Result<ServiceDocument, Error>,
+    answer: Result<ServiceDocument, Error>,
 ) -> Result<String, AllocError> {
-    match answer {
-        Ok(document) => schema_file(alloc, document),
-        Err(error) => refusal(alloc, error),
+    let mut shown = Shown::new(alloc);
+    match &answer {
+        Ok(document) => schema::file(&mut shown, document),
+        Err(error) => error::write(alloc, &mut shown, error),
     }
+    shown.finish()
+}
+
+/// An error, with its fields.
+pub fn refusal(alloc: Global, error: &Error) -> Result<String, AllocError> {
+    let mut shown = Shown::new(alloc);
+    error::write(alloc, &mut shown, error);
+    shown.finish()
 }
 
 /// A value.
 pub fn value(alloc: Global, value: &Value) -> Result<String, AllocError> {
-    let mut out = String::new(alloc);
-    values::write_value(&mut out, value)?;
-    Ok(out)
+    let mut shown = Shown::new(alloc);
+    values::write_value(&mut shown, value);
+    shown.finish()
 }
 
 /// A value without variables.
 pub fn constant(alloc: Global, constant: &ConstValue) -> Result<String, AllocError> {
-    let mut out = String::new(alloc);
-    constants::write_constant(&mut out, constant)?;
-    Ok(out)
+    let mut shown = Shown::new(alloc);
+    constants::write_constant(&mut shown, constant);
+    shown.finish()
 }
 
 /// A directive.
 pub fn directive(alloc: Global, directive: &Positioned<Directive>) -> Result<String, AllocError> {
-    let mut out = String::new(alloc);
-    parts::write_directive(&mut out, directive)?;
-    Ok(out)
+    let mut shown = Shown::new(alloc);
+    parts::write_directive(&mut shown, directive);
+    shown.finish()
 }
 
 /// A directive without variables.
@@ -77,7 +145,7 @@ pub fn constant_directive(
     alloc: Global,
     directive: &Positioned<ConstDirective>,
 ) -> Result<String, AllocError> {
-    let mut out = String::new(alloc);
-    parts::write_constant_directive(&mut out, directive)?;
-    Ok(out)
+    let mut shown = Shown::new(alloc);
+    parts::write_constant_directive(&mut shown, directive);
+    shown.finish()
 }

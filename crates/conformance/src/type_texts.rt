@@ -1,113 +1,130 @@
 //! Types that are read from a text, and shown again.
+use crate::names::is_written;
+use crate::rows::{Subject, hold};
+use crate::shown::Shown;
 use graphql_parser::types::{BaseType, Type};
 use graphql_parser::value::Name;
-use serde::{Deserialize, Serialize};
 use std::alloc::{AllocError, Global};
-use std::process::Abort;
 use std::test::Fail;
 
-// A type as text: a name between `'`, a list in brackets, and behind each whether null may stand.
-#[cycle(ty)]
-fn write_type(out: &mut String, ty: &Type) -> Result<(), AllocError> {
-    write_base(out, &ty.base)?;
-    out.push_str(if ty.nullable { "?" } else { "!" })
-}
+/// What `Type::new` gives: a name between `'`, a list in brackets, and behind each whether null may stand; or
+/// `none`. That the type prints as its text, and that a copy is equal, is looked at too.
+struct Read;
 
-#[cycle(ty)]
-fn write_base(out: &mut String, base: &BaseType) -> Result<(), AllocError> {
-    match base {
-        BaseType::Named(name) => write!(out, "'{name}'"),
-        BaseType::List(item) => {
-            out.push_str("[")?;
-            write_type(out, item)?;
-            out.push_str("]")
+impl Subject for Read {
+    fn answer(&self, alloc: Global, text: &str) -> Result<String, Fail> {
+        match Type::new(alloc, text)? {
+            Some(ty) => Ok(written(alloc, &ty, text)?),
+            None => Ok(String::from_str(alloc, "none")?),
         }
     }
 }
 
-// The text is read as this type, which is printed as the text again.
-fn is_read(rt: &impl Abort, alloc: Global, text: &str, tree: &str) -> Result<(), AllocError> {
-    let found = Type::new(alloc, text)?.expect(rt, "a type");
-    let mut shown = String::new(alloc);
-    write_type(&mut shown, &found)?;
-    assert_eq!(rt; shown.as_str(), tree, "{text}");
-    let printed = format!(in alloc; "{found}")?;
-    assert_eq!(rt; printed.as_str(), text);
-    let copy = found.clone()?;
-    assert!(rt; copy == found);
-    Ok(())
+fn written(alloc: Global, ty: &Type, text: &str) -> Result<String, AllocError> {
+    let mut shown = Shown::new(alloc);
+    write_type(&mut shown, ty);
+    if ty.clone()? != *ty {
+        shown.word(" with another copy");
+    }
+    let printed = format!(in alloc; "{ty}")?;
+    if printed.as_str() != text {
+        shown.word(" as another text");
+    }
+    shown.finish()
+}
+
+#[cycle(ty)]
+fn write_type(shown: &mut Shown, ty: &Type) {
+    match &ty.base {
+        BaseType::Named(name) => {
+            shown.word("'");
+            shown.word(name.as_str());
+            shown.word("'");
+        }
+        BaseType::List(item) => {
+            shown.word("[");
+            write_type(shown, item);
+            shown.word("]");
+        }
+    }
+    shown.word(if ty.nullable { "?" } else { "!" });
 }
 
 #[test]
 fn texts_of_types(rt: HostRuntime) -> Result<(), Fail> {
-    for (text, tree) in [
-        ("Int", "'Int'?"),
-        ("Int!", "'Int'!"),
-        ("[Int]", "['Int'?]?"),
-        ("[Int!]!", "['Int'!]!"),
-        ("[[a]!]", "[['a'?]!]?"),
-        // A name's text is not tested.
-        ("", "''?"),
-        ("!", "''!"),
-        ("Int!!", "'Int!'!"),
-        ("a]b", "'a]b'?"),
-        ("[]", "[''?]?"),
-        ("[!]", "[''!]?"),
-        ("[a]]", "['a]'?]?"),
-        (" [a]", "' [a]'?"),
-        ("[ a ]", "[' a '?]?"),
-        ("\u{1f600}!", "'\u{1f600}'!"),
-    ] {
-        is_read(&rt, rt.alloc(), text, tree)?;
-    }
-    Ok(())
+    hold(&rt, rt.alloc(), &Read, TEXTS_OF_TYPES)
 }
+
+const TEXTS_OF_TYPES: &str = r"
+Int ⇒ 'Int'?
+Int! ⇒ 'Int'!
+[Int] ⇒ ['Int'?]?
+[Int!]! ⇒ ['Int'!]!
+[[a]!] ⇒ [['a'?]!]?
+-- A name's text is not tested.
+ ⇒ ''?
+! ⇒ ''!
+Int!! ⇒ 'Int!'!
+a]b ⇒ 'a]b'?
+[] ⇒ [''?]?
+[!] ⇒ [''!]?
+[a]] ⇒ ['a]'?]?
+␠[a] ⇒ '␠[a]'?
+[ a ] ⇒ ['␠a␠'?]?
+⟨1F600⟩! ⇒ '⟨1F600⟩'!
+";
 
 #[test]
 fn texts_that_are_no_types(rt: HostRuntime) -> Result<(), Fail> {
-    for text in [
-        "[", "[!", "[Int", "[a]b", "[a]!!", "[[a]", "[[a]!!]", "[a] ",
-    ] {
-        assert!(rt; Type::new(rt.alloc(), text)?.is_none(), "{text}");
+    hold(&rt, rt.alloc(), &Read, TEXTS_THAT_ARE_NO_TYPES)
+}
+
+const TEXTS_THAT_ARE_NO_TYPES: &str = r"
+[ ⇒ none
+[! ⇒ none
+[Int ⇒ none
+[a]b ⇒ none
+[a]!! ⇒ none
+[[a] ⇒ none
+[[a]!!] ⇒ none
+[a]␠ ⇒ none
+";
+
+/// How two types, with `and` between them, compare.
+struct Equality;
+
+impl Subject for Equality {
+    fn answer(&self, alloc: Global, text: &str) -> Result<String, Fail> {
+        let (one, other) = text.split_once(" and ").ok_or("no two types")?;
+        let is_same = Type::new(alloc, one)? == Type::new(alloc, other)?;
+        let answer = if is_same { "equal" } else { "different" };
+        Ok(String::from_str(alloc, answer)?)
     }
-    Ok(())
 }
 
 #[test]
 fn types_that_are_equal(rt: HostRuntime) -> Result<(), Fail> {
-    let alloc = rt.alloc();
-    let named = |text: &str| -> Result<Type, AllocError> {
-        Ok(Type {
-            base: BaseType::Named(Name::new(alloc, text)?),
-            nullable: true,
-        })
-    };
-    assert!(rt; Type::new(alloc, "a")? == Some(named("a")?));
-    assert!(rt; Type::new(alloc, "a!")? != Some(named("a")?));
-    assert!(rt; Type::new(alloc, "[a]")? != Some(named("a")?));
-    assert!(rt; Type::new(alloc, "b")? != Some(named("a")?));
-    Ok(())
+    hold(&rt, rt.alloc(), &Equality, TYPES_THAT_ARE_COMPARED)
 }
 
-// The value is written as this text, and the text is read as this value.
-fn is_written<'a, T: Serialize + Deserialize<'a> + PartialEq + Drop>(
-    alloc: Global,
-    value: &T,
-    text: &'a str,
-) -> Result<bool, serde_json::Error> {
-    let written = serde_json::to_string(alloc, value)?;
-    let read: T = serde_json::from_str(alloc, text)?;
-    Ok(written.as_str() == text && read == *value)
-}
+const TYPES_THAT_ARE_COMPARED: &str = r"
+a and a ⇒ equal
+a! and a ⇒ different
+[a] and a ⇒ different
+b and a ⇒ different
+[a!]! and [a!]! ⇒ equal
+[a!]! and [a]! ⇒ different
+[[a]] and [a] ⇒ different
+";
 
 #[test]
 fn serde_writes_and_reads_types(rt: HostRuntime) -> Result<(), Fail> {
     let alloc = rt.alloc();
     let list = Type::new(alloc, "[B!]")?.ok_or("no type")?;
-    let text =
-        "{\"base\":{\"List\":{\"base\":{\"Named\":\"B\"},\"nullable\":false}},\"nullable\":true}";
-    assert!(rt; is_written(alloc, &list, text)?);
+    assert!(rt; is_written(alloc, &list, LIST)?);
     let base = BaseType::Named(Name::new(alloc, "B")?);
     assert!(rt; is_written(alloc, &base, "{\"Named\":\"B\"}")?);
     Ok(())
 }
+
+const LIST: &str = r#"{"base":{"List":{"base":{"Named":"B"},"nullable":false}},"nullable":true}"#;

@@ -23,8 +23,9 @@ pub mod PunctSamples
 pub mod TypeProductions
 pub mod ValueProductions
 pub mod ValueFrames
-pub mod ValuePlaces
+pub mod ValueFill
 pub mod ValueLoop
+pub mod ValuePlaces
 pub mod Optional
 pub mod ArgumentProductions
 pub mod SelectionProductions

@@ -1,8 +1,6 @@
 -- What the readers of single tokens give.
-use Rattle.std.proofs.Common.{◌≡◌, ℕ, ◌+◌, Bool, true, false, cond, Option, Some, None, Ok, Err, List, [], ◌∷◌, refl, sym, ap, ◌∙◌, subst, arith}
-use Rattle.std.proofs.lemmas.Str.{encodes-chars, IsUtf8-string_bytes}
+use Rattle.std.proofs.Common.{◌≡◌, ℕ, true, false, Option, Some, None, List, ◌∷◌, refl, sym, ap, ◌∙◌, subst}
 use Rattle.std.specs.Str.{chars, encode_utf8_all}
-use Rattle.std.specs.String.{string_bytes}
 use Rattle.graphql_syntax.specs.inner.Contents.{content_value}
 use Rattle.graphql_syntax.specs.tokens.BlockText.{block_value}
 use Rattle.graphql_syntax.specs.tokens.Cuts.{is_last}
@@ -12,7 +10,7 @@ use Rattle.graphql_syntax.specs.tokens.Proper.{IsProper}
 use Rattle.graphql_syntax.specs.tokens.Seen.{seen}
 use Rattle.graphql_syntax.specs.tokens.Strings.{StringMeans, IsContent}
 use Rattle.graphql_syntax.specs.tokens.Token.{Token}
-use Rattle.graphql_syntax.specs.trees.ValueTree.{Tree, string}
+use Rattle.graphql_syntax.specs.trees.ValueTree.{string}
 use Rattle.graphql_syntax.specs.declared.lexer.Token.{Token as LentToken}
 use Rattle.graphql_syntax.specs.declared.lexer.TokenKind.{TokenKind}
 use Rattle.graphql_syntax.specs.declared.lexer.TokenKind.TheVariants as kinds

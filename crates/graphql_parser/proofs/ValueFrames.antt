@@ -1,15 +1,13 @@
 -- What each step of the loop over frames does to what is read.
-use Rattle.std.proofs.Common.{◌≡◌, ℕ, zero, suc, pred, ◌+◌, ◌<◌, ◌≤◌, Bool, true, false, ◌||◌, cond, nat_lt, List, [], ◌∷◌, ◌++◌, length, map, refl, sym, ap, ap₂, ◌∙◌, subst, length-append, arith}
+use Rattle.std.proofs.Common.{◌≡◌, ℕ, zero, suc, pred, ◌+◌, ◌<◌, ◌≤◌, Bool, true, false, ◌||◌, cond, nat_lt, Option, Some, None, List, [], ◌∷◌, ◌++◌, length, map, refl, sym, ap, ap₂, ◌∙◌, subst, length-append, arith}
 use Rattle.std.proofs.lemmas.Bool.Decides.{nat_tests}
 use Rattle.graphql_syntax.specs.tokens.Token.{Bare, Token}
 use Rattle.graphql_syntax.specs.trees.ValueTree.{Tree}
 use Rattle.graphql_parser.specs.grammar.Fronts.{Verdict, syntax, limit}
-use Rattle.graphql_parser.specs.grammar.Places.{at}
 use Rattle.graphql_parser.specs.grammar.Tests.{Test, punct, any_name, any_number, any_string, any_block}
 use Rattle.graphql_parser.specs.grammar.Values.{Value, dollar, list_of, field_of, object_of}
-use Rattle.graphql_parser.specs.reading.Ahead.{Ahead, tokens}
-use Rattle.graphql_parser.specs.reading.OpenValues.{Field, node_of, node_at, Opened, in_list, in_object, Waiting, list_waits, object_waits, Begun, simple_value, enters, Next, closed, wants, list_tree, object_tree, close_list, close_object, list_rest, object_rest, open_rest, add, filled, resume, enter_at, start_at, started, go_on_in_list_at, go_on_in_object_at, go_on_at, went}
-use Rattle.graphql_parser.specs.reading.Outcome.{Outcome, Read, Refused, Reader, ◌>>=◌, one_at, then_at, mapped_at, deep_at, repeat_at, many_at, with_front}
+use Rattle.graphql_parser.specs.reading.OpenValues.{Field, node_of, node_at, Opened, in_list, in_object, Waiting, list_waits, object_waits, list_tree, object_tree, close_list, close_object, list_rest, object_rest, open_rest, filled, resume, key_at, enters_at, enter_at}
+use Rattle.graphql_parser.specs.reading.Outcome.{Outcome, Read, Refused, Reader, ◌>>=◌, one_at, take_at, mapped_at, deep_at, repeat_at, many_at, with_front}
 use Rattle.graphql_parser.specs.reading.Values.{simple_first, value_first, simple_at, list_at, field_at, object_at, by_first, value_at}
 use Rattle.graphql_parser.proofs.Loop.{Takes, rest-of, rest-more, rest-stops, many-nothing}
 use Rattle.graphql_parser.proofs.TokenTests.{punctuator, punct-is}
@@ -158,39 +156,51 @@ value-object : (vars : Bool) (b : ℕ) (t : Token) (ts : List Token) → punct "
 unfolding value_at
 value-object vars b t ts e = ap stripped (by-object vars (list_at vars (value_at vars b)) (object_at (value_at vars b)) t ts e) ∙ object-reads vars b t ts e
 
--- ---- how a value starts
+-- ---- how a value begins
+
+-- what is made of what begins here, or of what stands alone
+abbrev pub begun : Bool → ℕ → Option Opened → List Token → Outcome Tree
+begun vars b None rest = node_at (simple_at vars) rest
+begun vars b (Some o) rest = open_rest vars (pred b) o rest
 
 some-left : (b : ℕ) → nat_lt 0 (suc b) ≡ true
 some-left b = grind (arith, nat_tests)
 
-abbrev simply : Outcome Tree → Outcome Begun
-simply o = o >>= λ v rest. Read (simple_value v) rest
-
-pub start-law : (vars : Bool) (b : ℕ) (ts : List Token) → node_at (value_at vars b) ts ≡ (start_at vars b ts >>= started vars b)
-start-law vars b [] = ap stripped (value-nothing vars b)
-start-law vars b (t ∷ ts) = go (punct "[" t.bare) (punct "{" t.bare) refl refl b
+pub value-law : (vars : Bool) (b : ℕ) (ts : List Token) → node_at (value_at vars b) ts ≡ (enter_at b ts >>= begun vars b)
+value-law vars b [] = ap stripped (value-nothing vars b)
+value-law vars b (t ∷ ts) = go (punct "[" t.bare) (punct "{" t.bare) refl refl b
   where
-    simple : (b : ℕ) (o : Outcome Tree) → o ≡ (simply o >>= started vars b)
-    simple b (Read v rest) = refl
-    simple b (Refused w rest) = refl
-
-    go : (l o : Bool) → punct "[" t.bare ≡ l → punct "{" t.bare ≡ o → (b : ℕ) → node_at (value_at vars b) (t ∷ ts) ≡ (start_at vars b (t ∷ ts) >>= started vars b)
+    go : (l o : Bool) → punct "[" t.bare ≡ l → punct "{" t.bare ≡ o → (b : ℕ) → node_at (value_at vars b) (t ∷ ts) ≡ (enter_at b (t ∷ ts) >>= begun vars b)
     go true o e k zero = ap stripped (value-deep-list vars t ts e) ∙ rw e refl
     go true o e k (suc b) = value-list vars b t ts e ∙ rw (e, some-left b) refl
     go false true e k zero = ap stripped (value-deep-object vars t ts k) ∙ rw (e, k) refl
     go false true e k (suc b) = value-object vars b t ts k ∙ rw (e, k, some-left b) refl
-    go false false e k b = ap stripped (value-simple vars b t ts e k) ∙ simple b (node_at (simple_at vars) (t ∷ ts)) ∙ rw (e, k) refl
--- what opens a list or an object had a level left
-pub start-room : (vars : Bool) (b : ℕ) (ts : List Token) (o : Opened) (rest : List Token) → start_at vars b ts ≡ Read (enters o) rest → 0 < b
-start-room vars (suc b) ts o rest e = omega arith
-start-room vars zero [] o rest e = absurd cc
-start-room vars zero (t ∷ ts) o rest e = absurd (go (punct "[" t.bare) (punct "{" t.bare) (node_at (simple_at vars) (t ∷ ts)) e)
+    go false false e k b = ap stripped (value-simple vars b t ts e k) ∙ rw (e, k) refl
+
+-- what begins here had a level left, and a token is read of it
+abbrev EntersWithin : ℕ → ℕ → Outcome (Option Opened) → Type 0
+EntersWithin b n (Read None rest) = length rest ≤ n
+EntersWithin b n (Read (Some o) rest) = (0 < b) × (length rest < n)
+EntersWithin b n (Refused v rest) = Unit {0}
+
+enters-within : (b : ℕ) (ts : List Token) → EntersWithin b (length ts) (enter_at b ts)
+enters-within b [] = tt
+enters-within b (t ∷ ts) = go (punct "[" t.bare) (punct "{" t.bare) refl refl
   where
-    go : (l m : Bool) (read : Outcome Tree) → cond l (Refused limit (t ∷ ts)) (cond m (Refused limit (t ∷ ts)) (simply read)) ≡ Read (enters o) rest → ⊥
-    go true m read e = cc
-    go false true read e = cc
-    go false false (Read v rest') e = cc
-    go false false (Refused v rest') e = cc
+    size : ℕ
+    size = length (t ∷ ts)
+
+    enter : (test : Test) (o : Opened) → test t.bare ≡ true → (w : Bool) → nat_lt 0 b ≡ w → EntersWithin b size (cond w (one_at test (t ∷ ts) >>= λ _ rest. Read (Some o) rest) (Refused limit (t ∷ ts)))
+    enter test o e true h = let room : 0 < b = grind (arith, nat_tests) in rw e (room, omega arith)
+    enter test o e false h = tt
+
+    go : (l m : Bool) → punct "[" t.bare ≡ l → punct "{" t.bare ≡ m → EntersWithin b size (cond l (enters_at (punct "[") b (in_list []) (t ∷ ts)) (cond m (enters_at (punct "{") b (in_object []) (t ∷ ts)) (Read None (t ∷ ts))))
+    go true m e k = enter (punct "[") (in_list []) e (nat_lt 0 b) refl
+    go false true e k = enter (punct "{") (in_object []) k (nat_lt 0 b) refl
+    go false false e k = omega arith
+
+pub entered : (b : ℕ) (ts : List Token) (o : Opened) (rest : List Token) → enter_at b ts ≡ Read (Some o) rest → (0 < b) × (length rest < length ts)
+entered b ts o rest e = subst (EntersWithin b (length ts)) e (enters-within b ts)
 
 -- ---- inside a list or an object
 
@@ -200,7 +210,7 @@ list-closes vars b front t ts e =
     let none : value_first vars t.bare ≡ false = at-punct (value_first vars) "]" t.bare false e refl in
     rest-stops (value_first vars) (node_at (value_at vars b)) close_list front t ts none ∙ rw e refl
 
-takes-node : (vars : Bool) (b : ℕ) → Takes (node_at (value_at vars b))
+pub takes-node : (vars : Bool) (b : ℕ) → Takes (node_at (value_at vars b))
 takes-node vars b ts a rest e = go (value_at vars b ts) refl e
   where
     go : (o : Outcome Value) → value_at vars b ts ≡ o → stripped o ≡ Read a rest → length rest < length ts
@@ -265,35 +275,91 @@ object-wants vars b front t ts e = go (any_name t.bare) refl
     go true h = rest-more any_name (field_at (value_at vars b)) close_object (takes-field vars b) front t ts h ∙ field-flat (value_at vars b) (λ a rest. behind (front ++ a ∷ []) rest) (t ∷ ts)
     go false h = rest-stops any_name (field_at (value_at vars b)) close_object front t ts h ∙ rw (e, h) refl
 
--- ---- the end of a list or an object, or what it waits for
+-- ---- the end of a list or an object, or its next value
+
+abbrev pub after-item : Bool → ℕ → List Tree → Bool → List Token → Outcome Tree
+after-item vars b front true rest = Read (list_tree front) rest
+after-item vars b front false rest = filled vars b (list_waits front) (node_at (value_at vars b) rest)
+
+pub list-law : (vars : Bool) (b : ℕ) (front : List Tree) (ts : List Token) → list_rest vars b front ts ≡ (take_at (punct "]") ts >>= after-item vars b front)
+list-law vars b front [] = list-nothing vars b front
+list-law vars b front (t ∷ ts) = go (punct "]" t.bare) refl
+  where
+    go : (w : Bool) → punct "]" t.bare ≡ w → list_rest vars b front (t ∷ ts) ≡ (take_at (punct "]") (t ∷ ts) >>= after-item vars b front)
+    go true e = list-closes vars b front t ts e ∙ rw e refl
+    go false e = list-wants vars b front t ts e ∙ rw e refl
+
+abbrev pub after-key : Bool → ℕ → List Field → Option (List ℕ) → List Token → Outcome Tree
+after-key vars b front None rest = Read (object_tree front) rest
+after-key vars b front (Some name) rest = filled vars b (object_waits front name) (node_at (value_at vars b) rest)
 
 abbrev with-colon : Token → Outcome Token → Outcome (Token × Token)
 with-colon n o = o >>= λ c rest. Read (n, c) rest
 
-abbrev waits : List Field → Outcome (Token × Token) → Outcome Next
-waits front o = o >>= λ x rest. Read (wants (object_waits front x.0.bare.spelling)) rest
+abbrev keys : Outcome (Token × Token) → Outcome (Option (List ℕ))
+keys o = o >>= λ x rest. Read (Some x.0.bare.spelling) rest
 
-pub go-on-law : (vars : Bool) (b : ℕ) (o : Opened) (ts : List Token) → open_rest vars b o ts ≡ (go_on_at o ts >>= went vars b)
-go-on-law vars b (in_list front) [] = list-nothing vars b front
-go-on-law vars b (in_object front) [] = object-nothing vars b front
-go-on-law vars b (in_list front) (t ∷ ts) = go (punct "]" t.bare) refl
+pub object-law : (vars : Bool) (b : ℕ) (front : List Field) (ts : List Token) → object_rest vars b front ts ≡ (key_at ts >>= after-key vars b front)
+object-law vars b front [] = object-nothing vars b front
+object-law vars b front (t ∷ ts) = go (punct "}" t.bare) refl
   where
-    go : (w : Bool) → punct "]" t.bare ≡ w → list_rest vars b front (t ∷ ts) ≡ (go_on_at (in_list front) (t ∷ ts) >>= went vars b)
-    go true e = list-closes vars b front t ts e ∙ rw e refl
-    go false e = list-wants vars b front t ts e ∙ rw e refl
-go-on-law vars b (in_object front) (t ∷ ts) = go (punct "}" t.bare) refl
-  where
-    at-colon : (n : Token) (o : Outcome Token) → (o >>= λ c rest. filled vars b (object_waits front n.bare.spelling) (node_at (value_at vars b) rest)) ≡ (waits front (with-colon n o) >>= went vars b)
+    at-colon : (n : Token) (o : Outcome Token) → (o >>= λ c rest. filled vars b (object_waits front n.bare.spelling) (node_at (value_at vars b) rest)) ≡ (keys (with-colon n o) >>= after-key vars b front)
     at-colon n (Read c rest) = refl
     at-colon n (Refused w rest) = refl
 
-    at-name : (o : Outcome Token) → (o >>= λ n rest. one_at (punct ":") rest >>= λ c rest'. filled vars b (object_waits front n.bare.spelling) (node_at (value_at vars b) rest')) ≡ (waits front (o >>= λ n rest. with-colon n (one_at (punct ":") rest)) >>= went vars b)
+    at-name : (o : Outcome Token) → (o >>= λ n rest. one_at (punct ":") rest >>= λ c rest'. filled vars b (object_waits front n.bare.spelling) (node_at (value_at vars b) rest')) ≡ (keys (o >>= λ n rest. with-colon n (one_at (punct ":") rest)) >>= after-key vars b front)
     at-name (Read n rest) = at-colon n (one_at (punct ":") rest)
     at-name (Refused w rest) = refl
 
-    go : (w : Bool) → punct "}" t.bare ≡ w → object_rest vars b front (t ∷ ts) ≡ (go_on_at (in_object front) (t ∷ ts) >>= went vars b)
+    go : (w : Bool) → punct "}" t.bare ≡ w → object_rest vars b front (t ∷ ts) ≡ (key_at (t ∷ ts) >>= after-key vars b front)
     go true e = object-closes vars b front t ts e ∙ rw e refl
     go false e = object-wants vars b front t ts e ∙ at-name (one_at any_name (t ∷ ts)) ∙ rw e refl
+
+abbrev TakesWithin : ℕ → Outcome Bool → Type 0
+TakesWithin n (Read true rest) = length rest < n
+TakesWithin n (Read false rest) = length rest ≤ n
+TakesWithin n (Refused v rest) = Unit {0}
+
+takes-within : (test : Test) (ts : List Token) → TakesWithin (length ts) (take_at test ts)
+takes-within test [] = tt
+takes-within test (t ∷ ts) = go (test t.bare)
+  where
+    go : (w : Bool) → TakesWithin (length (t ∷ ts)) (cond w (Read true ts) (Read false (t ∷ ts)))
+    go true = omega arith
+    go false = omega arith
+
+pub taken : (test : Test) (ts rest : List Token) → take_at test ts ≡ Read true rest → length rest < length ts
+taken test ts rest e = subst (TakesWithin (length ts)) e (takes-within test ts)
+
+pub not-taken : (test : Test) (ts rest : List Token) → take_at test ts ≡ Read false rest → length rest ≤ length ts
+not-taken test ts rest e = subst (TakesWithin (length ts)) e (takes-within test ts)
+
+abbrev Within : {A : Type 0} → ℕ → Outcome A → Type 0
+Within n (Read a rest) = length rest < n
+Within n (Refused v rest) = Unit {0}
+
+key-within : (ts : List Token) → Within (length ts) (key_at ts)
+key-within [] = tt
+key-within (t ∷ ts) = go (punct "}" t.bare) (any_name t.bare) refl refl
+  where
+    size : ℕ
+    size = length (t ∷ ts)
+
+    by-colon : (w : Bool) (c : Token) (ts : List Token) → length (c ∷ ts) < size → Within size (keys (with-colon t (cond w (Read c ts) (Refused syntax (c ∷ ts)))))
+    by-colon true c ts less = omega (arith, less)
+    by-colon false c ts less = tt
+
+    colon : (ts : List Token) → length ts < size → Within size (keys (with-colon t (one_at (punct ":") ts)))
+    colon [] less = tt
+    colon (c ∷ ts) less = by-colon (punct ":" c.bare) c ts less
+
+    go : (w v : Bool) → punct "}" t.bare ≡ w → any_name t.bare ≡ v → Within size (key_at (t ∷ ts))
+    go true v e k = rw e (omega arith)
+    go false true e k = rw (e, k) (colon ts (omega arith))
+    go false false e k = rw (e, k) tt
+
+pub takes-key : Takes key_at
+takes-key ts key rest e = subst (Within (length ts)) e (key-within ts)
 
 -- ---- what waits outside
 
@@ -306,81 +372,3 @@ resume-push vars b [] f read = ap (λ (n : ℕ). filled vars n f read) (omega ar
 resume-push vars b (g ∷ fs) f read =
     let n : b + length (fs ++ f ∷ []) ≡ suc b + length fs = omega (arith, length-append fs (f ∷ [])) in
     ap₂ (λ (k : ℕ) (o : Outcome Tree). filled vars k g o) n (resume-push vars b fs f read)
-
--- ---- each step takes tokens, but for one that finds that a list goes on
-
-abbrev EntersWithin : ℕ → Outcome Begun → Type 0
-EntersWithin n (Read (simple_value v) rest) = Unit {0}
-EntersWithin n (Read (enters o) rest) = length rest < n
-EntersWithin n (Refused v rest) = Unit {0}
-
-enters-within : (vars : Bool) (b : ℕ) (ts : List Token) → EntersWithin (length ts) (start_at vars b ts)
-enters-within vars b [] = tt
-enters-within vars b (t ∷ ts) = go (punct "[" t.bare) (punct "{" t.bare) refl refl
-  where
-    size : ℕ
-    size = length (t ∷ ts)
-
-    enter : (test : Test) (o : Opened) → test t.bare ≡ true → (w : Bool) → EntersWithin size (cond w (one_at test (t ∷ ts) >>= λ _ rest. Read (enters o) rest) (Refused limit (t ∷ ts)))
-    enter test o e true = rw e (omega arith)
-    enter test o e false = tt
-
-    simple : (read : Outcome Tree) → EntersWithin size (simply read)
-    simple (Read v rest) = tt
-    simple (Refused v rest) = tt
-
-    go : (l m : Bool) → punct "[" t.bare ≡ l → punct "{" t.bare ≡ m → EntersWithin size (cond l (enter_at (punct "[") b (in_list []) (t ∷ ts)) (cond m (enter_at (punct "{") b (in_object []) (t ∷ ts)) (simply (node_at (simple_at vars) (t ∷ ts)))))
-    go true m e k = enter (punct "[") (in_list []) e (nat_lt 0 b)
-    go false true e k = enter (punct "{") (in_object []) k (nat_lt 0 b)
-    go false false e k = simple (node_at (simple_at vars) (t ∷ ts))
-
-pub start-takes : (vars : Bool) (b : ℕ) → Takes (start_at vars b)
-start-takes vars b ts s rest e = go s e
-  where
-    given : (s : Begun) → start_at vars b ts ≡ Read s rest → node_at (value_at vars b) ts ≡ started vars b s rest
-    given s e = start-law vars b ts ∙ ap (λ (o : Outcome Begun). o >>= started vars b) e
-
-    go : (s : Begun) → start_at vars b ts ≡ Read s rest → length rest < length ts
-    go (simple_value v) e = takes-node vars b ts v rest (given (simple_value v) e)
-    go (enters o) e = subst (EntersWithin (length ts)) e (enters-within vars b ts)
-
-abbrev GoesWithin : ℕ → Outcome Next → Type 0
-GoesWithin n (Read (closed v) rest) = length rest < n
-GoesWithin n (Read (wants f) rest) = length rest ≤ n
-GoesWithin n (Refused v rest) = Unit {0}
-
-goes-within : (o : Opened) (ts : List Token) → GoesWithin (length ts) (go_on_at o ts)
-goes-within (in_list front) [] = tt
-goes-within (in_object front) [] = tt
-goes-within (in_list front) (t ∷ ts) = go (punct "]" t.bare) refl
-  where
-    go : (w : Bool) → punct "]" t.bare ≡ w → GoesWithin (length (t ∷ ts)) (go_on_at (in_list front) (t ∷ ts))
-    go true e = rw e (omega arith)
-    go false e = rw e (omega arith)
-goes-within (in_object front) (t ∷ ts) = go (punct "}" t.bare) (any_name t.bare) refl refl
-  where
-    size : ℕ
-    size = length (t ∷ ts)
-
-    colon : (ts : List Token) → length ts < size → GoesWithin size (waits front (with-colon t (one_at (punct ":") ts)))
-    colon [] less = tt
-    colon (c ∷ ts) less = by (punct ":" c.bare)
-      where
-        by : (w : Bool) → GoesWithin size (waits front (with-colon t (cond w (Read c ts) (Refused syntax (c ∷ ts)))))
-        by true = omega (arith, less)
-        by false = tt
-
-    go : (w v : Bool) → punct "}" t.bare ≡ w → any_name t.bare ≡ v → GoesWithin size (go_on_at (in_object front) (t ∷ ts))
-    go true v e k = rw e (omega arith)
-    go false true e k = rw (e, k) (colon ts (omega arith))
-    go false false e k = rw (e, k) tt
-
-pub closed-takes : (o : Opened) (ts : List Token) (v : Tree) (rest : List Token) → go_on_at o ts ≡ Read (closed v) rest → length rest < length ts
-closed-takes o ts v rest e = subst (GoesWithin (length ts)) e (goes-within o ts)
-
-pub wants-takes : (o : Opened) (ts : List Token) (f : Waiting) (rest : List Token) → go_on_at o ts ≡ Read (wants f) rest → length rest ≤ length ts
-wants-takes o ts f rest e = subst (GoesWithin (length ts)) e (goes-within o ts)
-
--- an object is closed, and made
-pub closes-object : (now next : Ahead) (front : List Field) {made : Tree} → punct "}" now.hand.bare ≡ true → made ≡ object_tree front → tokens next ≡ now.behind → go_on_in_object_at front (tokens now) ≡ Read (closed made) (tokens next)
-closes-object now next front {made} e is behind = rw e (ap₂ (λ (t : Tree) (l : List Token). Read (closed t) l) (sym is) (sym behind))

@@ -1,7 +1,6 @@
 -- A value stands at its first token.
 use Rattle.std.proofs.Common.{◌≡◌, ℕ, zero, suc, Bool, true, false, cond, Option, Some, None, List, [], ◌∷◌, refl}
 use Rattle.graphql_syntax.specs.tokens.Token.{Bare, Token}
-use Rattle.graphql_syntax.specs.trees.ValueTree.{Tree}
 use Rattle.graphql_parser.specs.grammar.Fronts.{syntax, limit}
 use Rattle.graphql_parser.specs.grammar.Places.{at}
 use Rattle.graphql_parser.specs.grammar.Tests.{Test, punct, keyword, any_name, name_but, any_number, any_string, any_block}
@@ -61,17 +60,17 @@ stands-deep test = record { by = λ t ts. go t ts (test t.bare) }
 stands-word : Stands word_at
 stands-word =
     stands-choose (keyword "true") _ _ (stands-one true_of (keyword "true") (λ t. refl))
-      (stands-choose (keyword "false") _ _ (stands-one false_of (keyword "false") (λ t. refl))
-        (stands-choose (keyword "null") _ _ (stands-one null_of (keyword "null") (λ t. refl))
-          (stands-one enumeration_of (name_but ("true" ∷ "false" ∷ "null" ∷ [])) (λ t. refl))))
+    (stands-choose (keyword "false") _ _ (stands-one false_of (keyword "false") (λ t. refl))
+    (stands-choose (keyword "null") _ _ (stands-one null_of (keyword "null") (λ t. refl))
+    (stands-one enumeration_of (name_but ("true" ∷ "false" ∷ "null" ∷ [])) (λ t. refl))))
 
 stands-simple : (vars : Bool) → Stands (simple_at vars)
 stands-simple vars =
     stands-choose any_name word_at _ stands-word
-      (stands-choose any_number number_at _ (stands-one number_of any_number (λ t. refl))
-        (stands-choose any_string string_at _ (stands-meaning string_of any_string string_text (λ x. refl))
-          (stands-choose any_block block_at (variable_at vars) (stands-meaning string_of any_block block_text (λ x. refl))
-            (stands-then variable_of (dollar vars) (one_at any_name) (λ x. refl)))))
+    (stands-choose any_number number_at _ (stands-one number_of any_number (λ t. refl))
+    (stands-choose any_string string_at _ (stands-meaning string_of any_string string_text (λ x. refl))
+    (stands-choose any_block block_at (variable_at vars) (stands-meaning string_of any_block block_text (λ x. refl))
+    (stands-then variable_of (dollar vars) (one_at any_name) (λ x. refl)))))
 
 stands-list : (vars : Bool) (value : Reader Value) → Stands (list_at vars value)
 stands-list vars value = stands-then list_of (punct "[") (then_at (many_at (value_first vars) value) (one_at (punct "]"))) (λ x. refl)

@@ -1,5 +1,5 @@
 //! Reading a text token by token, with one token in hand.
-ghost use Rattle.std.specs.Prelude.{◌≡◌, ◌≢◌, ◌≤◌, ◌+◌, length, ◌&&◌, false, []};
+ghost use Rattle.std.specs.Prelude.{◌≡◌, ◌≢◌, ◌≤◌, ◌+◌, length, ◌&&◌, false, [], Ok};
 ghost use Rattle.std.specs.Str.{bytes_eq};
 ghost use Rattle.graphql_syntax.specs.tokens.Cuts.{is_last, EndsOnce};
 ghost use Rattle.graphql_syntax.specs.tokens.Proper.{AreProperButFaults, IsProper};
@@ -10,11 +10,12 @@ ghost use Rattle.graphql_parser.specs.grammar.Tests as tests;
 ghost use Rattle.graphql_parser.specs.reading.Ahead.{tokens as ahead};
 ghost use Rattle.graphql_parser.specs.reading.Errors.{IsErrorOf};
 ghost use Rattle.graphql_parser.specs.reading.Given.{Gives, GivesWhole};
-ghost use Rattle.graphql_parser.specs.reading.Outcome.{one_at};
+ghost use Rattle.graphql_parser.specs.reading.Outcome.{one_at, take_at};
 ghost use Rattle.graphql_parser.specs.reading.Spelled.{punct_of};
 
 mod arguments;
 mod executable;
+mod list;
 mod request;
 mod rules;
 mod selections;
@@ -59,42 +60,50 @@ impl<T: Drop> From<AllocFailed<T>> for Refusal {
     }
 }
 
+#[inline(always)]
 fn is_punct(kind: TokenKind) -> bool
     ensures { result ≡ tests.is_punct kind }
 {
     matches!(kind, TokenKind::Punct)
 }
 
+#[inline(always)]
 fn is_name(kind: TokenKind) -> bool
     ensures { result ≡ tests.is_name kind }
 {
     matches!(kind, TokenKind::Name)
 }
 
+#[inline(always)]
 fn is_number(kind: TokenKind) -> bool
     ensures { result ≡ tests.is_number kind }
 {
     matches!(kind, TokenKind::Number)
 }
 
+#[inline(always)]
 fn is_string(kind: TokenKind) -> bool
     ensures { result ≡ tests.is_string kind }
 {
     matches!(kind, TokenKind::String)
 }
 
+#[inline(always)]
 fn is_block(kind: TokenKind) -> bool
     ensures { result ≡ tests.is_block kind }
 {
     matches!(kind, TokenKind::Block)
 }
 
+#[inline(always)]
 fn is_end(kind: TokenKind) -> bool
     ensures { result ≡ tests.is_end kind }
 {
     matches!(kind, TokenKind::End)
 }
 
+#[cold]
+#[inline(never)]
 fn syntax_error(alloc: Global, start: Pos) -> Error
     ensures { IsErrorOf Syntax start result }
 {
@@ -175,18 +184,32 @@ impl<'a> Cursor<'a> {
         self.hand
     }
 
+    #[inline(always)]
     fn is_at_punct(&self, text: &str) -> bool
         ensures { result ≡ punct_of text.now self.now.hand.bare }
     {
         is_punct(self.hand.kind) && self.hand.text == text
     }
 
+    #[inline(always)]
     fn is_at_name(&self) -> bool
         ensures { result ≡ tests.any_name self.now.hand.bare }
     {
         is_name(self.hand.kind)
     }
 
+    /// Takes the punctuator, where it is in hand.
+    fn take_punct(&mut self, text: &str) -> bool
+        ensures { Gives (λ taken. taken) (Ok result) self.old self.new (take_at (punct_of text.now)) }
+    {
+        let is_there = self.is_at_punct(text);
+        if is_there {
+            self.advance();
+        }
+        is_there
+    }
+
+    #[inline(always)]
     fn expect_punct(&mut self, text: &str) -> Reading<Token<'a>>
         ensures { Gives seen result self.old self.new (one_at (punct_of text.now)) }
     {
@@ -198,6 +221,7 @@ impl<'a> Cursor<'a> {
         Ok(token)
     }
 
+    #[inline(always)]
     fn expect_name(&mut self) -> Reading<Token<'a>>
         ensures { Gives seen result self.old self.new (one_at tests.any_name) }
     {

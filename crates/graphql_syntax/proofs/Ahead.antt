@@ -6,7 +6,7 @@ use Rattle.graphql_syntax.specs.tokens.Place.{is_line_end, is_in_line}
 use Rattle.graphql_syntax.specs.tokens.Classes.{is_ignored, is_punct, is_name_start}
 use Rattle.graphql_syntax.specs.tokens.Cuts.{is_last}
 use Rattle.graphql_syntax.specs.inner.Reading.{skip, past_line, past_word, past_points, found, quoted, next}
-use Rattle.graphql_syntax.specs.inner.Running.{BeginsInLine}
+use Rattle.graphql_syntax.specs.inner.Running.{BeginsInLine, BeginsInAscii}
 use Rattle.graphql_syntax.specs.inner.Lexing.{IsFirstByte, rest_if}
 use Rattle.graphql_syntax.specs.declared.lexer.TokenKind.{TokenKind}
 use Rattle.graphql_syntax.specs.declared.lexer.TokenKind.TheVariants.{Punct, Name, Number, Fault, End}
@@ -47,6 +47,12 @@ first_not b c d text rest f is l n = by (subst (IsFirstByte b) is f)
 pub low_in_line : (b : ℕ) (text : List ℕ) → IsFirstByte b text → b < 128 → is_in_line b ≡ true → BeginsInLine text
 low_in_line b [] f l h = absurd f
 low_in_line b (c ∷ rest) f l h = ap is_in_line (first_low b c (c ∷ rest) rest f refl l) ∙ h
+
+pub low_ascii : (b : ℕ) (text : List ℕ) → IsFirstByte b text → b < 128 → is_in_line b ≡ true → BeginsInAscii text
+low_ascii b [] f l h = absurd f
+low_ascii b (c ∷ rest) f l h =
+    let same = first_low b c (c ∷ rest) rest f refl l in
+    (omega (arith, same, l), ap is_in_line same ∙ h)
 
 -- ---- ignored text
 
@@ -124,6 +130,12 @@ name_in_line b text f t = let n = name_low b t in low_in_line b text f n.0 n.1
 
 pub punct_in_line : (b : ℕ) (text : List ℕ) → IsFirstByte b text → is_punct b ≡ true → BeginsInLine text
 punct_in_line b text f t = let n = punct_low b t in low_in_line b text f n.0 n.1
+
+pub name_ascii : (b : ℕ) (text : List ℕ) → IsFirstByte b text → is_name_start b ≡ true → BeginsInAscii text
+name_ascii b text f t = let n = name_low b t in low_ascii b text f n.0 n.1
+
+pub punct_ascii : (b : ℕ) (text : List ℕ) → IsFirstByte b text → is_punct b ≡ true → BeginsInAscii text
+punct_ascii b text f t = let n = punct_low b t in low_ascii b text f n.0 n.1
 
 pub next_end : (text : List ℕ) → text ≡ [] → next text ≡ (End, [])
 unfolding next

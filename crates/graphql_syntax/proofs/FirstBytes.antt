@@ -1,10 +1,10 @@
 -- The byte at the offset, and the first character of what is ahead.
-use Rattle.std.proofs.Common.{◌≡◌, ◌≢◌, ℕ, ◌≤◌, ◌<◌, ◌⊎◌, List, [], ◌∷◌, length, drop, get_or, sym, ap, ◌∙◌, arith, inl, inr, add-zero, length-drop, subst}
+use Rattle.std.proofs.Common.{◌≡◌, ◌≢◌, ℕ, ◌≤◌, ◌<◌, ◌⊎◌, List, [], ◌∷◌, length, drop, get_or, refl, sym, ap, ◌∙◌, arith, inl, inr, add-zero, length-drop, subst}
 use Rattle.std.proofs.lemmas.Bool.{cases_lt}
 use Rattle.std.proofs.lemmas.List.{get_or-drop}
 use Rattle.std.specs.Str.{chars, IsUtf8, encode_utf8_all}
 use Rattle.std.proofs.lemmas.Str.{chars_past_char, char_from_byte, byte_from_char, encodes-chars, IsUtf8-drop}
-use Rattle.graphql_syntax.specs.inner.Running.{ahead, IsRunning}
+use Rattle.graphql_syntax.specs.inner.Running.{ahead, IsRunning, BeginsInAscii}
 use Rattle.graphql_syntax.specs.inner.Lexing.{RunsOver, IsFirstByte}
 use Rattle.graphql_syntax.proofs.Running.{nothing_ahead}
 use Rattle.graphql_syntax.specs.declared.pos.running.RunningPlace.{RunningPlace}
@@ -41,6 +41,22 @@ peek_some bytes a i r is l fits =
 
 pub peek_none : (bytes : List ℕ) (a : RunningPlace) (i : ℕ) → RunsOver bytes a → i ≡ a.cursor.offset → length bytes ≤ i → ahead a ≡ []
 peek_none bytes a i r is h = nothing_ahead a (omega (arith, is, ap length r.same))
+
+pub ascii_ahead : (a : RunningPlace) → IsRunning a → BeginsInAscii (ahead a) → get_or a.cursor.text.now a.cursor.offset 0 < 128
+ascii_ahead a r h = by (ahead a) refl h
+  where
+    by : (cs : List ℕ) → ahead a ≡ cs → BeginsInAscii cs → get_or a.cursor.text.now a.cursor.offset 0 < 128
+    by [] e k = absurd k
+    by (c ∷ cs) e k =
+        let bs = a.cursor.text.now in
+        let i = a.cursor.offset in
+        let is : drop i bs ≡ encode_utf8_all (c ∷ cs) = sym (encodes-chars (drop i bs) (IsUtf8-drop bs i r.reading.utf8 r.reading.boundary)) ∙ ap encode_utf8_all e in
+        let at : get_or bs i 0 ≡ c = ap (λ n. get_or bs n 0) (sym (add-zero i)) ∙ sym (get_or-drop i bs 0 0) ∙ byte_from_char (drop i bs) (encode_utf8_all cs) c is k.0 in
+        omega (arith, at, k.0)
+
+pub some_ascii : (text : List ℕ) → BeginsInAscii text → text ≢ []
+some_ascii [] h e = h
+some_ascii (c ∷ cs) h e = cc
 
 pub ahead_some : (a : RunningPlace) → IsRunning a → a.cursor.offset < length a.cursor.text.now → ahead a ≢ []
 ahead_some a r l e =

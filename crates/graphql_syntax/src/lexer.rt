@@ -106,7 +106,7 @@ fn rare_token<'a>(bytes: &[u8], start: RunningPlace<'a>, b: u8) -> (TokenKind, R
 {
     let mut places = start;
     if b == b'"' {
-        places.pass_in_line();
+        places.pass_ascii();
         let kind = pass_quoted(bytes, &mut places);
         return (kind, places);
     }
@@ -116,7 +116,7 @@ fn rare_token<'a>(bytes: &[u8], start: RunningPlace<'a>, b: u8) -> (TokenKind, R
         return (kind, places);
     }
     if b == b'.' {
-        places.pass_in_line();
+        places.pass_ascii();
         let is_three = pass_points(bytes, &mut places);
         let kind = found(TokenKind::Punct, is_three);
         return (kind, places);
@@ -137,12 +137,12 @@ fn pass_token(bytes: &[u8], places: &mut RunningPlace) -> TokenKind
         return TokenKind::End;
     };
     if is_name_start(b) {
-        places.pass_in_line();
+        places.pass_ascii();
         pass_word(bytes, places);
         return TokenKind::Name;
     }
     if is_punct(b) {
-        places.pass_in_line();
+        places.pass_ascii();
         return TokenKind::Punct;
     }
     let (kind, behind) = rare_token(bytes, *places, b);

@@ -1,43 +1,46 @@
 //! Values without variables, as text.
-use super::Written;
+use super::Shown;
 use graphql_parser::value::{ConstValue, Name};
 
 #[cycle(constant)]
-pub fn write_constant(out: &mut String, constant: &ConstValue) -> Written {
+pub fn write_constant(shown: &mut Shown, constant: &ConstValue) {
     match constant {
-        ConstValue::Null => out.push_str("null"),
-        ConstValue::Number(number) => write!(out, "{number}"),
+        ConstValue::Null => shown.word("null"),
+        ConstValue::Number(number) => shown.word(number.as_str()),
         ConstValue::String(text) => {
-            let text = text.as_str();
-            write!(out, "'{text}'")
+            shown.word("'");
+            shown.word(text.as_str());
+            shown.word("'");
         }
-        ConstValue::Boolean(is_true) => {
-            let is_true = *is_true;
-            write!(out, "{is_true}")
+        ConstValue::Boolean(true) => shown.word("true"),
+        ConstValue::Boolean(false) => shown.word("false"),
+        ConstValue::Enum(name) => {
+            shown.word(".");
+            shown.word(name.as_str());
         }
-        ConstValue::Enum(name) => write!(out, ".{name}"),
-        ConstValue::List(items) => write_list(out, items),
-        ConstValue::Object(fields) => write_object(out, fields),
+        ConstValue::List(items) => write_list(shown, items),
+        ConstValue::Object(fields) => write_object(shown, fields),
     }
 }
 
 #[cycle(constant)]
-fn write_list(out: &mut String, items: &Vec<ConstValue>) -> Written {
-    out.push_str("[")?;
+fn write_list(shown: &mut Shown, items: &Vec<ConstValue>) {
+    shown.word("[");
     for item in items {
-        out.push_str(" ")?;
-        write_constant(out, item)?;
+        shown.word(" ");
+        write_constant(shown, item);
     }
-    out.push_str(" ]")
+    shown.word(" ]");
 }
 
 #[cycle(constant)]
-fn write_object(out: &mut String, fields: &Vec<(Name, ConstValue)>) -> Written {
-    out.push_str("{")?;
+fn write_object(shown: &mut Shown, fields: &Vec<(Name, ConstValue)>) {
+    shown.word("{");
     for field in fields {
-        let name = field.0.as_str();
-        write!(out, " {name}=")?;
-        write_constant(out, &field.1)?;
+        shown.word(" ");
+        shown.word(field.0.as_str());
+        shown.word("=");
+        write_constant(shown, &field.1);
     }
-    out.push_str(" }")
+    shown.word(" }");
 }

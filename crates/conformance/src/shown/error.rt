@@ -1,66 +1,84 @@
 //! Errors as text.
-use super::Written;
-use graphql_parser::Error;
+use super::Shown;
+use graphql_parser::types::OperationType;
+use graphql_parser::{Error, Pos};
+use std::alloc::Global;
 
-pub fn write(out: &mut String, error: &Error) -> Written {
+pub fn write(alloc: Global, shown: &mut Shown, error: &Error) {
     match error {
         Error::Syntax {
             message,
             start,
             end,
         } => {
-            let (message, start) = (message.as_str(), *start);
-            write!(out, "syntax '{message}' start {start}")?;
-            match end {
-                Some(end) => {
-                    let end = *end;
-                    write!(out, " end {end}")
-                }
-                None => Ok(()),
+            shown.place("syntax ", *start);
+            if !is_usual(alloc, message.as_str(), *start) {
+                write_message(shown, message.as_str());
+            }
+            if let Some(end) = end {
+                shown.place(" end ", *end);
             }
         }
         Error::MultipleRoots { root, schema, pos } => {
-            let (root, schema, pos) = (*root, *schema, *pos);
-            write!(out, "multiple roots {root} schema {schema} pos {pos}")
+            shown.word("multiple roots ");
+            shown.word(kind(*root));
+            shown.place(" schema ", *schema);
+            shown.place(" pos ", *pos);
         }
-        Error::MissingQueryRoot { pos } => {
-            let pos = *pos;
-            write!(out, "missing query root pos {pos}")
-        }
+        Error::MissingQueryRoot { pos } => shown.place("missing query root pos ", *pos),
         Error::MultipleOperations {
             anonymous,
             operation,
         } => {
-            let (anonymous, operation) = (*anonymous, *operation);
-            write!(
-                out,
-                "multiple operations anonymous {anonymous} operation {operation}"
-            )
+            shown.place("multiple operations anonymous ", *anonymous);
+            shown.place(" operation ", *operation);
         }
         Error::OperationDuplicated {
             operation,
             first,
             second,
         } => {
-            let (first, second) = (*first, *second);
-            write!(
-                out,
-                "operation {operation} duplicated first {first} second {second}"
-            )
+            shown.word("operation ");
+            shown.word(operation.as_str());
+            write_duplicated(shown, *first, *second);
         }
         Error::FragmentDuplicated {
             fragment,
             first,
             second,
         } => {
-            let (first, second) = (*first, *second);
-            write!(
-                out,
-                "fragment {fragment} duplicated first {first} second {second}"
-            )
+            shown.word("fragment ");
+            shown.word(fragment.as_str());
+            write_duplicated(shown, *first, *second);
         }
-        Error::MissingOperation => out.push_str("missing operation"),
-        Error::RecursionLimitExceeded => out.push_str("recursion limit exceeded"),
-        Error::OutOfMemory => out.push_str("out of memory"),
+        Error::MissingOperation => shown.word("missing operation"),
+        Error::RecursionLimitExceeded => shown.word("recursion limit exceeded"),
+        Error::OutOfMemory => shown.word("out of memory"),
     }
+}
+
+fn kind(root: OperationType) -> &'static str {
+    match root {
+        OperationType::Query => "query",
+        OperationType::Mutation => "mutation",
+        OperationType::Subscription => "subscription",
+    }
+}
+
+fn write_duplicated(shown: &mut Shown, first: Pos, second: Pos) {
+    shown.place(" duplicated first ", first);
+    shown.place(" second ", second);
+}
+
+fn is_usual(alloc: Global, message: &str, start: Pos) -> bool {
+    match format!(in alloc; "syntax error at {start}") {
+        Ok(usual) => usual.as_str() == message,
+        Err(_) => false,
+    }
+}
+
+fn write_message(shown: &mut Shown, message: &str) {
+    shown.word(" '");
+    shown.word(message);
+    shown.word("'");
 }

@@ -1,123 +1,132 @@
 //! The tree of a request, as text.
-use super::Written;
+use super::Shown;
 use super::parts::{
     write_arguments, write_default, write_directives, write_name, write_places, write_type,
 };
 use graphql_parser::types::{
-    DocumentOperations, ExecutableDocument, Field, FragmentDefinition, InlineFragment,
-    OperationDefinition, Selection, SelectionSet, TypeCondition, VariableDefinition,
+    DocumentOperations, ExecutableDocument, Field, FragmentDefinition, FragmentSpread,
+    InlineFragment, OperationDefinition, OperationType, Selection, SelectionSet, TypeCondition,
+    VariableDefinition,
 };
 use graphql_parser::{Pos, Positioned};
-use std::alloc::{AllocError, Global};
 
-/// The tree of a request: its operations, and then its fragments, each behind its name.
-pub fn request(alloc: Global, document: &ExecutableDocument) -> Result<String, AllocError> {
-    let mut out = String::new(alloc);
+// The tree of a request: its operations, and then its fragments, each behind its name.
+pub fn request(shown: &mut Shown, document: &ExecutableDocument) {
     match &document.operations {
         DocumentOperations::Single(operation) => {
-            out.push_str("single")?;
-            write_operation(&mut out, operation)?;
+            shown.word("single");
+            write_operation(shown, operation);
         }
         DocumentOperations::Multiple(operations) => {
-            out.push_str("multiple")?;
+            shown.word("multiple");
             for (name, operation) in operations.iter() {
-                write!(out, " {name}")?;
-                write_operation(&mut out, operation)?;
+                shown.word(" ");
+                shown.word(name.as_str());
+                write_operation(shown, operation);
             }
         }
     }
     for (name, fragment) in document.fragments.iter() {
-        write!(out, " {name}")?;
-        write_fragment(&mut out, fragment)?;
+        shown.word(" ");
+        shown.word(name.as_str());
+        write_fragment(shown, fragment);
     }
-    Ok(out)
 }
 
-fn write_operation(out: &mut String, operation: &Positioned<OperationDefinition>) -> Written {
-    let (kind, place) = (operation.node.ty, operation.pos);
-    write!(out, " ({kind} {place}")?;
+fn kind(ty: OperationType) -> &'static str {
+    match ty {
+        OperationType::Query => " (query",
+        OperationType::Mutation => " (mutation",
+        OperationType::Subscription => " (subscription",
+    }
+}
+
+fn write_operation(shown: &mut Shown, operation: &Positioned<OperationDefinition>) {
+    shown.word(kind(operation.node.ty));
+    shown.place(" ", operation.pos);
     for variable in &operation.node.variable_definitions {
-        write_variable(out, variable)?;
+        write_variable(shown, variable);
     }
-    write_directives(out, &operation.node.directives)?;
-    write_set(out, &operation.node.selection_set)?;
-    out.push_str(")")
+    write_directives(shown, &operation.node.directives);
+    write_set(shown, &operation.node.selection_set);
+    shown.word(")");
 }
 
-fn write_variable(out: &mut String, variable: &Positioned<VariableDefinition>) -> Written {
-    let place = variable.pos;
-    write!(out, " (variable {place}")?;
-    write_name(out, &variable.node.name)?;
-    write_type(out, &variable.node.var_type)?;
-    write_default(out, &variable.node.default_value)?;
-    write_directives(out, &variable.node.directives)?;
-    out.push_str(")")
+fn write_variable(shown: &mut Shown, variable: &Positioned<VariableDefinition>) {
+    shown.word(" (variable");
+    shown.place(" ", variable.pos);
+    write_name(shown, &variable.node.name);
+    write_type(shown, &variable.node.var_type);
+    write_default(shown, &variable.node.default_value);
+    write_directives(shown, &variable.node.directives);
+    shown.word(")");
 }
 
-fn write_fragment(out: &mut String, fragment: &Positioned<FragmentDefinition>) -> Written {
-    let place = fragment.pos;
-    write!(out, " (fragment {place}")?;
-    write_condition(out, &fragment.node.type_condition)?;
-    write_directives(out, &fragment.node.directives)?;
-    write_set(out, &fragment.node.selection_set)?;
-    out.push_str(")")
+fn write_fragment(shown: &mut Shown, fragment: &Positioned<FragmentDefinition>) {
+    shown.word(" (fragment");
+    shown.place(" ", fragment.pos);
+    write_condition(shown, &fragment.node.type_condition);
+    write_directives(shown, &fragment.node.directives);
+    write_set(shown, &fragment.node.selection_set);
+    shown.word(")");
 }
 
-fn write_condition(out: &mut String, condition: &Positioned<TypeCondition>) -> Written {
-    let place = condition.pos;
-    write!(out, " (on {place}")?;
-    write_name(out, &condition.node.on)?;
-    out.push_str(")")
+fn write_condition(shown: &mut Shown, condition: &Positioned<TypeCondition>) {
+    shown.word(" (on");
+    shown.place(" ", condition.pos);
+    write_name(shown, &condition.node.on);
+    shown.word(")");
 }
 
 #[cycle(set)]
-fn write_set(out: &mut String, set: &Positioned<SelectionSet>) -> Written {
-    let place = set.pos;
-    write!(out, " {{{place}")?;
+fn write_set(shown: &mut Shown, set: &Positioned<SelectionSet>) {
+    shown.place(" {", set.pos);
     for item in &set.node.items {
-        write_selection(out, item)?;
+        write_selection(shown, item);
     }
-    out.push_str("}")
+    shown.word("}");
 }
 
 #[cycle(set)]
-fn write_selection(out: &mut String, selection: &Positioned<Selection>) -> Written {
+fn write_selection(shown: &mut Shown, selection: &Positioned<Selection>) {
     match &selection.node {
-        Selection::Field(field) => write_field(out, selection.pos, field),
-        Selection::FragmentSpread(spread) => {
-            out.push_str(" (spread")?;
-            write_places(out, selection.pos, spread.pos)?;
-            write_name(out, &spread.node.fragment_name)?;
-            write_directives(out, &spread.node.directives)?;
-            out.push_str(")")
-        }
-        Selection::InlineFragment(fragment) => write_inline(out, selection.pos, fragment),
+        Selection::Field(field) => write_field(shown, selection.pos, field),
+        Selection::FragmentSpread(spread) => write_spread(shown, selection.pos, spread),
+        Selection::InlineFragment(fragment) => write_inline(shown, selection.pos, fragment),
     }
 }
 
+fn write_spread(shown: &mut Shown, outer: Pos, spread: &Positioned<FragmentSpread>) {
+    shown.word(" (spread");
+    write_places(shown, outer, spread.pos);
+    write_name(shown, &spread.node.fragment_name);
+    write_directives(shown, &spread.node.directives);
+    shown.word(")");
+}
+
 #[cycle(set)]
-fn write_field(out: &mut String, outer: Pos, field: &Positioned<Field>) -> Written {
-    out.push_str(" (field")?;
-    write_places(out, outer, field.pos)?;
+fn write_field(shown: &mut Shown, outer: Pos, field: &Positioned<Field>) {
+    shown.word(" (field");
+    write_places(shown, outer, field.pos);
     if let Some(alias) = &field.node.alias {
-        out.push_str(" alias")?;
-        write_name(out, alias)?;
+        shown.word(" alias");
+        write_name(shown, alias);
     }
-    write_name(out, &field.node.name)?;
-    write_arguments(out, &field.node.arguments)?;
-    write_directives(out, &field.node.directives)?;
-    write_set(out, &field.node.selection_set)?;
-    out.push_str(")")
+    write_name(shown, &field.node.name);
+    write_arguments(shown, &field.node.arguments);
+    write_directives(shown, &field.node.directives);
+    write_set(shown, &field.node.selection_set);
+    shown.word(")");
 }
 
 #[cycle(set)]
-fn write_inline(out: &mut String, outer: Pos, fragment: &Positioned<InlineFragment>) -> Written {
-    out.push_str(" (inline")?;
-    write_places(out, outer, fragment.pos)?;
+fn write_inline(shown: &mut Shown, outer: Pos, fragment: &Positioned<InlineFragment>) {
+    shown.word(" (inline");
+    write_places(shown, outer, fragment.pos);
     if let Some(condition) = &fragment.node.type_condition {
-        write_condition(out, condition)?;
+        write_condition(shown, condition);
     }
-    write_directives(out, &fragment.node.directives)?;
-    write_set(out, &fragment.node.selection_set)?;
-    out.push_str(")")
+    write_directives(shown, &fragment.node.directives);
+    write_set(shown, &fragment.node.selection_set);
+    shown.word(")");
 }

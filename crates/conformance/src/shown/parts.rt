@@ -1,5 +1,5 @@
 //! Names, places, arguments, directives and types, as text. Each begins with a blank.
-use super::Written;
+use super::Shown;
 use super::constants::write_constant;
 use super::values::write_value;
 use graphql_parser::types::{ConstDirective, Directive, Type};
@@ -7,103 +7,90 @@ use graphql_parser::value::{ConstValue, Name, Value};
 use graphql_parser::{Pos, Positioned};
 
 // The place of a node, and that of the node in it where it is another.
-pub fn write_places(out: &mut String, outer: Pos, inner: Pos) -> Written {
-    write!(out, " {outer}")?;
+pub fn write_places(shown: &mut Shown, outer: Pos, inner: Pos) {
+    shown.place(" ", outer);
     if inner != outer {
-        write!(out, "/{inner}")?;
-    }
-    Ok(())
-}
-
-pub fn write_name(out: &mut String, name: &Positioned<Name>) -> Written {
-    let (text, place) = (name.node.as_str(), name.pos);
-    write!(out, " {text}@{place}")
-}
-
-pub fn write_type(out: &mut String, ty: &Positioned<Type>) -> Written {
-    let place = ty.pos;
-    let ty = &ty.node;
-    write!(out, " {ty}@{place}")
-}
-
-pub fn write_description(out: &mut String, description: &Option<Positioned<String>>) -> Written {
-    match description {
-        None => Ok(()),
-        Some(description) => {
-            let (text, place) = (description.node.as_str(), description.pos);
-            write!(out, " '{text}'@{place}")
-        }
+        shown.place("/", inner);
     }
 }
 
-pub fn write_default(out: &mut String, default: &Option<Positioned<ConstValue>>) -> Written {
-    match default {
-        None => Ok(()),
-        Some(value) => {
-            let place = value.pos;
-            out.push_str(" default ")?;
-            write_constant(out, &value.node)?;
-            write!(out, "@{place}")
-        }
+pub fn write_name(shown: &mut Shown, name: &Positioned<Name>) {
+    shown.word(" ");
+    shown.word(name.node.as_str());
+    shown.place("@", name.pos);
+}
+
+pub fn write_type(shown: &mut Shown, ty: &Positioned<Type>) {
+    shown.type_text(&ty.node);
+    shown.place("@", ty.pos);
+}
+
+pub fn write_description(shown: &mut Shown, description: &Option<Positioned<String>>) {
+    if let Some(description) = description {
+        shown.word(" '");
+        shown.word(description.node.as_str());
+        shown.word("'");
+        shown.place("@", description.pos);
     }
 }
 
-pub fn write_arguments(
-    out: &mut String,
-    arguments: &Vec<(Positioned<Name>, Positioned<Value>)>,
-) -> Written {
+pub fn write_default(shown: &mut Shown, default: &Option<Positioned<ConstValue>>) {
+    if let Some(value) = default {
+        shown.word(" default ");
+        write_constant(shown, &value.node);
+        shown.place("@", value.pos);
+    }
+}
+
+pub fn write_arguments(shown: &mut Shown, arguments: &Vec<(Positioned<Name>, Positioned<Value>)>) {
     for argument in arguments {
-        write_name(out, &argument.0)?;
-        out.push_str("=")?;
-        let place = argument.1.pos;
-        write_value(out, &argument.1.node)?;
-        write!(out, "@{place}")?;
+        write_name(shown, &argument.0);
+        shown.word("=");
+        write_value(shown, &argument.1.node);
+        shown.place("@", argument.1.pos);
     }
-    Ok(())
 }
 
-pub fn write_directives(out: &mut String, directives: &Vec<Positioned<Directive>>) -> Written {
+pub fn write_directives(shown: &mut Shown, directives: &Vec<Positioned<Directive>>) {
     for directive in directives {
-        out.push_str(" ")?;
-        write_directive(out, directive)?;
+        shown.word(" ");
+        write_directive(shown, directive);
     }
-    Ok(())
 }
 
 // A directive, without a blank before it.
-pub fn write_directive(out: &mut String, directive: &Positioned<Directive>) -> Written {
-    let place = directive.pos;
-    write!(out, "(directive {place}")?;
-    write_name(out, &directive.node.name)?;
-    write_arguments(out, &directive.node.arguments)?;
-    out.push_str(")")
+pub fn write_directive(shown: &mut Shown, directive: &Positioned<Directive>) {
+    shown.word("(directive");
+    shown.place(" ", directive.pos);
+    write_name(shown, &directive.node.name);
+    write_arguments(shown, &directive.node.arguments);
+    shown.word(")");
 }
 
-pub fn write_constant_directives(
-    out: &mut String,
-    directives: &Vec<Positioned<ConstDirective>>,
-) -> Written {
+pub fn write_constant_directives(shown: &mut Shown, directives: &Vec<Positioned<ConstDirective>>) {
     for directive in directives {
-        out.push_str(" ")?;
-        write_constant_directive(out, directive)?;
+        shown.word(" ");
+        write_constant_directive(shown, directive);
     }
-    Ok(())
 }
 
 // A directive without variables, and without a blank before it.
-pub fn write_constant_directive(
-    out: &mut String,
-    directive: &Positioned<ConstDirective>,
-) -> Written {
-    let place = directive.pos;
-    write!(out, "(directive {place}")?;
-    write_name(out, &directive.node.name)?;
-    for argument in &directive.node.arguments {
-        write_name(out, &argument.0)?;
-        out.push_str("=")?;
-        let place = argument.1.pos;
-        write_constant(out, &argument.1.node)?;
-        write!(out, "@{place}")?;
+pub fn write_constant_directive(shown: &mut Shown, directive: &Positioned<ConstDirective>) {
+    shown.word("(directive");
+    shown.place(" ", directive.pos);
+    write_name(shown, &directive.node.name);
+    write_constant_arguments(shown, &directive.node.arguments);
+    shown.word(")");
+}
+
+fn write_constant_arguments(
+    shown: &mut Shown,
+    arguments: &Vec<(Positioned<Name>, Positioned<ConstValue>)>,
+) {
+    for argument in arguments {
+        write_name(shown, &argument.0);
+        shown.word("=");
+        write_constant(shown, &argument.1.node);
+        shown.place("@", argument.1.pos);
     }
-    out.push_str(")")
 }

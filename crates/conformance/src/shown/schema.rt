@@ -1,163 +1,151 @@
 //! The tree of a schema file, as text.
-use super::Written;
+use super::Shown;
 use super::parts::{
     write_constant_directives, write_default, write_description, write_name, write_type,
 };
 use graphql_parser::Positioned;
 use graphql_parser::types::{
-    DirectiveDefinition, EnumValueDefinition, FieldDefinition, InputValueDefinition,
-    SchemaDefinition, ServiceDocument, TypeDefinition, TypeKind, TypeSystemDefinition,
+    DirectiveDefinition, DirectiveLocation, EnumValueDefinition, FieldDefinition,
+    InputValueDefinition, SchemaDefinition, ServiceDocument, TypeDefinition, TypeKind,
+    TypeSystemDefinition,
 };
 use graphql_parser::value::Name;
-use std::alloc::{AllocError, Global};
 
-/// The tree of a schema file: its definitions in order, behind the word `file`.
-pub fn schema_file(alloc: Global, document: &ServiceDocument) -> Result<String, AllocError> {
-    let mut out = String::from_str(alloc, "file")?;
+// The tree of a schema file: its definitions in order, behind the word `file`.
+pub fn file(shown: &mut Shown, document: &ServiceDocument) {
+    shown.word("file");
     for definition in &document.definitions {
         match definition {
-            TypeSystemDefinition::Schema(schema) => write_schema(&mut out, schema)?,
-            TypeSystemDefinition::TypeDef(ty) => write_type_definition(&mut out, ty)?,
+            TypeSystemDefinition::Schema(schema) => write_schema(shown, schema),
+            TypeSystemDefinition::TypeDef(ty) => write_type_definition(shown, ty),
             TypeSystemDefinition::Directive(directive) => {
-                write_directive_definition(&mut out, directive)?
+                write_directive_definition(shown, directive)
             }
         }
     }
-    Ok(out)
 }
 
-fn write_extend(out: &mut String, extend: bool) -> Written {
-    out.push_str(if extend { " (extend " } else { " (" })
+fn write_extend(shown: &mut Shown, extend: bool) {
+    shown.word(if extend { " (extend " } else { " (" });
 }
 
-fn write_schema(out: &mut String, schema: &Positioned<SchemaDefinition>) -> Written {
-    let place = schema.pos;
-    let schema = &schema.node;
-    write_extend(out, schema.extend)?;
-    write!(out, "schema {place}")?;
-    write_description(out, &schema.description)?;
-    write_constant_directives(out, &schema.directives)?;
-    write_root(out, "query", &schema.query)?;
-    write_root(out, "mutation", &schema.mutation)?;
-    write_root(out, "subscription", &schema.subscription)?;
-    out.push_str(")")
+fn write_schema(shown: &mut Shown, schema: &Positioned<SchemaDefinition>) {
+    write_extend(shown, schema.node.extend);
+    shown.place("schema ", schema.pos);
+    write_description(shown, &schema.node.description);
+    write_constant_directives(shown, &schema.node.directives);
+    write_root(shown, " query", &schema.node.query);
+    write_root(shown, " mutation", &schema.node.mutation);
+    write_root(shown, " subscription", &schema.node.subscription);
+    shown.word(")");
 }
 
-fn write_root(out: &mut String, kind: &str, root: &Option<Positioned<Name>>) -> Written {
-    match root {
-        None => Ok(()),
-        Some(name) => {
-            write!(out, " {kind}")?;
-            write_name(out, name)
-        }
+fn write_root(shown: &mut Shown, kind: &str, root: &Option<Positioned<Name>>) {
+    if let Some(name) = root {
+        shown.word(kind);
+        write_name(shown, name);
     }
 }
 
-fn write_type_definition(out: &mut String, ty: &Positioned<TypeDefinition>) -> Written {
-    let place = ty.pos;
-    let ty = &ty.node;
-    write_extend(out, ty.extend)?;
-    let word = match &ty.kind {
-        TypeKind::Scalar => "scalar",
-        TypeKind::Object(_) => "type",
-        TypeKind::Interface(_) => "interface",
-        TypeKind::Union(_) => "union",
-        TypeKind::Enum(_) => "enum",
-        TypeKind::InputObject(_) => "input",
-    };
-    write!(out, "{word} {place}")?;
-    write_description(out, &ty.description)?;
-    write_name(out, &ty.name)?;
-    write_constant_directives(out, &ty.directives)?;
-    match &ty.kind {
+fn kind(kind: &TypeKind) -> &'static str {
+    match kind {
+        TypeKind::Scalar => "scalar ",
+        TypeKind::Object(_) => "type ",
+        TypeKind::Interface(_) => "interface ",
+        TypeKind::Union(_) => "union ",
+        TypeKind::Enum(_) => "enum ",
+        TypeKind::InputObject(_) => "input ",
+    }
+}
+
+fn write_type_definition(shown: &mut Shown, ty: &Positioned<TypeDefinition>) {
+    write_extend(shown, ty.node.extend);
+    shown.place(kind(&ty.node.kind), ty.pos);
+    write_description(shown, &ty.node.description);
+    write_name(shown, &ty.node.name);
+    write_constant_directives(shown, &ty.node.directives);
+    write_kind(shown, &ty.node.kind);
+    shown.word(")");
+}
+
+fn write_kind(shown: &mut Shown, kind: &TypeKind) {
+    match kind {
         TypeKind::Scalar => {}
         TypeKind::Object(object) => {
-            write_names(out, "implements", &object.implements)?;
-            write_fields(out, &object.fields)?;
+            write_names(shown, " implements", &object.implements);
+            write_fields(shown, &object.fields);
         }
         TypeKind::Interface(interface) => {
-            write_names(out, "implements", &interface.implements)?;
-            write_fields(out, &interface.fields)?;
+            write_names(shown, " implements", &interface.implements);
+            write_fields(shown, &interface.fields);
         }
-        TypeKind::Union(members) => write_names(out, "members", &members.members)?,
-        TypeKind::Enum(values) => write_enum_values(out, &values.values)?,
-        TypeKind::InputObject(input) => write_input_values(out, &input.fields)?,
+        TypeKind::Union(members) => write_names(shown, " members", &members.members),
+        TypeKind::Enum(values) => write_enum_values(shown, &values.values),
+        TypeKind::InputObject(input) => write_input_values(shown, &input.fields),
     }
-    out.push_str(")")
 }
 
 // Names behind a word, where there are any.
-fn write_names(out: &mut String, word: &str, names: &Vec<Positioned<Name>>) -> Written {
+fn write_names(shown: &mut Shown, word: &str, names: &Vec<Positioned<Name>>) {
     if names.is_empty() {
-        return Ok(());
+        return;
     }
-    write!(out, " {word}")?;
+    shown.word(word);
     for name in names {
-        write_name(out, name)?;
+        write_name(shown, name);
     }
-    Ok(())
 }
 
-fn write_fields(out: &mut String, fields: &Vec<Positioned<FieldDefinition>>) -> Written {
+fn write_fields(shown: &mut Shown, fields: &Vec<Positioned<FieldDefinition>>) {
     for field in fields {
-        let place = field.pos;
-        let field = &field.node;
-        write!(out, " (field {place}")?;
-        write_description(out, &field.description)?;
-        write_name(out, &field.name)?;
-        write_input_values(out, &field.arguments)?;
-        write_type(out, &field.ty)?;
-        write_constant_directives(out, &field.directives)?;
-        out.push_str(")")?;
+        shown.place(" (field ", field.pos);
+        write_description(shown, &field.node.description);
+        write_name(shown, &field.node.name);
+        write_input_values(shown, &field.node.arguments);
+        write_type(shown, &field.node.ty);
+        write_constant_directives(shown, &field.node.directives);
+        shown.word(")");
     }
-    Ok(())
 }
 
-fn write_input_values(out: &mut String, values: &Vec<Positioned<InputValueDefinition>>) -> Written {
+fn write_input_values(shown: &mut Shown, values: &Vec<Positioned<InputValueDefinition>>) {
     for value in values {
-        let place = value.pos;
-        let value = &value.node;
-        write!(out, " (value {place}")?;
-        write_description(out, &value.description)?;
-        write_name(out, &value.name)?;
-        write_type(out, &value.ty)?;
-        write_default(out, &value.default_value)?;
-        write_constant_directives(out, &value.directives)?;
-        out.push_str(")")?;
+        shown.place(" (value ", value.pos);
+        write_description(shown, &value.node.description);
+        write_name(shown, &value.node.name);
+        write_type(shown, &value.node.ty);
+        write_default(shown, &value.node.default_value);
+        write_constant_directives(shown, &value.node.directives);
+        shown.word(")");
     }
-    Ok(())
 }
 
-fn write_enum_values(out: &mut String, values: &Vec<Positioned<EnumValueDefinition>>) -> Written {
+fn write_enum_values(shown: &mut Shown, values: &Vec<Positioned<EnumValueDefinition>>) {
     for value in values {
-        let place = value.pos;
-        let value = &value.node;
-        write!(out, " (value {place}")?;
-        write_description(out, &value.description)?;
-        write_name(out, &value.value)?;
-        write_constant_directives(out, &value.directives)?;
-        out.push_str(")")?;
+        shown.place(" (value ", value.pos);
+        write_description(shown, &value.node.description);
+        write_name(shown, &value.node.value);
+        write_constant_directives(shown, &value.node.directives);
+        shown.word(")");
     }
-    Ok(())
 }
 
-fn write_directive_definition(
-    out: &mut String,
-    directive: &Positioned<DirectiveDefinition>,
-) -> Written {
-    let place = directive.pos;
-    let directive = &directive.node;
-    write!(out, " (directive {place}")?;
-    write_description(out, &directive.description)?;
-    write_name(out, &directive.name)?;
-    write_input_values(out, &directive.arguments)?;
-    if directive.is_repeatable {
-        out.push_str(" repeatable")?;
+fn write_directive_definition(shown: &mut Shown, directive: &Positioned<DirectiveDefinition>) {
+    shown.place(" (directive ", directive.pos);
+    write_description(shown, &directive.node.description);
+    write_name(shown, &directive.node.name);
+    write_input_values(shown, &directive.node.arguments);
+    if directive.node.is_repeatable {
+        shown.word(" repeatable");
     }
-    out.push_str(" on")?;
-    for location in &directive.locations {
-        let (place, location) = (location.pos, location.node);
-        write!(out, " {location:?}@{place}")?;
+    shown.word(" on");
+    write_locations(shown, &directive.node.locations);
+    shown.word(")");
+}
+
+fn write_locations(shown: &mut Shown, locations: &Vec<Positioned<DirectiveLocation>>) {
+    for location in locations {
+        shown.location(location.node);
+        shown.place("@", location.pos);
     }
-    out.push_str(")")
 }

@@ -1,44 +1,50 @@
 //! Values as text.
-use super::Written;
+use super::Shown;
 use graphql_parser::value::{Name, Value};
 
 #[cycle(value)]
-pub fn write_value(out: &mut String, value: &Value) -> Written {
+pub fn write_value(shown: &mut Shown, value: &Value) {
     match value {
-        Value::Variable(name) => write!(out, "${name}"),
-        Value::Null => out.push_str("null"),
-        Value::Number(number) => write!(out, "{number}"),
+        Value::Variable(name) => {
+            shown.word("$");
+            shown.word(name.as_str());
+        }
+        Value::Null => shown.word("null"),
+        Value::Number(number) => shown.word(number.as_str()),
         Value::String(text) => {
-            let text = text.as_str();
-            write!(out, "'{text}'")
+            shown.word("'");
+            shown.word(text.as_str());
+            shown.word("'");
         }
-        Value::Boolean(is_true) => {
-            let is_true = *is_true;
-            write!(out, "{is_true}")
+        Value::Boolean(true) => shown.word("true"),
+        Value::Boolean(false) => shown.word("false"),
+        Value::Enum(name) => {
+            shown.word(".");
+            shown.word(name.as_str());
         }
-        Value::Enum(name) => write!(out, ".{name}"),
-        Value::List(items) => write_list(out, items),
-        Value::Object(fields) => write_object(out, fields),
+        Value::List(items) => write_list(shown, items),
+        Value::Object(fields) => write_object(shown, fields),
     }
 }
 
 #[cycle(value)]
-fn write_list(out: &mut String, items: &Vec<Value>) -> Written {
-    out.push_str("[")?;
+fn write_list(shown: &mut Shown, items: &Vec<Value>) {
+    shown.word("[");
     for item in items {
-        out.push_str(" ")?;
-        write_value(out, item)?;
+        shown.word(" ");
+        write_value(shown, item);
     }
-    out.push_str(" ]")
+    shown.word(" ]");
 }
 
 #[cycle(value)]
-fn write_object(out: &mut String, fields: &Vec<(Name, Value)>) -> Written {
-    out.push_str("{")?;
+fn write_object(shown: &mut Shown, fields: &Vec<(Name, Value)>) {
+    shown.word("{");
     for field in fields {
-        let name = field.0.as_str();
-        write!(out, " {name}=")?;
-        write_value(out, &field.1)?;
+        shown.word(" ");
+        shown.word(field.0.as_str());
+        shown.word("=");
+        write_value(shown, &field.1);
     }
-    out.push_str(" }")
+    shown.word(" }");
 }

@@ -1,5 +1,5 @@
 -- Whether the names of an object's fields are distinct, and what the fields are with one pair more.
-use Rattle.std.specs.Prelude.{ℕ, Bool, true, false, cond, not, ◌&&◌, List, [], ◌∷◌}
+use Rattle.std.specs.Prelude.{ℕ, Bool, true, cond, not, ◌&&◌, List, [], ◌∷◌}
 use Rattle.std.specs.List.{list_any}
 use Rattle.graphql_parser.specs.grammar.Merged.{has_name}
 

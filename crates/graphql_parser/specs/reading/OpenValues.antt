@@ -1,22 +1,23 @@
 -- Lists and objects that are open while a value inside them is read.
-use Rattle.std.specs.Prelude.{ℕ, zero, suc, pred, ◌+◌, Bool, true, false, cond, nat_lt, codes, List, [], ◌∷◌, ◌++◌, length, map}
+use Rattle.std.specs.Prelude.{◌≡◌, ℕ, pred, ◌+◌, ◌<◌, Bool, true, false, cond, nat_lt, codes, Option, Some, None, option_map, Result, Ok, Err, List, [], ◌∷◌, ◌++◌, length, map}
 use Rattle.std.specs.Str.{bytes_eq}
 use Rattle.graphql_syntax.specs.tokens.Token.{Token}
 use Rattle.graphql_syntax.specs.trees.ValueTree.{Tree, null, boolean, enumeration, list, object, trees_of, fields_of}
+use Rattle.graphql_parser.specs.declared.parse.Refusal.{Refusal}
 use Rattle.graphql_parser.specs.declared.parse.value.frames.Open.{Open}
 use Rattle.graphql_parser.specs.declared.parse.value.frames.Open.TheVariants as opens
 use Rattle.graphql_parser.specs.declared.parse.value.frames.Frame.{Frame}
 use Rattle.graphql_parser.specs.declared.parse.value.frames.Frame.TheVariants as frames
-use Rattle.graphql_parser.specs.declared.parse.value.Start.{Start}
-use Rattle.graphql_parser.specs.declared.parse.value.Start.TheVariants as starts
-use Rattle.graphql_parser.specs.declared.parse.value.Inside.{Inside}
-use Rattle.graphql_parser.specs.declared.parse.value.Inside.TheVariants as insides
+use Rattle.graphql_parser.specs.declared.parse.value.Stop.{Stop}
+use Rattle.graphql_parser.specs.declared.parse.value.Stop.TheVariants as stops
 use Rattle.graphql_parser.specs.grammar.Fronts.{limit}
 use Rattle.graphql_parser.specs.grammar.Merged.{merged}
 use Rattle.graphql_parser.specs.grammar.Tests.{Test, punct, any_name}
 use Rattle.graphql_parser.specs.grammar.Values.{Value}
-use Rattle.graphql_parser.specs.reading.Outcome.{Outcome, Read, Refused, Reader, ◌>>=◌, one_at, then_at, mapped_at, choose_at, many_at, with_front}
-use Rattle.graphql_parser.specs.reading.Values.{value_first, value_at, simple_at, field_at}
+use Rattle.graphql_parser.specs.reading.Ahead.{Ahead, tokens}
+use Rattle.graphql_parser.specs.reading.Given.{GoesOn, Refuses}
+use Rattle.graphql_parser.specs.reading.Outcome.{Outcome, Read, Refused, Reader, ◌>>=◌, one_at, then_at, mapped_at, choose_at, none_at, many_at, with_front}
+use Rattle.graphql_parser.specs.reading.Values.{value_first, value_at, field_at}
 
 abbrev pub Field : Type 0
 Field = List ℕ × Tree
@@ -41,15 +42,10 @@ pub data Waiting : Type 0 where
   list_waits : List Tree → Waiting
   object_waits : List Field → List ℕ → Waiting
 
--- how a value starts
-pub data Begun : Type 0 where
-  simple_value : Tree → Begun
-  enters : Opened → Begun
-
--- what comes next in an open list or object
-pub data Next : Type 0 where
-  closed : Tree → Next
-  wants : Waiting → Next
+-- where the reading of one stops: at its end, or at a list or an object inside it
+pub data Met : Type 0 where
+  closes : Tree → Met
+  enters : Waiting → Opened → Met
 
 -- ---- what those of the code stand for, where each value stands for a tree
 
@@ -64,13 +60,9 @@ abbrev pub waiting : {V : Type 0} → (V → Tree) → Frame V → Waiting
 waiting tree (frames.List v) = list_waits (map tree v.items)
 waiting tree (frames.Object v name) = object_waits (map (field_tree tree) v.items) name
 
-abbrev pub begun : {V : Type 0} → (V → Tree) → Start V → Begun
-begun tree (starts.Simple v) = simple_value (tree v)
-begun tree (starts.Enters o) = enters (opened tree o)
-
-abbrev pub next : {V : Type 0} → (V → Tree) → Inside V → Next
-next tree (insides.Closed v) = closed (tree v)
-next tree (insides.Wants f) = wants (waiting tree f)
+abbrev pub met : {V : Type 0} → (V → Tree) → Stop V → Met
+met tree (stops.Closed v) = closes (tree v)
+met tree (stops.Entered f o) = enters (waiting tree f) (opened tree o)
 
 -- ---- the rest of a list or an object, behind what it holds so far
 
@@ -110,40 +102,54 @@ abbrev pub resume : Bool → ℕ → List Waiting → Outcome Tree → Outcome T
 resume vars b [] read = read
 resume vars b (f ∷ fs) read = filled vars (b + length fs) f (resume vars b fs read)
 
--- ---- the steps of the loop
+-- what is made of what is met, and of the tokens behind it
+abbrev pub goes_on : Bool → ℕ → Met → List Token → Outcome Tree
+goes_on vars b (closes t) rest = Read t rest
+goes_on vars b (enters w o) rest = filled vars b w (open_rest vars (pred b) o rest)
 
-abbrev pub enter_at : Test → ℕ → Opened → Reader Begun
-enter_at test left o ts = cond (nat_lt 0 left) (one_at test ts >>= λ _ rest. Read (enters o) rest) (Refused limit ts)
+-- ---- the steps
 
--- a value, or the beginning of a list or an object, where so many levels are left
-abbrev pub start_at : Bool → ℕ → Reader Begun
-start_at vars left =
-    choose_at (punct "[") (enter_at (punct "[") left (in_list []))
-    (choose_at (punct "{") (enter_at (punct "{") left (in_object [])) (mapped_at simple_value (node_at (simple_at vars))))
+-- the end of an object, or else the name of its next value
+abbrev pub key_at : Reader (Option (List ℕ))
+key_at = choose_at (punct "}") (mapped_at (λ _. None) (one_at (punct "}"))) (mapped_at (λ x. Some x.0.bare.spelling) (then_at (one_at any_name) (one_at (punct ":"))))
 
-abbrev pub started : Bool → ℕ → Begun → List Token → Outcome Tree
-started vars b (simple_value v) rest = Read v rest
-started vars b (enters o) rest = open_rest vars (pred b) o rest
+-- a list or an object that begins here, where so many levels are left
+abbrev pub enters_at : Test → ℕ → Opened → Reader (Option Opened)
+enters_at test left o ts = cond (nat_lt 0 left) (one_at test ts >>= λ _ rest. Read (Some o) rest) (Refused limit ts)
 
--- the end of a list, or else a value
-abbrev pub go_on_in_list_at : List Tree → Reader Next
-go_on_in_list_at front =
-    choose_at (punct "]") (mapped_at (λ _. closed (list_tree front)) (one_at (punct "]")))
-    (λ ts. Read (wants (list_waits front)) ts)
+abbrev pub enter_at : ℕ → Reader (Option Opened)
+enter_at left = choose_at (punct "[") (enters_at (punct "[") left (in_list [])) (choose_at (punct "{") (enters_at (punct "{") left (in_object [])) (none_at None))
 
--- the end of an object, or else the name of a value
-abbrev pub go_on_in_object_at : List Field → Reader Next
-go_on_in_object_at front =
-    choose_at (punct "}") (mapped_at (λ _. closed (object_tree front)) (one_at (punct "}")))
-    (mapped_at (λ x. wants (object_waits front x.0.bare.spelling)) (then_at (one_at any_name) (one_at (punct ":"))))
+-- ---- what the code gives that reads up to where it stops
 
-abbrev pub go_on_at : Opened → Reader Next
-go_on_at (in_list front) ts = go_on_in_list_at front ts
-go_on_at (in_object front) ts = go_on_in_object_at front ts
+abbrev pub met_in_list : List Tree → Option Opened → Met
+met_in_list front None = closes (list_tree front)
+met_in_list front (Some o) = enters (list_waits front) o
 
-abbrev pub went : Bool → ℕ → Next → List Token → Outcome Tree
-went vars b (closed t) rest = Read t rest
-went vars b (wants f) rest = filled vars b f (node_at (value_at vars b) rest)
+abbrev pub met_in_object : List Field → Option (List ℕ × Opened) → Met
+met_in_object front None = closes (object_tree front)
+met_in_object front (Some x) = enters (object_waits front x.0) x.1
+
+abbrev pub list_stop : {V : Type 0} → (V → Tree) → List V → Option (Open V) → Met
+list_stop tree items inner = met_in_list (map tree items) (option_map (opened tree) inner)
+
+abbrev pub object_stop : {V : Type 0} → (V → Tree) → List (List ℕ × V) → Option (List ℕ × Open V) → Met
+object_stop tree fields inner = met_in_object (map (field_tree tree) fields) (option_map (λ x. (x.0, opened tree x.1)) inner)
+
+-- where a list or an object begins, a level is left for it
+abbrev pub HasRoom : ℕ → Met → Type 0
+HasRoom b (closes t) = Unit {0}
+HasRoom b (enters w o) = 0 < b
+
+-- what the reader gives comes of what is met and the tokens behind it; some were read
+pub record MeetsAt (vars : Bool) (b : ℕ) (met : Met) (old new : Ahead) (r : Reader Tree) : Type 0 where
+  pub told : r (tokens old) ≡ goes_on vars b met (tokens new)
+  pub less : length (tokens new) < length (tokens old)
+  pub room : HasRoom b met
+
+abbrev pub Meets : {X : Type 0} → Bool → ℕ → (X → Met) → Result X Refusal → Ahead → Ahead → Reader Tree → Type 0
+Meets vars b view (Ok x) old new r = MeetsAt vars b (view x) old new r × GoesOn old new
+Meets vars b view (Err refusal) old new r = Refuses refusal old new r × GoesOn old new
 
 -- ---- words
 

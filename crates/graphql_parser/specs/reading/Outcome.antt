@@ -1,5 +1,5 @@
 -- Reading a list of tokens from left to right, with one token in sight.
-use Rattle.std.specs.Prelude.{ℕ, zero, suc, cond, Option, Some, None, List, [], ◌∷◌, ◌++◌, length}
+use Rattle.std.specs.Prelude.{ℕ, zero, suc, Bool, true, false, cond, Option, Some, None, List, [], ◌∷◌, ◌++◌, length}
 use Rattle.graphql_syntax.specs.tokens.Token.{Bare, Token}
 use Rattle.graphql_parser.specs.grammar.Tests.{Test, the_end}
 use Rattle.graphql_parser.specs.grammar.Relations.{cons}
@@ -37,6 +37,11 @@ meaning_at test value (t ∷ ts) = cond (test t.bare) (meant t ts (value t.bare)
 abbrev pub peek_at : Reader Token
 peek_at [] = Refused syntax []
 peek_at (t ∷ ts) = Read t (t ∷ ts)
+
+-- whether the token in sight passes the test; then it is read
+abbrev pub take_at : Test → Reader Bool
+take_at test [] = Refused syntax []
+take_at test (t ∷ ts) = cond (test t.bare) (Read true ts) (Read false (t ∷ ts))
 
 abbrev pub then_at : {A B : Type 0} → Reader A → Reader B → Reader (A × B)
 then_at r s ts = r ts >>= λ a rest. s rest >>= λ b rest'. Read (a, b) rest'

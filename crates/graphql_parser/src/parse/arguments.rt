@@ -9,6 +9,7 @@ ghost use Rattle.graphql_parser.specs.reading.Arguments.{argument_at, arguments_
 ghost use Rattle.graphql_parser.specs.reading.Given.{Gives};
 ghost use Rattle.graphql_parser.specs.reading.Outcome.{mapped_at, plus_at};
 
+use super::list::push;
 use super::value::read_value;
 use super::words::name_in;
 use super::{Cursor, Reading};
@@ -51,7 +52,7 @@ fn read_argument_list<V: Literal>(
     let mut arguments = Vec::with_capacity(alloc, 1)?;
     loop {
         let argument = read_argument(alloc, cursor, values)?;
-        arguments.push(argument)?;
+        push(&mut arguments, argument)?;
         if !cursor.is_at_name() {
             return Ok(arguments);
         }
@@ -59,6 +60,7 @@ fn read_argument_list<V: Literal>(
 }
 
 /// Reads arguments with their brackets.
+#[inline(never)]
 pub(super) fn read_arguments<V: Literal>(
     alloc: Global,
     cursor: &mut Cursor,
@@ -74,6 +76,7 @@ pub(super) fn read_arguments<V: Literal>(
 
 /// Reads arguments, where there are any.
 #[tactic(auto, unfolding(crate::specs::reading::Outcome::opt_at))]
+#[inline(always)]
 pub(super) fn read_maybe_arguments<V: Literal>(
     alloc: Global,
     cursor: &mut Cursor,
@@ -105,6 +108,7 @@ fn read_applied<V: Literal>(
     })
 }
 
+#[inline(never)]
 fn read_directive(
     alloc: Global,
     cursor: &mut Cursor,
@@ -121,6 +125,7 @@ fn read_directive(
 }
 
 /// Reads directives, as many as there are.
+#[inline(always)]
 pub(super) fn read_directives(
     alloc: Global,
     cursor: &mut Cursor,
@@ -134,7 +139,7 @@ pub(super) fn read_directives(
     let mut directives = Vec::with_capacity(alloc, 1)?;
     loop {
         let directive = read_directive(alloc, cursor, values)?;
-        directives.push(directive)?;
+        push(&mut directives, directive)?;
         if !cursor.is_at_punct("@") {
             return Ok(directives);
         }
@@ -170,7 +175,7 @@ pub(super) fn read_const_directives(
     let mut directives = Vec::with_capacity(alloc, 1)?;
     loop {
         let directive = read_const_directive(alloc, cursor, values)?;
-        directives.push(directive)?;
+        push(&mut directives, directive)?;
         if !cursor.is_at_punct("@") {
             return Ok(directives);
         }

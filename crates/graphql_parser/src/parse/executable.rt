@@ -12,6 +12,7 @@ ghost use Rattle.graphql_parser.specs.reading.Outcome.{one_at};
 ghost use Rattle.graphql_parser.specs.reading.Request.{own_set_at, short_operation_at, operation_type_at, fragment_at, definition_first, definition_at, definitions_at, request_at};
 
 use super::arguments::read_directives;
+use super::list::push;
 use super::selections::{read_selection_set, read_type_condition};
 use super::variables::read_maybe_variable_definitions;
 use super::{Cursor, Reading, Refusal};
@@ -181,7 +182,7 @@ fn read_definitions(alloc: Global, cursor: &mut Cursor, limits: Limits) -> Readi
     let mut definitions = Vec::with_capacity(alloc, 1)?;
     loop {
         let definition = read_definition(alloc, cursor, limits)?;
-        definitions.push(definition)?;
+        push(&mut definitions, definition)?;
         if !cursor.is_at_definition() {
             return Ok(definitions);
         }

@@ -30,10 +30,12 @@ pub(super) fn read_selection_set(
     loop {
         let nests = frames.may_nest();
         if let Some(place) = heads::read_head(alloc, cursor, values, nests, &mut own.items)? {
+            // Its set is read before what stands behind it.
             frames.enter(own)?;
             own = OpenSet::new(alloc, place)?;
             continue;
         }
+        // Each set that ends here is given to the selection that waits for it.
         while !cursor.is_at_selection() {
             cursor.expect_punct("}")?;
             match frames.leave() {

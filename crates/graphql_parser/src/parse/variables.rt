@@ -11,6 +11,7 @@ ghost use Rattle.graphql_parser.specs.reading.Given.{Gives};
 ghost use Rattle.graphql_parser.specs.reading.Outcome.{mapped_at, opt_at, plus_at};
 
 use super::arguments::read_directives;
+use super::list::push;
 use super::types::read_type;
 use super::value::read_value;
 use super::words::name_in;
@@ -90,7 +91,7 @@ fn read_variable_definition_list(
     let mut definitions = Vec::with_capacity(alloc, 1)?;
     loop {
         let definition = read_variable_definition(alloc, cursor, values, types)?;
-        definitions.push(definition)?;
+        push(&mut definitions, definition)?;
         if !cursor.is_at_punct("$") {
             return Ok(definitions);
         }

@@ -17,6 +17,7 @@ use std::alloc::{AllocError, Global};
 
 impl<'a> Cursor<'a> {
     /// Takes the token in hand.
+    #[inline(always)]
     pub(super) fn take(&mut self) -> Token<'a>
         requires { is_last self.old.hand.bare.kind ≡ false }
         ensures token { seen result ≡ self.old.hand }
@@ -29,12 +30,14 @@ impl<'a> Cursor<'a> {
         token
     }
 
+    #[inline(always)]
     pub(super) fn is_at_keyword(&self, word: &str) -> bool
         ensures { result ≡ keyword_of word.now self.now.hand.bare }
     {
         is_name(self.hand.kind) && self.hand.text == word
     }
 
+    #[inline(always)]
     pub(super) fn expect_keyword(&mut self, word: &str) -> Reading<Token<'a>>
         ensures { Gives seen result self.old self.new (one_at (keyword_of word.now)) }
     {
@@ -46,12 +49,14 @@ impl<'a> Cursor<'a> {
 }
 
 /// The name that a token is.
+#[inline(always)]
 pub(super) fn name_in(alloc: Global, token: Token) -> Result<Positioned<Name>, AllocError>
     ensures { IfOk result (λ name. name ≡ name_of (seen token.entry)) }
 {
     Ok(Positioned::new(Name::new(alloc, token.text)?, token.pos))
 }
 
+#[inline(always)]
 pub(super) fn read_name(alloc: Global, cursor: &mut Cursor) -> Reading<Positioned<Name>>
     ensures { Gives (λ name. name) result cursor.old cursor.new (mapped_at name_of (one_at any_name)) }
 {

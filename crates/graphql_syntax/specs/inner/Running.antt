@@ -1,5 +1,5 @@
 -- What a running place keeps.
-use Rattle.std.specs.Prelude.{◌≡◌, ℕ, ◌+◌, List, [], ◌∷◌, true, drop}
+use Rattle.std.specs.Prelude.{◌≡◌, ◌<◌, ℕ, ◌+◌, List, [], ◌∷◌, true, drop}
 use Rattle.std.specs.Str.{chars}
 use Rattle.graphql_syntax.specs.tokens.Place.{place, is_in_line}
 use Rattle.graphql_syntax.specs.inner.Calculator.{Calculator}
@@ -21,6 +21,11 @@ pub record IsRunning (a : RunningPlace) : Type 0 where
 abbrev pub BeginsInLine : List ℕ → Type 0
 BeginsInLine [] = ⊥
 BeginsInLine (c ∷ cs) = is_in_line c ≡ true
+
+-- and is an ASCII one
+abbrev pub BeginsInAscii : List ℕ → Type 0
+BeginsInAscii [] = ⊥
+BeginsInAscii (c ∷ cs) = (c < 128) × (is_in_line c ≡ true)
 
 -- ---- what a position calculator shows
 

@@ -23,7 +23,7 @@ fn pass_all(bytes: &[u8], places: &mut RunningPlace)
         if !is_digit(b) {
             break;
         }
-        places.pass_in_line();
+        places.pass_ascii();
     }
 }
 
@@ -41,7 +41,7 @@ fn pass_digits(bytes: &[u8], places: &mut RunningPlace) -> bool
     if !is_digit(b) {
         return false;
     }
-    places.pass_in_line();
+    places.pass_ascii();
     pass_all(bytes, places);
     true
 }

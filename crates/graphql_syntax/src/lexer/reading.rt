@@ -85,7 +85,7 @@ pub fn pass_word(bytes: &[u8], places: &mut RunningPlace)
         if !is_name_char(b) {
             break;
         }
-        places.pass_in_line();
+        places.pass_ascii();
     }
 }
 
@@ -106,7 +106,7 @@ pub fn pass_char(bytes: &[u8], places: &mut RunningPlace, c: u8) -> bool
     if b != c {
         return false;
     }
-    places.pass_in_line();
+    places.pass_ascii();
     true
 }
 

@@ -1,6 +1,6 @@
 //! A text that is gone over once, a character at a time.
 
-ghost use Rattle.std.specs.Prelude.{◌≡◌, ◌<◌, ◌++◌, ℕ, List, length, drop};
+ghost use Rattle.std.specs.Prelude.{◌≡◌, ◌<◌, ◌++◌, ℕ, List, length, drop, get_or};
 ghost use Rattle.std.specs.Char.{encode_utf8};
 ghost use Rattle.std.specs.Str.{IsCharBoundary};
 ghost use Rattle.graphql_syntax.specs.inner.Cursor.{IsReading, Passes};
@@ -46,6 +46,20 @@ impl<'a> Cursor<'a> {
         self.offset += c.len_utf8();
         self.count += 1;
         c
+    }
+
+    // Goes past an ASCII character, without a look at it.
+    #[inline(always)]
+    pub fn pass_ascii(&mut self)
+        requires reading { IsReading self.old }
+        requires more { self.old.offset < length self.old.text.now }
+        requires ascii { get_or self.old.text.now self.old.offset 0 < 128 }
+        ensures same { self.new.text.now ≡ self.old.text.now }
+        ensures reading { IsReading self.new }
+        ensures passes { Passes (get_or self.old.text.now self.old.offset 0) self.old self.new }
+    {
+        self.offset += 1;
+        self.count += 1;
     }
 
     #[inline(always)]

@@ -3,7 +3,7 @@
 ghost use Rattle.std.specs.Prelude.{◌≡◌, ◌≢◌, ◌<◌, ◌≤◌, ℕ, ◌∷◌, []};
 ghost use Rattle.std.specs.Str.{IsCharBoundary};
 ghost use Rattle.graphql_syntax.specs.tokens.Place.{place};
-ghost use Rattle.graphql_syntax.specs.inner.Running.{ahead, IsRunning, BeginsInLine};
+ghost use Rattle.graphql_syntax.specs.inner.Running.{ahead, IsRunning, BeginsInLine, BeginsInAscii};
 
 use super::Pos;
 use super::cursor::Cursor;
@@ -90,5 +90,18 @@ impl<'a> RunningPlace<'a> {
         ensures forward { self.old.cursor.offset < self.new.cursor.offset }
     {
         self.cursor.next();
+    }
+
+    // The same where that character is an ASCII one, without a look at it.
+    #[inline(always)]
+    pub fn pass_ascii(&mut self)
+        requires running { IsRunning self.old }
+        requires ascii { BeginsInAscii (ahead self.old) }
+        ensures running { IsRunning self.new }
+        ensures same { self.new.cursor.text.now ≡ self.old.cursor.text.now }
+        ensures passed { (c : ℕ) × (ahead self.old ≡ c ∷ ahead self.new) }
+        ensures forward { self.old.cursor.offset < self.new.cursor.offset }
+    {
+        self.cursor.pass_ascii();
     }
 }

@@ -7,7 +7,7 @@ ghost use Rattle.graphql_parser.specs.reading.OpenSets.{opened};
 
 use graphql_syntax::pos::{Pos, Positioned};
 use graphql_syntax::types::{Selection, SelectionSet};
-use std::alloc::{AllocError, AllocFailed, Global};
+use std::alloc::{AllocError, Global};
 use std::marker::Model;
 
 /// A set, as far as it is read.
@@ -105,12 +105,14 @@ impl Frames {
     }
 
     /// A set in `outer` is to be read.
-    pub(super) fn enter(&mut self, outer: OpenSet) -> Result<(), AllocFailed<OpenSet>>
+    pub(super) fn enter(&mut self, outer: OpenSet) -> Result<(), AllocError>
         requires { may_nest self.old.left ≡ true }
         ensures outer { IfOk result (λ _. self.new.outer ≡ self.old.outer ++ outer ∷ []) }
         ensures left { IfOk result (λ _. suc self.new.left ≡ self.old.left) }
     {
-        self.outer.push(outer)
+        self.outer.reserve(1)?;
+        self.outer.push_reserved(outer);
+        Ok(())
     }
 
     /// The set around the one that was read.

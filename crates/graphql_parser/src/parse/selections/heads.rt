@@ -9,6 +9,7 @@ ghost use Rattle.graphql_parser.specs.reading.Given.{Gives};
 ghost use Rattle.graphql_parser.specs.reading.Selections.{type_condition_at, inline_first, selection_first};
 
 use crate::parse::arguments::{read_directives, read_maybe_arguments};
+use crate::parse::list;
 use crate::parse::words::{name_in, read_name};
 use crate::parse::{Cursor, Reading, Refusal};
 use graphql_syntax::lexer::Token;
@@ -29,18 +30,21 @@ type Arguments = Vec<(Positioned<Name>, Positioned<Value>)>;
 type Selections = Vec<Positioned<Selection>>;
 
 impl Cursor<'_> {
+    #[inline(always)]
     pub(in crate::parse) fn is_at_fragment_name(&self) -> bool
         ensures { result ≡ fragment_name self.now.hand.bare }
     {
         self.is_at_name() && !self.is_at_keyword("on")
     }
 
+    #[inline(always)]
     fn is_at_inline(&self) -> bool
         ensures { result ≡ inline_first self.now.hand.bare }
     {
         self.is_at_keyword("on") || self.is_at_punct("@") || self.is_at_punct("{")
     }
 
+    #[inline(always)]
     pub(super) fn is_at_selection(&self) -> bool
         ensures { result ≡ selection_first self.now.hand.bare }
     {
@@ -48,14 +52,15 @@ impl Cursor<'_> {
     }
 }
 
+#[inline(always)]
 fn push(items: &mut Selections, selection: Positioned<Selection>) -> Result<(), AllocError>
     ensures { IfOk result (λ _. selection_trees items.new.items ≡ selection_trees items.old.items ++ request.placed selection_tree selection ∷ []) }
 {
-    items.push(selection)?;
-    Ok(())
+    list::push(items, selection)
 }
 
 /// An alias, if there is one, and a name.
+#[inline(always)]
 fn read_names(alloc: Global, cursor: &mut Cursor) -> Reading<Names>
     ensures { Gives (λ names. names) result cursor.old cursor.new names_at }
 {
@@ -69,6 +74,7 @@ fn read_names(alloc: Global, cursor: &mut Cursor) -> Reading<Names>
 }
 
 /// The `{` of a set, if one follows.
+#[inline(always)]
 fn read_maybe_brace(cursor: &mut Cursor, nests: bool) -> Reading<Option<Pos>>
     ensures { Gives (λ place. place) result cursor.old cursor.new (maybe_brace_at nests) }
 {
@@ -82,6 +88,7 @@ fn read_maybe_brace(cursor: &mut Cursor, nests: bool) -> Reading<Option<Pos>>
     Ok(Some(brace.pos))
 }
 
+#[inline(always)]
 fn bare_field(
     alloc: Global,
     names: Names,

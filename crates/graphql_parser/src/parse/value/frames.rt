@@ -1,6 +1,7 @@
 //! Lists and objects that are open while a value inside them is read.
 ghost use Rattle.std.specs.Prelude.{◌≡◌, ◌+◌, ◌<◌, [], ◌∷◌, ◌++◌, length, IfOk, IfNone, option_to_list};
 
+use crate::parse::list::push;
 use graphql_syntax::value::{Literal, Name};
 use std::alloc::{AllocError, AllocFailed, Global};
 
@@ -22,16 +23,17 @@ impl<V: Literal> Frame<V> {
     ghost use Rattle.graphql_parser.specs.reading.OpenValues.{opened, waiting, add};
 
     /// With the value for which it waits.
+    #[inline(always)]
     pub fn fill(self, value: V) -> Result<Open<V>, AllocError>
         ensures { IfOk result (λ o. opened V.tree o ≡ add (waiting V.tree self) (V.tree value)) }
     {
         match self {
             Frame::List(mut items) => {
-                items.push(value)?;
+                push(&mut items, value)?;
                 Ok(Open::List(items))
             }
             Frame::Object(mut fields, name) => {
-                fields.push((name, value))?;
+                push(&mut fields, (name, value))?;
                 Ok(Open::Object(fields))
             }
         }

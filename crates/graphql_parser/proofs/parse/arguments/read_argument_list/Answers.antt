@@ -13,10 +13,10 @@ returns-in_err-argument g c =
     rw (p.1, p.2) (stops (in_argument g.V.Literal.tree) (trees_in (in_argument g.V.Literal.tree)) any_name (argument_at g.V.Literal.VARIABLES c.args.values) c.args.cursor.now c.loop-arguments.cursor c.read_argument.new.cursor _ _ c.loop-arguments.invariant c.in_err-argument.ensures)
 
 pub returns-then-not-is_at_name : goal.returns-then-not-is_at_name
-returns-then-not-is_at_name g c = ends (in_argument g.V.Literal.tree) any_name (argument_at g.V.Literal.VARIABLES c.args.values) c.args.cursor.now c.loop-arguments.cursor c.read_argument.new.cursor _ _ _ c.loop-arguments.invariant c.in_ok-argument.ensures (sym c.is_at_name.ensures ∙ c.if-not-is_at_name.true) c.in_ok-push.ensures.items
+returns-then-not-is_at_name g c = ends (in_argument g.V.Literal.tree) any_name (argument_at g.V.Literal.VARIABLES c.args.values) c.args.cursor.now c.loop-arguments.cursor c.read_argument.new.cursor _ _ _ c.loop-arguments.invariant c.in_ok-argument.ensures (sym c.is_at_name.ensures ∙ c.if-not-is_at_name.true) c.in_ok-push.ensures
 
 pub loop-arguments-smaller : goal.loop-arguments-smaller
 loop-arguments-smaller g c = shorter (in_argument g.V.Literal.tree) (argument_at g.V.Literal.VARIABLES c.args.values) c.loop-arguments.cursor c.read_argument.new.cursor _ (takes-argument g.V.Literal.VARIABLES c.args.values) c.in_ok-argument.ensures
 
 pub loop-arguments-preserved : goal.loop-arguments-preserved
-loop-arguments-preserved g c = goes (in_argument g.V.Literal.tree) any_name (argument_at g.V.Literal.VARIABLES c.args.values) c.args.cursor.now c.loop-arguments.cursor c.read_argument.new.cursor _ _ _ (takes-argument g.V.Literal.VARIABLES c.args.values) c.loop-arguments.invariant c.in_ok-argument.ensures (sym c.is_at_name.ensures ∙ c.if-not-is_at_name.false) c.in_ok-push.ensures.items
+loop-arguments-preserved g c = goes (in_argument g.V.Literal.tree) any_name (argument_at g.V.Literal.VARIABLES c.args.values) c.args.cursor.now c.loop-arguments.cursor c.read_argument.new.cursor _ _ _ (takes-argument g.V.Literal.VARIABLES c.args.values) c.loop-arguments.invariant c.in_ok-argument.ensures (sym c.is_at_name.ensures ∙ c.if-not-is_at_name.false) c.in_ok-push.ensures

@@ -21,11 +21,11 @@ returns-in_err-directive c =
 
 pub returns-then-not-is_at_punct-2 : goal.returns-then-not-is_at_punct-2
 returns-then-not-is_at_punct-2 c =
-    any-number (trees_in (placed directive_tree)) (Ok c.push.new.self) (punct "@") (directive_at true c.args.values) c.args.cursor.now c.read_directive.new.cursor (takes-directive true c.args.values) (sym c.is_at_punct.ensures ∙ c.if-not-is_at_punct.false)
-    (ends (placed directive_tree) (punct "@") (directive_at true c.args.values) c.args.cursor.now c.loop-directives.cursor c.read_directive.new.cursor _ _ _ c.loop-directives.invariant c.in_ok-directive.ensures (sym c.is_at_punct-in-loop-directives.ensures ∙ c.if-not-is_at_punct-2.true) c.in_ok-push.ensures.items)
+    any-number (trees_in (placed directive_tree)) (Ok c.push.new.items) (punct "@") (directive_at true c.args.values) c.args.cursor.now c.read_directive.new.cursor (takes-directive true c.args.values) (sym c.is_at_punct.ensures ∙ c.if-not-is_at_punct.false)
+    (ends (placed directive_tree) (punct "@") (directive_at true c.args.values) c.args.cursor.now c.loop-directives.cursor c.read_directive.new.cursor _ _ _ c.loop-directives.invariant c.in_ok-directive.ensures (sym c.is_at_punct-in-loop-directives.ensures ∙ c.if-not-is_at_punct-2.true) c.in_ok-push.ensures)
 
 pub loop-directives-smaller : goal.loop-directives-smaller
 loop-directives-smaller c = shorter (placed directive_tree) (directive_at true c.args.values) c.loop-directives.cursor c.read_directive.new.cursor c.in_ok-directive.directive (takes-directive true c.args.values) c.in_ok-directive.ensures
 
 pub loop-directives-preserved : goal.loop-directives-preserved
-loop-directives-preserved c = goes (placed directive_tree) (punct "@") (directive_at true c.args.values) c.args.cursor.now c.loop-directives.cursor c.read_directive.new.cursor _ _ _ (takes-directive true c.args.values) c.loop-directives.invariant c.in_ok-directive.ensures (sym c.is_at_punct-in-loop-directives.ensures ∙ c.if-not-is_at_punct-2.false) c.in_ok-push.ensures.items
+loop-directives-preserved c = goes (placed directive_tree) (punct "@") (directive_at true c.args.values) c.args.cursor.now c.loop-directives.cursor c.read_directive.new.cursor _ _ _ (takes-directive true c.args.values) c.loop-directives.invariant c.in_ok-directive.ensures (sym c.is_at_punct-in-loop-directives.ensures ∙ c.if-not-is_at_punct-2.false) c.in_ok-push.ensures

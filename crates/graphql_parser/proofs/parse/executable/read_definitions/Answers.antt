@@ -13,7 +13,7 @@ returns-in_err-definition c =
     rw (p.1, p.2) (stops definition_tree in_definitions definition_first (definition_at c.args.limits) c.args.cursor.now c.loop-definitions.cursor c.read_definition.new.cursor _ _ c.loop-definitions.invariant c.in_err-definition.ensures)
 
 pub returns-then-not-is_at_definition : goal.returns-then-not-is_at_definition
-returns-then-not-is_at_definition c = ends definition_tree definition_first (definition_at c.args.limits) c.args.cursor.now c.loop-definitions.cursor c.read_definition.new.cursor _ _ _ c.loop-definitions.invariant c.in_ok-definition.ensures (sym c.is_at_definition.ensures ∙ c.if-not-is_at_definition.true) c.in_ok-push.ensures.items
+returns-then-not-is_at_definition c = ends definition_tree definition_first (definition_at c.args.limits) c.args.cursor.now c.loop-definitions.cursor c.read_definition.new.cursor _ _ _ c.loop-definitions.invariant c.in_ok-definition.ensures (sym c.is_at_definition.ensures ∙ c.if-not-is_at_definition.true) c.in_ok-push.ensures
 
 pub loop-definitions-smaller : goal.loop-definitions-smaller
 loop-definitions-smaller c =
@@ -21,4 +21,4 @@ loop-definitions-smaller c =
     omega (arith, shorter)
 
 pub loop-definitions-preserved : goal.loop-definitions-preserved
-loop-definitions-preserved c = goes definition_tree definition_first (definition_at c.args.limits) c.args.cursor.now c.loop-definitions.cursor c.read_definition.new.cursor _ _ _ (takes-definition c.args.limits) c.loop-definitions.invariant c.in_ok-definition.ensures (sym c.is_at_definition.ensures ∙ c.if-not-is_at_definition.false) c.in_ok-push.ensures.items
+loop-definitions-preserved c = goes definition_tree definition_first (definition_at c.args.limits) c.args.cursor.now c.loop-definitions.cursor c.read_definition.new.cursor _ _ _ (takes-definition c.args.limits) c.loop-definitions.invariant c.in_ok-definition.ensures (sym c.is_at_definition.ensures ∙ c.if-not-is_at_definition.false) c.in_ok-push.ensures

@@ -1,4 +1,4 @@
-use Rattle.std.proofs.Common.{List, sym, ap₂, ◌∙◌, refl, arith}
+use Rattle.std.proofs.Common.{List, sym, ap₂, ◌∙◌, arith}
 use Rattle.std.proofs.lemmas.Str.{encodes-chars, IsUtf8-string_bytes}
 use Rattle.std.specs.String.{string_bytes}
 use Rattle.graphql_syntax.specs.tokens.Token.{Token}
