@@ -9,7 +9,9 @@ use graphql_parser::parse_query;
 use std::time::Instant;
 use std::{env, io};
 
-const ROUNDS: u32 = 15;
+// So many bytes are read in all, and each text 15 times at least: a short one more often, since the first
+// rounds find the machine cold.
+const BYTES: usize = 10_000_000;
 
 const USAGE: &str = "usage: bench tokens|query < TEXT";
 
@@ -24,10 +26,14 @@ fn main(rt: HostRuntime) -> io::Result<()> {
     }
 }
 
+fn rounds(text: &str) -> usize {
+    (BYTES / text.len().max(1)).max(15)
+}
+
 fn time_tokens(rt: &HostRuntime) -> io::Result<()> {
     let text = io::read_to_string(rt.alloc(), rt.stdin())?;
     let mut mixed = 0;
-    for _ in 0..ROUNDS {
+    for _ in 0..rounds(text.as_str()) {
         let start = Instant::now(rt)?;
         let seen = look_over(text.as_str());
         let time = start.elapsed(rt)?.as_nanos();
@@ -41,7 +47,7 @@ fn time_tokens(rt: &HostRuntime) -> io::Result<()> {
 
 fn time_query(rt: &HostRuntime) -> io::Result<()> {
     let text = io::read_to_string(rt.alloc(), rt.stdin())?;
-    for _ in 0..ROUNDS {
+    for _ in 0..rounds(text.as_str()) {
         let start = Instant::now(rt)?;
         let is_accepted = parse_query(rt.alloc(), text.as_str()).is_ok();
         let time = start.elapsed(rt)?.as_nanos();

@@ -34,7 +34,10 @@ fn find_in_field(alloc: Global, shown: &mut Shown, name: &str) -> Result<(), All
 }
 
 fn find_in_directive(alloc: Global, shown: &mut Shown, name: &str) -> Result<(), AllocError> {
-    let directive = built::directive_with(alloc, built::arguments(alloc, built::leaf(alloc, "three")?)?)?;
+    let directive = built::directive_with(
+        alloc,
+        built::arguments(alloc, built::leaf(alloc, "three")?)?,
+    )?;
     shown.word(", ");
     write_value(shown, directive.get_argument(name));
     Ok(())
@@ -86,7 +89,11 @@ struct ResponseKey;
 
 impl Subject for ResponseKey {
     fn answer(&self, alloc: Global, text: &str) -> Result<String, Fail> {
-        let alias = if text.is_empty() { None } else { Some(built::name(alloc, 3, text)?) };
+        let alias = if text.is_empty() {
+            None
+        } else {
+            Some(built::name(alloc, 3, text)?)
+        };
         let field = built::field(alloc, alias)?;
         let key = field.response_key();
         let (name, place) = (key.node.as_str(), key.pos);
@@ -153,9 +160,18 @@ struct Directives;
 impl Subject for Directives {
     fn answer(&self, alloc: Global, text: &str) -> Result<String, Fail> {
         match text {
-            "field" => grown(alloc, Selection::Field(built::at(1, built::field(alloc, None)?))),
-            "spread" => grown(alloc, Selection::FragmentSpread(built::at(1, built::spread(alloc)?))),
-            _ => grown(alloc, Selection::InlineFragment(built::at(1, built::inline(alloc)?))),
+            "field" => grown(
+                alloc,
+                Selection::Field(built::at(1, built::field(alloc, None)?)),
+            ),
+            "spread" => grown(
+                alloc,
+                Selection::FragmentSpread(built::at(1, built::spread(alloc)?)),
+            ),
+            _ => grown(
+                alloc,
+                Selection::InlineFragment(built::at(1, built::inline(alloc)?)),
+            ),
         }
     }
 }
@@ -209,7 +225,11 @@ impl Subject for Operations {
         let mut left = operations.iter();
         write_left(&mut shown, &left)?;
         for _ in 0..4 {
-            shown.word(if left.next().is_some() { ", then" } else { ", none" });
+            shown.word(if left.next().is_some() {
+                ", then"
+            } else {
+                ", none"
+            });
             write_left(&mut shown, &left)?;
         }
         Ok(shown.finish()?)

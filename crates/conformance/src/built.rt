@@ -122,10 +122,7 @@ pub fn constant_directive(alloc: Global) -> Result<ConstDirective, AllocError> {
 }
 
 /// A directive with these arguments.
-pub fn directive_with(
-    alloc: Global,
-    arguments: Arguments<Value>,
-) -> Result<Directive, AllocError> {
+pub fn directive_with(alloc: Global, arguments: Arguments<Value>) -> Result<Directive, AllocError> {
     Ok(Directive {
         name: name(alloc, 9, "d")?,
         arguments,

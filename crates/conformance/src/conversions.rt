@@ -1,7 +1,6 @@
 //! Values and directives with variables to those without, and back.
-use crate::built;
 use crate::rows::{Subject, hold};
-use crate::shown;
+use crate::{built, shown};
 use graphql_parser::types::Directive;
 use graphql_parser::value::Value;
 use std::alloc::{AllocError, Global};
@@ -69,7 +68,11 @@ struct Equality;
 impl Subject for Equality {
     fn answer(&self, alloc: Global, text: &str) -> Result<String, Fail> {
         let (one, other) = text.split_once(" and ").ok_or("no two values")?;
-        Ok(compared(alloc, built::whole(alloc, one)?, built::whole(alloc, other)?)?)
+        Ok(compared(
+            alloc,
+            built::whole(alloc, one)?,
+            built::whole(alloc, other)?,
+        )?)
     }
 }
 
@@ -111,7 +114,10 @@ x:null y:null object and x:null y:null object ⇒ equal
 fn a_directive_without_variables(rt: HostRuntime) -> Result<(), Fail> {
     let alloc = rt.alloc();
     let directive = built::constant_directive(alloc)?.into_directive(alloc)?;
-    let (there, back) = (shown_directive(alloc, directive.clone()?)?, constant_of(alloc, directive)?);
+    let (there, back) = (
+        shown_directive(alloc, directive.clone()?)?,
+        constant_of(alloc, directive)?,
+    );
     assert_eq!(rt; there.as_str(), CONSTANT_DIRECTIVE);
     assert_eq!(rt; back.as_str(), CONSTANT_DIRECTIVE);
     Ok(())

@@ -79,7 +79,11 @@ impl Subject for Printed {
 
 fn said(alloc: Global, error: &Error) -> Result<String, Fail> {
     let places = serde_json::to_string(alloc, &error.positions())?;
-    let copy = if has_equal_copy(alloc, error)? { "" } else { " with another copy" };
+    let copy = if has_equal_copy(alloc, error)? {
+        ""
+    } else {
+        " with another copy"
+    };
     Ok(format!(in alloc; "{error} {places}{copy}")?)
 }
 
@@ -158,7 +162,11 @@ impl Subject for BothEnds {
         shown.word("all");
         write_left(&mut shown, &places)?;
         for step in steps.split_whitespace() {
-            let place = if step == "back" { places.next_back() } else { places.next() };
+            let place = if step == "back" {
+                places.next_back()
+            } else {
+                places.next()
+            };
             shown.word(" ");
             write_place(&mut shown, place);
             write_left(&mut shown, &places)?;

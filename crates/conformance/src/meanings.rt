@@ -94,7 +94,12 @@ a␊b ⇒ none
 
 #[test]
 fn contents_of_block_strings(rt: HostRuntime) -> Result<(), Fail> {
-    hold(&rt, rt.alloc(), &BlockStringValue, CONTENTS_OF_BLOCK_STRINGS)
+    hold(
+        &rt,
+        rt.alloc(),
+        &BlockStringValue,
+        CONTENTS_OF_BLOCK_STRINGS,
+    )
 }
 
 const CONTENTS_OF_BLOCK_STRINGS: &str = r#"

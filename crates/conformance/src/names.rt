@@ -27,7 +27,10 @@ impl Subject for NameText {
 fn printed(alloc: Global, name: &Name) -> Result<String, AllocError> {
     let copy = name.clone()?;
     let is_same = copy == *name && hash_of(&copy) == hash_of(name);
-    let (text, copy) = (name.as_str(), if is_same { "" } else { " with another copy" });
+    let (text, copy) = (
+        name.as_str(),
+        if is_same { "" } else { " with another copy" },
+    );
     format!(in alloc; "'{text}' '{name}'{copy}")
 }
 

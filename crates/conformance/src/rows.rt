@@ -41,12 +41,7 @@ pub fn hold<S: Subject>(
     Ok(())
 }
 
-fn holds<S: Subject>(
-    rt: &impl Abort,
-    alloc: Global,
-    subject: &S,
-    line: &str,
-) -> Result<(), Fail> {
+fn holds<S: Subject>(rt: &impl Abort, alloc: Global, subject: &S, line: &str) -> Result<(), Fail> {
     let (text, answer) = line.split_once(" ⇒ ").ok_or("a row without an arrow")?;
     let text = meant(alloc, text.trim_ascii_end())?;
     let answer = meant(alloc, in_one_line(alloc, answer)?.as_str())?;

@@ -1,5 +1,5 @@
 -- The parser's answers, and how many tokens are taken for them, from what the readers of the code give.
-use Rattle.std.proofs.Common.{◌≡◌, ℕ, suc, ◌+◌, ◌-◌, ◌≤◌, Result, Ok, Err, List, [], ◌∷◌, ◌++◌, length, drop, refl, sym, ap, ◌∙◌, subst, length-drop, length-append, arith}
+use Rattle.std.proofs.Common.{◌≡◌, ℕ, suc, ◌+◌, ◌-◌, ◌≤◌, Result, Ok, Err, List, ◌∷◌, ◌++◌, length, drop, sym, ap, ◌∙◌, subst, length-drop, length-append, arith}
 use Rattle.graphql_syntax.specs.declared.types.executable.ExecutableDocument.{ExecutableDocument}
 use Rattle.graphql_syntax.specs.tokens.Token.{Token}
 use Rattle.graphql_syntax.specs.tokens.Cuts.{EndsOnce}
@@ -14,10 +14,9 @@ use Rattle.graphql_parser.specs.grammar.Request.{Definition, request}
 use Rattle.graphql_parser.specs.reading.Ahead.{Ahead, tokens}
 use Rattle.graphql_parser.specs.reading.Errors.{IsErrorOf}
 use Rattle.graphql_parser.specs.reading.Given.{Refuses}
-use Rattle.graphql_parser.specs.reading.Outcome.{Read, Refused}
 use Rattle.graphql_parser.specs.reading.Request.{request_at}
 use Rattle.graphql_parser.specs.reading.Rules.{IsDocumentOf}
-use Rattle.graphql_parser.proofs.Headline.{accepted, accepted-all, refused, told, RefusedHere}
+use Rattle.graphql_parser.proofs.Headline.{refused, RefusedHere}
 
 -- ---- where there is a tree
 

@@ -1,16 +1,15 @@
 -- What is known of definitions that break no rule, with one more behind them.
-use Rattle.std.proofs.Common.{◌≡◌, ℕ, Bool, true, false, cond, is_some, Option, Some, None, option_map, ◌⊎◌, inl, inr, List, [], ◌∷◌, ◌++◌, map, refl, sym, ap, ◌∙◌, subst}
+use Rattle.std.proofs.Common.{◌≡◌, Bool, true, false, cond, Option, Some, None, option_map, List, [], ◌∷◌, ◌++◌, map, refl, sym, ap, ◌∙◌}
 use Rattle.std.specs.Map.{lookup}
 use Rattle.std.specs.Str.{bytes_eq}
-use Rattle.std.proofs.lemmas.List.{append-nil}
 use Rattle.graphql_syntax.specs.declared.pos.Pos.{Pos}
 use Rattle.graphql_syntax.specs.declared.pos.Positioned.{Positioned}
-use Rattle.graphql_syntax.specs.trees.Request.{Name, OperationDefinition, FragmentDefinition, Operations, single, multiple, placed}
+use Rattle.graphql_syntax.specs.trees.Request.{Name, OperationDefinition, FragmentDefinition, single, multiple, placed}
 use Rattle.graphql_syntax.specs.trees.RequestViews.{entry_tree}
 use Rattle.indexmap.specs.IndexMap.{insert_entry}
 use Rattle.graphql_parser.specs.grammar.Documents.{named_operations, fragments, operations_beside}
 use Rattle.graphql_parser.specs.grammar.Request.{Definition, operation, fragment}
-use Rattle.graphql_parser.specs.grammar.Rules.{Breach, multiple_operations, operation_duplicated, fragment_duplicated, breach_behind, or_else, first_operation, first_anonymous, first_operation_named, first_fragment_named, AreUnbroken, FirstBreach, HasOperation}
+use Rattle.graphql_parser.specs.grammar.Rules.{breach_behind, or_else, first_operation, first_anonymous, first_operation_named, first_fragment_named, AreUnbroken}
 use Rattle.graphql_parser.specs.reading.Sorting.{anonymous_in, first_place}
 
 -- ---- one definition more

@@ -1,5 +1,5 @@
 -- What sorted definitions tell of one definition more, and how they stay sorted with it.
-use Rattle.std.proofs.Common.{◌≡◌, Bool, true, false, is_some, Option, Some, None, option_map, List, [], ◌∷◌, ◌++◌, map, refl, sym, ap, ◌∙◌, subst}
+use Rattle.std.proofs.Common.{◌≡◌, is_some, Option, Some, None, option_map, List, [], ◌∷◌, ◌++◌, map, refl, sym, ap, ◌∙◌}
 use Rattle.std.specs.Map.{lookup}
 use Rattle.std.specs.Str.{bytes_eq}
 use Rattle.std.proofs.lemmas.List.{append-nil}
@@ -160,12 +160,13 @@ sorted-fragment ds s t name f h none same operations pushed =
 
 pub single-document : (ds : List Definition) (s : Sorted) (o : Positioned OperationDefinition) (operations : DocumentOperations) → IsSorted ds s → s.anonymous ≡ Some o → operations ≡ Single o → AreUnbroken ds × HasOperation ds × (document_tree (record { operations = operations; fragments = s.fragments }) ≡ document_of ds)
 single-document ds s o operations h e is =
-    let its : anonymous_in ds ≡ Some (placed operation_tree o) = sym h.anonymous ∙ ap (option_map (placed operation_tree)) e in
-    (h.unbroken,
-    (o.pos, first-found ds s h ∙ ap (λ (x : Option (Positioned OperationDefinition)). or_else (place-of x) (first_place s.operations.entries)) e),
-    ap (λ os. record { operations = operations_tree os; fragments = map (entry_tree fragment_tree) s.fragments.entries }) is
-    ∙ ap (λ os. record { operations = os; fragments = map (entry_tree fragment_tree) s.fragments.entries }) (sym (beside-anonymous (named_operations ds) ds (placed operation_tree o) its))
-    ∙ ap (λ fs. record { operations = operations_beside (named_operations ds) ds; fragments = fs }) h.fragments)
+    let its : anonymous_in ds ≡ Some (placed operation_tree o) = sym h.anonymous ∙ ap (option_map (placed operation_tree)) e in (
+      h.unbroken,
+      (o.pos, first-found ds s h ∙ ap (λ (x : Option (Positioned OperationDefinition)). or_else (place-of x) (first_place s.operations.entries)) e),
+      ap (λ os. record { operations = operations_tree os; fragments = map (entry_tree fragment_tree) s.fragments.entries }) is
+          ∙ ap (λ os. record { operations = os; fragments = map (entry_tree fragment_tree) s.fragments.entries }) (sym (beside-anonymous (named_operations ds) ds (placed operation_tree o) its))
+          ∙ ap (λ fs. record { operations = operations_beside (named_operations ds) ds; fragments = fs }) h.fragments,
+    )
 
 has-place : {A : Type 0} (es : List (Name × Positioned A)) → (es ≡ [] → ⊥) → (place : Pos) × (first_place es ≡ Some place)
 has-place [] h = absurd (h refl)
@@ -174,13 +175,14 @@ has-place (e ∷ es) h = (e.1.pos, refl)
 pub multiple-document : (ds : List Definition) (s : Sorted) (operations : DocumentOperations) → IsSorted ds s → s.anonymous ≡ None → (s.operations.entries ≡ [] → ⊥) → operations ≡ Multiple s.operations → AreUnbroken ds × HasOperation ds × (document_tree (record { operations = operations; fragments = s.fragments }) ≡ document_of ds)
 multiple-document ds s operations h e some is =
     let its : anonymous_in ds ≡ None = sym h.anonymous ∙ ap (option_map (placed operation_tree)) e in
-    let p = has-place s.operations.entries some in
-    (h.unbroken,
-    (p.0, first-found ds s h ∙ ap (λ (x : Option (Positioned OperationDefinition)). or_else (place-of x) (first_place s.operations.entries)) e ∙ p.1),
-    ap (λ os. record { operations = operations_tree os; fragments = map (entry_tree fragment_tree) s.fragments.entries }) is
-    ∙ ap (λ es. record { operations = multiple es; fragments = map (entry_tree fragment_tree) s.fragments.entries }) h.operations
-    ∙ ap (λ os. record { operations = os; fragments = map (entry_tree fragment_tree) s.fragments.entries }) (sym (beside-named (named_operations ds) ds its))
-    ∙ ap (λ fs. record { operations = operations_beside (named_operations ds) ds; fragments = fs }) h.fragments)
+    let p = has-place s.operations.entries some in (
+      h.unbroken,
+      (p.0, first-found ds s h ∙ ap (λ (x : Option (Positioned OperationDefinition)). or_else (place-of x) (first_place s.operations.entries)) e ∙ p.1),
+      ap (λ os. record { operations = operations_tree os; fragments = map (entry_tree fragment_tree) s.fragments.entries }) is
+          ∙ ap (λ es. record { operations = multiple es; fragments = map (entry_tree fragment_tree) s.fragments.entries }) h.operations
+          ∙ ap (λ os. record { operations = os; fragments = map (entry_tree fragment_tree) s.fragments.entries }) (sym (beside-named (named_operations ds) ds its))
+          ∙ ap (λ fs. record { operations = operations_beside (named_operations ds) ds; fragments = fs }) h.fragments,
+    )
 
 pub no-document : (ds : List Definition) (s : Sorted) → IsSorted ds s → s.anonymous ≡ None → s.operations.entries ≡ [] → AreUnbroken ds × ¬ HasOperation ds
 no-document ds s h e empty =

@@ -25,9 +25,9 @@ mod variables;
 mod words;
 
 use crate::error::Error;
-pub use request::{parse_query, parse_query_from, parse_query_limited};
 use graphql_syntax::lexer::{Token, TokenKind, Tokens};
 use graphql_syntax::pos::Pos;
+pub use request::{parse_query, parse_query_from, parse_query_limited};
 use std::alloc::{AllocError, AllocFailed, Global};
 use std::marker::Model;
 

@@ -53,7 +53,7 @@ a_default values = mapped (λ x. x.1) (one (punct "=") ⨾ value false values)
 abbrev pub default_and_directives : ℕ → Rel (Option Value × Directives)
 default_and_directives values =
     (opt (a_default values) ⨾ directives true values)
-  ∪ mapped (λ x. (Some x.1, x.0)) (plus (a_directive true values) ⨾ a_default values)
+    ∪ mapped (λ x. (Some x.1, x.0)) (plus (a_directive true values) ⨾ a_default values)
 
 abbrev pub variable_of : Token × (Token × (Token × (Positioned TypeTree × (Option Value × Directives)))) → Positioned VariableDefinition
 variable_of x = at x.0 (record { name = name_of x.1.0; var_type = x.1.1.1.0; directives = x.1.1.1.1.1; default_value = x.1.1.1.1.0 })

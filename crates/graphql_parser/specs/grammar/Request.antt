@@ -39,8 +39,8 @@ kind_of ty t = (t, ty)
 abbrev pub operation_type : Rel (Token × OperationType)
 operation_type =
     mapped (kind_of Query) (one (keyword "query"))
-  ∪ mapped (kind_of Mutation) (one (keyword "mutation"))
-  ∪ mapped (kind_of Subscription) (one (keyword "subscription"))
+    ∪ mapped (kind_of Mutation) (one (keyword "mutation"))
+    ∪ mapped (kind_of Subscription) (one (keyword "subscription"))
 
 abbrev pub name_in : Option Token → Option Name
 name_in None = None

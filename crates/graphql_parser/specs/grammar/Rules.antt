@@ -47,7 +47,7 @@ abbrev pub breach_behind : List Definition → Definition → Option Breach
 breach_behind before (operation None o) = option_map (λ first. multiple_operations o.pos first) (first_operation before)
 breach_behind before (operation (Some name) o) =
     or_else (option_map (λ anonymous. multiple_operations anonymous o.pos) (first_anonymous before))
-      (option_map (λ first. operation_duplicated name first o.pos) (first_operation_named name before))
+    (option_map (λ first. operation_duplicated name first o.pos) (first_operation_named name before))
 breach_behind before (fragment name f) = option_map (λ first. fragment_duplicated name first f.pos) (first_fragment_named name before)
 
 -- ---- documents

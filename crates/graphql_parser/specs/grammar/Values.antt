@@ -34,9 +34,9 @@ enumeration_of t = at t (enumeration t.bare.spelling)
 abbrev pub a_word : Rel Value
 a_word =
     mapped true_of (one (keyword "true"))
-  ∪ mapped false_of (one (keyword "false"))
-  ∪ mapped null_of (one (keyword "null"))
-  ∪ mapped enumeration_of (one (name_but ("true" ∷ "false" ∷ "null" ∷ [])))
+    ∪ mapped false_of (one (keyword "false"))
+    ∪ mapped null_of (one (keyword "null"))
+    ∪ mapped enumeration_of (one (name_but ("true" ∷ "false" ∷ "null" ∷ [])))
 
 -- ---- numbers and strings
 

@@ -41,7 +41,7 @@ turned x = (x.1, x.0)
 abbrev pub default_and_directives_at : ℕ → Reader (Option Value × Directives)
 default_and_directives_at values =
     choose_at (punct "=") (then_at (maybe_default_at values) (directives_at true values))
-      (mapped_at turned (then_at (directives_at true values) (maybe_default_at values)))
+    (mapped_at turned (then_at (directives_at true values) (maybe_default_at values)))
 
 abbrev pub variable_definition_at : ℕ → ℕ → Reader (Positioned VariableDefinition)
 variable_definition_at values types =

@@ -20,8 +20,8 @@ short_operation_at limits = mapped_at query_of (own_set_at limits)
 abbrev pub operation_type_at : Reader (Token × OperationType)
 operation_type_at =
     choose_at (keyword "query") (mapped_at (kind_of Query) (one_at (keyword "query")))
-      (choose_at (keyword "mutation") (mapped_at (kind_of Mutation) (one_at (keyword "mutation")))
-        (mapped_at (kind_of Subscription) (one_at (keyword "subscription"))))
+    (choose_at (keyword "mutation") (mapped_at (kind_of Mutation) (one_at (keyword "mutation")))
+    (mapped_at (kind_of Subscription) (one_at (keyword "subscription"))))
 
 abbrev pub full_operation_at : Limits → Reader Definition
 full_operation_at limits =

@@ -2,7 +2,6 @@
 use Rattle.std.specs.Prelude.{◌≡◌, true, is_some, Option, Some, None, option_map, Result, Ok, Err, List, [], ◌∷◌, ◌++◌, map}
 use Rattle.graphql_syntax.specs.declared.pos.Pos.{Pos}
 use Rattle.graphql_syntax.specs.declared.pos.Positioned.{Positioned}
-use Rattle.graphql_syntax.specs.declared.types.executable.OperationDefinition.{OperationDefinition}
 use Rattle.graphql_syntax.specs.trees.Request.{Name, placed}
 use Rattle.graphql_syntax.specs.trees.Request as request
 use Rattle.graphql_syntax.specs.trees.RequestViews.{operation_tree, fragment_tree, entry_tree}

@@ -15,9 +15,9 @@ use Rattle.graphql_parser.specs.reading.Outcome.{Reader, one_at, meaning_at, the
 abbrev pub word_at : Reader Value
 word_at =
     choose_at (keyword "true") (mapped_at true_of (one_at (keyword "true")))
-      (choose_at (keyword "false") (mapped_at false_of (one_at (keyword "false")))
-        (choose_at (keyword "null") (mapped_at null_of (one_at (keyword "null")))
-          (mapped_at enumeration_of (one_at (name_but ("true" ∷ "false" ∷ "null" ∷ []))))))
+    (choose_at (keyword "false") (mapped_at false_of (one_at (keyword "false")))
+    (choose_at (keyword "null") (mapped_at null_of (one_at (keyword "null")))
+    (mapped_at enumeration_of (one_at (name_but ("true" ∷ "false" ∷ "null" ∷ []))))))
 
 abbrev pub number_at : Reader Value
 number_at = mapped_at number_of (one_at any_number)

@@ -179,7 +179,7 @@ fn read_definition(alloc: Global, cursor: &mut Cursor, limits: Limits) -> Readin
 fn read_definitions(alloc: Global, cursor: &mut Cursor, limits: Limits) -> Reading<Vec<Definition>>
     ensures { Gives in_definitions result cursor.old cursor.new (definitions_at limits) }
 {
-    let mut definitions = Vec::with_capacity(alloc, 1)?;
+    let mut definitions = Vec::with_capacity(alloc, 4)?;
     loop {
         let definition = read_definition(alloc, cursor, limits)?;
         push(&mut definitions, definition)?;

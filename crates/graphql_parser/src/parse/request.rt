@@ -18,7 +18,11 @@ use graphql_syntax::types::ExecutableDocument;
 use std::alloc::Global;
 use std::mem;
 
-fn read_document(alloc: Global, tokens: &mut Tokens<'_>, limits: Limits) -> Result<ExecutableDocument>
+fn read_document(
+    alloc: Global,
+    tokens: &mut Tokens<'_>,
+    limits: Limits,
+) -> Result<ExecutableDocument>
     requires { left tokens.old ≢ [] }
     ensures answer { Answers limits (left tokens.old) result }
     ensures taken { (count : ℕ) × (tokens.new.taken ≡ tokens.old.taken + count) × TakenFor limits (left tokens.old) result count }

@@ -81,7 +81,11 @@ impl Sorted {
     }
 
     /// An operation with a name, which no other may have.
-    fn add_operation(&mut self, name: Name, operation: Positioned<OperationDefinition>) -> Result<()>
+    fn add_operation(
+        &mut self,
+        name: Name,
+        operation: Positioned<OperationDefinition>,
+    ) -> Result<()>
         ensures { (ds : List SpecDefinition) → IsSorted ds self.old → IsAdded ds (an_operation (Some name) (placed operation_tree operation)) result self.new }
     {
         let second = operation.pos;

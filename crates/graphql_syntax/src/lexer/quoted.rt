@@ -20,9 +20,9 @@ pub fn pass_string(bytes: &[u8], places: &mut RunningPlace) -> bool
 {
     while let Some(b) = peek(bytes, places) {
         if is_plain(b) {
-            places.pass_in_line();
+            places.pass_first(b);
         } else if b == b'"' {
-            places.pass_in_line();
+            places.pass_ascii();
             return true;
         } else {
             let Some((_, len)) = escape_at(&bytes[places.offset()..]) else {
@@ -69,7 +69,7 @@ pub fn pass_block(bytes: &[u8], places: &mut RunningPlace) -> bool
                 return true;
             }
         } else {
-            places.pass();
+            places.pass_first(b);
             if b == b'\\' {
                 pass_quotes(bytes, places);
             }

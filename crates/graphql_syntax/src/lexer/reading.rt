@@ -58,7 +58,7 @@ pub fn pass_ignored(bytes: &[u8], places: &mut RunningPlace)
 {
     while let Some(b) = peek(bytes, places) {
         if is_blank(b) {
-            places.pass();
+            places.pass_first(b);
         } else if b == b'#' {
             pass_line(bytes, places);
         } else if b < 0x80 {

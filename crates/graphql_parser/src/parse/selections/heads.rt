@@ -9,9 +9,8 @@ ghost use Rattle.graphql_parser.specs.reading.Given.{Gives};
 ghost use Rattle.graphql_parser.specs.reading.Selections.{type_condition_at, inline_first, selection_first};
 
 use crate::parse::arguments::{read_directives, read_maybe_arguments};
-use crate::parse::list;
 use crate::parse::words::{name_in, read_name};
-use crate::parse::{Cursor, Reading, Refusal};
+use crate::parse::{Cursor, Reading, Refusal, list};
 use graphql_syntax::lexer::Token;
 use graphql_syntax::pos::{Pos, Positioned};
 use graphql_syntax::types::{

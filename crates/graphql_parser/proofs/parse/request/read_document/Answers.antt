@@ -3,7 +3,7 @@ use Rattle.graphql_syntax.specs.tokens.Cuts.{EndsOnce}
 use Rattle.graphql_syntax.specs.tokens.Proper.{AreProperButFaults}
 use Rattle.graphql_syntax.specs.tokens.Token.{Token, left}
 use Rattle.graphql_parser.specs.grammar.Answers.{Answers, TakenFor}
-use Rattle.graphql_parser.specs.reading.Ahead.{Ahead, tokens}
+use Rattle.graphql_parser.specs.reading.Ahead.{tokens}
 use Rattle.graphql_parser.specs.reading.Given.{GoesOn}
 use Rattle.graphql_parser.specs.reading.Definitions.{in_definitions}
 use Rattle.graphql_parser.proofs.Headline.{accepted, accepted-all}
@@ -37,8 +37,8 @@ taken : (c : goal.After-into_tokens) → GoesOn c.new-cursor.result c.read_reque
 taken c on =
     let same : c.into_tokens.result.whole ≡ c.args.tokens.now.whole = c.into_tokens.ensures.whole ∙ on.0 ∙ c.new-cursor.ensures.whole ∙ ap (λ l. l.whole) c.replace.ensures.value in
     taken-between c.args.tokens.now.whole (tokens c.new-cursor.result) c.read_request.new.cursor.behind c.args.tokens.now.taken c.into_tokens.result.taken
-      (ahead-is c) (sym c.into_tokens.ensures.left ∙ ap (drop c.into_tokens.result.taken) same)
-      (forward c on) (subst (λ whole. c.into_tokens.result.taken ≤ length whole) same c.into_tokens.ensures.within)
+    (ahead-is c) (sym c.into_tokens.ensures.left ∙ ap (drop c.into_tokens.result.taken) same)
+    (forward c on) (subst (λ whole. c.into_tokens.result.taken ≤ length whole) same c.into_tokens.ensures.within)
 
 pub returns-clause-answer : goal.returns-clause-answer
 returns-clause-answer c =
@@ -46,8 +46,8 @@ returns-clause-answer c =
     let limits = c.args.limits in
     subst (λ (ts : List Token). Answers limits ts c.match-read_request.answer) (ahead-is c)
     (elim c.match-read_request.branch [
-      in-Ok w ↦ subst (Answers limits ts) (sym w.answer-is) (document-answers limits ts (in_definitions w.in-Ok.definitions) _ (accepted limits ts _ (in_definitions w.in-Ok.definitions) (ends c) (proper c) w.in-Ok.ensures.0) w.document_of-answer.ensures)
-    | in-Err w ↦ subst (Answers limits ts) (sym w.answer-is) (refusal-answers limits c.new-cursor.result c.read_request.new.cursor w.in-Err.refusal w.error.result (ends c) (proper c) w.in-Err.ensures.0 w.error.ensures)
+      | in-Ok w ↦ subst (Answers limits ts) (sym w.answer-is) (document-answers limits ts (in_definitions w.in-Ok.definitions) _ (accepted limits ts _ (in_definitions w.in-Ok.definitions) (ends c) (proper c) w.in-Ok.ensures.0) w.document_of-answer.ensures)
+      | in-Err w ↦ subst (Answers limits ts) (sym w.answer-is) (refusal-answers limits c.new-cursor.result c.read_request.new.cursor w.in-Err.refusal w.error.result (ends c) (proper c) w.in-Err.ensures.0 w.error.ensures)
     ])
 
 pub returns-clause-taken : goal.returns-clause-taken
@@ -55,16 +55,20 @@ returns-clause-taken c =
     let ts = tokens c.new-cursor.result in
     let limits = c.args.limits in
     elim c.match-read_request.branch [
-      in-Ok w ↦ (
-        count c, sums c w.in-Ok.ensures.1,
+      | in-Ok w ↦ (
+        count c,
+        sums c w.in-Ok.ensures.1,
         subst (λ (ts : List Token). TakenFor limits ts c.match-read_request.answer (count c)) (ahead-is c)
-        (subst (λ r. TakenFor limits ts r (count c)) (sym w.answer-is)
-          (document-taken limits ts (in_definitions w.in-Ok.definitions) _ (count c) (all c w.in-Ok.ensures.1 (accepted-all limits ts _ (in_definitions w.in-Ok.definitions) (ends c) (proper c) w.in-Ok.ensures.0)) w.document_of-answer.ensures)))
-    | in-Err w ↦ (
-        count c, sums c w.in-Err.ensures.1,
+            (subst (λ r. TakenFor limits ts r (count c)) (sym w.answer-is)
+            (document-taken limits ts (in_definitions w.in-Ok.definitions) _ (count c) (all c w.in-Ok.ensures.1 (accepted-all limits ts _ (in_definitions w.in-Ok.definitions) (ends c) (proper c) w.in-Ok.ensures.0)) w.document_of-answer.ensures)),
+      )
+      | in-Err w ↦ (
+        count c,
+        sums c w.in-Err.ensures.1,
         subst (λ (ts : List Token). TakenFor limits ts c.match-read_request.answer (count c)) (ahead-is c)
-        (subst (λ r. TakenFor limits ts r (count c)) (sym w.answer-is)
-          (refusal-taken limits c.new-cursor.result c.read_request.new.cursor w.in-Err.refusal w.error.result (count c) (taken c w.in-Err.ensures.1) (ends c) (proper c) w.in-Err.ensures.0 w.error.ensures)))
+            (subst (λ r. TakenFor limits ts r (count c)) (sym w.answer-is)
+            (refusal-taken limits c.new-cursor.result c.read_request.new.cursor w.in-Err.refusal w.error.result (count c) (taken c w.in-Err.ensures.1) (ends c) (proper c) w.in-Err.ensures.0 w.error.ensures)),
+      )
     ]
   where
     sums : (c : goal.After-into_tokens) → GoesOn c.new-cursor.result c.read_request.new.cursor → c.into_tokens.result.taken ≡ c.args.tokens.now.taken + count c

@@ -23,24 +23,24 @@ loop-b-preserved-else-pass_quotes-eq3 c =
 pub loop-b-preserved-then-b-eq92 : goal.loop-b-preserved-then-b-eq92
 loop-b-preserved-then-b-eq92 c =
     let v = c.loop-b.invariant in
-    let e = c.pass.ensures in
+    let e = c.pass_first.ensures in
     let q = c.pass_quotes-then-b-eq92.ensures in
-    let is : c.pass.result ≡ 92 = first_low c.in-Some.b c.pass.result _ _ c.in-Some.ensures e.passed (omega arith) ∙ c.if-b-eq92.true in
+    let is : c.pass_first.result ≡ 92 = first_low c.in-Some.b c.pass_first.result _ _ c.in-Some.ensures e.passed (omega arith) ∙ c.if-b-eq92.true in
     record {
       runs = q.runs;
-      same = sym (ap past_block (e.passed ∙ ap (λ d. d ∷ ahead c.pass.new.self) is) ∙ block_escape c.pass_quotes-then-b-eq92.result _ _ q.quotes) ∙ v.same;
+      same = sym (ap past_block (e.passed ∙ ap (λ d. d ∷ ahead c.pass_first.new.self) is) ∙ block_escape c.pass_quotes-then-b-eq92.result _ _ q.quotes) ∙ v.same;
       forward = omega arith;
     }
 
 pub loop-b-preserved : goal.loop-b-preserved
 loop-b-preserved c =
     let v = c.loop-b.invariant in
-    let e = c.pass.ensures in
-    let p = first_not c.in-Some.b c.pass.result 34 _ _ c.in-Some.ensures e.passed (omega arith) c.if-b-eq34.false in
-    let q = first_not c.in-Some.b c.pass.result 92 _ _ c.in-Some.ensures e.passed (omega arith) c.if-b-eq92.false in
+    let e = c.pass_first.ensures in
+    let p = first_not c.in-Some.b c.pass_first.result 34 _ _ c.in-Some.ensures e.passed (omega arith) c.if-b-eq34.false in
+    let q = first_not c.in-Some.b c.pass_first.result 92 _ _ c.in-Some.ensures e.passed (omega arith) c.if-b-eq92.false in
     record {
       runs = record { running = e.running; same = e.same ∙ v.runs.same };
-      same = sym (ap past_block e.passed ∙ block_other c.pass.result (ahead c.pass.new.self) p q) ∙ v.same;
+      same = sym (ap past_block e.passed ∙ block_other c.pass_first.result (ahead c.pass_first.new.self) p q) ∙ v.same;
       forward = omega arith;
     }
 

@@ -9,16 +9,16 @@ use Rattle.graphql_syntax.proofs.lexer.quoted.pass_string.Goals as goal
 pub loop-b-preserved-then-is_plain : goal.loop-b-preserved-then-is_plain
 loop-b-preserved-then-is_plain c =
     let v = c.loop-b.invariant in
-    let e = c.pass_in_line.ensures in
+    let e = c.pass_first.ensures in
     record {
       runs = record { running = e.running; same = e.same ∙ v.runs.same };
-      same = sym (plain_ahead c.in-Some.b e.passed.0 _ _ c.in-Some.ensures e.passed.1 (sym c.is_plain.ensures ∙ c.if-is_plain.true)) ∙ v.same;
+      same = sym (plain_ahead c.in-Some.b c.pass_first.result _ _ c.in-Some.ensures e.passed (sym c.is_plain.ensures ∙ c.if-is_plain.true)) ∙ v.same;
       forward = omega arith;
     }
 
 pub returns-then-b-eq34-clause-rest : goal.returns-then-b-eq34-clause-rest
 returns-then-b-eq34-clause-rest c =
-    let e = c.pass_in_line-then-b-eq34.ensures.passed in
+    let e = c.pass_ascii.ensures.passed in
     sym c.loop-b.invariant.same ∙ quote_ahead c.in-Some.b e.0 _ _ c.in-Some.ensures e.1 c.if-b-eq34.true
 
 pub returns-in_default-escape_at-clause-rest : goal.returns-in_default-escape_at-clause-rest

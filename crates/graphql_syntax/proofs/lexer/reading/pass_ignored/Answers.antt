@@ -7,10 +7,10 @@ use Rattle.graphql_syntax.proofs.lexer.reading.pass_ignored.Goals as goal
 pub loop-b-preserved-then-is_blank : goal.loop-b-preserved-then-is_blank
 loop-b-preserved-then-is_blank c =
     let v = c.loop-b.invariant in
-    let e = c.pass.ensures in
+    let e = c.pass_first.ensures in
     record {
       runs = record { running = e.running; same = e.same ∙ v.runs.same };
-      same = skip_blank c.in-Some.b c.pass.result _ _ c.in-Some.ensures e.passed (sym c.is_blank.ensures ∙ c.if-is_blank.true) ∙ v.same;
+      same = skip_blank c.in-Some.b c.pass_first.result _ _ c.in-Some.ensures e.passed (sym c.is_blank.ensures ∙ c.if-is_blank.true) ∙ v.same;
       forward = omega arith;
     }
 
@@ -30,10 +30,10 @@ loop-b-preserved-then-b-eq35 c =
 pub loop-b-preserved : goal.loop-b-preserved
 loop-b-preserved c =
     let v = c.loop-b.invariant in
-    let e = c.pass-else-b-lt128.ensures in
+    let e = c.pass.ensures in
     record {
       runs = record { running = e.running; same = e.same ∙ v.runs.same };
-      same = skip_mark c.pass-else-b-lt128.result _ _ e.passed c.if-pass-ne65279.false ∙ v.same;
+      same = skip_mark c.pass.result _ _ e.passed c.if-pass-ne65279.false ∙ v.same;
       forward = omega arith;
     }
 
@@ -43,7 +43,7 @@ returns-then-b-lt128-clause-rest c =
 
 pub returns-then-pass-ne65279-clause-rest : goal.returns-then-pass-ne65279-clause-rest
 returns-then-pass-ne65279-clause-rest c =
-    skip_wide c.in-Some.b c.pass-else-b-lt128.result _ _ c.in-Some.ensures c.pass-else-b-lt128.ensures.passed c.if-b-lt128.false c.if-pass-ne65279.true ∙ c.loop-b.invariant.same
+    skip_wide c.in-Some.b c.pass.result _ _ c.in-Some.ensures c.pass.ensures.passed c.if-b-lt128.false c.if-pass-ne65279.true ∙ c.loop-b.invariant.same
 
 pub returns-in_default-clause-rest : goal.returns-in_default-clause-rest
 returns-in_default-clause-rest c = skip_nothing _ c.in_default.ensures ∙ c.loop-b.invariant.same

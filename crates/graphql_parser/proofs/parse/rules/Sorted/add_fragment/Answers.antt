@@ -1,4 +1,4 @@
-use Rattle.std.proofs.Common.{◌≡◌, Some, None, option_map, sym, refl, ap, ◌∙◌}
+use Rattle.std.proofs.Common.{option_map, sym, refl, ap, ◌∙◌}
 use Rattle.graphql_syntax.specs.trees.Request.{placed}
 use Rattle.graphql_syntax.specs.trees.RequestViews.{fragment_tree}
 use Rattle.graphql_parser.specs.grammar.Rules.{fragment_duplicated}

@@ -1,4 +1,4 @@
-use Rattle.std.proofs.Common.{◌+◌, refl, arith}
+use Rattle.std.proofs.Common.{refl, arith}
 use Rattle.graphql_syntax.proofs.Running.{reads_past, count_bound, passes_ascii}
 use Rattle.graphql_syntax.proofs.pos.cursor.Cursor.pass_ascii.Goals as goal
 

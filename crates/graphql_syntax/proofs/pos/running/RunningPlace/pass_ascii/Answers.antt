@@ -1,4 +1,4 @@
-use Rattle.std.proofs.Common.{◌≡◌, ◌<◌, ℕ, true, false, refl, subst, arith}
+use Rattle.std.proofs.Common.{◌≡◌, ℕ, true, false, refl, subst, arith}
 use Rattle.std.proofs.lemmas.Bool.Decides.{nat_tests}
 use Rattle.graphql_syntax.specs.tokens.Place.{is_line_feed, is_in_line}
 use Rattle.graphql_syntax.specs.inner.Running.{BeginsInAscii}
