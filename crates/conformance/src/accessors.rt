@@ -1,52 +1,123 @@
-//! What the calls of a request's tree give.
-use crate::built;
+//! What the calls of a request's tree give, on trees that were read.
+use crate::conversions::{write_directive_into_const, write_equality, write_into_const};
 use crate::rows::{Subject, hold};
-use crate::shown::Shown;
+use crate::shown::{self, Shown, Written};
 use graphql_parser::types::{
-    DocumentOperations, ExecutableDocument, FragmentDefinition, OperationDefinition,
-    OperationsIter, Selection, SelectionSet, VariableDefinition,
+    Directive, ExecutableDocument, Field, OperationsIter, Selection, SelectionSet,
+    VariableDefinition,
 };
 use graphql_parser::value::{ConstValue, Name, Value};
-use graphql_parser::{Pos, Positioned};
-use indexmap::IndexMap;
+use graphql_parser::{Positioned, Result as Answer, parse_query};
 use std::alloc::{AllocError, Global};
 use std::borrow::Cow;
 use std::test::Fail;
 
-/// The argument of a name in a field, a directive and a directive without variables. Each has the arguments
-/// `b: one`, `b: two` and `c: three`, at columns 1 to 6.
-struct Argument;
+/// What is asked of the tree of a request. Before a request stands what is asked of it, with ` in ` between them.
+#[derive(Clone, Copy)]
+pub enum Question {
+    /// The argument of a name in the first field, in its first directive, and in that as one without variables.
+    Argument,
+    /// The key of the first field in a response.
+    ResponseKey,
+    /// The defaults of the variables of the first operation: `lent` where the request writes them, `made` where the
+    /// type is nullable.
+    Defaults,
+    /// The directives of the first selection, and again when a copy of the first of them was put behind them.
+    Directives,
+    /// The operations: all of them, and what is left when one more was given.
+    Operations,
+    /// The operation and the fragment of a name, also in a copy.
+    Named,
+    /// The first argument as a value without variables, and that as a value again.
+    IntoConst,
+    /// How the first two arguments compare, as values and as values without variables.
+    Equality,
+    /// The first directive of the first field as one without variables, and that as one with them again.
+    DirectiveIntoConst,
+}
 
-impl Subject for Argument {
+impl Subject for Question {
     fn answer(&self, alloc: Global, text: &str) -> Result<String, Fail> {
-        let mut shown = Shown::new(alloc);
-        find_in_field(alloc, &mut shown, text)?;
-        find_in_directive(alloc, &mut shown, text)?;
-        find_in_constant(alloc, &mut shown, text)?;
-        Ok(shown.finish()?)
+        let (asked, request) = text.split_once(" in ").unwrap_or(("", text));
+        Ok(self.asked_of(alloc, asked, parse_query(alloc, request))?)
     }
 }
 
-fn find_in_field(alloc: Global, shown: &mut Shown, name: &str) -> Result<(), AllocError> {
-    let field = built::field(alloc, None)?;
-    write_value(shown, field.get_argument(name));
-    Ok(())
+impl Question {
+    fn asked_of(
+        self,
+        alloc: Global,
+        asked: &str,
+        answer: Answer<ExecutableDocument>,
+    ) -> Result<String, AllocError> {
+        match &answer {
+            Ok(document) => self.written(alloc, asked, document),
+            Err(error) => shown::refusal(alloc, error),
+        }
+    }
+
+    fn written(
+        self,
+        alloc: Global,
+        asked: &str,
+        document: &ExecutableDocument,
+    ) -> Result<String, AllocError> {
+        let mut shown = Shown::new(alloc);
+        self.write(alloc, &mut shown, asked, document)?;
+        shown.finish()
+    }
+
+    fn write(
+        self,
+        alloc: Global,
+        shown: &mut Shown,
+        asked: &str,
+        document: &ExecutableDocument,
+    ) -> Result<(), AllocError> {
+        match self {
+            Question::Argument => write_argument(alloc, shown, asked, document),
+            Question::ResponseKey => write_key(shown, document),
+            Question::Defaults => write_defaults(shown, document),
+            Question::Directives => write_directives(shown, document),
+            Question::Operations => write_operations(shown, document),
+            Question::Named => write_named(shown, asked, document),
+            Question::IntoConst => write_into_const(alloc, shown, document),
+            Question::Equality => write_equality(alloc, shown, document),
+            Question::DirectiveIntoConst => write_directive_into_const(alloc, shown, document),
+        }
+    }
 }
 
-fn find_in_directive(alloc: Global, shown: &mut Shown, name: &str) -> Result<(), AllocError> {
-    let directive = built::directive_with(
-        alloc,
-        built::arguments(alloc, built::leaf(alloc, "three")?)?,
-    )?;
-    shown.word(", ");
-    write_value(shown, directive.get_argument(name));
-    Ok(())
+/// The first selection of the first operation.
+pub fn first_selection(document: &ExecutableDocument) -> Option<&Selection> {
+    let (_, operation) = document.operations.iter().next()?;
+    let selection = operation.node.selection_set.node.items.first()?;
+    Some(&selection.node)
 }
 
-fn find_in_constant(alloc: Global, shown: &mut Shown, name: &str) -> Result<(), AllocError> {
-    let directive = built::constant_directive(alloc)?;
-    shown.word(", ");
-    write_constant(shown, directive.get_argument(name));
+/// The same, where it is a field.
+pub fn first_field(document: &ExecutableDocument) -> Option<&Field> {
+    match first_selection(document)? {
+        Selection::Field(field) => Some(&field.node),
+        _ => None,
+    }
+}
+
+fn write_argument(
+    alloc: Global,
+    shown: &mut Shown,
+    asked: &str,
+    document: &ExecutableDocument,
+) -> Written {
+    if let Some(field) = first_field(document) {
+        write_value(shown, field.get_argument(asked));
+        if let Some(directive) = field.directives.first() {
+            shown.word(", ");
+            write_value(shown, directive.node.get_argument(asked));
+            shown.word(", ");
+            write_constant(alloc, shown, asked, &directive.node)?;
+        }
+    }
     Ok(())
 }
 
@@ -60,7 +131,15 @@ fn write_value(shown: &mut Shown, value: Option<&Positioned<Value>>) {
     }
 }
 
-fn write_constant(shown: &mut Shown, value: Option<&Positioned<ConstValue>>) {
+fn write_constant(alloc: Global, shown: &mut Shown, asked: &str, directive: &Directive) -> Written {
+    match directive.clone()?.into_const(alloc)? {
+        Some(directive) => write_constant_value(shown, directive.get_argument(asked)),
+        None => shown.word("not constant"),
+    }
+    Ok(())
+}
+
+fn write_constant_value(shown: &mut Shown, value: Option<&Positioned<ConstValue>>) {
     match value {
         Some(value) => {
             shown.constant(&value.node);
@@ -72,172 +151,124 @@ fn write_constant(shown: &mut Shown, value: Option<&Positioned<ConstValue>>) {
 
 #[test]
 fn the_first_argument_of_a_name(rt: HostRuntime) -> Result<(), Fail> {
-    hold(&rt, rt.alloc(), &Argument, ARGUMENTS)
+    hold(&rt, rt.alloc(), &Question::Argument, ARGUMENTS)
 }
 
 const ARGUMENTS: &str = r"
-b ⇒ .one@1:2, .one@1:2, .one@1:2
-c ⇒ .three@1:6, .three@1:6, .three@1:6
- ⇒ none, none, none
-B ⇒ none, none, none
-bb ⇒ none, none, none
-d ⇒ none, none, none
+b in {f(b:one b:two c:$c)@d(c:1 b:2 b:[x])} ⇒ .one@1:6, 2@1:30, 2@1:30
+c in {f(b:one b:two c:$c)@d(c:1 b:2 b:[x])} ⇒ $c@1:18, 1@1:26, 1@1:26
+B in {f(b:one b:two c:$c)@d(c:1 b:2 b:[x])} ⇒ none, none, none
+bb in {f(b:one b:two c:$c)@d(c:1 b:2 b:[x])} ⇒ none, none, none
+ in {f(b:one b:two c:$c)@d(c:1 b:2 b:[x])} ⇒ none, none, none
+d in {f(b:one b:two c:$c)@d(c:1 b:2 b:[x])} ⇒ none, none, none
+b in {a(b:1 b:2)@d} ⇒ 1@1:6, none, none
+b in {a@d(a:[] b:{x:[$v]})} ⇒ none, { x=[ $v ] }@1:13, not constant
 ";
 
-/// The response key of the field `f` at column 7, with an alias at column 3 where the row has one.
-struct ResponseKey;
-
-impl Subject for ResponseKey {
-    fn answer(&self, alloc: Global, text: &str) -> Result<String, Fail> {
-        let alias = if text.is_empty() {
-            None
-        } else {
-            Some(built::name(alloc, 3, text)?)
-        };
-        let field = built::field(alloc, alias)?;
+fn write_key(shown: &mut Shown, document: &ExecutableDocument) -> Written {
+    if let Some(field) = first_field(document) {
         let key = field.response_key();
-        let (name, place) = (key.node.as_str(), key.pos);
-        Ok(format!(in alloc; "{name}@{place}")?)
+        shown.word(key.node.as_str());
+        shown.place("@", key.pos);
     }
+    Ok(())
 }
 
 #[test]
 fn the_key_of_a_response(rt: HostRuntime) -> Result<(), Fail> {
-    hold(&rt, rt.alloc(), &ResponseKey, RESPONSE_KEYS)
+    hold(&rt, rt.alloc(), &Question::ResponseKey, RESPONSE_KEYS)
 }
 
 const RESPONSE_KEYS: &str = r"
- ⇒ f@1:7
-x ⇒ x@1:3
+{f} ⇒ f@1:2
+{x:f} ⇒ x@1:2
+{ query : f(x:1) g } ⇒ query@1:3
 ";
 
-/// The default of a variable whose type is `nullable` or not, without a default or with `red`.
-struct Default;
-
-impl Subject for Default {
-    fn answer(&self, alloc: Global, text: &str) -> Result<String, Fail> {
-        let default = if text.ends_with("red") {
-            Some(built::at(9, built::constant(alloc, "red")?))
-        } else {
-            None
-        };
-        let variable = built::variable(alloc, text.starts_with("nullable"), default)?;
-        let mut shown = Shown::new(alloc);
-        write_default(&mut shown, &variable);
-        Ok(shown.finish()?)
+fn write_defaults(shown: &mut Shown, document: &ExecutableDocument) -> Written {
+    if let Some((_, operation)) = document.operations.iter().next() {
+        for variable in &operation.node.variable_definitions {
+            shown.word(variable.node.name.node.as_str());
+            write_default(shown, &variable.node);
+        }
     }
+    Ok(())
 }
 
 fn write_default(shown: &mut Shown, variable: &VariableDefinition) {
     match variable.default_value() {
-        None => shown.word("none"),
+        None => shown.word(" none "),
         Some(Cow::Borrowed(value)) => {
-            shown.word("lent ");
+            shown.word(" lent ");
             shown.constant(value);
         }
         Some(Cow::Owned(value)) => {
-            shown.word("made ");
+            shown.word(" made ");
             shown.constant(&value);
         }
     }
+    shown.word(";");
 }
 
 #[test]
 fn the_default_of_a_variable(rt: HostRuntime) -> Result<(), Fail> {
-    hold(&rt, rt.alloc(), &Default, DEFAULTS)
+    hold(&rt, rt.alloc(), &Question::Defaults, DEFAULTS)
 }
 
 const DEFAULTS: &str = r"
-nullable ⇒ made null
-demanded ⇒ none
-nullable red ⇒ lent .red
-demanded red ⇒ lent .red
+query($a:Int $b:Int! $c:Int!=1){a} ⇒ a made null;b none ;c lent 1;
+query($a:Int=red $b:[Int!] $c:[Int]!){a} ⇒ a lent .red;b made null;c none ;
+query($a:Int=null){a} ⇒ a lent null;
 ";
 
-/// The directives of a selection, and again when one more was pushed to them.
-struct Directives;
-
-impl Subject for Directives {
-    fn answer(&self, alloc: Global, text: &str) -> Result<String, Fail> {
-        match text {
-            "field" => grown(
-                alloc,
-                Selection::Field(built::at(1, built::field(alloc, None)?)),
-            ),
-            "spread" => grown(
-                alloc,
-                Selection::FragmentSpread(built::at(1, built::spread(alloc)?)),
-            ),
-            _ => grown(
-                alloc,
-                Selection::InlineFragment(built::at(1, built::inline(alloc)?)),
-            ),
-        }
+fn write_directives(shown: &mut Shown, document: &ExecutableDocument) -> Written {
+    if let Some(selection) = first_selection(document) {
+        shown.directives(selection.directives());
+        shown.word(" then");
+        write_grown(shown, selection.clone()?)?;
     }
+    Ok(())
 }
 
-fn grown(alloc: Global, mut selection: Selection) -> Result<String, Fail> {
-    let mut shown = Shown::new(alloc);
+fn write_grown(shown: &mut Shown, mut selection: Selection) -> Written {
+    if let Some(directive) = selection.directives().first() {
+        let copy = directive.clone()?;
+        selection.directives_mut().push(copy)?;
+    }
     shown.directives(selection.directives());
-    built::push_directive(alloc, selection.directives_mut(), 9, "e")?;
-    shown.word(" then");
-    shown.directives(selection.directives());
-    Ok(shown.finish()?)
+    Ok(())
 }
 
 #[test]
 fn the_directives_of_a_selection(rt: HostRuntime) -> Result<(), Fail> {
     assert_eq!(rt; SelectionSet::new(rt.alloc()).items.len(), 0);
-    hold(&rt, rt.alloc(), &Directives, DIRECTIVES)
+    hold(&rt, rt.alloc(), &Question::Directives, DIRECTIVES)
 }
 
 const DIRECTIVES: &str = r"
-field ⇒ ␠(directive 1:8 d@1:8) then (directive 1:8 d@1:8) (directive 1:9 e@1:9)
-spread ⇒ ␠(directive 1:8 d@1:8) then (directive 1:8 d@1:8) (directive 1:9 e@1:9)
-inline ⇒ ␠(directive 1:8 d@1:8) then (directive 1:8 d@1:8) (directive 1:9 e@1:9)
+{a@d} ⇒ (directive 1:3 d@1:4) then (directive 1:3 d@1:4) (directive 1:3 d@1:4)
+{...F@d@e} ⇒ (directive 1:6 d@1:7) (directive 1:8 e@1:9) then
+  (directive 1:6 d@1:7) (directive 1:8 e@1:9) (directive 1:6 d@1:7)
+{...@d{a@e}} ⇒ (directive 1:5 d@1:6) then (directive 1:5 d@1:6) (directive 1:5 d@1:6)
+{a b@d} ⇒ then
 ";
 
-// Queries of these names, at columns 1, 2, 3.
-fn named(alloc: Global, names: &str) -> Result<DocumentOperations, AllocError> {
-    let mut operations = IndexMap::new(alloc);
-    let mut column = 0usize;
-    for name in names.split_whitespace() {
-        column = column.wrapping_add(1);
-        operations.insert(Name::new(alloc, name)?, built::query(alloc, column))?;
+fn write_operations(shown: &mut Shown, document: &ExecutableDocument) -> Written {
+    let mut left = document.operations.iter();
+    write_left(shown, &left)?;
+    for _ in 0..4 {
+        shown.word(if left.next().is_some() {
+            ", then"
+        } else {
+            ", none"
+        });
+        write_left(shown, &left)?;
     }
-    Ok(DocumentOperations::Multiple(operations))
-}
-
-fn request_of(alloc: Global, names: &str) -> Result<DocumentOperations, AllocError> {
-    if names == "single" {
-        return Ok(DocumentOperations::Single(built::query(alloc, 5)));
-    }
-    named(alloc, names)
-}
-
-/// The operations of these names, or a single one: all, and what is left when one more was given.
-struct Operations;
-
-impl Subject for Operations {
-    fn answer(&self, alloc: Global, text: &str) -> Result<String, Fail> {
-        let operations = request_of(alloc, text)?;
-        let mut shown = Shown::new(alloc);
-        let mut left = operations.iter();
-        write_left(&mut shown, &left)?;
-        for _ in 0..4 {
-            shown.word(if left.next().is_some() {
-                ", then"
-            } else {
-                ", none"
-            });
-            write_left(&mut shown, &left)?;
-        }
-        Ok(shown.finish()?)
-    }
+    Ok(())
 }
 
 // What is left, by a copy, and whether its number is told.
-fn write_left(shown: &mut Shown, operations: &OperationsIter<'_>) -> Result<(), AllocError> {
+fn write_left(shown: &mut Shown, operations: &OperationsIter<'_>) -> Written {
     let mut count = 0usize;
     for (name, operation) in operations.clone()? {
         shown.word(" ");
@@ -253,98 +284,51 @@ fn write_left(shown: &mut Shown, operations: &OperationsIter<'_>) -> Result<(), 
 
 #[test]
 fn the_operations_of_a_request(rt: HostRuntime) -> Result<(), Fail> {
-    hold(&rt, rt.alloc(), &Operations, OPERATIONS)
+    hold(&rt, rt.alloc(), &Question::Operations, OPERATIONS)
 }
 
 const OPERATIONS: &str = r"
-single ⇒ ␠unnamed@1:5, then, none, none, none
-Z A M ⇒ ␠Z@1:1 A@1:2 M@1:3, then A@1:2 M@1:3, then M@1:3, then, none
+{a} ⇒ unnamed@1:1, then, none, none, none
+fragment F on T{a} query Z{a} ⇒ Z@1:20, then, none, none, none
+query Z{a} query A{b} mutation M{c} ⇒
+  Z@1:1 A@1:12 M@1:23, then A@1:12 M@1:23, then M@1:23, then, none
 ";
 
-/// The operation of a name among others, which stand behind `in`.
-struct OperationOfName;
-
-impl Subject for OperationOfName {
-    fn answer(&self, alloc: Global, text: &str) -> Result<String, Fail> {
-        let (name, names) = text.split_once(" in ").ok_or("no names")?;
-        let operations = request_of(alloc, names)?;
-        let mut shown = Shown::new(alloc);
-        match operations.get(name) {
-            Some(operation) => shown.place("", operation.pos),
-            None => shown.word("none"),
-        }
-        Ok(shown.finish()?)
-    }
-}
-
-#[test]
-fn the_operation_of_a_name(rt: HostRuntime) -> Result<(), Fail> {
-    hold(&rt, rt.alloc(), &OperationOfName, OPERATIONS_OF_NAMES)
-}
-
-const OPERATIONS_OF_NAMES: &str = r"
-A in Z A M ⇒ 1:2
-Z in Z A M ⇒ 1:1
-a in Z A M ⇒ none
- in Z A M ⇒ none
-ZA in Z A M ⇒ none
- in single ⇒ none
-";
-
-/// The fragment of a name in a request with the fragments `F` and `G`, and how many its copy has.
-struct FragmentOfName;
-
-impl Subject for FragmentOfName {
-    fn answer(&self, alloc: Global, text: &str) -> Result<String, Fail> {
-        let document = document(alloc)?;
-        let mut shown = Shown::new(alloc);
-        match document.fragment(text) {
-            Some(fragment) => shown.place("", fragment.pos),
-            None => shown.word("none"),
-        }
-        let copy = document.clone()?;
-        shown.number(" of ", copy.fragments.len());
-        Ok(shown.finish()?)
-    }
-}
-
-fn document(alloc: Global) -> Result<ExecutableDocument, AllocError> {
-    let operations = DocumentOperations::Single(built::query(alloc, 1));
-    let fragments = fragments(alloc)?;
-    Ok(ExecutableDocument {
-        operations,
-        fragments,
-    })
-}
-
-type Fragments = IndexMap<Name, Positioned<FragmentDefinition>>;
-
-fn fragments(alloc: Global) -> Result<Fragments, AllocError> {
-    let mut fragments = IndexMap::new(alloc);
-    insert(alloc, &mut fragments, "F", 4)?;
-    insert(alloc, &mut fragments, "G", 6)?;
-    Ok(fragments)
-}
-
-fn insert(
-    alloc: Global,
-    fragments: &mut Fragments,
-    name: &str,
-    column: usize,
-) -> Result<(), AllocError> {
-    let name = Name::new(alloc, name)?;
-    fragments.insert(name, built::fragment(alloc, column)?)?;
+fn write_named(shown: &mut Shown, asked: &str, document: &ExecutableDocument) -> Written {
+    write_definitions(shown, asked, document);
+    shown.word(", copied");
+    write_definitions(shown, asked, &document.clone()?);
     Ok(())
 }
 
-#[test]
-fn the_fragments_of_a_request(rt: HostRuntime) -> Result<(), Fail> {
-    hold(&rt, rt.alloc(), &FragmentOfName, FRAGMENTS_OF_NAMES)
+fn write_definitions(shown: &mut Shown, asked: &str, document: &ExecutableDocument) {
+    match document.operations.get(asked) {
+        Some(operation) => shown.place(" operation ", operation.pos),
+        None => shown.word(" no operation"),
+    }
+    match document.fragment(asked) {
+        Some(fragment) => shown.place(" fragment ", fragment.pos),
+        None => shown.word(" no fragment"),
+    }
 }
 
-const FRAGMENTS_OF_NAMES: &str = r"
-G ⇒ 1:6 of 2
-F ⇒ 1:4 of 2
-g ⇒ none of 2
- ⇒ none of 2
+#[test]
+fn the_definitions_of_a_name(rt: HostRuntime) -> Result<(), Fail> {
+    hold(&rt, rt.alloc(), &Question::Named, DEFINITIONS_OF_A_NAME)
+}
+
+const DEFINITIONS_OF_A_NAME: &str = r"
+A in query Z{a} query A{a} query M{a} ⇒ operation 1:12 no fragment, copied operation 1:12 no fragment
+Z in query Z{a} query A{a} query M{a} ⇒ operation 1:1 no fragment, copied operation 1:1 no fragment
+a in query Z{a} query A{a} query M{a} ⇒ no operation no fragment, copied no operation no fragment
+ in query Z{a} query A{a} query M{a} ⇒ no operation no fragment, copied no operation no fragment
+ZA in query Z{a} query A{a} query M{a} ⇒ no operation no fragment, copied no operation no fragment
+ in {a} ⇒ no operation no fragment, copied no operation no fragment
+G in {a} fragment F on T{a} fragment G on T{a} ⇒
+  no operation fragment 1:24, copied no operation fragment 1:24
+F in {a} fragment F on T{a} fragment G on T{a} ⇒
+  no operation fragment 1:5, copied no operation fragment 1:5
+g in {a} fragment F on T{a} fragment G on T{a} ⇒
+  no operation no fragment, copied no operation no fragment
+A in query A{a} fragment A on T{b} ⇒ operation 1:1 fragment 1:12, copied operation 1:1 fragment 1:12
 ";

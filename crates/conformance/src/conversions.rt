@@ -1,148 +1,163 @@
 //! Values and directives with variables to those without, and back.
-use crate::rows::{Subject, hold};
-use crate::{built, shown};
-use graphql_parser::types::Directive;
+use crate::accessors::{Question, first_field};
+use crate::rows::hold;
+use crate::shown::{Shown, Written};
+use graphql_parser::types::{Directive, ExecutableDocument};
 use graphql_parser::value::Value;
-use std::alloc::{AllocError, Global};
+use std::alloc::Global;
 use std::test::Fail;
 
-/// What `into_const` makes of a value, and `into_value` of that: both, where they differ.
-struct IntoConst;
+fn first_argument(document: &ExecutableDocument) -> Option<&Value> {
+    let argument = first_field(document)?.arguments.first()?;
+    Some(&argument.1.node)
+}
 
-impl Subject for IntoConst {
-    fn answer(&self, alloc: Global, text: &str) -> Result<String, Fail> {
-        Ok(there_and_back(alloc, built::whole(alloc, text)?)?)
+fn first_directive(document: &ExecutableDocument) -> Option<&Directive> {
+    let directive = first_field(document)?.directives.first()?;
+    Some(&directive.node)
+}
+
+pub fn write_into_const(
+    alloc: Global,
+    shown: &mut Shown,
+    document: &ExecutableDocument,
+) -> Written {
+    match first_argument(document) {
+        Some(value) => write_there_and_back(alloc, shown, value.clone()?),
+        None => Ok(()),
     }
 }
 
-fn there_and_back(alloc: Global, value: Value) -> Result<String, AllocError> {
+fn write_there_and_back(alloc: Global, shown: &mut Shown, value: Value) -> Written {
     match value.into_const(alloc)? {
         Some(constant) => {
-            let there = shown::constant(alloc, &constant)?;
-            let back = shown::value(alloc, &constant.into_value(alloc)?)?;
-            either(alloc, there, back)
+            shown.constant(&constant);
+            shown.word(" and ");
+            shown.value(&constant.into_value(alloc)?);
         }
-        None => String::from_str(alloc, "none"),
+        None => shown.word("none"),
     }
-}
-
-// Both texts where they differ, and else the one.
-fn either(alloc: Global, one: String, other: String) -> Result<String, AllocError> {
-    if one.as_str() == other.as_str() {
-        return Ok(one);
-    }
-    format!(in alloc; "{one} and {other}")
+    Ok(())
 }
 
 #[test]
 fn values_without_variables(rt: HostRuntime) -> Result<(), Fail> {
-    hold(&rt, rt.alloc(), &IntoConst, VALUES_WITHOUT_VARIABLES)
+    hold(
+        &rt,
+        rt.alloc(),
+        &Question::IntoConst,
+        VALUES_WITHOUT_VARIABLES,
+    )
 }
 
-const VALUES_WITHOUT_VARIABLES: &str = r"
-null ⇒ null
-x:1 object ⇒ { x=1 }
-'a null false red list ⇒ [ 'a' null false .red ]
-x:1 object null list ⇒ [ { x=1 } null ]
-v list list object ⇒ { =[ [ .v ] ] }
-";
+const VALUES_WITHOUT_VARIABLES: &str = r#"
+{f(a:null)} ⇒ null and null
+{f(a:["a" {x:1} null false red])} ⇒ [ 'a' { x=1 } null false .red ] and [ 'a' { x=1 } null false .red ]
+{f(a:{y:[["$v"]] x:{z:-0.0}})} ⇒ { y=[ [ '$v' ] ] x={ z=-0.0 } } and { y=[ [ '$v' ] ] x={ z=-0.0 } }
+"#;
 
 #[test]
 fn values_with_a_variable_at_some_depth(rt: HostRuntime) -> Result<(), Fail> {
-    hold(&rt, rt.alloc(), &IntoConst, VALUES_WITH_A_VARIABLE)
+    hold(
+        &rt,
+        rt.alloc(),
+        &Question::IntoConst,
+        VALUES_WITH_A_VARIABLE,
+    )
 }
 
 const VALUES_WITH_A_VARIABLE: &str = r"
-$v ⇒ none
-$v list ⇒ none
-a b $v list ⇒ none
-x:$v object ⇒ none
-y:$v object list ⇒ none
-$v list x:list object ⇒ none
-w:a x:$v y:b object ⇒ none
+{f(a:$v)} ⇒ none
+{f(a:[$v])} ⇒ none
+{f(a:[a b $v])} ⇒ none
+{f(a:{x:$v})} ⇒ none
+{f(a:[{y:$v}])} ⇒ none
+{f(a:{x:[null [$v]]})} ⇒ none
+{f(a:{w:1 x:$v y:2})} ⇒ none
 ";
 
-/// How two values, with `and` between them, compare, and how their constants do, where they have some.
-struct Equality;
-
-impl Subject for Equality {
-    fn answer(&self, alloc: Global, text: &str) -> Result<String, Fail> {
-        let (one, other) = text.split_once(" and ").ok_or("no two values")?;
-        Ok(compared(
-            alloc,
-            built::whole(alloc, one)?,
-            built::whole(alloc, other)?,
-        )?)
+pub fn write_equality(alloc: Global, shown: &mut Shown, document: &ExecutableDocument) -> Written {
+    if let Some(field) = first_field(document)
+        && let [one, other] = field.arguments.as_slice()
+    {
+        let (one, other) = (&one.1.node, &other.1.node);
+        write_comparison(shown, one == other);
+        let one = one.clone()?.into_const(alloc)?;
+        write_comparison(shown, one == other.clone()?.into_const(alloc)?);
     }
+    Ok(())
 }
 
-fn compared(alloc: Global, one: Value, other: Value) -> Result<String, AllocError> {
-    let is_same = one == other;
-    let copies = one.clone()?.into_const(alloc)? == other.clone()?.into_const(alloc)?;
-    let answer = match (is_same, copies) {
-        (true, true) => "equal",
-        (false, false) => "different",
-        (true, false) => "equal as values alone",
-        (false, true) => "equal as constants alone",
-    };
-    String::from_str(alloc, answer)
+fn write_comparison(shown: &mut Shown, is_same: bool) {
+    shown.word(if is_same { " equal" } else { " different" });
 }
 
 #[test]
 fn values_that_are_equal(rt: HostRuntime) -> Result<(), Fail> {
-    hold(&rt, rt.alloc(), &Equality, VALUES_THAT_ARE_COMPARED)
+    hold(
+        &rt,
+        rt.alloc(),
+        &Question::Equality,
+        VALUES_THAT_ARE_COMPARED,
+    )
 }
 
-const VALUES_THAT_ARE_COMPARED: &str = r"
-a and a ⇒ equal
-a and b ⇒ different
-$v and v ⇒ different
-true and a ⇒ different
-null and a ⇒ different
-'a and a ⇒ different
-'a and 'a ⇒ equal
-1 and '1 ⇒ different
-1 list and 1 ⇒ different
+const VALUES_THAT_ARE_COMPARED: &str = r#"
+{f(a:a b:a)} ⇒ equal equal
+{f(a:a b:b)} ⇒ different different
+{f(a:$v b:v)} ⇒ different different
+{f(a:$v b:$v)} ⇒ equal equal
+-- Neither is a constant.
+{f(a:$v b:$w)} ⇒ different equal
+{f(a:true b:a)} ⇒ different different
+{f(a:null b:a)} ⇒ different different
+{f(a:"a" b:a)} ⇒ different different
+{f(a:"a" b:"""a""")} ⇒ equal equal
+{f(a:"\u0061" b:"a")} ⇒ equal equal
+{f(a:1 b:"1")} ⇒ different different
+{f(a:1 b:1.0)} ⇒ different different
+{f(a:[1] b:1)} ⇒ different different
 -- The order of items and of fields counts.
-a b list and b a list ⇒ different
-a b list and a b list ⇒ equal
-x:null y:null object and y:null x:null object ⇒ different
-x:null y:null object and x:null y:null object ⇒ equal
-";
+{f(a:[a b] b:[b a])} ⇒ different different
+{f(a:[a b] b:[a,b])} ⇒ equal equal
+{f(a:{x:null y:null} b:{y:null x:null})} ⇒ different different
+{f(a:{x:null y:null} b:{x:1 y:null x:null})} ⇒ equal equal
+{f(a:{} b:[])} ⇒ different different
+"#;
 
-#[test]
-fn a_directive_without_variables(rt: HostRuntime) -> Result<(), Fail> {
-    let alloc = rt.alloc();
-    let directive = built::constant_directive(alloc)?.into_directive(alloc)?;
-    let (there, back) = (
-        shown_directive(alloc, directive.clone()?)?,
-        constant_of(alloc, directive)?,
-    );
-    assert_eq!(rt; there.as_str(), CONSTANT_DIRECTIVE);
-    assert_eq!(rt; back.as_str(), CONSTANT_DIRECTIVE);
-    Ok(())
-}
-
-const CONSTANT_DIRECTIVE: &str =
-    "(directive 1:9 d@1:9 b@1:1=.one@1:2 b@1:3=.two@1:4 c@1:5=.three@1:6)";
-
-fn shown_directive(alloc: Global, directive: Directive) -> Result<String, AllocError> {
-    shown::directive(alloc, &built::at(9, directive))
-}
-
-// A directive as one without variables, or `none`.
-fn constant_of(alloc: Global, directive: Directive) -> Result<String, AllocError> {
-    match directive.into_const(alloc)? {
-        Some(constant) => shown::constant_directive(alloc, &built::at(9, constant)),
-        None => String::from_str(alloc, "none"),
+pub fn write_directive_into_const(
+    alloc: Global,
+    shown: &mut Shown,
+    document: &ExecutableDocument,
+) -> Written {
+    match first_directive(document) {
+        Some(directive) => write_directive(alloc, shown, directive.clone()?),
+        None => Ok(()),
     }
 }
 
-#[test]
-fn a_directive_with_a_variable(rt: HostRuntime) -> Result<(), Fail> {
-    let alloc = rt.alloc();
-    let arguments = built::arguments(alloc, built::whole(alloc, "y:$v object list")?)?;
-    let back = constant_of(alloc, built::directive_with(alloc, arguments)?)?;
-    assert_eq!(rt; back.as_str(), "none");
+fn write_directive(alloc: Global, shown: &mut Shown, directive: Directive) -> Written {
+    match directive.into_const(alloc)? {
+        Some(constant) => {
+            shown.constant_directive(&constant);
+            shown.word(" and");
+            shown.directive(&constant.into_directive(alloc)?);
+        }
+        None => shown.word("none"),
+    }
     Ok(())
 }
+
+#[test]
+fn directives_without_variables(rt: HostRuntime) -> Result<(), Fail> {
+    hold(&rt, rt.alloc(), &Question::DirectiveIntoConst, DIRECTIVES)
+}
+
+const DIRECTIVES: &str = r"
+{a@d(x:[{y:$z}])} ⇒ none
+{a@d(w:1 x:$z)} ⇒ none
+{a@d(x:[1])} ⇒ d@1:4 x@1:6=[ 1 ]@1:8 and d@1:4 x@1:6=[ 1 ]@1:8
+{a@d(b:one b:two c:{x:3})} ⇒ d@1:4 b@1:6=.one@1:8 b@1:12=.two@1:14 c@1:18={ x=3 }@1:20 and
+  d@1:4 b@1:6=.one@1:8 b@1:12=.two@1:14 c@1:18={ x=3 }@1:20
+{a@d} ⇒ d@1:4 and d@1:4
+";

@@ -102,7 +102,7 @@ const WHAT_ERRORS_PRINT: &str = r#"
 syntax ⇒ syntax error at 1:2 [{"line":1,"column":2}]
 syntax with an end ⇒ syntax error at 1:2 [{"line":1,"column":2},{"line":3,"column":4}]
 syntax with a message ⇒ no␊é [{"line":1,"column":2}]
-syntax without a message ⇒ ␠[{"line":1,"column":2}]
+syntax without a message ⇒ [{"line":1,"column":2}]
 limit ⇒ recursion limit exceeded. []
 memory ⇒ out of memory []
 refused memory ⇒ out of memory []

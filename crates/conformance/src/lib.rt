@@ -5,8 +5,6 @@
 #[cfg(test)]
 mod accessors;
 #[cfg(test)]
-mod built;
-#[cfg(test)]
 mod conversions;
 #[cfg(test)]
 mod errors;

@@ -1,15 +1,12 @@
 //! A third type of values, callers of the contracts, and what no clause says.
-ghost use Rattle.std.specs.Prelude.{◌≡◌, ◌∷◌, [], IsTrue, IfOk, OnOk, map, Some, string_bytes, true, false};
+ghost use Rattle.std.specs.Prelude.{◌≡◌, ◌∷◌, [], IsTrue, IfOk, map, string_bytes, true, false};
 ghost use Rattle.graphql_syntax.specs.trees.ValueTree.{Tree, null, number, string, boolean, enumeration, list, object, trees_of, fields_of};
 ghost use Rattle.conformance.specs.declared.literals_made.Plain.{fold-Plain};
 ghost use Rattle.conformance.specs.declared.literals_made.Plain.TheOpen.{Plain-F};
-ghost use Rattle.indexmap.specs.IndexMap.{get};
 
-use graphql_parser::value::{ConstValue, Literal, Name, Number, Value};
-use indexmap::IndexMap;
+use crate::shown::Shown;
+use graphql_parser::value::{ConstValue, Literal, Name, Number};
 use std::alloc::{AllocError, Global};
-use std::cmp::Ordering;
-use std::hash::{DefaultHasher, Hash, Hasher};
 use std::test::Fail;
 
 // A third type of values: its booleans are two cases.
@@ -90,19 +87,6 @@ fn variable_or_enum<V: Literal>(name: Name, again: Name) -> V {
     }
 }
 
-fn shape_of(value: &Plain) -> u8 {
-    match value {
-        Plain::Null => 0,
-        Plain::Number(_) => 1,
-        Plain::Text(_) => 2,
-        Plain::Yes => 3,
-        Plain::No => 4,
-        Plain::Enum(_) => 5,
-        Plain::List(_) => 6,
-        Plain::Object(_) => 7,
-    }
-}
-
 // A clone is equal to its source.
 fn equals_its_clone(value: &ConstValue) -> Result<bool, AllocError>
     ensures { IfOk result IsTrue }
@@ -111,125 +95,78 @@ fn equals_its_clone(value: &ConstValue) -> Result<bool, AllocError>
     Ok(copy == *value)
 }
 
-// A name is a lawful key of a map.
-fn note(m: &mut IndexMap<Name, u32>, name: Name) -> Result<(), AllocError>
-    ensures { OnOk result (get ⟦<Name as PartialEq>⟧.eq m.new name ≡ Some 1) }
-{
-    m.insert(name, 1)?;
-    Ok(())
-}
-
-fn hash_of<T: Hash>(x: &T) -> u64 {
-    let mut state = DefaultHasher::new();
-    x.hash(&mut state);
-    state.finish()
-}
-
-#[test]
-fn names_are_texts(rt: HostRuntime) -> Result<(), Fail> {
-    let alloc = rt.alloc();
-    let name = Name::new(alloc, "name")?;
-    let same = name.clone()?;
-    let more = Name::new(alloc, "names")?;
-    let less = Name::new(alloc, "Name")?;
-    assert!(rt; name == same);
-    assert!(rt; name != more);
-    assert_eq!(rt; hash_of(&name), hash_of(&same));
-    assert_eq!(rt; name.cmp(&more), Ordering::Less);
-    assert_eq!(rt; name.cmp(&less), Ordering::Greater);
-    let shown = format!(in alloc; "{name}|{name:>6}|{name:?}")?;
-    assert_eq!(rt; shown.as_str(), "name|  name|Name(\"name\")");
-    let odd = Name::new(alloc, "no name at all")?;
-    assert_eq!(rt; odd.as_str(), "no name at all");
-    let mut map = IndexMap::new(alloc);
-    note(&mut map, name)?;
-    note(&mut map, same)?;
-    note(&mut map, more)?;
-    assert_eq!(rt; map.len(), 2);
-    assert_eq!(rt; map.get(&odd), None);
-    Ok(())
+fn made<V: Literal>(alloc: Global) -> Result<V, AllocError> {
+    example(alloc, Name::new(alloc, "a")?, true)
 }
 
 #[test]
 fn one_reader_makes_each_type(rt: HostRuntime) -> Result<(), Fail> {
     let alloc = rt.alloc();
-    let value: Value = example(alloc, Name::new(alloc, "a")?, true)?;
-    let fixed: ConstValue = example(alloc, Name::new(alloc, "a")?, true)?;
-    assert!(rt; equals_its_clone(&fixed)?);
-    assert!(rt; fixed.clone()?.into_value(alloc)? == value);
-    assert!(rt; value.clone()? == value);
-    assert!(rt; value.into_const(alloc)? == Some(fixed));
+    let mut shown = Shown::new(alloc);
+    shown.value(&made(alloc)?);
+    shown.word(" ");
+    shown.constant(&made(alloc)?);
+    let shown = shown.finish()?;
+    assert_eq!(rt; shown.as_str(), "{ a=[ true null ] } { a=[ true null ] }");
+    assert!(rt; equals_its_clone(&made(alloc)?)?);
     Ok(())
+}
+
+// The cases of a value, each by a letter, from the outside in.
+#[cycle(cases)]
+fn write_cases(shown: &mut Shown, value: &Plain) {
+    match value {
+        Plain::Null => shown.word("null"),
+        Plain::Number(number) => shown.word(number.as_str()),
+        Plain::Text(text) => shown.word(text.as_str()),
+        Plain::Yes => shown.word("Yes"),
+        Plain::No => shown.word("No"),
+        Plain::Enum(name) => shown.word(name.as_str()),
+        Plain::List(items) => {
+            for item in items {
+                shown.word(" [");
+                write_cases(shown, item);
+            }
+        }
+        Plain::Object(fields) => {
+            for field in fields {
+                shown.word(field.0.as_str());
+                write_cases(shown, &field.1);
+            }
+        }
+    }
 }
 
 #[test]
 fn a_third_type_has_its_own_cases(rt: HostRuntime) -> Result<(), Fail> {
     let alloc = rt.alloc();
-    let plain: Plain = example(alloc, Name::new(alloc, "a")?, true)?;
-    let Plain::Object(fields) = &plain else {
-        return Err(Fail::new("an object"));
-    };
-    assert_eq!(rt; fields.len(), 1);
-    let field = &fields[0];
-    assert_eq!(rt; field.0.as_str(), "a");
-    let Plain::List(items) = &field.1 else {
-        return Err(Fail::new("a list"));
-    };
-    assert_eq!(rt; items.len(), 2);
-    assert_eq!(rt; (shape_of(&items[0]), shape_of(&items[1])), (3, 0));
+    let mut shown = Shown::new(alloc);
+    write_cases(&mut shown, &made(alloc)?);
+    shown.word(" ");
+    write_cases(&mut shown, &Plain::boolean(false));
+    write_cases(
+        &mut shown,
+        &Plain::string(String::from_str(alloc, ", text")?),
+    );
+    let shown = shown.finish()?;
+    assert_eq!(rt; shown.as_str(), "a [Yes [null No, text");
     Ok(())
+}
+
+fn either<V: Literal>(alloc: Global) -> Result<V, AllocError> {
+    Ok(variable_or_enum(Name::new(alloc, "a")?, Name::new(alloc, "b")?))
 }
 
 #[test]
 fn a_variable_is_made_where_the_type_has_them(rt: HostRuntime) -> Result<(), Fail> {
     let alloc = rt.alloc();
-    let plain: Plain = variable_or_enum(Name::new(alloc, "a")?, Name::new(alloc, "b")?);
-    assert_eq!(rt; shape_of(&plain), 5);
-    assert_eq!(rt; shape_of(&Plain::boolean(false)), 4);
-    assert_eq!(rt; shape_of(&Plain::string(String::new(alloc))), 2);
-    let fixed: ConstValue = variable_or_enum(Name::new(alloc, "a")?, Name::new(alloc, "b")?);
-    assert!(rt; fixed == ConstValue::Enum(Name::new(alloc, "b")?));
-    let value: Value = variable_or_enum(Name::new(alloc, "a")?, Name::new(alloc, "b")?);
-    assert!(rt; value == Value::Variable(Name::new(alloc, "a")?));
-    Ok(())
-}
-
-// A list in an object in a list, with this value inside.
-fn deep(alloc: Global, inside: Value) -> Result<Value, AllocError> {
-    let mut items = Vec::new(alloc);
-    items.push(Value::Null)?;
-    items.push(inside)?;
-    let mut fields = Vec::new(alloc);
-    fields.push((Name::new(alloc, "y")?, Value::List(items)))?;
-    let mut all = Vec::new(alloc);
-    all.push(Value::Boolean(false))?;
-    all.push(Value::Object(fields))?;
-    Ok(Value::List(all))
-}
-
-#[test]
-fn a_variable_is_found_at_any_depth(rt: HostRuntime) -> Result<(), Fail> {
-    let alloc = rt.alloc();
-    let holds = deep(alloc, Value::Variable(Name::new(alloc, "z")?))?;
-    assert!(rt; holds.into_const(alloc)?.is_none());
-    let named = deep(alloc, Value::Enum(Name::new(alloc, "z")?))?;
-    let copy = named.clone()?;
-    let Some(fixed) = named.into_const(alloc)? else {
-        return Err(Fail::new("no variable stands in it"));
-    };
-    assert!(rt; fixed.into_value(alloc)? == copy);
-    Ok(())
-}
-
-#[test]
-fn the_order_of_fields_counts(rt: HostRuntime) -> Result<(), Fail> {
-    let alloc = rt.alloc();
-    let mut one = Vec::new(alloc);
-    one.push((Name::new(alloc, "a")?, ConstValue::Null))?;
-    one.push((Name::new(alloc, "b")?, ConstValue::Null))?;
-    let mut two = Vec::new(alloc);
-    two.push((Name::new(alloc, "b")?, ConstValue::Null))?;
-    two.push((Name::new(alloc, "a")?, ConstValue::Null))?;
-    assert!(rt; ConstValue::Object(one) != ConstValue::Object(two));
+    let mut shown = Shown::new(alloc);
+    shown.value(&either(alloc)?);
+    shown.word(" ");
+    shown.constant(&either(alloc)?);
+    shown.word(" ");
+    write_cases(&mut shown, &either(alloc)?);
+    let shown = shown.finish()?;
+    assert_eq!(rt; shown.as_str(), "$a .b b");
     Ok(())
 }

@@ -3,6 +3,7 @@ use crate::rows::{Subject, hold};
 use graphql_parser::Pos;
 use graphql_parser::types::OperationType;
 use graphql_parser::value::Name;
+use indexmap::IndexMap;
 use serde::{Deserialize, Serialize};
 use std::alloc::{AllocError, Global};
 use std::cmp::Ordering;
@@ -55,6 +56,39 @@ fn ordered(one: &Name, other: &Name) -> &'static str {
         Ordering::Greater => "more",
     }
 }
+
+#[test]
+fn a_name_is_laid_out(rt: HostRuntime) -> Result<(), Fail> {
+    let name = Name::new(rt.alloc(), "name")?;
+    let shown = format!(in rt.alloc(); "{name}|{name:>6}|{name:?}")?;
+    assert_eq!(rt; shown.as_str(), "name|  name|Name(\"name\")");
+    Ok(())
+}
+
+// How many different words a text has, by a map under their names.
+struct Different;
+
+impl Subject for Different {
+    fn answer(&self, alloc: Global, text: &str) -> Result<String, Fail> {
+        let mut map = IndexMap::new(alloc);
+        for word in text.split_whitespace() {
+            map.insert(Name::new(alloc, word)?, word.len())?;
+        }
+        let count = map.len();
+        Ok(format!(in alloc; "{count}")?)
+    }
+}
+
+#[test]
+fn names_are_keys_of_maps(rt: HostRuntime) -> Result<(), Fail> {
+    hold(&rt, rt.alloc(), &Different, KEYS)
+}
+
+const KEYS: &str = r"
+name name names ⇒ 2
+a A a b A ⇒ 3
+ ⇒ 0
+";
 
 #[test]
 fn any_text_is_a_name(rt: HostRuntime) -> Result<(), Fail> {

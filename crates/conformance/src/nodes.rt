@@ -1,9 +1,9 @@
 //! What the derives of places and positioned nodes give, as laws and on a few values.
 ghost use Rattle.std.specs.Prelude.{◌≡◌, ◌<◌, ◌⊎◌, ◌↔◌, IsTrue};
 
+use crate::names::hash_of;
 use graphql_parser::{Pos, Positioned};
 use std::cmp::Ordering;
-use std::hash::{DefaultHasher, Hash, Hasher};
 use std::test::Fail;
 
 // The default place is 0:0.
@@ -62,44 +62,53 @@ fn length_at(text: Positioned<&str>) -> Positioned<usize>
     text.map(|t| t.len())
 }
 
-fn hash_of<T: Hash>(x: &T) -> u64 {
-    let mut state = DefaultHasher::new();
-    x.hash(&mut state);
-    state.finish()
-}
-
 #[test]
-fn places_are_shown_and_ordered(rt: HostRuntime) -> Result<(), Fail> {
+fn places_are_shown(rt: HostRuntime) -> Result<(), Fail> {
     let place = Pos::from((3, 14));
     let shown = format!(in rt.alloc(); "{place} {place:?}")?;
     assert_eq!(rt; shown.as_str(), "3:14 Pos(3:14)");
-    assert!(rt; is_before(Pos::from((1, 9)), Pos::from((2, 1))));
-    assert!(rt; is_before(Pos::from((2, 1)), Pos::from((2, 10))));
-    assert!(rt; !is_before(Pos::from((2, 1)), Pos::from((2, 1))));
-    assert!(rt; is_same(zero(), Pos { line: 0, column: 0 }));
-    let (one, two) = copied(&place);
-    assert_eq!(rt; one, two);
     Ok(())
 }
 
 #[test]
-fn a_node_is_compared_without_its_place(rt: HostRuntime) -> Result<(), Fail> {
-    let a = Positioned::new(1u8, Pos::from((1, 1)));
-    let b = Positioned::new(1u8, Pos::from((9, 9)));
-    let c = a.position_node(2u8);
-    assert!(rt; is_equal_anywhere(&a, &b));
-    assert_eq!(rt; hash_of(&a), hash_of(&b));
-    assert_eq!(rt; hash_of(&a), hash_of(&1u8));
-    assert_eq!(rt; order_anywhere(&b, &c), Ordering::Less);
-    assert_eq!(rt; c.pos, a.pos);
-    assert_eq!(rt; c.into_inner(), 2);
-    let shown = format!(in rt.alloc(); "{b} {:>3}", c)?;
-    assert_eq!(rt; shown.as_str(), "1   2");
-    let none: Positioned<u8> = default_place();
-    assert_eq!(rt; none.pos, zero());
-    let long = length_at(Positioned::new("four", b.pos));
-    assert_eq!(rt; (long.node, long.pos), (4, b.pos));
-    let text = Positioned::new(String::from_str(rt.alloc(), "text")?, a.pos);
-    assert_eq!(rt; text.as_str(), "text");
+fn places_are_ordered(rt: HostRuntime) {
+    let (first, second, third) = (Pos::from((1, 9)), Pos::from((2, 1)), Pos::from((2, 10)));
+    assert!(rt; is_before(first, second) && is_before(second, third) && is_before(first, third));
+    assert!(rt;
+        !is_before(second, first) && !is_before(third, second) && !is_before(second, second)
+    );
+    let (one, two) = copied(&first);
+    assert!(rt; is_same(one, two) && !is_same(one, second) && hash_of(&one) == hash_of(&two));
+    assert!(rt; is_same(zero(), Pos { line: 0, column: 0 }));
+}
+
+#[test]
+fn a_node_is_compared_without_its_place(rt: HostRuntime) {
+    let here = Positioned::new(1u8, Pos::from((1, 1)));
+    let there = Positioned::new(1u8, Pos::from((9, 9)));
+    let other = here.position_node(2u8);
+    assert!(rt; is_equal_anywhere(&here, &there) && !is_equal_anywhere(&here, &other));
+    assert!(rt; order_anywhere(&there, &other) == Ordering::Less && here < other);
+    assert!(rt; hash_of(&here) == hash_of(&there) && hash_of(&here) == hash_of(&1u8));
+    assert!(rt; is_same(other.pos, here.pos) && other.into_inner() == 2);
+}
+
+#[test]
+fn a_node_is_shown_as_itself(rt: HostRuntime) -> Result<(), Fail> {
+    let place = Pos::from((9, 9));
+    let number = Positioned::new(1u8, place);
+    let text = Positioned::new(String::from_str(rt.alloc(), "text")?, place);
+    let own = text.as_str();
+    let shown = format!(in rt.alloc(); "{number} {number:>3} {text} {own}")?;
+    assert_eq!(rt; shown.as_str(), "1   1 text text");
     Ok(())
+}
+
+#[test]
+fn nodes_that_are_made_of_others(rt: HostRuntime) {
+    let none: Positioned<u8> = default_place();
+    assert!(rt; none.node == 0 && is_same(none.pos, zero()));
+    let place = Pos::from((9, 9));
+    let long = length_at(Positioned::new("four", place));
+    assert!(rt; long.node == 4 && is_same(long.pos, place));
 }

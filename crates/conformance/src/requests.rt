@@ -1,16 +1,54 @@
 //! Requests: the tree of an accepted text, every place included, and the answer to a refused one.
+mod chosen;
+mod definitions;
+mod hostile;
+mod limits;
+mod selections;
+mod taken;
+mod values;
+
 use crate::rows::{Subject, hold};
 use crate::shown;
-use graphql_parser::parse_query;
-use std::alloc::Global;
+use graphql_parser::lexer::Tokens;
+use graphql_parser::types::ExecutableDocument;
+use graphql_parser::{
+    Limits, Result as Answer, parse_query, parse_query_from, parse_query_limited,
+};
+use std::alloc::{AllocError, Global};
 use std::test::Fail;
 
-/// What `parse_query` gives: the tree with all places, or the error.
+/// What `parse_query` gives: the tree with all places, or the error. `parse_query_limited` at the default limits and
+/// `parse_query_from` over fresh tokens have to give the same.
 pub struct Request;
 
 impl Subject for Request {
     fn answer(&self, alloc: Global, text: &str) -> Result<String, Fail> {
-        Ok(shown::answer(alloc, parse_query(alloc, text))?)
+        let answer = shown::answer(alloc, parse_query(alloc, text))?;
+        let limited = parse_query_limited(alloc, text, Limits::default());
+        let limited = shown::answer(alloc, limited)?;
+        let from = parse_query_from(alloc, &mut Tokens::new(text));
+        let from = shown::answer(alloc, from)?;
+        if limited.as_str() != answer.as_str() || from.as_str() != answer.as_str() {
+            return Ok(format!(in alloc; "{answer}, limited {limited}, from tokens {from}")?);
+        }
+        Ok(answer)
+    }
+}
+
+/// Whether `parse_query` accepts a text, or the error.
+pub struct Acceptance;
+
+impl Subject for Acceptance {
+    fn answer(&self, alloc: Global, text: &str) -> Result<String, Fail> {
+        Ok(accepted(alloc, parse_query(alloc, text))?)
+    }
+}
+
+// The word `accepted` or the error.
+fn accepted(alloc: Global, answer: Answer<ExecutableDocument>) -> Result<String, AllocError> {
+    match &answer {
+        Ok(_) => String::from_str(alloc, "accepted"),
+        Err(error) => shown::refusal(alloc, error),
     }
 }
 
@@ -34,21 +72,69 @@ fn texts_that_end_too_early(rt: HostRuntime) -> Result<(), Fail> {
     hold(&rt, rt.alloc(), &Request, TEXTS_THAT_END_TOO_EARLY)
 }
 
-const TEXTS_THAT_END_TOO_EARLY: &str = r"
+const TEXTS_THAT_END_TOO_EARLY: &str = r#"
  ⇒ syntax 1:1
 { ⇒ syntax 1:2
 {a ⇒ syntax 1:3
 {a ␠ ⇒ syntax 1:5
 {a #} ⇒ syntax 1:6
 ␊␊ ⇒ syntax 3:1
-";
+query ⇒ syntax 1:6
+mutation ⇒ syntax 1:9
+query Q ⇒ syntax 1:8
+query Q( ⇒ syntax 1:9
+query Q($ ⇒ syntax 1:10
+query Q($v ⇒ syntax 1:11
+query Q($v: ⇒ syntax 1:12
+query Q($v:[ ⇒ syntax 1:13
+query Q($v:[T ⇒ syntax 1:14
+query Q($v:[T] ⇒ syntax 1:15
+query Q($v:[T]!= ⇒ syntax 1:17
+query Q($v:[T]!=[ ⇒ syntax 1:18
+query Q($v:[T]!=[] ⇒ syntax 1:19
+query Q($v:T) ⇒ syntax 1:14
+query Q @ ⇒ syntax 1:10
+query Q @d ⇒ syntax 1:11
+query Q @d( ⇒ syntax 1:12
+fragment ⇒ syntax 1:9
+fragment F ⇒ syntax 1:11
+fragment F on ⇒ syntax 1:14
+fragment F on T ⇒ syntax 1:16
+fragment F on T{a ⇒ syntax 1:18
+{a: ⇒ syntax 1:4
+{a:b ⇒ syntax 1:5
+{a( ⇒ syntax 1:4
+{a(b ⇒ syntax 1:5
+{a(b: ⇒ syntax 1:6
+{a(b:$ ⇒ syntax 1:7
+{a(b:{ ⇒ syntax 1:7
+{a(b:{x ⇒ syntax 1:8
+{a(b:{x: ⇒ syntax 1:9
+{a(b:1 ⇒ syntax 1:7
+{a(b:1) ⇒ syntax 1:8
+{a@ ⇒ syntax 1:4
+{a@d ⇒ syntax 1:5
+{a{ ⇒ syntax 1:4
+{a{b ⇒ syntax 1:5
+{a{b} ⇒ syntax 1:6
+{... ⇒ syntax 1:5
+{...F ⇒ syntax 1:6
+{...on ⇒ syntax 1:7
+{...on T ⇒ syntax 1:9
+{...@d ⇒ syntax 1:7
+{...{ ⇒ syntax 1:6
+{...{a ⇒ syntax 1:7
+{...{a} ⇒ syntax 1:8
+{a(b:"x ⇒ syntax 1:6
+{a(b:"""x"" ⇒ syntax 1:6
+"#;
 
 #[test]
 fn misplaced_tokens(rt: HostRuntime) -> Result<(), Fail> {
     hold(&rt, rt.alloc(), &Request, MISPLACED_TOKENS)
 }
 
-const MISPLACED_TOKENS: &str = r"
+const MISPLACED_TOKENS: &str = r#"
 {} ⇒ syntax 1:2
 {a}} ? ⇒ syntax 1:4
 {a}␊} ⇒ syntax 2:1
@@ -61,14 +147,30 @@ a ⇒ syntax 1:1
 {a = b} ⇒ syntax 1:4
 {a | b} ⇒ syntax 1:4
 {␍␊  a␍␊  ]␍␊} ⇒ syntax 3:3
-";
+{a 1} ⇒ syntax 1:4
+{a "b"} ⇒ syntax 1:4
+{a """b"""} ⇒ syntax 1:4
+{a&b} ⇒ syntax 1:3
+{a $b} ⇒ syntax 1:4
+[a] ⇒ syntax 1:1
+"a" {a} ⇒ syntax 1:1
+1 {a} ⇒ syntax 1:1
+... {a} ⇒ syntax 1:1
+@d {a} ⇒ syntax 1:1
+$v {a} ⇒ syntax 1:1
+Query {a} ⇒ syntax 1:1
+-- Schema files are no requests.
+schema{query:Q} ⇒ syntax 1:1
+type A{b:C} ⇒ syntax 1:1
+{a} extend type A{b:C} ⇒ syntax 1:5
+"#;
 
 #[test]
 fn places_where_no_token_stands(rt: HostRuntime) -> Result<(), Fail> {
     hold(&rt, rt.alloc(), &Request, PLACES_WHERE_NO_TOKEN_STANDS)
 }
 
-const PLACES_WHERE_NO_TOKEN_STANDS: &str = r"
+const PLACES_WHERE_NO_TOKEN_STANDS: &str = r#"
 ? ⇒ syntax 1:1
 {?} ⇒ syntax 1:2
 {a ?} ⇒ syntax 1:4
@@ -81,4 +183,7 @@ const PLACES_WHERE_NO_TOKEN_STANDS: &str = r"
 ⟨FEFF⟩{?} ⇒ syntax 1:3
 {a ⟨FEFF⟩⟨FEFF⟩?} ⇒ syntax 1:6
 {a # é⟨1F600⟩␊ ?} ⇒ syntax 2:2
-";
+{a(b:"⟨1F600⟩é" c:?)} ⇒ syntax 1:13
+{a(b:"""x␊y␍z""" ?)} ⇒ syntax 2:6
+{a} {b} ? ⇒ syntax 1:9
+"#;

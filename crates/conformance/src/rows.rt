@@ -11,7 +11,7 @@
 //!
 //! The text stands before the arrow, from the line's first column on: a column of the text is a column of
 //! the line. What the call makes of it stands behind the arrow, and goes on in each line that begins with two
-//! blanks; any number of blanks there is one. A line that begins with `-- ` is a remark, and empty lines are
+//! blanks; any number of blanks there is one, and those at its ends don't count. A line that begins with `-- ` is a remark, and empty lines are
 //! passed over.
 //!
 //! On both sides of the arrow ␊, ␍ and ␉ stand for a line feed, a carriage return and a tab, and ␠ for a blank
@@ -33,20 +33,39 @@ pub fn hold<S: Subject>(
     table: &str,
 ) -> Result<(), Fail> {
     let table = table.replace(alloc, "\n  ", " ")?;
+    let mut has_rows = false;
     for line in table.lines() {
         if !line.is_empty() && !line.starts_with("-- ") {
             holds(rt, alloc, subject, line)?;
+            has_rows = true;
         }
     }
+    assert!(rt; has_rows, "a table without rows");
     Ok(())
 }
 
 fn holds<S: Subject>(rt: &impl Abort, alloc: Global, subject: &S, line: &str) -> Result<(), Fail> {
     let (text, answer) = line.split_once(" ⇒ ").ok_or("a row without an arrow")?;
     let text = meant(alloc, text.trim_ascii_end())?;
+    gives(rt, alloc, subject, text.as_str(), answer, line)
+}
+
+/// A text, as it stands, has this answer, which may be laid out over lines.
+pub fn gives<S: Subject>(
+    rt: &impl Abort,
+    alloc: Global,
+    subject: &S,
+    text: &str,
+    answer: &str,
+    said_of_it: &str,
+) -> Result<(), Fail> {
     let answer = meant(alloc, in_one_line(alloc, answer)?.as_str())?;
-    let found = subject.answer(alloc, text.as_str())?;
-    assert_eq!(rt; found.as_str(), answer.as_str(), "{line}");
+    let found = subject.answer(alloc, text)?;
+    assert_eq!(rt;
+        found.as_str().trim_ascii(),
+        answer.as_str().trim_ascii(),
+        "{said_of_it}"
+    );
     Ok(())
 }
 

@@ -19,10 +19,14 @@ use graphql_parser::value::{ConstValue, Value};
 use graphql_parser::{Error, Pos, Positioned};
 use std::alloc::{AllocError, Global};
 
+/// What a call that writes can answer besides: that memory was refused.
+pub type Written = Result<(), AllocError>;
+
 /// A text that is being written. A part for which there is no memory is left out, and `finish` tells.
 #[derive(Drop)]
 pub struct Shown {
     text: String,
+    has_places: bool,
     is_cut: bool,
 }
 
@@ -30,6 +34,16 @@ impl Shown {
     pub fn new(alloc: Global) -> Shown {
         Shown {
             text: String::new(alloc),
+            has_places: true,
+            is_cut: false,
+        }
+    }
+
+    /// One without places.
+    pub fn placeless(alloc: Global) -> Shown {
+        Shown {
+            text: String::new(alloc),
+            has_places: false,
             is_cut: false,
         }
     }
@@ -42,7 +56,8 @@ impl Shown {
 
     /// A place, behind what stands before it.
     pub fn place(&mut self, before: &str, place: Pos) {
-        if write!(self.text, "{before}{place}").is_err() {
+        self.word(before);
+        if self.has_places && write!(self.text, "{place}").is_err() {
             self.is_cut = true;
         }
     }
@@ -74,8 +89,18 @@ impl Shown {
         constants::write_constant(self, constant);
     }
 
+    /// Directives, each behind a blank.
     pub fn directives(&mut self, directives: &Vec<Positioned<Directive>>) {
         parts::write_directives(self, directives);
+    }
+
+    /// A directive without its place, behind a blank.
+    pub fn directive(&mut self, directive: &Directive) {
+        parts::write_call(self, directive);
+    }
+
+    pub fn constant_directive(&mut self, directive: &ConstDirective) {
+        parts::write_constant_call(self, directive);
     }
 
     pub fn finish(self) -> Result<String, AllocError> {
@@ -92,6 +117,19 @@ pub fn answer(
     answer: Result<ExecutableDocument, Error>,
 ) -> Result<String, AllocError> {
     let mut shown = Shown::new(alloc);
+    match &answer {
+        Ok(document) => executable::request(&mut shown, document),
+        Err(error) => error::write(alloc, &mut shown, error),
+    }
+    shown.finish()
+}
+
+/// The tree of a request, or the error, without places.
+pub fn placeless_answer(
+    alloc: Global,
+    answer: Result<ExecutableDocument, Error>,
+) -> Result<String, AllocError> {
+    let mut shown = Shown::placeless(alloc);
     match &answer {
         Ok(document) => executable::request(&mut shown, document),
         Err(error) => error::write(alloc, &mut shown, error),
@@ -116,36 +154,5 @@ pub fn schema_answer(
 pub fn refusal(alloc: Global, error: &Error) -> Result<String, AllocError> {
     let mut shown = Shown::new(alloc);
     error::write(alloc, &mut shown, error);
-    shown.finish()
-}
-
-/// A value.
-pub fn value(alloc: Global, value: &Value) -> Result<String, AllocError> {
-    let mut shown = Shown::new(alloc);
-    values::write_value(&mut shown, value);
-    shown.finish()
-}
-
-/// A value without variables.
-pub fn constant(alloc: Global, constant: &ConstValue) -> Result<String, AllocError> {
-    let mut shown = Shown::new(alloc);
-    constants::write_constant(&mut shown, constant);
-    shown.finish()
-}
-
-/// A directive.
-pub fn directive(alloc: Global, directive: &Positioned<Directive>) -> Result<String, AllocError> {
-    let mut shown = Shown::new(alloc);
-    parts::write_directive(&mut shown, directive);
-    shown.finish()
-}
-
-/// A directive without variables.
-pub fn constant_directive(
-    alloc: Global,
-    directive: &Positioned<ConstDirective>,
-) -> Result<String, AllocError> {
-    let mut shown = Shown::new(alloc);
-    parts::write_constant_directive(&mut shown, directive);
     shown.finish()
 }

@@ -53,41 +53,29 @@ pub fn write_arguments(shown: &mut Shown, arguments: &Vec<(Positioned<Name>, Pos
 
 pub fn write_directives(shown: &mut Shown, directives: &Vec<Positioned<Directive>>) {
     for directive in directives {
-        shown.word(" ");
-        write_directive(shown, directive);
+        shown.place(" (directive ", directive.pos);
+        write_call(shown, &directive.node);
+        shown.word(")");
     }
 }
 
-// A directive, without a blank before it.
-pub fn write_directive(shown: &mut Shown, directive: &Positioned<Directive>) {
-    shown.word("(directive");
-    shown.place(" ", directive.pos);
-    write_name(shown, &directive.node.name);
-    write_arguments(shown, &directive.node.arguments);
-    shown.word(")");
+// The name and the arguments of a directive.
+pub fn write_call(shown: &mut Shown, directive: &Directive) {
+    write_name(shown, &directive.name);
+    write_arguments(shown, &directive.arguments);
 }
 
 pub fn write_constant_directives(shown: &mut Shown, directives: &Vec<Positioned<ConstDirective>>) {
     for directive in directives {
-        shown.word(" ");
-        write_constant_directive(shown, directive);
+        shown.place(" (directive ", directive.pos);
+        write_constant_call(shown, &directive.node);
+        shown.word(")");
     }
 }
 
-// A directive without variables, and without a blank before it.
-pub fn write_constant_directive(shown: &mut Shown, directive: &Positioned<ConstDirective>) {
-    shown.word("(directive");
-    shown.place(" ", directive.pos);
-    write_name(shown, &directive.node.name);
-    write_constant_arguments(shown, &directive.node.arguments);
-    shown.word(")");
-}
-
-fn write_constant_arguments(
-    shown: &mut Shown,
-    arguments: &Vec<(Positioned<Name>, Positioned<ConstValue>)>,
-) {
-    for argument in arguments {
+pub fn write_constant_call(shown: &mut Shown, directive: &ConstDirective) {
+    write_name(shown, &directive.name);
+    for argument in &directive.arguments {
         write_name(shown, &argument.0);
         shown.word("=");
         write_constant(shown, &argument.1.node);

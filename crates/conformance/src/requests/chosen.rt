@@ -1,0 +1,128 @@
+//! Limits that the caller chooses.
+use super::accepted;
+use crate::rows::{Subject, hold};
+use graphql_parser::{Limits, parse_query_limited};
+use std::alloc::Global;
+use std::test::Fail;
+
+/// Whether `Limits::new` takes three numbers, and whether they are the default.
+struct NewLimits;
+
+impl Subject for NewLimits {
+    fn answer(&self, alloc: Global, text: &str) -> Result<String, Fail> {
+        let answer = match limits(text)? {
+            None => "none",
+            Some(limits) if limits == Limits::default() => "the default",
+            Some(_) => "some",
+        };
+        Ok(String::from_str(alloc, answer)?)
+    }
+}
+
+// The limits of three numbers in one text.
+fn limits(text: &str) -> Result<Option<Limits>, Fail> {
+    let mut words = text.split_whitespace();
+    let selections: usize = words.next().ok_or("no number")?.parse()?;
+    let values: usize = words.next().ok_or("no number")?.parse()?;
+    let types: usize = words.next().ok_or("no number")?.parse()?;
+    Ok(Limits::new(selections, values, types))
+}
+
+#[test]
+fn numbers_that_are_limits(rt: HostRuntime) -> Result<(), Fail> {
+    hold(&rt, rt.alloc(), &NewLimits, NUMBERS)
+}
+
+const NUMBERS: &str = r"
+0 0 0 ⇒ some
+256 256 256 ⇒ some
+257 0 0 ⇒ none
+0 257 0 ⇒ none
+0 0 257 ⇒ none
+256 256 257 ⇒ none
+18446744073709551615 0 0 ⇒ none
+64 64 64 ⇒ the default
+63 64 64 ⇒ some
+64 65 64 ⇒ some
+64 64 63 ⇒ some
+";
+
+/// Whether `parse_query_limited` accepts a text. The limits stand before it, with ` in ` between them.
+struct Limited;
+
+impl Subject for Limited {
+    fn answer(&self, alloc: Global, text: &str) -> Result<String, Fail> {
+        let (numbers, request) = text.split_once(" in ").ok_or("no limits")?;
+        let limits = limits(numbers)?.ok_or("no such limits")?;
+        Ok(accepted(alloc, parse_query_limited(alloc, request, limits))?)
+    }
+}
+
+#[test]
+fn nothing_may_nest(rt: HostRuntime) -> Result<(), Fail> {
+    hold(&rt, rt.alloc(), &Limited, NOTHING_MAY_NEST)
+}
+
+const NOTHING_MAY_NEST: &str = r"
+0 0 0 in {a} ⇒ accepted
+0 0 0 in {...F} ⇒ accepted
+0 0 0 in {a(b:1)} ⇒ accepted
+0 0 0 in query($a:Int!){a} ⇒ accepted
+0 0 0 in {a}fragment F on T{b} ⇒ accepted
+0 0 0 in {a{b}} ⇒ recursion limit exceeded
+0 0 0 in {...on T{b}} ⇒ recursion limit exceeded
+0 0 0 in {...@d{b}} ⇒ recursion limit exceeded
+0 0 0 in {...{b}} ⇒ recursion limit exceeded
+0 0 0 in {a(b:[])} ⇒ recursion limit exceeded
+0 0 0 in {a(b:{})} ⇒ recursion limit exceeded
+0 0 0 in query($a:[Int]){a} ⇒ recursion limit exceeded
+0 0 0 in query($a:Int=[]){a} ⇒ recursion limit exceeded
+0 0 0 in {...5} ⇒ syntax 1:5
+0 0 0 in {...on ⇒ recursion limit exceeded
+0 0 0 in {a{ ⇒ recursion limit exceeded
+0 0 0 in {a ⇒ syntax 1:3
+0 0 0 in {a} {b} ⇒ multiple operations anonymous 1:5 operation 1:1
+";
+
+#[test]
+fn each_number_has_its_own_part(rt: HostRuntime) -> Result<(), Fail> {
+    hold(&rt, rt.alloc(), &Limited, EACH_NUMBER)
+}
+
+const EACH_NUMBER: &str = r"
+0 2 0 in {a(b:[[1]])} ⇒ accepted
+0 2 0 in {a(b:[[[1]]])} ⇒ recursion limit exceeded
+0 2 0 in {a(b:{x:[1]} c:[{}])} ⇒ accepted
+0 2 0 in {a{b}} ⇒ recursion limit exceeded
+0 2 0 in query($a:[Int]){a} ⇒ recursion limit exceeded
+1 0 0 in {a{b}...on T{c}} ⇒ accepted
+1 0 0 in {a{b{c}}} ⇒ recursion limit exceeded
+1 0 0 in {a{...F}} ⇒ accepted
+1 0 0 in {a{...on T{b}}} ⇒ recursion limit exceeded
+1 0 0 in {a{b}}fragment F on T{a{b}} ⇒ accepted
+1 0 0 in {a(b:[])} ⇒ recursion limit exceeded
+0 0 1 in query($a:[Int!]! $b:[Int]){a} ⇒ accepted
+0 0 1 in query($a:[[Int]]){a} ⇒ recursion limit exceeded
+0 0 1 in query($a:[Int]=[1]){a} ⇒ recursion limit exceeded
+63 64 64 in {⟨63×a{⟩b⟨64×}⟩ ⇒ accepted
+63 64 64 in {⟨64×a{⟩b⟨65×}⟩ ⇒ recursion limit exceeded
+";
+
+#[test]
+fn the_deepest_that_may_be_chosen(rt: HostRuntime) -> Result<(), Fail> {
+    hold(&rt, rt.alloc(), &Limited, DEEPEST)
+}
+
+const DEEPEST: &str = r"
+256 0 0 in {⟨256×a{⟩b⟨257×}⟩ ⇒ accepted
+256 0 0 in {⟨257×a{⟩b⟨258×}⟩ ⇒ recursion limit exceeded
+256 0 0 in {⟨256×...{⟩b⟨257×}⟩ ⇒ accepted
+256 0 0 in {⟨257×...{⟩b⟨258×}⟩ ⇒ recursion limit exceeded
+0 256 0 in {a(b:⟨256×[⟩⟨256×]⟩)} ⇒ accepted
+0 256 0 in {a(b:⟨257×[⟩⟨257×]⟩)} ⇒ recursion limit exceeded
+0 256 0 in {a(b:⟨256×{x:⟩1⟨256×}⟩)} ⇒ accepted
+0 0 256 in query($a:⟨256×[⟩Int⟨256×]⟩){a} ⇒ accepted
+0 0 256 in query($a:⟨257×[⟩Int⟨257×]⟩){a} ⇒ recursion limit exceeded
+256 256 256 in query($a:⟨256×[⟩Int⟨256×]⟩=⟨256×[⟩⟨256×]⟩){⟨256×a{⟩b⟨257×}⟩ ⇒ accepted
+256 256 256 in {⟨100000×a{⟩ ⇒ recursion limit exceeded
+";
