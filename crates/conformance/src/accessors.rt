@@ -1,109 +1,17 @@
 //! What the calls of a request's tree give, on trees that were read.
-use crate::conversions::{write_directive_into_const, write_equality, write_into_const};
-use crate::rows::{Subject, hold};
-use crate::shown::{self, Shown, Written};
+use crate::answers::{View, first_field, first_selection};
+use crate::rows::hold;
+use crate::shown::{Shown, Written};
+use graphql_parser::Positioned;
 use graphql_parser::types::{
-    Directive, ExecutableDocument, Field, OperationsIter, Selection, SelectionSet,
-    VariableDefinition,
+    Directive, ExecutableDocument, OperationsIter, Selection, SelectionSet, VariableDefinition,
 };
 use graphql_parser::value::{ConstValue, Name, Value};
-use graphql_parser::{Positioned, Result as Answer, parse_query};
-use std::alloc::{AllocError, Global};
+use std::alloc::Global;
 use std::borrow::Cow;
 use std::test::Fail;
 
-/// What is asked of the tree of a request. Before a request stands what is asked of it, with ` in ` between them.
-#[derive(Clone, Copy)]
-pub enum Question {
-    /// The argument of a name in the first field, in its first directive, and in that as one without variables.
-    Argument,
-    /// The key of the first field in a response.
-    ResponseKey,
-    /// The defaults of the variables of the first operation: `lent` where the request writes them, `made` where the
-    /// type is nullable.
-    Defaults,
-    /// The directives of the first selection, and again when a copy of the first of them was put behind them.
-    Directives,
-    /// The operations: all of them, and what is left when one more was given.
-    Operations,
-    /// The operation and the fragment of a name, also in a copy.
-    Named,
-    /// The first argument as a value without variables, and that as a value again.
-    IntoConst,
-    /// How the first two arguments compare, as values and as values without variables.
-    Equality,
-    /// The first directive of the first field as one without variables, and that as one with them again.
-    DirectiveIntoConst,
-}
-
-impl Subject for Question {
-    fn answer(&self, alloc: Global, text: &str) -> Result<String, Fail> {
-        let (asked, request) = text.split_once(" in ").unwrap_or(("", text));
-        Ok(self.asked_of(alloc, asked, parse_query(alloc, request))?)
-    }
-}
-
-impl Question {
-    fn asked_of(
-        self,
-        alloc: Global,
-        asked: &str,
-        answer: Answer<ExecutableDocument>,
-    ) -> Result<String, AllocError> {
-        match &answer {
-            Ok(document) => self.written(alloc, asked, document),
-            Err(error) => shown::refusal(alloc, error),
-        }
-    }
-
-    fn written(
-        self,
-        alloc: Global,
-        asked: &str,
-        document: &ExecutableDocument,
-    ) -> Result<String, AllocError> {
-        let mut shown = Shown::new(alloc);
-        self.write(alloc, &mut shown, asked, document)?;
-        shown.finish()
-    }
-
-    fn write(
-        self,
-        alloc: Global,
-        shown: &mut Shown,
-        asked: &str,
-        document: &ExecutableDocument,
-    ) -> Result<(), AllocError> {
-        match self {
-            Question::Argument => write_argument(alloc, shown, asked, document),
-            Question::ResponseKey => write_key(shown, document),
-            Question::Defaults => write_defaults(shown, document),
-            Question::Directives => write_directives(shown, document),
-            Question::Operations => write_operations(shown, document),
-            Question::Named => write_named(shown, asked, document),
-            Question::IntoConst => write_into_const(alloc, shown, document),
-            Question::Equality => write_equality(alloc, shown, document),
-            Question::DirectiveIntoConst => write_directive_into_const(alloc, shown, document),
-        }
-    }
-}
-
-/// The first selection of the first operation.
-pub fn first_selection(document: &ExecutableDocument) -> Option<&Selection> {
-    let (_, operation) = document.operations.iter().next()?;
-    let selection = operation.node.selection_set.node.items.first()?;
-    Some(&selection.node)
-}
-
-/// The same, where it is a field.
-pub fn first_field(document: &ExecutableDocument) -> Option<&Field> {
-    match first_selection(document)? {
-        Selection::Field(field) => Some(&field.node),
-        _ => None,
-    }
-}
-
-fn write_argument(
+pub fn write_argument(
     alloc: Global,
     shown: &mut Shown,
     asked: &str,
@@ -151,7 +59,7 @@ fn write_constant_value(shown: &mut Shown, value: Option<&Positioned<ConstValue>
 
 #[test]
 fn the_first_argument_of_a_name(rt: HostRuntime) -> Result<(), Fail> {
-    hold(&rt, rt.alloc(), &Question::Argument, ARGUMENTS)
+    hold(&rt, rt.alloc(), &View::Argument, ARGUMENTS)
 }
 
 const ARGUMENTS: &str = r"
@@ -165,18 +73,17 @@ b in {a(b:1 b:2)@d} ⇒ 1@1:6, none, none
 b in {a@d(a:[] b:{x:[$v]})} ⇒ none, { x=[ $v ] }@1:13, not constant
 ";
 
-fn write_key(shown: &mut Shown, document: &ExecutableDocument) -> Written {
+pub fn write_key(shown: &mut Shown, document: &ExecutableDocument) {
     if let Some(field) = first_field(document) {
         let key = field.response_key();
         shown.word(key.node.as_str());
         shown.place("@", key.pos);
     }
-    Ok(())
 }
 
 #[test]
 fn the_key_of_a_response(rt: HostRuntime) -> Result<(), Fail> {
-    hold(&rt, rt.alloc(), &Question::ResponseKey, RESPONSE_KEYS)
+    hold(&rt, rt.alloc(), &View::ResponseKey, RESPONSE_KEYS)
 }
 
 const RESPONSE_KEYS: &str = r"
@@ -185,14 +92,13 @@ const RESPONSE_KEYS: &str = r"
 { query : f(x:1) g } ⇒ query@1:3
 ";
 
-fn write_defaults(shown: &mut Shown, document: &ExecutableDocument) -> Written {
+pub fn write_defaults(shown: &mut Shown, document: &ExecutableDocument) {
     if let Some((_, operation)) = document.operations.iter().next() {
         for variable in &operation.node.variable_definitions {
             shown.word(variable.node.name.node.as_str());
             write_default(shown, &variable.node);
         }
     }
-    Ok(())
 }
 
 fn write_default(shown: &mut Shown, variable: &VariableDefinition) {
@@ -212,7 +118,7 @@ fn write_default(shown: &mut Shown, variable: &VariableDefinition) {
 
 #[test]
 fn the_default_of_a_variable(rt: HostRuntime) -> Result<(), Fail> {
-    hold(&rt, rt.alloc(), &Question::Defaults, DEFAULTS)
+    hold(&rt, rt.alloc(), &View::Defaults, DEFAULTS)
 }
 
 const DEFAULTS: &str = r"
@@ -221,7 +127,7 @@ query($a:Int=red $b:[Int!] $c:[Int]!){a} ⇒ a lent .red;b made null;c none ;
 query($a:Int=null){a} ⇒ a lent null;
 ";
 
-fn write_directives(shown: &mut Shown, document: &ExecutableDocument) -> Written {
+pub fn write_directives(shown: &mut Shown, document: &ExecutableDocument) -> Written {
     if let Some(selection) = first_selection(document) {
         shown.directives(selection.directives());
         shown.word(" then");
@@ -242,7 +148,7 @@ fn write_grown(shown: &mut Shown, mut selection: Selection) -> Written {
 #[test]
 fn the_directives_of_a_selection(rt: HostRuntime) -> Result<(), Fail> {
     assert_eq!(rt; SelectionSet::new(rt.alloc()).items.len(), 0);
-    hold(&rt, rt.alloc(), &Question::Directives, DIRECTIVES)
+    hold(&rt, rt.alloc(), &View::Directives, DIRECTIVES)
 }
 
 const DIRECTIVES: &str = r"
@@ -253,7 +159,7 @@ const DIRECTIVES: &str = r"
 {a b@d} ⇒ then
 ";
 
-fn write_operations(shown: &mut Shown, document: &ExecutableDocument) -> Written {
+pub fn write_operations(shown: &mut Shown, document: &ExecutableDocument) -> Written {
     let mut left = document.operations.iter();
     write_left(shown, &left)?;
     for _ in 0..4 {
@@ -284,7 +190,7 @@ fn write_left(shown: &mut Shown, operations: &OperationsIter<'_>) -> Written {
 
 #[test]
 fn the_operations_of_a_request(rt: HostRuntime) -> Result<(), Fail> {
-    hold(&rt, rt.alloc(), &Question::Operations, OPERATIONS)
+    hold(&rt, rt.alloc(), &View::Operations, OPERATIONS)
 }
 
 const OPERATIONS: &str = r"
@@ -294,7 +200,7 @@ query Z{a} query A{b} mutation M{c} ⇒
   Z@1:1 A@1:12 M@1:23, then A@1:12 M@1:23, then M@1:23, then, none
 ";
 
-fn write_named(shown: &mut Shown, asked: &str, document: &ExecutableDocument) -> Written {
+pub fn write_named(shown: &mut Shown, asked: &str, document: &ExecutableDocument) -> Written {
     write_definitions(shown, asked, document);
     shown.word(", copied");
     write_definitions(shown, asked, &document.clone()?);
@@ -314,7 +220,7 @@ fn write_definitions(shown: &mut Shown, asked: &str, document: &ExecutableDocume
 
 #[test]
 fn the_definitions_of_a_name(rt: HostRuntime) -> Result<(), Fail> {
-    hold(&rt, rt.alloc(), &Question::Named, DEFINITIONS_OF_A_NAME)
+    hold(&rt, rt.alloc(), &View::Named, DEFINITIONS_OF_A_NAME)
 }
 
 const DEFINITIONS_OF_A_NAME: &str = r"

@@ -1,5 +1,5 @@
 //! Values and directives with variables to those without, and back.
-use crate::accessors::{Question, first_field};
+use crate::answers::{View, first_field};
 use crate::rows::hold;
 use crate::shown::{Shown, Written};
 use graphql_parser::types::{Directive, ExecutableDocument};
@@ -42,12 +42,7 @@ fn write_there_and_back(alloc: Global, shown: &mut Shown, value: Value) -> Writt
 
 #[test]
 fn values_without_variables(rt: HostRuntime) -> Result<(), Fail> {
-    hold(
-        &rt,
-        rt.alloc(),
-        &Question::IntoConst,
-        VALUES_WITHOUT_VARIABLES,
-    )
+    hold(&rt, rt.alloc(), &View::IntoConst, VALUES_WITHOUT_VARIABLES)
 }
 
 const VALUES_WITHOUT_VARIABLES: &str = r#"
@@ -58,12 +53,7 @@ const VALUES_WITHOUT_VARIABLES: &str = r#"
 
 #[test]
 fn values_with_a_variable_at_some_depth(rt: HostRuntime) -> Result<(), Fail> {
-    hold(
-        &rt,
-        rt.alloc(),
-        &Question::IntoConst,
-        VALUES_WITH_A_VARIABLE,
-    )
+    hold(&rt, rt.alloc(), &View::IntoConst, VALUES_WITH_A_VARIABLE)
 }
 
 const VALUES_WITH_A_VARIABLE: &str = r"
@@ -94,12 +84,7 @@ fn write_comparison(shown: &mut Shown, is_same: bool) {
 
 #[test]
 fn values_that_are_equal(rt: HostRuntime) -> Result<(), Fail> {
-    hold(
-        &rt,
-        rt.alloc(),
-        &Question::Equality,
-        VALUES_THAT_ARE_COMPARED,
-    )
+    hold(&rt, rt.alloc(), &View::Equality, VALUES_THAT_ARE_COMPARED)
 }
 
 const VALUES_THAT_ARE_COMPARED: &str = r#"
@@ -150,7 +135,7 @@ fn write_directive(alloc: Global, shown: &mut Shown, directive: Directive) -> Wr
 
 #[test]
 fn directives_without_variables(rt: HostRuntime) -> Result<(), Fail> {
-    hold(&rt, rt.alloc(), &Question::DirectiveIntoConst, DIRECTIVES)
+    hold(&rt, rt.alloc(), &View::DirectiveIntoConst, DIRECTIVES)
 }
 
 const DIRECTIVES: &str = r"

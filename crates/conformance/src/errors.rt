@@ -1,6 +1,6 @@
 //! Errors: what they print, and the places that they name.
-use crate::rows::{Subject, hold};
-use crate::shown::{self, Shown};
+use crate::rows::{Subject, compared, hold};
+use crate::shown::{self, Shown, Written};
 use graphql_parser::types::OperationType;
 use graphql_parser::value::Name;
 use graphql_parser::{Error, ErrorPositions, Pos};
@@ -79,18 +79,17 @@ impl Subject for Printed {
 
 fn said(alloc: Global, error: &Error) -> Result<String, Fail> {
     let places = serde_json::to_string(alloc, &error.positions())?;
-    let copy = if has_equal_copy(alloc, error)? {
-        ""
-    } else {
-        " with another copy"
-    };
+    let copy = of_copy(alloc, error)?;
     Ok(format!(in alloc; "{error} {places}{copy}")?)
 }
 
-fn has_equal_copy(alloc: Global, error: &Error) -> Result<bool, AllocError> {
+// What is to be said of a copy: nothing, where it is equal and shown as the error is.
+fn of_copy(alloc: Global, error: &Error) -> Result<&'static str, AllocError> {
     let copy = error.clone()?;
-    let (one, other) = (shown::refusal(alloc, error)?, shown::refusal(alloc, &copy)?);
-    Ok(copy == *error && one.as_str() == other.as_str())
+    if copy == *error && shown::refusal(alloc, error)? == shown::refusal(alloc, &copy)? {
+        return Ok("");
+    }
+    Ok(" with another copy")
 }
 
 #[test]
@@ -123,9 +122,7 @@ struct Equality;
 impl Subject for Equality {
     fn answer(&self, alloc: Global, text: &str) -> Result<String, Fail> {
         let (one, other) = text.split_once(" and ").ok_or("no two errors")?;
-        let one = made(alloc, one)?;
-        let other = made(alloc, other)?;
-        let answer = if one == other { "equal" } else { "different" };
+        let answer = compared(&made(alloc, one)?, &made(alloc, other)?);
         Ok(String::from_str(alloc, answer)?)
     }
 }
@@ -156,34 +153,37 @@ struct BothEnds;
 impl Subject for BothEnds {
     fn answer(&self, alloc: Global, text: &str) -> Result<String, Fail> {
         let (what, steps) = text.split_once(": ").ok_or("no steps")?;
-        let error = made(alloc, what)?;
-        let mut places = error.positions();
-        let mut shown = Shown::new(alloc);
-        shown.word("all");
-        write_left(&mut shown, &places)?;
-        for step in steps.split_whitespace() {
-            let place = if step == "back" {
+        Ok(stepped(alloc, made(alloc, what)?.positions(), steps)?)
+    }
+}
+
+fn stepped(alloc: Global, mut places: ErrorPositions, steps: &str) -> Result<String, AllocError> {
+    let mut shown = Shown::new(alloc);
+    shown.word("all");
+    write_left(&mut shown, &places)?;
+    for step in steps.split_whitespace() {
+        write_place(
+            &mut shown,
+            if step == "back" {
                 places.next_back()
             } else {
                 places.next()
-            };
-            shown.word(" ");
-            write_place(&mut shown, place);
-            write_left(&mut shown, &places)?;
-        }
-        Ok(shown.finish()?)
+            },
+        );
+        write_left(&mut shown, &places)?;
     }
+    shown.finish()
 }
 
 fn write_place(shown: &mut Shown, place: Option<Pos>) {
     match place {
-        Some(place) => shown.place("", place),
-        None => shown.word("none"),
+        Some(place) => shown.place(" ", place),
+        None => shown.word(" none"),
     }
 }
 
 // What is left, by a copy, and whether its number is told.
-fn write_left(shown: &mut Shown, places: &ErrorPositions) -> Result<(), AllocError> {
+fn write_left(shown: &mut Shown, places: &ErrorPositions) -> Written {
     let mut count = 0usize;
     shown.word(" [");
     for place in places.clone()? {

@@ -5,6 +5,8 @@
 #[cfg(test)]
 mod accessors;
 #[cfg(test)]
+mod answers;
+#[cfg(test)]
 mod conversions;
 #[cfg(test)]
 mod errors;

@@ -4,8 +4,9 @@ ghost use Rattle.graphql_syntax.specs.trees.ValueTree.{Tree, null, number, strin
 ghost use Rattle.conformance.specs.declared.literals_made.Plain.{fold-Plain};
 ghost use Rattle.conformance.specs.declared.literals_made.Plain.TheOpen.{Plain-F};
 
+use crate::rows::{Subject, hold};
 use crate::shown::Shown;
-use graphql_parser::value::{ConstValue, Literal, Name, Number};
+use graphql_parser::value::{ConstValue, Literal, Name, Number, Value};
 use std::alloc::{AllocError, Global};
 use std::test::Fail;
 
@@ -99,24 +100,52 @@ fn made<V: Literal>(alloc: Global) -> Result<V, AllocError> {
     example(alloc, Name::new(alloc, "a")?, true)
 }
 
-#[test]
-fn one_reader_makes_each_type(rt: HostRuntime) -> Result<(), Fail> {
-    let alloc = rt.alloc();
-    let mut shown = Shown::new(alloc);
-    shown.value(&made(alloc)?);
-    shown.word(" ");
-    shown.constant(&made(alloc)?);
-    let shown = shown.finish()?;
-    assert_eq!(rt; shown.as_str(), "{ a=[ true null ] } { a=[ true null ] }");
-    assert!(rt; equals_its_clone(&made(alloc)?)?);
-    Ok(())
+fn either<V: Literal>(alloc: Global) -> Result<V, AllocError> {
+    Ok(variable_or_enum(Name::new(alloc, "a")?, Name::new(alloc, "b")?))
 }
 
-// The cases of a value, each by a letter, from the outside in.
+/// What the two generic functions make at each type.
+struct MadeValues;
+
+impl Subject for MadeValues {
+    fn answer(&self, alloc: Global, text: &str) -> Result<String, Fail> {
+        match text {
+            "example of Value" => Ok(of_value(alloc, &made(alloc)?)?),
+            "example of ConstValue" => Ok(of_constant(alloc, &made(alloc)?)?),
+            "example of Plain" => Ok(of_plain(alloc, &made(alloc)?)?),
+            "variable of Value" => Ok(of_value(alloc, &either(alloc)?)?),
+            "variable of ConstValue" => Ok(of_constant(alloc, &either(alloc)?)?),
+            _ => Ok(of_plain(alloc, &either(alloc)?)?),
+        }
+    }
+}
+
+fn of_value(alloc: Global, value: &Value) -> Result<String, AllocError> {
+    let mut shown = Shown::new(alloc);
+    shown.value(value);
+    shown.finish()
+}
+
+fn of_constant(alloc: Global, value: &ConstValue) -> Result<String, AllocError> {
+    let mut shown = Shown::new(alloc);
+    shown.constant(value);
+    if !equals_its_clone(value)? {
+        shown.word(" with another copy");
+    }
+    shown.finish()
+}
+
+fn of_plain(alloc: Global, value: &Plain) -> Result<String, AllocError> {
+    let mut shown = Shown::new(alloc);
+    write_cases(&mut shown, value);
+    shown.finish()
+}
+
+// The cases of a value, from the outside in.
 #[cycle(cases)]
 fn write_cases(shown: &mut Shown, value: &Plain) {
     match value {
-        Plain::Null => shown.word("null"),
+        Plain::Null => shown.word("Null"),
         Plain::Number(number) => shown.word(number.as_str()),
         Plain::Text(text) => shown.word(text.as_str()),
         Plain::Yes => shown.word("Yes"),
@@ -138,35 +167,24 @@ fn write_cases(shown: &mut Shown, value: &Plain) {
 }
 
 #[test]
-fn a_third_type_has_its_own_cases(rt: HostRuntime) -> Result<(), Fail> {
-    let alloc = rt.alloc();
-    let mut shown = Shown::new(alloc);
-    write_cases(&mut shown, &made(alloc)?);
-    shown.word(" ");
-    write_cases(&mut shown, &Plain::boolean(false));
-    write_cases(
-        &mut shown,
-        &Plain::string(String::from_str(alloc, ", text")?),
-    );
-    let shown = shown.finish()?;
-    assert_eq!(rt; shown.as_str(), "a [Yes [null No, text");
-    Ok(())
+fn one_reader_makes_each_type(rt: HostRuntime) -> Result<(), Fail> {
+    hold(&rt, rt.alloc(), &MadeValues, MADE)
 }
 
-fn either<V: Literal>(alloc: Global) -> Result<V, AllocError> {
-    Ok(variable_or_enum(Name::new(alloc, "a")?, Name::new(alloc, "b")?))
-}
+const MADE: &str = r"
+example of Value ⇒ { a=[ true null ] }
+example of ConstValue ⇒ { a=[ true null ] }
+example of Plain ⇒ a [Yes [Null
+variable of Value ⇒ $a
+variable of ConstValue ⇒ .b
+variable of Plain ⇒ b
+";
 
 #[test]
-fn a_variable_is_made_where_the_type_has_them(rt: HostRuntime) -> Result<(), Fail> {
-    let alloc = rt.alloc();
-    let mut shown = Shown::new(alloc);
-    shown.value(&either(alloc)?);
-    shown.word(" ");
-    shown.constant(&either(alloc)?);
-    shown.word(" ");
-    write_cases(&mut shown, &either(alloc)?);
-    let shown = shown.finish()?;
-    assert_eq!(rt; shown.as_str(), "$a .b b");
+fn a_third_type_has_two_booleans(rt: HostRuntime) -> Result<(), Fail> {
+    let (no, yes) = (Plain::boolean(false), Plain::boolean(true));
+    assert!(rt; matches!(&no, Plain::No) && matches!(&yes, Plain::Yes));
+    let text = Plain::string(String::from_str(rt.alloc(), "a")?);
+    assert!(rt; matches!(&text, Plain::Text(_)));
     Ok(())
 }

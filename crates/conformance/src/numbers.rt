@@ -1,5 +1,5 @@
 //! Numbers: their literals, and their whole values.
-use crate::rows::{Subject, hold};
+use crate::rows::{Subject, compared, hold};
 use graphql_parser::value::Number;
 use std::alloc::{AllocError, Global};
 use std::test::Fail;
@@ -40,9 +40,7 @@ struct Equality;
 impl Subject for Equality {
     fn answer(&self, alloc: Global, text: &str) -> Result<String, Fail> {
         let (one, other) = text.split_once(" and ").ok_or("no two literals")?;
-        let one = Number::new(alloc, one)?.ok_or("no literal")?;
-        let other = Number::new(alloc, other)?.ok_or("no literal")?;
-        let answer = if one == other { "equal" } else { "different" };
+        let answer = compared(&Number::new(alloc, one)?, &Number::new(alloc, other)?);
         Ok(String::from_str(alloc, answer)?)
     }
 }

@@ -4,16 +4,15 @@ mod definitions;
 mod hostile;
 mod limits;
 mod selections;
+mod sent;
 mod taken;
 mod values;
 
+use crate::answers::{View, seen};
 use crate::rows::{Subject, hold};
-use crate::shown;
 use graphql_parser::lexer::Tokens;
-use graphql_parser::types::ExecutableDocument;
-use graphql_parser::{
-    Limits, Result as Answer, parse_query, parse_query_from, parse_query_limited,
-};
+use graphql_parser::{Limits, parse_query, parse_query_from, parse_query_limited};
+pub use hostile::write_sizes;
 use std::alloc::{AllocError, Global};
 use std::test::Fail;
 
@@ -23,11 +22,8 @@ pub struct Request;
 
 impl Subject for Request {
     fn answer(&self, alloc: Global, text: &str) -> Result<String, Fail> {
-        let answer = shown::answer(alloc, parse_query(alloc, text))?;
-        let limited = parse_query_limited(alloc, text, Limits::default());
-        let limited = shown::answer(alloc, limited)?;
-        let from = parse_query_from(alloc, &mut Tokens::new(text));
-        let from = shown::answer(alloc, from)?;
+        let answer = whole(alloc, text)?;
+        let (limited, from) = (limited(alloc, text)?, from_tokens(alloc, text)?);
         if limited.as_str() != answer.as_str() || from.as_str() != answer.as_str() {
             return Ok(format!(in alloc; "{answer}, limited {limited}, from tokens {from}")?);
         }
@@ -35,21 +31,18 @@ impl Subject for Request {
     }
 }
 
-/// Whether `parse_query` accepts a text, or the error.
-pub struct Acceptance;
-
-impl Subject for Acceptance {
-    fn answer(&self, alloc: Global, text: &str) -> Result<String, Fail> {
-        Ok(accepted(alloc, parse_query(alloc, text))?)
-    }
+fn whole(alloc: Global, text: &str) -> Result<String, AllocError> {
+    seen(alloc, View::Whole, "", parse_query(alloc, text))
 }
 
-// The word `accepted` or the error.
-fn accepted(alloc: Global, answer: Answer<ExecutableDocument>) -> Result<String, AllocError> {
-    match &answer {
-        Ok(_) => String::from_str(alloc, "accepted"),
-        Err(error) => shown::refusal(alloc, error),
-    }
+fn limited(alloc: Global, text: &str) -> Result<String, AllocError> {
+    let answer = parse_query_limited(alloc, text, Limits::default());
+    seen(alloc, View::Whole, "", answer)
+}
+
+fn from_tokens(alloc: Global, text: &str) -> Result<String, AllocError> {
+    let answer = parse_query_from(alloc, &mut Tokens::new(text));
+    seen(alloc, View::Whole, "", answer)
 }
 
 #[test]

@@ -32,7 +32,20 @@ pub fn hold<S: Subject>(
     subject: &S,
     table: &str,
 ) -> Result<(), Fail> {
-    let table = table.replace(alloc, "\n  ", " ")?;
+    hold_lines(
+        rt,
+        alloc,
+        subject,
+        table.replace(alloc, "\n  ", " ")?.as_str(),
+    )
+}
+
+fn hold_lines<S: Subject>(
+    rt: &impl Abort,
+    alloc: Global,
+    subject: &S,
+    table: &str,
+) -> Result<(), Fail> {
     let mut has_rows = false;
     for line in table.lines() {
         if !line.is_empty() && !line.starts_with("-- ") {
@@ -57,16 +70,26 @@ pub fn gives<S: Subject>(
     subject: &S,
     text: &str,
     answer: &str,
-    said_of_it: &str,
+    line: &str,
 ) -> Result<(), Fail> {
-    let answer = meant(alloc, in_one_line(alloc, answer)?.as_str())?;
     let found = subject.answer(alloc, text)?;
-    assert_eq!(rt;
+    let wanted = meant(alloc, in_one_line(alloc, answer)?.as_str())?;
+    are_same(
+        rt,
         found.as_str().trim_ascii(),
-        answer.as_str().trim_ascii(),
-        "{said_of_it}"
+        wanted.as_str().trim_ascii(),
+        line,
     );
     Ok(())
+}
+
+fn are_same(rt: &impl Abort, found: &str, wanted: &str, line: &str) {
+    assert_eq!(rt; found, wanted, "{line}");
+}
+
+/// The word for how two values compare.
+pub fn compared<T: PartialEq>(one: &T, other: &T) -> &'static str {
+    if one == other { "equal" } else { "different" }
 }
 
 // The words of a text, with one blank between them.

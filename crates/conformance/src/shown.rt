@@ -13,7 +13,8 @@ mod schema;
 mod values;
 
 use graphql_parser::types::{
-    ConstDirective, Directive, DirectiveLocation, ExecutableDocument, ServiceDocument, Type,
+    ConstDirective, Directive, DirectiveLocation, ExecutableDocument, OperationType,
+    ServiceDocument, Type,
 };
 use graphql_parser::value::{ConstValue, Value};
 use graphql_parser::{Error, Pos, Positioned};
@@ -62,6 +63,13 @@ impl Shown {
         }
     }
 
+    /// A kind of operations, behind a blank and a bracket.
+    pub fn operation_kind(&mut self, ty: OperationType) {
+        if write!(self.text, " ({ty}").is_err() {
+            self.is_cut = true;
+        }
+    }
+
     /// A number, behind what stands before it.
     pub fn number(&mut self, before: &str, number: usize) {
         if write!(self.text, "{before}{number}").is_err() {
@@ -89,6 +97,16 @@ impl Shown {
         constants::write_constant(self, constant);
     }
 
+    /// The tree of a request.
+    pub fn request(&mut self, document: &ExecutableDocument) {
+        executable::write_request(self, document);
+    }
+
+    /// An error, with its fields.
+    pub fn error(&mut self, alloc: Global, error: &Error) {
+        error::write(alloc, self, error);
+    }
+
     /// Directives, each behind a blank.
     pub fn directives(&mut self, directives: &Vec<Positioned<Directive>>) {
         parts::write_directives(self, directives);
@@ -109,32 +127,6 @@ impl Shown {
         }
         Ok(self.text)
     }
-}
-
-/// The tree of a request, or the error.
-pub fn answer(
-    alloc: Global,
-    answer: Result<ExecutableDocument, Error>,
-) -> Result<String, AllocError> {
-    let mut shown = Shown::new(alloc);
-    match &answer {
-        Ok(document) => executable::request(&mut shown, document),
-        Err(error) => error::write(alloc, &mut shown, error),
-    }
-    shown.finish()
-}
-
-/// The tree of a request, or the error, without places.
-pub fn placeless_answer(
-    alloc: Global,
-    answer: Result<ExecutableDocument, Error>,
-) -> Result<String, AllocError> {
-    let mut shown = Shown::placeless(alloc);
-    match &answer {
-        Ok(document) => executable::request(&mut shown, document),
-        Err(error) => error::write(alloc, &mut shown, error),
-    }
-    shown.finish()
 }
 
 /// The tree of a schema file, or the error.

@@ -1,6 +1,6 @@
 //! Types that are read from a text, and shown again.
 use crate::names::is_written;
-use crate::rows::{Subject, hold};
+use crate::rows::{Subject, compared, hold};
 use crate::shown::Shown;
 use graphql_parser::types::{BaseType, Type};
 use graphql_parser::value::Name;
@@ -96,8 +96,7 @@ struct Equality;
 impl Subject for Equality {
     fn answer(&self, alloc: Global, text: &str) -> Result<String, Fail> {
         let (one, other) = text.split_once(" and ").ok_or("no two types")?;
-        let is_same = Type::new(alloc, one)? == Type::new(alloc, other)?;
-        let answer = if is_same { "equal" } else { "different" };
+        let answer = compared(&Type::new(alloc, one)?, &Type::new(alloc, other)?);
         Ok(String::from_str(alloc, answer)?)
     }
 }

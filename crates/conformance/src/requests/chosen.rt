@@ -1,5 +1,5 @@
 //! Limits that the caller chooses.
-use super::accepted;
+use crate::answers::{View, seen};
 use crate::rows::{Subject, hold};
 use graphql_parser::{Limits, parse_query_limited};
 use std::alloc::Global;
@@ -10,7 +10,7 @@ struct NewLimits;
 
 impl Subject for NewLimits {
     fn answer(&self, alloc: Global, text: &str) -> Result<String, Fail> {
-        let answer = match limits(text)? {
+        let answer = match limits(text) {
             None => "none",
             Some(limits) if limits == Limits::default() => "the default",
             Some(_) => "some",
@@ -20,12 +20,15 @@ impl Subject for NewLimits {
 }
 
 // The limits of three numbers in one text.
-fn limits(text: &str) -> Result<Option<Limits>, Fail> {
+fn limits(text: &str) -> Option<Limits> {
     let mut words = text.split_whitespace();
-    let selections: usize = words.next().ok_or("no number")?.parse()?;
-    let values: usize = words.next().ok_or("no number")?.parse()?;
-    let types: usize = words.next().ok_or("no number")?.parse()?;
-    Ok(Limits::new(selections, values, types))
+    let selections = number(words.next())?;
+    let values = number(words.next())?;
+    Limits::new(selections, values, number(words.next())?)
+}
+
+fn number(word: Option<&str>) -> Option<usize> {
+    word?.parse().ok()
 }
 
 #[test]
@@ -53,8 +56,9 @@ struct Limited;
 impl Subject for Limited {
     fn answer(&self, alloc: Global, text: &str) -> Result<String, Fail> {
         let (numbers, request) = text.split_once(" in ").ok_or("no limits")?;
-        let limits = limits(numbers)?.ok_or("no such limits")?;
-        Ok(accepted(alloc, parse_query_limited(alloc, request, limits))?)
+        let limits = limits(numbers).ok_or("no such limits")?;
+        let answer = parse_query_limited(alloc, request, limits);
+        Ok(seen(alloc, View::Acceptance, "", answer)?)
     }
 }
 

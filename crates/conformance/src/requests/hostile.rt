@@ -1,31 +1,21 @@
 //! Cut texts, open quotes, other blanks, huge parts, and every short list of tokens.
-use crate::accessors::first_field;
+use crate::answers::{View, first_field, seen};
 use crate::rows::{Subject, hold};
-use crate::shown::{self, Shown};
+use crate::shown::Shown;
 use graphql_parser::lexer::{TokenKind, Tokens};
 use graphql_parser::types::ExecutableDocument;
 use graphql_parser::value::Value;
-use graphql_parser::{Error, Pos, Result as Answer, parse_query, parse_query_from};
+use graphql_parser::{Pos, parse_query, parse_query_from};
 use std::alloc::{AllocError, Global};
 use std::test::Fail;
 
-// An answer, as far as these tables ask.
-#[derive(Clone, Copy, Debug, PartialEq, Eq)]
-enum Outcome {
-    Tree,
-    Breach,
-    Syntax(Pos),
-    Other,
+// The word `accepted`, or the error.
+fn accepted(alloc: Global, text: &str) -> Result<String, AllocError> {
+    seen(alloc, View::Acceptance, "", parse_query(alloc, text))
 }
 
-fn outcome_of(answer: Answer<ExecutableDocument>) -> Outcome {
-    match answer {
-        Ok(_) => Outcome::Tree,
-        Err(Error::Syntax { start, .. }) => Outcome::Syntax(start),
-        Err(Error::RecursionLimitExceeded) => Outcome::Other,
-        Err(Error::OutOfMemory) => Outcome::Other,
-        Err(_) => Outcome::Breach,
-    }
+fn is_refused_at(alloc: Global, answer: &str, place: Pos) -> Result<bool, AllocError> {
+    Ok(format!(in alloc; "syntax {place}")?.as_str() == answer)
 }
 
 /// How many beginnings a text has, if each of them is accepted, breaks a rule, or is refused at one of its last two
@@ -34,30 +24,41 @@ struct Beginnings;
 
 impl Subject for Beginnings {
     fn answer(&self, alloc: Global, text: &str) -> Result<String, Fail> {
-        let mut count = 0usize;
-        for offset in 0..=text.len() {
-            if let Some((front, _)) = text.split_at_checked(offset) {
-                if !is_refused_late(front, outcome_of(parse_query(alloc, front))) {
-                    return Ok(String::from_str(alloc, front)?);
-                }
-                count = count.wrapping_add(1);
-            }
+        if let Some(front) = refused_early(alloc, text)? {
+            return Ok(String::from_str(alloc, front)?);
         }
+        let count = text.chars().count().wrapping_add(1);
         Ok(format!(in alloc; "{count} beginnings")?)
     }
 }
 
-fn is_refused_late(text: &str, outcome: Outcome) -> bool {
-    let (mut last, mut before) = (Pos::default(), Pos::default());
+fn refused_early<'a>(alloc: Global, text: &'a str) -> Result<Option<&'a str>, AllocError> {
+    for offset in 0..=text.len() {
+        if let Some((front, _)) = text.split_at_checked(offset)
+            && !is_refused_late(alloc, front, accepted(alloc, front)?.as_str())?
+        {
+            return Ok(Some(front));
+        }
+    }
+    Ok(None)
+}
+
+fn is_refused_late(alloc: Global, text: &str, answer: &str) -> Result<bool, AllocError> {
+    if !answer.starts_with("syntax") {
+        return Ok(answer != "recursion limit exceeded" && answer != "out of memory");
+    }
+    let (before, last) = last_places(text);
+    Ok(is_refused_at(alloc, answer, before)? || is_refused_at(alloc, answer, last)?)
+}
+
+// The places of the last two tokens.
+fn last_places(text: &str) -> (Pos, Pos) {
+    let (mut before, mut last) = (Pos::default(), Pos::default());
     for token in Tokens::new(text) {
         before = last;
         last = token.pos;
     }
-    match outcome {
-        Outcome::Tree | Outcome::Breach => true,
-        Outcome::Syntax(place) => place == last || place == before,
-        Outcome::Other => false,
-    }
+    (before, last)
 }
 
 #[test]
@@ -102,7 +103,8 @@ impl Subject for Quotes {
         for token in Tokens::new(text) {
             if token.kind != TokenKind::End {
                 let quoted = with_quote(alloc, text, token.start)?;
-                if outcome_of(parse_query(alloc, quoted.as_str())) != Outcome::Syntax(token.pos) {
+                let answer = accepted(alloc, quoted.as_str())?;
+                if !is_refused_at(alloc, answer.as_str(), token.pos)? {
                     return Ok(quoted);
                 }
                 count = count.wrapping_add(1);
@@ -112,11 +114,9 @@ impl Subject for Quotes {
     }
 }
 
-fn with_quote(alloc: Global, text: &str, offset: usize) -> Result<String, Fail> {
-    let (front, back) = text
-        .split_at_checked(offset)
-        .ok_or("no offset of the text")?;
-    Ok(format!(in alloc; "{front}\"{back}")?)
+fn with_quote(alloc: Global, text: &str, offset: usize) -> Result<String, AllocError> {
+    let (front, back) = text.split_at_checked(offset).unwrap_or((text, ""));
+    format!(in alloc; "{front}\"{back}")
 }
 
 #[test]
@@ -129,36 +129,42 @@ const QUOTES: &str = r"
 query Q($v: Int = 3 @d) @e { x: f(a: $v) @g ...F ... on T { h } } ⇒ 35 quotes
 ";
 
-/// How many tokens are taken of a text, if so many are taken, with the same answer but for the places, when its tokens
-/// are written again with a line feed behind each; else both answers.
+/// How many tokens are taken of a text, if the answer is the same, but for the places, when its tokens are written again
+/// with a line feed behind each; else both answers.
 struct Lines;
 
 impl Subject for Lines {
     fn answer(&self, alloc: Global, text: &str) -> Result<String, Fail> {
-        let (one, taken) = placeless(alloc, text)?;
-        let (other, taken_again) = placeless(alloc, in_lines(alloc, text)?.as_str())?;
-        if one.as_str() == other.as_str() && taken == taken_again {
-            return Ok(format!(in alloc; "the same, taken {taken}")?);
-        }
-        Ok(format!(in alloc; "{one}, taken {taken}, and {other}, taken {taken_again}")?)
+        let one = placeless(alloc, text)?;
+        let other = placeless(alloc, in_lines(alloc, text)?.as_str())?;
+        Ok(same_or_both(alloc, one.as_str(), other.as_str())?)
     }
 }
 
 // The answer without its places, and how many tokens were taken.
-fn placeless(alloc: Global, text: &str) -> Result<(String, usize), AllocError> {
+fn placeless(alloc: Global, text: &str) -> Result<String, AllocError> {
     let mut tokens = Tokens::new(text);
-    let answer = shown::placeless_answer(alloc, parse_query_from(alloc, &mut tokens))?;
-    Ok((answer, tokens.taken()))
+    let answer = parse_query_from(alloc, &mut tokens);
+    let answer = seen(alloc, View::Placeless, "", answer)?;
+    let taken = tokens.taken();
+    format!(in alloc; "{answer}, taken {taken}")
+}
+
+fn same_or_both(alloc: Global, one: &str, other: &str) -> Result<String, AllocError> {
+    match one.rsplit_once(", ") {
+        Some((_, taken)) if one == other => format!(in alloc; "the same, {taken}"),
+        _ => format!(in alloc; "{one} and {other}"),
+    }
 }
 
 // The tokens of a text, each on a line of its own.
 fn in_lines(alloc: Global, text: &str) -> Result<String, AllocError> {
-    let mut out = String::new(alloc);
+    let mut shown = Shown::new(alloc);
     for token in Tokens::new(text) {
-        out.push_str(token.text)?;
-        out.push_str("\n")?;
+        shown.word(token.text);
+        shown.word("\n");
     }
-    Ok(out)
+    shown.finish()
 }
 
 #[test]
@@ -214,31 +220,14 @@ schema{query:Q} ⇒ the same, taken 1
 {a} fragment F on T{b} ⇒ the same, taken 11
 "#;
 
-/// How long the name of the first field and its first argument are.
-struct PartSizes;
-
-impl Subject for PartSizes {
-    fn answer(&self, alloc: Global, text: &str) -> Result<String, Fail> {
-        Ok(sizes(alloc, parse_query(alloc, text))?)
-    }
-}
-
-fn sizes(alloc: Global, answer: Answer<ExecutableDocument>) -> Result<String, AllocError> {
-    match &answer {
-        Ok(document) => written_sizes(alloc, document),
-        Err(error) => shown::refusal(alloc, error),
-    }
-}
-
-fn written_sizes(alloc: Global, document: &ExecutableDocument) -> Result<String, AllocError> {
-    let mut shown = Shown::new(alloc);
+// How long the name of the first field and its first argument are.
+pub fn write_sizes(shown: &mut Shown, document: &ExecutableDocument) {
     if let Some(field) = first_field(document) {
         shown.number("name of ", field.name.node.as_str().len());
         if let Some(argument) = field.arguments.first() {
-            write_size(&mut shown, &argument.1.node);
+            write_size(shown, &argument.1.node);
         }
     }
-    shown.finish()
 }
 
 fn write_size(shown: &mut Shown, value: &Value) {
@@ -256,7 +245,7 @@ fn write_size(shown: &mut Shown, value: &Value) {
 
 #[test]
 fn huge_parts(rt: HostRuntime) -> Result<(), Fail> {
-    hold(&rt, rt.alloc(), &PartSizes, HUGE_PARTS)
+    hold(&rt, rt.alloc(), &View::Sizes, HUGE_PARTS)
 }
 
 const HUGE_PARTS: &str = r#"
@@ -277,11 +266,13 @@ struct Counts {
 }
 
 impl Counts {
-    fn add(&mut self, outcome: Outcome) {
-        match outcome {
-            Outcome::Tree => self.accepted = self.accepted.wrapping_add(1),
-            Outcome::Syntax(_) => self.refused = self.refused.wrapping_add(1),
-            _ => self.other = self.other.wrapping_add(1),
+    fn add(&mut self, answer: &str) {
+        if answer == "accepted" {
+            self.accepted = self.accepted.wrapping_add(1);
+        } else if answer.starts_with("syntax") {
+            self.refused = self.refused.wrapping_add(1);
+        } else {
+            self.other = self.other.wrapping_add(1);
         }
     }
 }
@@ -293,32 +284,25 @@ struct ShortTexts;
 impl Subject for ShortTexts {
     fn answer(&self, alloc: Global, text: &str) -> Result<String, Fail> {
         let spellings = text.split_whitespace().collect::<Vec<&str>>(alloc)?;
-        let mut counts = Counts {
-            accepted: 0,
-            refused: 0,
-            other: 0,
-        };
-        for length in 0..=4u32 {
-            add_all(alloc, &mut counts, spellings.as_slice(), length)?;
-        }
+        let counts = counted(alloc, spellings.as_slice())?;
         let (accepted, refused, other) = (counts.accepted, counts.refused, counts.other);
         Ok(format!(in alloc; "{accepted} accepted, {refused} refused, {other} others")?)
     }
 }
 
-// Counts the answers to all texts of so many spellings.
-fn add_all(
-    alloc: Global,
-    counts: &mut Counts,
-    spellings: &[&str],
-    length: u32,
-) -> Result<(), Fail> {
-    let number = spellings.len().checked_pow(length).ok_or("too many texts")?;
-    for index in 0..number {
-        let text = spelled(alloc, spellings, length, index)?;
-        counts.add(outcome_of(parse_query(alloc, text.as_str())));
+fn counted(alloc: Global, spellings: &[&str]) -> Result<Counts, AllocError> {
+    let mut counts = Counts {
+        accepted: 0,
+        refused: 0,
+        other: 0,
+    };
+    for length in 0..=4u32 {
+        for index in 0..spellings.len().wrapping_pow(length) {
+            let text = spelled(alloc, spellings, length, index)?;
+            counts.add(accepted(alloc, text.as_str())?.as_str());
+        }
     }
-    Ok(())
+    Ok(counts)
 }
 
 // The text of this index among those of so many spellings.
@@ -328,18 +312,15 @@ fn spelled(
     length: u32,
     index: usize,
 ) -> Result<String, AllocError> {
-    let mut out = String::new(alloc);
+    let mut shown = Shown::new(alloc);
     let mut rest = index;
     for _ in 0..length {
-        if let Some(which) = rest.checked_rem(spellings.len())
-            && let Some(spelling) = spellings.get(which)
-        {
-            out.push_str(spelling)?;
-            out.push_str(" ")?;
-            rest = rest.checked_div(spellings.len()).unwrap_or(0);
-        }
+        let which = rest.checked_rem(spellings.len()).unwrap_or(0);
+        rest = rest.checked_div(spellings.len()).unwrap_or(0);
+        shown.word(spellings.get(which).copied().unwrap_or("?"));
+        shown.word(" ");
     }
-    Ok(out)
+    shown.finish()
 }
 
 #[test]

@@ -1,11 +1,12 @@
 //! How deep a request may nest: 64 sets in a definition's own set, 64 lists and objects in a value, 64 lists in a type.
-use super::Acceptance;
+use super::Request;
+use crate::answers::View;
 use crate::rows::hold;
 use std::test::Fail;
 
 #[test]
 fn nested_fields(rt: HostRuntime) -> Result<(), Fail> {
-    hold(&rt, rt.alloc(), &Acceptance, NESTED_FIELDS)
+    hold(&rt, rt.alloc(), &View::Acceptance, NESTED_FIELDS)
 }
 
 const NESTED_FIELDS: &str = r"
@@ -33,7 +34,7 @@ query A{b}fragment F on T{⟨65×a{⟩b⟨66×}⟩ ⇒ recursion limit exceeded
 
 #[test]
 fn nested_inline_fragments(rt: HostRuntime) -> Result<(), Fail> {
-    hold(&rt, rt.alloc(), &Acceptance, NESTED_INLINE_FRAGMENTS)
+    hold(&rt, rt.alloc(), &View::Acceptance, NESTED_INLINE_FRAGMENTS)
 }
 
 const NESTED_INLINE_FRAGMENTS: &str = r"
@@ -55,7 +56,7 @@ const NESTED_INLINE_FRAGMENTS: &str = r"
 
 #[test]
 fn nested_values(rt: HostRuntime) -> Result<(), Fail> {
-    hold(&rt, rt.alloc(), &Acceptance, NESTED_VALUES)
+    hold(&rt, rt.alloc(), &View::Acceptance, NESTED_VALUES)
 }
 
 const NESTED_VALUES: &str = r"
@@ -85,7 +86,7 @@ query($v:T@d(x:⟨65×[⟩⟨65×]⟩)){a} ⇒ recursion limit exceeded
 
 #[test]
 fn nested_types(rt: HostRuntime) -> Result<(), Fail> {
-    hold(&rt, rt.alloc(), &Acceptance, NESTED_TYPES)
+    hold(&rt, rt.alloc(), &View::Acceptance, NESTED_TYPES)
 }
 
 const NESTED_TYPES: &str = r"
@@ -100,7 +101,7 @@ query($a:Int $b:⟨65×[⟩Int⟨65×]⟩){a} ⇒ recursion limit exceeded
 
 #[test]
 fn deep_values_and_types_are_kept(rt: HostRuntime) -> Result<(), Fail> {
-    hold(&rt, rt.alloc(), &super::Request, DEEP_TREES)
+    hold(&rt, rt.alloc(), &Request, DEEP_TREES)
 }
 
 const DEEP_TREES: &str = r"

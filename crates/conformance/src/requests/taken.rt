@@ -1,19 +1,20 @@
 //! How many tokens a parser takes of those that it is handed, and what is left of them.
-use super::accepted;
+use crate::answers::{View, seen};
 use crate::rows::{Subject, hold};
-use crate::shown;
+use crate::shown::{Shown, Written};
 use graphql_parser::lexer::Tokens;
 use graphql_parser::parse_query_from;
 use std::alloc::Global;
 use std::test::Fail;
 
 /// Whether `parse_query_from` accepts fresh tokens of a text, and how many it takes.
-pub struct Taken;
+struct Taken;
 
 impl Subject for Taken {
     fn answer(&self, alloc: Global, text: &str) -> Result<String, Fail> {
         let mut tokens = Tokens::new(text);
-        let answer = accepted(alloc, parse_query_from(alloc, &mut tokens))?;
+        let answer = parse_query_from(alloc, &mut tokens);
+        let answer = seen(alloc, View::Acceptance, "", answer)?;
         let taken = tokens.taken();
         Ok(format!(in alloc; "{answer}, taken {taken}")?)
     }
@@ -106,22 +107,33 @@ struct InTurn;
 impl Subject for InTurn {
     fn answer(&self, alloc: Global, text: &str) -> Result<String, Fail> {
         let (passed, text) = text.split_once(" in ").ok_or("no number of tokens")?;
-        let passed: usize = passed.parse()?;
         let mut tokens = Tokens::new(text);
-        let mut out = String::new(alloc);
-        for _ in 0..passed {
-            tokens.next();
-        }
+        pass(&mut tokens, passed.parse()?);
+        let mut shown = Shown::new(alloc);
         for _ in 0..=text.len() {
-            if tokens.is_ended() {
-                break;
+            if !tokens.is_ended() {
+                write_next(alloc, &mut shown, &mut tokens)?;
             }
-            let answer = shown::answer(alloc, parse_query_from(alloc, &mut tokens))?;
-            let taken = tokens.taken();
-            write!(out, "{answer}, taken {taken}; ")?;
         }
-        Ok(out)
+        Ok(shown.finish()?)
     }
+}
+
+fn pass(tokens: &mut Tokens<'_>, count: usize) {
+    for _ in 0..count {
+        tokens.next();
+    }
+}
+
+// What is given next, where the tokens have not ended.
+fn write_next(alloc: Global, shown: &mut Shown, tokens: &mut Tokens<'_>) -> Written {
+    if !tokens.is_ended() {
+        let answer = parse_query_from(alloc, tokens);
+        shown.word(seen(alloc, View::Whole, "", answer)?.as_str());
+        shown.number(", taken ", tokens.taken());
+        shown.word("; ");
+    }
+    Ok(())
 }
 
 #[test]

@@ -5,44 +5,43 @@ use super::parts::{
 };
 use graphql_parser::types::{
     DocumentOperations, ExecutableDocument, Field, FragmentDefinition, FragmentSpread,
-    InlineFragment, OperationDefinition, OperationType, Selection, SelectionSet, TypeCondition,
+    InlineFragment, OperationDefinition, Selection, SelectionSet, TypeCondition,
     VariableDefinition,
 };
+use graphql_parser::value::Name;
 use graphql_parser::{Pos, Positioned};
+use indexmap::IndexMap;
 
 // The tree of a request: its operations, and then its fragments, each behind its name.
-pub fn request(shown: &mut Shown, document: &ExecutableDocument) {
-    match &document.operations {
-        DocumentOperations::Single(operation) => {
-            shown.word("single");
-            write_operation(shown, operation);
+pub fn write_request(shown: &mut Shown, document: &ExecutableDocument) {
+    shown.word(match &document.operations {
+        DocumentOperations::Single(_) => "single",
+        DocumentOperations::Multiple(_) => "multiple",
+    });
+    write_operations(shown, &document.operations);
+    write_fragments(shown, &document.fragments);
+}
+
+fn write_operations(shown: &mut Shown, operations: &DocumentOperations) {
+    for (name, operation) in operations.iter() {
+        if let Some(name) = name {
+            shown.word(" ");
+            shown.word(name.as_str());
         }
-        DocumentOperations::Multiple(operations) => {
-            shown.word("multiple");
-            for (name, operation) in operations.iter() {
-                shown.word(" ");
-                shown.word(name.as_str());
-                write_operation(shown, operation);
-            }
-        }
+        write_operation(shown, operation);
     }
-    for (name, fragment) in document.fragments.iter() {
+}
+
+fn write_fragments(shown: &mut Shown, fragments: &IndexMap<Name, Positioned<FragmentDefinition>>) {
+    for (name, fragment) in fragments.iter() {
         shown.word(" ");
         shown.word(name.as_str());
         write_fragment(shown, fragment);
     }
 }
 
-fn kind(ty: OperationType) -> &'static str {
-    match ty {
-        OperationType::Query => " (query",
-        OperationType::Mutation => " (mutation",
-        OperationType::Subscription => " (subscription",
-    }
-}
-
 fn write_operation(shown: &mut Shown, operation: &Positioned<OperationDefinition>) {
-    shown.word(kind(operation.node.ty));
+    shown.operation_kind(operation.node.ty);
     shown.place(" ", operation.pos);
     for variable in &operation.node.variable_definitions {
         write_variable(shown, variable);
