@@ -7,6 +7,7 @@ pub mod Escapes
 pub mod Lexer
 pub mod Lexing
 pub mod Loans
+pub mod NameText
 pub mod Numbers
 pub mod Numerals
 pub mod Quoted

@@ -1,4 +1,4 @@
-//! Names, over an owned text.
+//! Names, each with a text of its own.
 ghost use Rattle.std.specs.Prelude.{◌≡◌, ◌↔◌, Some, IfOk, IsTrue, nat_eq, refl};
 ghost use Rattle.std.specs.Ordering.{nat_cmp};
 ghost use Rattle.std.specs.Fmt.{styled_text};
@@ -8,6 +8,7 @@ ghost use Rattle.std.specs.Cmp.{partial_equiv_from_equiv};
 ghost use Rattle.std.specs.Cmp.Rules.{hashing};
 ghost use Rattle.std.proofs.Common.{rules};
 
+use arrayvec::ArrayString;
 use serde::{Described, Deserialize, Deserializer, Format, Serialize, Serializer};
 use std::alloc::{AllocError, Global};
 use std::cmp::Ordering;
@@ -15,37 +16,57 @@ use std::fmt;
 use std::hash::{Hash, Hasher};
 use std::marker::Model;
 
+// Most names are short. Those lie in the name itself, and only the others take memory.
+#[derive(Drop)]
+enum Text {
+    Short(ArrayString<16>),
+    Long(String),
+}
+
 /// A name of a document: of a field, a type, an argument, a variable and the like.
 ///
 /// It owns its text, and a contract sees it as the bytes of that text in UTF-8. Names are equal
 /// where their texts are, ordered by the bytes of their texts, and hashed as texts, so they are
-/// lawful keys of ordered and hashed maps. Serde writes and reads a name as a string.
-#[derive(Debug, Drop)]
-pub struct Name(String);
+/// lawful keys of ordered and hashed maps. Serde writes and reads a name as a string. A name of at
+/// most 16 bytes takes no memory but its own.
+#[derive(Drop)]
+pub struct Name(Text);
 
 impl Model for Name {
-    ghost use Rattle.std.specs.Prelude.{ℕ, List, string_bytes};
+    ghost use Rattle.std.specs.Prelude.{ℕ, List};
+    ghost use Rattle.graphql_syntax.specs.inner.NameText.{text_bytes};
 
     ghost Value = { List ℕ };
 
-    ghost view = { λ n. string_bytes n.0 };
+    ghost view = { λ n. text_bytes n.0 };
 }
 
 impl Name {
+    ghost use Rattle.std.specs.Prelude.{◌≤◌, length, IsOk};
+
     /// The name with this text, whatever the text is: it isn't held against the grammar of names.
     ///
-    /// Fails only where no memory is left for the text.
+    /// Fails only where the text is longer than 16 bytes and no memory is left for it.
+    #[inline]
     pub fn new(alloc: Global, text: &str) -> Result<Name, AllocError>
-        ensures { IfOk result (λ name. name ≡ text.now) }
+        ensures name { IfOk result (λ name. name ≡ text.now) }
+        ensures short { length text.now ≤ 16 → IsOk result }
     {
-        Ok(Name(String::from_str(alloc, text)?))
+        match ArrayString::from(text) {
+            Ok(short) => Ok(Name(Text::Short(short))),
+            Err(_) => Ok(Name(Text::Long(String::from_str(alloc, text)?))),
+        }
     }
 
     /// The name's text, borrowed.
+    #[inline]
     pub fn as_str(&self) -> &str
         ensures { result.now ≡ self.now }
     {
-        self.0.as_str()
+        match &self.0 {
+            Text::Short(text) => text.as_str(),
+            Text::Long(text) => text.as_str(),
+        }
     }
 }
 
@@ -53,7 +74,10 @@ impl Clone for Name {
     ghost is_clone = { λ name copy. copy ≡ name };
 
     fn clone(&self) -> Result<Name, AllocError> {
-        Ok(Name(self.0.clone()?))
+        match &self.0 {
+            Text::Short(text) => Ok(Name(Text::Short(*text))),
+            Text::Long(text) => Ok(Name(Text::Long(text.clone()?))),
+        }
     }
 }
 
@@ -108,6 +132,12 @@ impl Hash for Name {
     }
 }
 
+impl fmt::Debug for Name {
+    fn fmt<W: fmt::Write>(&self, f: &mut fmt::Formatter<W>) -> fmt::Result {
+        f.debug_tuple("Name").field(&self.as_str()).finish()
+    }
+}
+
 impl fmt::Display for Name {
     ghost output = { λ name. Some name };
 
@@ -131,6 +161,10 @@ impl<'de> Deserialize<'de> for Name {
         alloc: Global,
         from: &mut Deserializer<'de, '_, F>,
     ) -> Result<Name, F::Error> {
-        Ok(Name(String::deserialize(alloc, from)?))
+        let text = String::deserialize(alloc, from)?;
+        match ArrayString::from(text.as_str()) {
+            Ok(short) => Ok(Name(Text::Short(short))),
+            Err(_) => Ok(Name(Text::Long(text))),
+        }
     }
 }

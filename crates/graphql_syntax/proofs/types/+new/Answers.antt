@@ -21,7 +21,7 @@ Type::new-returns-in-None-clause-one t c = one_type c.args.text.now
 pub type_text::type_of-returns-in_default : goal.type_text::type_of-returns-in_default
 type_text::type_of-returns-in_default t c =
     let begins = rw c.in_default.is at (strip_prefix_char 91 c.args.text.now c.strip_prefix.result c.strip_prefix.ensures.cases (lit< tt)) in
-    ((λ b. begins b.0 (sym c.in_ok-new.ensures ∙ b.1), λ yes e. c.requires.1.1 yes (e.0, sym c.in_ok-new.ensures ∙ e.1)), ap (λ s. s ++ mark c.args.nullable) c.in_ok-new.ensures)
+    ((λ b. begins b.0 (sym c.in_ok-new.ensures.name ∙ b.1), λ yes e. c.requires.1.1 yes (e.0, sym c.in_ok-new.ensures.name ∙ e.1)), ap (λ s. s ++ mark c.args.nullable) c.in_ok-new.ensures.name)
 
 pub type_text::type_of-returns-in_default-strip_suffix : goal.type_text::type_of-returns-in_default-strip_suffix
 type_text::type_of-returns-in_default-strip_suffix t c =
