@@ -70,6 +70,10 @@ abc ⇒ 'abc' 'abc' '␠␠␠abc' Name("abc")
  ⇒ '' '' '␠␠␠␠␠␠' Name("")
 0 é␊ ⇒ '0 é␊' '0 é␊' '␠␠0 é␊' Name("0 é\n")
 query ⇒ 'query' 'query' ' query' Name("query")
+abcdefghijklmnop ⇒ 'abcdefghijklmnop' 'abcdefghijklmnop' 'abcdefghijklmnop' Name("abcdefghijklmnop")
+abcdefghijklmnopq ⇒ 'abcdefghijklmnopq' 'abcdefghijklmnopq' 'abcdefghijklmnopq' Name("abcdefghijklmnopq")
+éééééééé ⇒ 'éééééééé' 'éééééééé' 'éééééééé' Name("éééééééé")
+aéééééééé ⇒ 'aéééééééé' 'aéééééééé' 'aéééééééé' Name("aéééééééé")
 "#;
 
 #[test]
@@ -86,6 +90,11 @@ a0 and a_ ⇒ less
 z and é ⇒ less
 é and z ⇒ more
 a and a ⇒ equal
+abcdefghijklmnop and abcdefghijklmnopq ⇒ less
+abcdefghijklmnopq and abcdefghijklmnop ⇒ more
+abcdefghijklmnopq and abcdefghijklmnopr ⇒ less
+abcdefghijklmnopq and abcdefghijklmnopq ⇒ equal
+b and abcdefghijklmnopq ⇒ more
 ";
 
 /// Whether the value is written as this text, and the text is read as this value.
@@ -108,5 +117,7 @@ fn serde_writes_and_reads(rt: HostRuntime) -> Result<(), Fail> {
     assert!(rt; is_written(alloc, &kind, "\"Subscription\"")?);
     let name = Name::new(alloc, "a \"b\"")?;
     assert!(rt; is_written(alloc, &name, "\"a \\\"b\\\"\"")?);
+    let long = Name::new(alloc, "abcdefghijklmnopq")?;
+    assert!(rt; is_written(alloc, &long, "\"abcdefghijklmnopq\"")?);
     Ok(())
 }
