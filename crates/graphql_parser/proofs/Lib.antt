@@ -36,4 +36,5 @@ pub mod Calls
 pub mod Heads
 pub mod HeadTakes
 pub mod OpenSets
+pub mod OpenParts
 pub mod Operations

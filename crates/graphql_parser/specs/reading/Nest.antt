@@ -2,7 +2,7 @@
 use Rattle.std.specs.Prelude.{ℕ, List}
 use Rattle.graphql_parser.specs.declared.parse.selections.frames.OpenSet.{OpenSet}
 
--- the open sets, the outermost first, and how many more may be opened
+-- the open sets, the innermost first, and how many more may be opened
 pub record Nest : Type 0 where
   pub outer : List OpenSet
   pub left : ℕ

@@ -1,5 +1,5 @@
 -- Reading selection sets by the sets that are open around the one that is read.
-use Rattle.std.specs.Prelude.{ℕ, zero, suc, pred, ◌+◌, Bool, true, false, cond, Option, Some, None, List, [], ◌∷◌, ◌++◌, length}
+use Rattle.std.specs.Prelude.{ℕ, zero, suc, pred, Bool, true, false, cond, Option, Some, None, List, [], ◌∷◌, ◌++◌}
 use Rattle.graphql_syntax.specs.declared.pos.Pos.{Pos}
 use Rattle.graphql_syntax.specs.declared.pos.Positioned.{Positioned}
 use Rattle.graphql_syntax.specs.tokens.Token.{Token}
@@ -168,7 +168,7 @@ filled_in o set = record { place = o.place; items = fill_last o.items set }
 abbrev pub filled : ℕ → ℕ → Opened → Outcome Set → Outcome Set
 filled values s o read = read >>= λ own rest. behind_rest values s (filled_in o own) rest
 
--- the open sets around a set in which sets may nest b deep, the outermost first
+-- the open sets around a set in which sets may nest b deep, the innermost first
 abbrev pub resume : ℕ → ℕ → List Opened → Outcome Set → Outcome Set
 resume values b [] read = read
-resume values b (o ∷ os) read = filled values (suc (b + length os)) o (resume values b os read)
+resume values b (o ∷ os) read = resume values (suc b) os (filled values (suc b) o read)

@@ -8,7 +8,7 @@ mod frames;
 mod heads;
 
 use super::{Cursor, Reading};
-use frames::{Frames, OpenSet};
+use frames::{Frames, OpenSet, fill_last};
 use graphql_syntax::pos::Positioned;
 use graphql_syntax::types::SelectionSet;
 pub(super) use heads::read_type_condition;
@@ -25,23 +25,32 @@ pub(super) fn read_selection_set(
     ensures { Gives (request.placed selection_set_tree) result cursor.old cursor.new (selection_set_at values selections) }
 {
     let brace = cursor.expect_punct("{")?;
+    // The selections of all sets that are open, the innermost set's last.
+    let mut items = Vec::new(alloc);
     let mut frames = Frames::new(alloc, selections);
-    let mut own = OpenSet::new(alloc, brace.pos)?;
+    let mut own = OpenSet {
+        place: brace.pos,
+        first: 0,
+    };
     loop {
         let nests = frames.may_nest();
-        if let Some(place) = heads::read_head(alloc, cursor, values, nests, &mut own.items)? {
+        if let Some(place) = heads::read_head(alloc, cursor, values, nests, &mut items)? {
             // Its set is read before what stands behind it.
             frames.enter(own)?;
-            own = OpenSet::new(alloc, place)?;
+            own = OpenSet {
+                place,
+                first: items.len(),
+            };
             continue;
         }
         // Each set that ends here is given to the selection that waits for it.
         while !cursor.is_at_selection() {
             cursor.expect_punct("}")?;
+            let set = own.close(&mut items)?;
             match frames.leave() {
-                None => return Ok(own.close()),
-                Some(mut outer) => {
-                    outer.fill(own.close());
+                None => return Ok(set),
+                Some(outer) => {
+                    fill_last(&mut items, set);
                     own = outer;
                 }
             }

@@ -1,45 +1,37 @@
 //! The sets that are open around the one that is read.
-ghost use Rattle.std.specs.Prelude.{◌≡◌, true, ◌++◌, ◌∷◌, [], suc, IfOk, MatchOption};
+ghost use Rattle.std.specs.Prelude.{◌≡◌, ◌≤◌, true, ◌∷◌, [], suc, take, drop, IfOk, MatchOption};
+ghost use Rattle.std.specs.Vec.{vec_len};
 ghost use Rattle.graphql_syntax.specs.trees.Request as request;
 ghost use Rattle.graphql_syntax.specs.trees.RequestViews.{selection_tree, selection_trees, selection_set_tree};
-ghost use Rattle.graphql_parser.specs.reading.SelectionSteps.{with_set, fill_last, filled_in, begun, closed, may_nest};
-ghost use Rattle.graphql_parser.specs.reading.OpenSets.{opened};
+ghost use Rattle.graphql_parser.specs.reading.SelectionSteps.{with_set, fill_last, closed, may_nest};
+ghost use Rattle.graphql_parser.specs.reading.OpenSets.{part};
 
 use graphql_syntax::pos::{Pos, Positioned};
 use graphql_syntax::types::{Selection, SelectionSet};
 use std::alloc::{AllocError, Global};
 use std::marker::Model;
 
-/// A set, as far as it is read.
+/// A set, as far as it is read. One list has the selections of all open sets.
 #[derive(Drop)]
 pub(super) struct OpenSet {
     /// Where its `{` stands.
-    place: Pos,
-    pub(super) items: Vec<Positioned<Selection>>,
+    pub(super) place: Pos,
+    /// How many selections of the sets around it lie before its own.
+    pub(super) first: usize,
 }
 
 impl OpenSet {
-    // A set has one selection at least, and often no more.
-    pub(super) fn new(alloc: Global, place: Pos) -> Result<OpenSet, AllocError>
-        ensures { IfOk result (λ s. opened s ≡ begun place) }
+    /// Cuts the set off the list. It gets a block that is as large as it needs.
+    pub(super) fn close(
+        &self,
+        items: &mut Vec<Positioned<Selection>>,
+    ) -> Result<Positioned<SelectionSet>, AllocError>
+        requires { self.now.first ≤ vec_len items.old }
+        ensures set { IfOk result (λ set. request.placed selection_set_tree set ≡ closed (part self.now (selection_trees items.old.items))) }
+        ensures rest { IfOk result (λ _. selection_trees items.new.items ≡ take self.now.first (selection_trees items.old.items)) }
     {
-        Ok(OpenSet {
-            place,
-            items: Vec::with_capacity(alloc, 1)?,
-        })
-    }
-
-    /// Gives the last selection its set.
-    pub(super) fn fill(&mut self, set: Positioned<SelectionSet>)
-        ensures { opened self.new ≡ filled_in (opened self.old) (request.placed selection_set_tree set) }
-    {
-        fill_last(&mut self.items, set);
-    }
-
-    pub(super) fn close(self) -> Positioned<SelectionSet>
-        ensures { request.placed selection_set_tree result ≡ closed (opened self) }
-    {
-        Positioned::new(SelectionSet { items: self.items }, self.place)
+        let own = items.split_off(self.first)?;
+        Ok(Positioned::new(SelectionSet { items: own }, self.place))
     }
 }
 
@@ -53,7 +45,8 @@ fn give_set(selection: &mut Selection, set: Positioned<SelectionSet>)
     }
 }
 
-fn fill_last(items: &mut Vec<Positioned<Selection>>, set: Positioned<SelectionSet>)
+/// Gives the last selection its set.
+pub(super) fn fill_last(items: &mut Vec<Positioned<Selection>>, set: Positioned<SelectionSet>)
     ensures { selection_trees items.new.items ≡ fill_last (selection_trees items.old.items) (request.placed selection_set_tree set) }
 {
     if let Some(last) = items.last_mut() {
@@ -72,11 +65,10 @@ pub(super) struct Frames {
 impl Model for Frames {
     ghost use Rattle.graphql_parser.specs.reading.Nest.{Nest};
     ghost use Rattle.std.specs.Coded.{codes};
-    ghost use Rattle.graphql_syntax.specs.contracts.types.executable.Selection as selection;
 
     ghost Value = { Nest };
 
-    ghost coded = { Prim.hlevel (codes, selection.the_row.coded) };
+    ghost coded = { Prim.hlevel codes };
 
     ghost use Rattle.graphql_parser.specs.reading.OpenSets.{shown, IsBounded};
 
@@ -107,7 +99,7 @@ impl Frames {
     /// A set in `outer` is to be read.
     pub(super) fn enter(&mut self, outer: OpenSet) -> Result<(), AllocError>
         requires { may_nest self.old.left ≡ true }
-        ensures outer { IfOk result (λ _. self.new.outer ≡ self.old.outer ++ outer ∷ []) }
+        ensures outer { IfOk result (λ _. self.new.outer ≡ outer ∷ self.old.outer) }
         ensures left { IfOk result (λ _. suc self.new.left ≡ self.old.left) }
     {
         self.outer.reserve(1)?;
@@ -117,7 +109,7 @@ impl Frames {
 
     /// The set around the one that was read.
     pub(super) fn leave(&mut self) -> Option<OpenSet>
-        ensures { MatchOption result (self.old.outer ≡ []) (λ o. (self.old.outer ≡ self.new.outer ++ o ∷ []) × (self.new.left ≡ suc self.old.left)) }
+        ensures { MatchOption result (self.old.outer ≡ []) (λ o. (self.old.outer ≡ o ∷ self.new.outer) × (self.new.left ≡ suc self.old.left)) }
     {
         self.outer.pop()
     }

@@ -1,12 +1,15 @@
-use Rattle.std.proofs.Common.{sym, ◌∙◌, arith}
+use Rattle.std.proofs.Common.{sym, ap, ◌∙◌, arith}
+use Rattle.std.proofs.lemmas.List.{length-map}
 use Rattle.std.proofs.lemmas.Result.{err_from_is_err_and}
 use Rattle.graphql_syntax.specs.tokens.Seen.{seen}
-use Rattle.graphql_syntax.specs.trees.RequestViews.{selection_trees}
+use Rattle.graphql_syntax.specs.trees.Request.{placed}
+use Rattle.graphql_syntax.specs.trees.RequestViews.{selection_tree, selection_trees}
 use Rattle.graphql_parser.specs.grammar.Tests.{punct}
 use Rattle.graphql_parser.specs.reading.Ahead.{tokens}
 use Rattle.graphql_parser.proofs.HeadTakes.{head-nests, onto-takes, one-takes}
 use Rattle.graphql_parser.proofs.Loops.{go-on}
-use Rattle.graphql_parser.proofs.OpenSets.{opens, enters, reads, again, ends, leaves, opens-not, reads-not, closes-not}
+use Rattle.graphql_parser.proofs.OpenParts.{opens, enters, reads, again, ends, leaves, reads-not}
+use Rattle.graphql_parser.proofs.OpenSets.{opens-not, closes-not}
 use Rattle.graphql_parser.proofs.parse.selections.read_selection_set.Goals as goal
 
 pub returns-in_err-brace : goal.returns-in_err-brace
@@ -14,53 +17,59 @@ returns-in_err-brace c =
     let p = err_from_is_err_and c.from_residual.result c.from_residual.ensures.1 in
     rw (p.1, p.2) (opens-not c.args.values c.args.selections c.args.cursor.now c.expect_punct.new.self _ c.in_err-brace.ensures)
 
-pub loop-own-init : goal.loop-own-init
-loop-own-init c = opens (seen c.in_ok-brace.brace) c.in_ok-brace.ensures c.new-frames.ensures.outer c.new-frames.ensures.left c.in_ok-own.ensures
+pub loop-frames-init : goal.loop-frames-init
+loop-frames-init c = opens (seen c.in_ok-brace.brace) c.in_ok-brace.ensures (ap selection_trees c.new-items.ensures.items) c.new-frames.ensures.outer c.new-frames.ensures.left
 
 pub returns-in_err-place : goal.returns-in_err-place
 returns-in_err-place c =
     let p = err_from_is_err_and c.from_residual-in_err-place.result c.from_residual-in_err-place.ensures.1 in
-    rw (p.1, p.2) (reads-not c.read_head.new.cursor _ c.may_nest-nests.ensures c.in_err-place.ensures c.loop-own.invariant)
+    rw (p.1, p.2) (reads-not c.read_head.new.cursor _ c.may_nest-nests.ensures c.in_err-place.ensures c.loop-frames.invariant)
 
 pub enter-requires : goal.enter-requires
-enter-requires c = sym c.may_nest-nests.ensures ∙ head-nests c.args.values c.may_nest-nests.result (selection_trees c.loop-own.own.items.items) _ _ (tokens c.loop-own.cursor) _ (rw c.in-Some.is at c.in_ok-place.ensures.0)
+enter-requires c = sym c.may_nest-nests.ensures ∙ head-nests c.args.values c.may_nest-nests.result (selection_trees c.loop-frames.items.items) _ _ (tokens c.loop-frames.cursor) _ (rw c.in-Some.is at c.in_ok-place.ensures.0)
 
 pub returns-in_err-enter : goal.returns-in_err-enter
 returns-in_err-enter c =
     let p = err_from_is_err_and c.from_residual-in_err-enter.result c.from_residual-in_err-enter.ensures.1 in
-    rw (p.1, p.2) (tt, go-on c.args.cursor.now c.loop-own.cursor c.read_head.new.cursor c.loop-own.invariant.on c.in_ok-place.ensures.1)
+    rw (p.1, p.2) (tt, go-on c.args.cursor.now c.loop-frames.cursor c.read_head.new.cursor c.loop-frames.invariant.kept.on c.in_ok-place.ensures.1)
 
-pub returns-in_err-own-2 : goal.returns-in_err-own-2
-returns-in_err-own-2 c =
-    let p = err_from_is_err_and c.from_residual-in_err-own-2.result c.from_residual-in_err-own-2.ensures.1 in
-    rw (p.1, p.2) (tt, go-on c.args.cursor.now c.loop-own.cursor c.read_head.new.cursor c.loop-own.invariant.on c.in_ok-place.ensures.1)
-
-pub loop-own-smaller-in-Some : goal.loop-own-smaller-in-Some
-loop-own-smaller-in-Some c =
-    let shorter = onto-takes c.args.values c.may_nest-nests.result _ (tokens c.loop-own.cursor) _ (tokens c.read_head.new.cursor) c.in_ok-place.ensures.0 in
+pub loop-frames-smaller-in-Some : goal.loop-frames-smaller-in-Some
+loop-frames-smaller-in-Some c =
+    let shorter = onto-takes c.args.values c.may_nest-nests.result _ (tokens c.loop-frames.cursor) _ (tokens c.read_head.new.cursor) c.in_ok-place.ensures.0 in
     omega (arith, shorter)
 
-pub loop-own-preserved-in-Some : goal.loop-own-preserved-in-Some
-loop-own-preserved-in-Some c = enters c.read_head.new.items c.may_nest-nests.ensures (rw c.in-Some.is at c.in_ok-place.ensures) c.in_ok-enter.ensures.outer c.in_ok-enter.ensures.left c.in_ok-own-2.ensures c.loop-own.invariant
+pub loop-frames-preserved-in-Some : goal.loop-frames-preserved-in-Some
+loop-frames-preserved-in-Some c =
+    enters (selection_trees c.read_head.new.items.items) c.may_nest-nests.ensures (rw c.in-Some.is at c.in_ok-place.ensures) c.in_ok-enter.ensures.outer c.in_ok-enter.ensures.left
+    (omega (arith, c.len.ensures, c.read_head.new.items.ok.0, length-map c.read_head.new.items.items (placed selection_tree)))
+    c.loop-frames.invariant
 
 pub loop-nests-init : goal.loop-nests-init
-loop-nests-init c = reads c.read_head.new.items c.may_nest-nests.ensures (rw c.in_default.is at c.in_ok-place.ensures) c.loop-own.invariant
+loop-nests-init c = reads (selection_trees c.read_head.new.items.items) c.may_nest-nests.ensures (rw c.in_default.is at c.in_ok-place.ensures) c.loop-frames.invariant
 
-pub loop-own-smaller : goal.loop-own-smaller
-loop-own-smaller c =
-    let shorter = onto-takes c.args.values c.may_nest-nests.result _ (tokens c.loop-own.cursor) _ (tokens c.read_head.new.cursor) c.in_ok-place.ensures.0 in
-    omega (arith, shorter, c.loop-nests.invariant.less)
+pub loop-frames-smaller : goal.loop-frames-smaller
+loop-frames-smaller c =
+    let shorter = onto-takes c.args.values c.may_nest-nests.result _ (tokens c.loop-frames.cursor) _ (tokens c.read_head.new.cursor) c.in_ok-place.ensures.0 in
+    omega (arith, shorter, c.loop-nests.invariant.kept.less)
 
-pub loop-own-preserved : goal.loop-own-preserved
-loop-own-preserved c = again (sym c.is_at_selection.ensures ∙ c.loop-nests-test.false) c.loop-nests.invariant
+pub loop-frames-preserved : goal.loop-frames-preserved
+loop-frames-preserved c = again (sym c.is_at_selection.ensures ∙ c.loop-nests-test.false) c.loop-nests.invariant
 
 pub returns-in_err-expect_punct : goal.returns-in_err-expect_punct
 returns-in_err-expect_punct c =
     let p = err_from_is_err_and c.from_residual-in_err-expect_punct.result c.from_residual-in_err-expect_punct.ensures.1 in
-    rw (p.1, p.2) (closes-not c.expect_punct-in-loop-nests.new.self _ (sym c.is_at_selection.ensures ∙ c.loop-nests-test.true) c.in_err-expect_punct.ensures c.loop-nests.invariant)
+    rw (p.1, p.2) (closes-not c.expect_punct-in-loop-nests.new.self _ (sym c.is_at_selection.ensures ∙ c.loop-nests-test.true) c.in_err-expect_punct.ensures c.loop-nests.invariant.kept)
+
+pub close-requires : goal.close-requires
+close-requires c = omega (arith, c.loop-nests.invariant.waits.0, c.loop-nests.items.ok.0, length-map c.loop-nests.items.items (placed selection_tree))
+
+pub returns-in_err-set : goal.returns-in_err-set
+returns-in_err-set c =
+    let p = err_from_is_err_and c.from_residual-in_err-set.result c.from_residual-in_err-set.ensures.1 in
+    rw (p.1, p.2) (tt, go-on c.args.cursor.now c.loop-nests.cursor c.expect_punct-in-loop-nests.new.self c.loop-nests.invariant.kept.on c.in_ok-expect_punct.ensures.1)
 
 pub returns-in-None : goal.returns-in-None
-returns-in-None c = ends (seen c.in_ok-expect_punct.field-0) (sym c.is_at_selection.ensures ∙ c.loop-nests-test.true) c.in_ok-expect_punct.ensures c.in-None.ensures c.close.ensures c.loop-nests.invariant
+returns-in-None c = ends (seen c.in_ok-expect_punct.field-0) (sym c.is_at_selection.ensures ∙ c.loop-nests-test.true) c.in_ok-expect_punct.ensures c.in-None.ensures c.in_ok-set.ensures.set c.loop-nests.invariant
 
 pub loop-nests-smaller : goal.loop-nests-smaller
 loop-nests-smaller c =
@@ -68,4 +77,4 @@ loop-nests-smaller c =
     omega (arith, shorter)
 
 pub loop-nests-preserved : goal.loop-nests-preserved
-loop-nests-preserved c = leaves c.in-Some-leave.outer (seen c.in_ok-expect_punct.field-0) (sym c.is_at_selection.ensures ∙ c.loop-nests-test.true) c.in_ok-expect_punct.ensures c.in-Some-leave.ensures c.close-in-Some-leave.ensures c.fill.ensures c.loop-nests.invariant
+loop-nests-preserved c = leaves c.in-Some-leave.outer (seen c.in_ok-expect_punct.field-0) (sym c.is_at_selection.ensures ∙ c.loop-nests-test.true) c.in_ok-expect_punct.ensures c.in-Some-leave.ensures c.in_ok-set.ensures.set c.in_ok-set.ensures.rest c.fill_last.ensures c.loop-nests.invariant
