@@ -103,29 +103,15 @@ impl View {
             View::Sizes => write_sizes(shown, document),
             View::ResponseKey => write_key(shown, document),
             View::Defaults => write_defaults(shown, document),
-            _ => return self.write_made(alloc, shown, asked, document),
+            View::Argument => write_argument(alloc, shown, asked, document)?,
+            View::Directives => write_directives(shown, document)?,
+            View::Operations => write_operations(shown, document)?,
+            View::Named => write_named(shown, asked, document)?,
+            View::IntoConst => write_into_const(alloc, shown, document)?,
+            View::Equality => write_equality(alloc, shown, document)?,
+            View::DirectiveIntoConst => write_directive_into_const(alloc, shown, document)?,
         }
         Ok(())
-    }
-
-    // The views that take memory besides.
-    fn write_made(
-        self,
-        alloc: Global,
-        shown: &mut Shown,
-        asked: &str,
-        document: &ExecutableDocument,
-    ) -> Written {
-        match self {
-            View::Argument => write_argument(alloc, shown, asked, document),
-            View::Directives => write_directives(shown, document),
-            View::Operations => write_operations(shown, document),
-            View::Named => write_named(shown, asked, document),
-            View::IntoConst => write_into_const(alloc, shown, document),
-            View::Equality => write_equality(alloc, shown, document),
-            View::DirectiveIntoConst => write_directive_into_const(alloc, shown, document),
-            _ => Ok(()),
-        }
     }
 }
 

@@ -11,8 +11,8 @@
 //!
 //! The text stands before the arrow, from the line's first column on: a column of the text is a column of
 //! the line. What the call makes of it stands behind the arrow, and goes on in each line that begins with two
-//! blanks; any number of blanks there is one, and those at its ends don't count. A line that begins with `-- ` is a remark, and empty lines are
-//! passed over.
+//! blanks; any number of blanks there is one, and those at its ends don't count. A line that begins with `-- `
+//! is a remark, and empty lines are passed over.
 //!
 //! On both sides of the arrow ␊, ␍ and ␉ stand for a line feed, a carriage return and a tab, and ␠ for a blank
 //! where it would not be seen. ⟨1F600⟩ is the character of that number, and ⟨64×a{⟩ is `a{` written 64 times.

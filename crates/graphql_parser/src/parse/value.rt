@@ -9,6 +9,8 @@ mod fields;
 mod fill;
 mod frames;
 mod simple;
+#[cfg(test)]
+mod tests;
 
 use super::{Cursor, Reading};
 use fields::merge;

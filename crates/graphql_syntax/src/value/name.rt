@@ -42,7 +42,17 @@ impl Model for Name {
 }
 
 impl Name {
-    ghost use Rattle.std.specs.Prelude.{◌≤◌, length, IsOk};
+    ghost use Rattle.std.specs.Prelude.{◌≤◌, length, IsOk, IfSome, IsSome};
+
+    // The name that holds this text in itself, where there is room for it.
+    #[inline]
+    fn in_place(text: &str) -> Option<Name>
+        ensures name { IfSome result (λ name. name ≡ text.now) }
+        ensures room { length text.now ≤ 16 → IsSome result }
+    {
+        let text = ArrayString::from(text).ok()?;
+        Some(Name(Text::Short(text)))
+    }
 
     /// The name with this text, whatever the text is: it isn't held against the grammar of names.
     ///
@@ -52,9 +62,9 @@ impl Name {
         ensures name { IfOk result (λ name. name ≡ text.now) }
         ensures short { length text.now ≤ 16 → IsOk result }
     {
-        match ArrayString::from(text) {
-            Ok(short) => Ok(Name(Text::Short(short))),
-            Err(_) => Ok(Name(Text::Long(String::from_str(alloc, text)?))),
+        match Name::in_place(text) {
+            Some(name) => Ok(name),
+            None => Ok(Name(Text::Long(String::from_str(alloc, text)?))),
         }
     }
 
@@ -162,9 +172,9 @@ impl<'de> Deserialize<'de> for Name {
         from: &mut Deserializer<'de, '_, F>,
     ) -> Result<Name, F::Error> {
         let text = String::deserialize(alloc, from)?;
-        match ArrayString::from(text.as_str()) {
-            Ok(short) => Ok(Name(Text::Short(short))),
-            Err(_) => Ok(Name(Text::Long(text))),
+        match Name::in_place(text.as_str()) {
+            Some(name) => Ok(name),
+            None => Ok(Name(Text::Long(text))),
         }
     }
 }
