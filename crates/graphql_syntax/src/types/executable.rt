@@ -1,9 +1,9 @@
 //! The tree of a request: operations and fragments, and the selections in them.
-ghost use Rattle.std.specs.Prelude.{◌≡◌, Some, [], length, option_map, IfSome};
+ghost use Rattle.std.specs.Prelude.{◌≡◌, Some, [], length, option_map, IfSome, IsSome};
 ghost use Rattle.std.specs.Iterator.{YieldsFirstBy, item_count, UpTo, at_most};
 ghost use Rattle.std.specs.Iterator.SizeHint.{IsWithinCount};
 ghost use Rattle.graphql_syntax.specs.calls.Named.{named, argument_named};
-ghost use Rattle.std.specs.Cow.{cow_value};
+ghost use Rattle.std.specs.Cow.{cow_value, IsBorrowed};
 ghost use Rattle.std.specs.Borrow.{sem};
 ghost use Rattle.graphql_syntax.specs.calls.Lending.{LendsDirectives, directives_of};
 ghost use Rattle.graphql_syntax.specs.inner.Loans.{LendsOfField, LendsOfSpread, LendsOfFragment};
@@ -170,7 +170,8 @@ impl VariableDefinition {
     /// The value of the variable where a request gives none: the default, borrowed, where there is one;
     /// else null where the type may be null; else None.
     pub fn default_value(&self) -> Option<Cow<'_, ConstValue>>
-        ensures { option_map (λ c. cow_value c) result ≡ default_of self.now }
+        ensures value { option_map (λ c. cow_value c) result ≡ default_of self.now }
+        ensures borrowed { IsSome self.now.default_value → IfSome result IsBorrowed }
     {
         if let Some(value) = &self.default_value {
             return Some(Cow::Borrowed(&value.node));

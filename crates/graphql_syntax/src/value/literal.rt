@@ -8,8 +8,8 @@ use super::{ConstValue, Name, Number, Value};
 /// A type of values, made from the parts of a value as they are read (this project's own trait).
 ///
 /// A contract sees each value as a value tree, and each constructor gives the case of its name over
-/// the trees of its parts. None of them takes memory. One reader, generic over this trait, makes
-/// [`Value`], [`ConstValue`] or a type of the caller's.
+/// the trees of its parts. None of them takes memory. The parsers' reader of values is written once,
+/// over this trait, and makes [`Value`] and [`ConstValue`].
 pub trait Literal: Sized + Drop {
     // The tree that a value stands for.
     ghost tree: { Self → Tree };
