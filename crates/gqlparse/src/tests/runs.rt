@@ -103,6 +103,76 @@ fn refused_texts_are_told(rt: HostRuntime) -> Result<(), Fail> {
 }
 
 #[test]
+fn each_definition_is_listed(rt: HostRuntime) -> Result<(), Fail> {
+    for (text, lines) in [
+        (
+            b"{a} fragment F on T{b}".as_slice(),
+            "query 1:1\nfragment F 1:5\n",
+        ),
+        // Operations come first, whatever stands first in the text.
+        (
+            b"\n      fragment onboardingFull on OnboardingState { license }\n      query globalConfig { globalConfig { onboarding { ...onboardingFull } } }",
+            "query globalConfig 3:7\nfragment onboardingFull 2:7\n",
+        ),
+        (
+            b"subscription S{a}mutation M{b}query Q{c}",
+            "subscription S 1:1\nmutation M 1:18\nquery Q 1:31\n",
+        ),
+        (
+            b"mutation{a}fragment G on T{b}fragment F on T{c}",
+            "mutation 1:1\nfragment G 1:12\nfragment F 1:30\n",
+        ),
+    ] {
+        holds(&rt, rt.alloc(), &query(text, 0, lines, ""))?;
+    }
+    Ok(())
+}
+
+#[test]
+fn each_error_is_told_with_its_places(rt: HostRuntime) -> Result<(), Fail> {
+    for (text, lines) in [
+        (
+            b"{a} {b}".as_slice(),
+            "error: document contains multiple operations\nat [{\"line\":1,\"column\":5},{\"line\":1,\"column\":1}]\n",
+        ),
+        (
+            b"query A{a} query A{b}",
+            "error: operation A is defined twice\nat [{\"line\":1,\"column\":12},{\"line\":1,\"column\":1}]\n",
+        ),
+        (
+            b"fragment F on T {a} fragment F on T {b}",
+            "error: fragment F is defined twice\nat [{\"line\":1,\"column\":21},{\"line\":1,\"column\":1}]\n",
+        ),
+        (
+            b"fragment F on T {a}",
+            "error: document does not contain an operation\nat []\n",
+        ),
+    ] {
+        holds(&rt, rt.alloc(), &query(text, 1, "", lines))?;
+    }
+    Ok(())
+}
+
+// Two texts that nest one set too deep, and one whose fault stands behind such a set.
+#[test]
+fn what_nests_too_deep_is_told_without_a_place(rt: HostRuntime) -> Result<(), Fail> {
+    let alloc = rt.alloc();
+    for (inside, closed) in [("b", 66), ("?", 0)] {
+        let mut text = String::from_str(alloc, "{")?;
+        for _ in 0..65usize {
+            text.push_str("a{")?;
+        }
+        text.push_str(inside)?;
+        for _ in 0..closed {
+            text.push_str("}")?;
+        }
+        let lines = "error: recursion limit exceeded.\nat []\n";
+        holds(&rt, alloc, &query(text.as_str().as_bytes(), 1, "", lines))?;
+    }
+    Ok(())
+}
+
+#[test]
 fn wrong_arguments_are_told_before_anything_is_read(rt: HostRuntime) -> Result<(), Fail> {
     for words in [
         [].as_slice(),
