@@ -69,6 +69,7 @@ B in {f(b:one b:two c:$c)@d(c:1 b:2 b:[x])} ⇒ none, none, none
 bb in {f(b:one b:two c:$c)@d(c:1 b:2 b:[x])} ⇒ none, none, none
  in {f(b:one b:two c:$c)@d(c:1 b:2 b:[x])} ⇒ none, none, none
 d in {f(b:one b:two c:$c)@d(c:1 b:2 b:[x])} ⇒ none, none, none
+b in {a(b:1 b:2)} ⇒ 1@1:6
 b in {a(b:1 b:2)@d} ⇒ 1@1:6, none, none
 b in {a@d(a:[] b:{x:[$v]})} ⇒ none, { x=[ $v ] }@1:13, not constant
 ";

@@ -21,7 +21,7 @@ pub enum View {
     Placeless,
     /// The word `accepted`.
     Acceptance,
-    /// How long the name of the first field and its first argument are.
+    /// How long the name of the first field and its first argument are, and the value of a whole number there.
     Sizes,
     /// The argument of a name in the first field, in its first directive, and in that as one without variables.
     Argument,

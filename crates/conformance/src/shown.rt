@@ -77,6 +77,13 @@ impl Shown {
         }
     }
 
+    /// A number that may be below zero, behind what stands before it.
+    pub fn signed(&mut self, before: &str, number: i64) {
+        if write!(self.text, "{before}{number}").is_err() {
+            self.is_cut = true;
+        }
+    }
+
     pub fn type_text(&mut self, ty: &Type) {
         if write!(self.text, " {ty}").is_err() {
             self.is_cut = true;

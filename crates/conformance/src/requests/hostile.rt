@@ -220,7 +220,7 @@ schema{query:Q} ⇒ the same, taken 1
 {a} fragment F on T{b} ⇒ the same, taken 11
 "#;
 
-// How long the name of the first field and its first argument are.
+// How long the name of the first field and its first argument are, and the value of a whole number there.
 pub fn write_sizes(shown: &mut Shown, document: &ExecutableDocument) {
     if let Some(field) = first_field(document) {
         shown.number("name of ", field.name.node.as_str().len());
@@ -235,8 +235,10 @@ fn write_size(shown: &mut Shown, value: &Value) {
         Value::String(text) => shown.number(", string of ", text.len()),
         Value::Number(number) => {
             shown.number(", number of ", number.as_str().len());
-            if number.as_i64().is_some() || number.as_u64().is_some() {
-                shown.word(" with a value");
+            match number.as_i64() {
+                Some(value) => shown.signed(" with the value ", value),
+                None if number.as_u64().is_some() => shown.word(" with an unsigned value"),
+                None => {}
             }
         }
         _ => shown.word(", another value"),
@@ -254,7 +256,8 @@ const HUGE_PARTS: &str = r#"
 {a(b:"⟨1000000×x⟩")} ⇒ name of 1, string of 1000000
 {a(b:"""⟨100000×x␊⟩""")} ⇒ name of 1, string of 199999
 {a(b:⟨100000×1⟩)} ⇒ name of 1, number of 100000
-{a(b:100000) ⟨100000×c ⟩} ⇒ name of 1, number of 6 with a value
+{a(b:100000) ⟨100000×c ⟩} ⇒ name of 1, number of 6 with the value 100000
+mutation { add(big: 21474836470000) } ⇒ name of 3, number of 14 with the value 21474836470000
 "#;
 
 // How many answers of each kind there were.
