@@ -11,12 +11,14 @@ const A: Pos = Pos { line: 1, column: 2 };
 
 const B: Pos = Pos { line: 3, column: 4 };
 
+const C: Pos = Pos { line: 1, column: 5 };
+
 // The error that a row speaks of.
 fn made(alloc: Global, what: &str) -> Result<Error, Fail> {
     match what {
         "syntax" => Ok(syntax(alloc, "syntax error at 1:2", None)?),
         "syntax with an end" => Ok(syntax(alloc, "syntax error at 1:2", Some(B))?),
-        "syntax with another end" => Ok(syntax(alloc, "syntax error at 1:2", Some(A))?),
+        "syntax with another end" => Ok(syntax(alloc, "syntax error at 1:2", Some(C))?),
         "syntax with a message" => Ok(syntax(alloc, "no\n\u{e9}", None)?),
         "syntax without a message" => Ok(syntax(alloc, "", None)?),
         "queries" => Ok(roots(OperationType::Query)),
@@ -208,6 +210,7 @@ syntax with an end: back next next back next back ⇒
 syntax with an end: next back back next ⇒ all [ 1:2 3:4 ] 1:2 [ 3:4 ] 3:4 [ ] none [ ] none [ ]
 syntax with an end: next next next ⇒ all [ 1:2 3:4 ] 1:2 [ 3:4 ] 3:4 [ ] none [ ]
 syntax with an end: back back back ⇒ all [ 1:2 3:4 ] 3:4 [ 1:2 ] 1:2 [ ] none [ ]
+syntax with another end: back next back next ⇒ all [ 1:2 1:5 ] 1:5 [ 1:2 ] 1:2 [ ] none [ ] none [ ]
 operation twice: next next ⇒ all [ 3:4 1:2 ] 3:4 [ 1:2 ] 1:2 [ ]
 syntax: back next ⇒ all [ 1:2 ] 1:2 [ ] none [ ]
 no operation: next back ⇒ all [ ] none [ ] none [ ]

@@ -50,6 +50,7 @@ abc ⇒ 'abc'
 \ud83d\ude00 ⇒ '⟨1F600⟩'
 \uD800\uDC00\uDBFF\uDFFF ⇒ '⟨10000⟩⟨10FFFF⟩'
 \u{0000000041} ⇒ 'A'
+\u{10FFFF} ⇒ '⟨10FFFF⟩'
 \u{0}\u{e000}\u{10FFFF} ⇒ '⟨0⟩⟨E000⟩⟨10FFFF⟩'
 \u{⟨68×0⟩42} ⇒ 'B'
 "#;

@@ -22,27 +22,36 @@ pub struct Request;
 
 impl Subject for Request {
     fn answer(&self, alloc: Global, text: &str) -> Result<String, Fail> {
-        let answer = whole(alloc, text)?;
-        let (limited, from) = (limited(alloc, text)?, from_tokens(alloc, text)?);
-        if limited.as_str() != answer.as_str() || from.as_str() != answer.as_str() {
-            return Ok(format!(in alloc; "{answer}, limited {limited}, from tokens {from}")?);
-        }
-        Ok(answer)
+        of_each_call(alloc, View::Whole, text)
     }
 }
 
-fn whole(alloc: Global, text: &str) -> Result<String, AllocError> {
-    seen(alloc, View::Whole, "", parse_query(alloc, text))
+/// The same, where of an accepted text nothing is said but that it is.
+pub struct Accepted;
+
+impl Subject for Accepted {
+    fn answer(&self, alloc: Global, text: &str) -> Result<String, Fail> {
+        of_each_call(alloc, View::Acceptance, text)
+    }
 }
 
-fn limited(alloc: Global, text: &str) -> Result<String, AllocError> {
+fn of_each_call(alloc: Global, view: View, text: &str) -> Result<String, Fail> {
+    let answer = seen(alloc, view, "", parse_query(alloc, text))?;
+    let (limited, from) = (limited(alloc, view, text)?, from_tokens(alloc, view, text)?);
+    if limited.as_str() != answer.as_str() || from.as_str() != answer.as_str() {
+        return Ok(format!(in alloc; "{answer}, limited {limited}, from tokens {from}")?);
+    }
+    Ok(answer)
+}
+
+fn limited(alloc: Global, view: View, text: &str) -> Result<String, AllocError> {
     let answer = parse_query_limited(alloc, text, Limits::default());
-    seen(alloc, View::Whole, "", answer)
+    seen(alloc, view, "", answer)
 }
 
-fn from_tokens(alloc: Global, text: &str) -> Result<String, AllocError> {
+fn from_tokens(alloc: Global, view: View, text: &str) -> Result<String, AllocError> {
     let answer = parse_query_from(alloc, &mut Tokens::new(text));
-    seen(alloc, View::Whole, "", answer)
+    seen(alloc, view, "", answer)
 }
 
 #[test]

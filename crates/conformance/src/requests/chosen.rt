@@ -50,6 +50,19 @@ const NUMBERS: &str = r"
 64 64 63 ⇒ some
 ";
 
+#[test]
+fn limits_are_copied_and_shown(rt: HostRuntime) -> Result<(), Fail> {
+    let limits = Limits::new(1, 2, 3).ok_or("no limits")?;
+    let copy = limits;
+    let shown = format!(in rt.alloc(); "{limits:?}")?;
+    assert_eq!(rt;
+        shown.as_str(),
+        "Limits { selections: 1, values: 2, types: 3 }"
+    );
+    assert!(rt; copy == limits);
+    Ok(())
+}
+
 /// Whether `parse_query_limited` accepts a text. The limits stand before it, with ` in ` between them.
 struct Limited;
 

@@ -33,6 +33,10 @@ fn fragments(rt: HostRuntime) -> Result<(), Fail> {
 const FRAGMENTS: &str = r"
 {a} fragment F on T{b} ⇒ single (query 1:1 {1:1 (field 1:2 a@1:2 {0:0})})
   F (fragment 1:5 (on 1:16 T@1:19) {1:20 (field 1:21 b@1:21 {0:0})})
+␊      fragment onboardingFull on OnboardingState { license }␊      query globalConfig { globalConfig { onboarding { ...onboardingFull } } } ⇒
+  multiple globalConfig (query 3:7 {3:26 (field 3:28 globalConfig@3:28
+  {3:41 (field 3:43 onboarding@3:43 {3:54 (spread 3:56 onboardingFull@3:59)})})})
+  onboardingFull (fragment 2:7 (on 2:31 OnboardingState@2:34) {2:50 (field 2:52 license@2:52 {0:0})})
 fragment F on T @d(x:1) {...F} {a} ⇒ single (query 1:32 {1:32 (field 1:33 a@1:33 {0:0})})
   F (fragment 1:1 (on 1:12 T@1:15) (directive 1:17 d@1:18 x@1:20=1@1:22) {1:25 (spread 1:26 F@1:29)})
 fragment Z on T{a} query Q{b} fragment A on T{c} ⇒ multiple Q (query 1:20 {1:27 (field 1:28 b@1:28 {0:0})})

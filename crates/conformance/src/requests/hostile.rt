@@ -91,6 +91,8 @@ mutation { add(big: 21474836470000) }␠ ⇒ 39 beginnings
 {a@d(x:[{y:$z}])} ⇒ 18 beginnings
 {a@d(x:[1])} ⇒ 13 beginnings
 {a} fragment F on T{b} ⇒ 23 beginnings
+␊      fragment onboardingFull on OnboardingState { license }␊      query globalConfig { globalConfig { onboarding { ...onboardingFull } } } ⇒
+  141 beginnings
 "#;
 
 /// How many tokens a text has, if a quote before any of them but the end is refused at that quote; else the text that
@@ -218,6 +220,8 @@ schema{query:Q} ⇒ the same, taken 1
 {a@d(x:[{y:$z}])} ⇒ the same, taken 18
 {a@d(x:[1])} ⇒ the same, taken 13
 {a} fragment F on T{b} ⇒ the same, taken 11
+␊      fragment onboardingFull on OnboardingState { license }␊      query globalConfig { globalConfig { onboarding { ...onboardingFull } } } ⇒
+  the same, taken 20
 "#;
 
 // How long the name of the first field and its first argument are, and the value of a whole number there.

@@ -1,12 +1,11 @@
 //! How deep a request may nest: 64 sets in a definition's own set, 64 lists and objects in a value, 64 lists in a type.
-use super::Request;
-use crate::answers::View;
+use super::{Accepted, Request};
 use crate::rows::hold;
 use std::test::Fail;
 
 #[test]
 fn nested_fields(rt: HostRuntime) -> Result<(), Fail> {
-    hold(&rt, rt.alloc(), &View::Acceptance, NESTED_FIELDS)
+    hold(&rt, rt.alloc(), &Accepted, NESTED_FIELDS)
 }
 
 const NESTED_FIELDS: &str = r"
@@ -34,7 +33,7 @@ query A{b}fragment F on T{⟨65×a{⟩b⟨66×}⟩ ⇒ recursion limit exceeded
 
 #[test]
 fn nested_inline_fragments(rt: HostRuntime) -> Result<(), Fail> {
-    hold(&rt, rt.alloc(), &View::Acceptance, NESTED_INLINE_FRAGMENTS)
+    hold(&rt, rt.alloc(), &Accepted, NESTED_INLINE_FRAGMENTS)
 }
 
 const NESTED_INLINE_FRAGMENTS: &str = r"
@@ -56,7 +55,7 @@ const NESTED_INLINE_FRAGMENTS: &str = r"
 
 #[test]
 fn nested_values(rt: HostRuntime) -> Result<(), Fail> {
-    hold(&rt, rt.alloc(), &View::Acceptance, NESTED_VALUES)
+    hold(&rt, rt.alloc(), &Accepted, NESTED_VALUES)
 }
 
 const NESTED_VALUES: &str = r"
@@ -86,7 +85,7 @@ query($v:T@d(x:⟨65×[⟩⟨65×]⟩)){a} ⇒ recursion limit exceeded
 
 #[test]
 fn nested_types(rt: HostRuntime) -> Result<(), Fail> {
-    hold(&rt, rt.alloc(), &View::Acceptance, NESTED_TYPES)
+    hold(&rt, rt.alloc(), &Accepted, NESTED_TYPES)
 }
 
 const NESTED_TYPES: &str = r"

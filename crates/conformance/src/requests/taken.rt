@@ -54,6 +54,7 @@ const REFUSED: &str = r#"
  ⇒ syntax 1:1, taken 1
 ? ⇒ syntax 1:1, taken 1
 {a ⇒ syntax 1:3, taken 3
+{a ␠ ⇒ syntax 1:5, taken 3
 {a ?} ⇒ syntax 1:4, taken 3
 {a}} ? ⇒ syntax 1:4, taken 4
 {a} {b} ? ⇒ syntax 1:9, taken 7
@@ -65,8 +66,20 @@ query($a:Int=$b){a} ⇒ syntax 1:14, taken 8
 fragment on on T{a} ⇒ syntax 1:10, taken 2
 {...on} ⇒ syntax 1:7, taken 4
 {a(b:01)} ⇒ syntax 1:6, taken 6
+{a(b:1.)} ⇒ syntax 1:6, taken 6
+{a(b:-)} ⇒ syntax 1:6, taken 6
 {a(b:[123abc])} ⇒ syntax 1:7, taken 7
+{a(b:[123.0123abc])} ⇒ syntax 1:7, taken 7
+{a(b:[123.0123e7abc])} ⇒ syntax 1:7, taken 7
+{a(b:[123.0123e77abc])} ⇒ syntax 1:7, taken 7
 {a(b:"\uD800")} ⇒ syntax 1:6, taken 6
+{a(b:"x ⇒ syntax 1:6, taken 6
+{a(b:""")} ⇒ syntax 1:6, taken 6
+{a(b:"""x")} ⇒ syntax 1:6, taken 6
+␍␊{a ?} ⇒ syntax 2:4, taken 3
+␍{a ?} ⇒ syntax 1:4, taken 3
+#⟨1F600⟩␍{?} ⇒ syntax 1:2, taken 2
+⟨FEFF⟩{?} ⇒ syntax 1:3, taken 2
 {a{}} ⇒ syntax 1:4, taken 4
 {a:b:c} ⇒ syntax 1:5, taken 5
 mutation ⇒ syntax 1:9, taken 2

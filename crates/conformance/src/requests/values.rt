@@ -134,6 +134,9 @@ fn directives(rt: HostRuntime) -> Result<(), Fail> {
 
 const DIRECTIVES: &str = r"
 {a@d} ⇒ single (query 1:1 {1:1 (field 1:2 a@1:2 (directive 1:3 d@1:4) {0:0})})
+{a@d(x:[1])} ⇒ single (query 1:1 {1:1 (field 1:2 a@1:2 (directive 1:3 d@1:4 x@1:6=[ 1 ]@1:8) {0:0})})
+{a@d(x:[{y:$z}])} ⇒
+  single (query 1:1 {1:1 (field 1:2 a@1:2 (directive 1:3 d@1:4 x@1:6=[ { y=$z } ]@1:8) {0:0})})
 {a @ d @d(x:$v) @on} ⇒ single (query 1:1 {1:1 (field 1:2 a@1:2 (directive 1:4 d@1:6)
   (directive 1:8 d@1:9 x@1:11=$v@1:13) (directive 1:17 on@1:18) {0:0})})
 {a(b:1)@d{c@e}} ⇒ single (query 1:1 {1:1 (field 1:2 a@1:2 b@1:4=1@1:6 (directive 1:8 d@1:9)
