@@ -108,3 +108,12 @@ fn a_refused_text(rt: HostRuntime) -> Result<(), Fail> {
     run_with_more_and_more(&rt, rt.alloc(), b"{a ?}", (1, "", told))?;
     Ok(())
 }
+
+// The lines are written only when all of them are there: where memory runs out between them, none is.
+#[test]
+fn a_text_of_several_lines(rt: HostRuntime) -> Result<(), Fail> {
+    let text = b"query A{a}fragment F on T{b}fragment G on T{c}";
+    let lines = "query A 1:1\nfragment F 1:11\nfragment G 1:29\n";
+    run_with_more_and_more(&rt, rt.alloc(), text, (0, lines, ""))?;
+    Ok(())
+}
