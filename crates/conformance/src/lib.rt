@@ -25,6 +25,8 @@ mod numbers;
 #[cfg(test)]
 mod places;
 #[cfg(test)]
+mod readme;
+#[cfg(test)]
 mod requests;
 #[cfg(test)]
 mod rows;

@@ -1,6 +1,7 @@
 //! Errors as text.
 use super::Shown;
 use graphql_parser::types::OperationType;
+use graphql_parser::value::Name;
 use graphql_parser::{Error, Pos};
 use std::alloc::Global;
 
@@ -10,15 +11,7 @@ pub fn write(alloc: Global, shown: &mut Shown, error: &Error) {
             message,
             start,
             end,
-        } => {
-            shown.place("syntax ", *start);
-            if !is_usual(alloc, message.as_str(), *start) {
-                write_message(shown, message.as_str());
-            }
-            if let Some(end) = end {
-                shown.place(" end ", *end);
-            }
-        }
+        } => write_syntax(alloc, shown, message.as_str(), *start, *end),
         Error::MultipleRoots { root, schema, pos } => {
             shown.word("multiple roots ");
             shown.word(kind(*root));
@@ -37,20 +30,12 @@ pub fn write(alloc: Global, shown: &mut Shown, error: &Error) {
             operation,
             first,
             second,
-        } => {
-            shown.word("operation ");
-            shown.word(operation.as_str());
-            write_duplicated(shown, *first, *second);
-        }
+        } => write_duplicated(shown, "operation ", operation, *first, *second),
         Error::FragmentDuplicated {
             fragment,
             first,
             second,
-        } => {
-            shown.word("fragment ");
-            shown.word(fragment.as_str());
-            write_duplicated(shown, *first, *second);
-        }
+        } => write_duplicated(shown, "fragment ", fragment, *first, *second),
         Error::MissingOperation => shown.word("missing operation"),
         Error::RecursionLimitExceeded => shown.word("recursion limit exceeded"),
         Error::OutOfMemory => shown.word("out of memory"),
@@ -65,7 +50,19 @@ fn kind(root: OperationType) -> &'static str {
     }
 }
 
-fn write_duplicated(shown: &mut Shown, first: Pos, second: Pos) {
+fn write_syntax(alloc: Global, shown: &mut Shown, message: &str, start: Pos, end: Option<Pos>) {
+    shown.place("syntax ", start);
+    if !is_usual(alloc, message, start) {
+        write_message(shown, message);
+    }
+    if let Some(end) = end {
+        shown.place(" end ", end);
+    }
+}
+
+fn write_duplicated(shown: &mut Shown, what: &str, name: &Name, first: Pos, second: Pos) {
+    shown.word(what);
+    shown.word(name.as_str());
     shown.place(" duplicated first ", first);
     shown.place(" second ", second);
 }
