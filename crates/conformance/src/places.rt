@@ -21,7 +21,7 @@ impl Subject for Steps {
                 return Err(Fail::new("no offset to step to"));
             }
             shown.place(" ", calculator.step(offset));
-            shown.number(" after ", calculator.stepped());
+            shown.item(" after ", &calculator.stepped());
             last = offset;
         }
         Ok(shown.finish()?)

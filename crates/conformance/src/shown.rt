@@ -13,12 +13,12 @@ mod schema;
 mod values;
 
 use graphql_parser::types::{
-    ConstDirective, Directive, DirectiveLocation, ExecutableDocument, OperationType,
-    ServiceDocument, Type,
+    ConstDirective, Directive, DirectiveLocation, ExecutableDocument, ServiceDocument,
 };
 use graphql_parser::value::{ConstValue, Value};
 use graphql_parser::{Error, Pos, Positioned};
 use std::alloc::{AllocError, Global};
+use std::fmt;
 
 /// What a call that writes can answer besides: that memory was refused.
 pub type Written = Result<(), AllocError>;
@@ -57,35 +57,16 @@ impl Shown {
 
     /// A place, behind what stands before it.
     pub fn place(&mut self, before: &str, place: Pos) {
-        self.word(before);
-        if self.has_places && write!(self.text, "{place}").is_err() {
-            self.is_cut = true;
+        if self.has_places {
+            self.item(before, &place);
+        } else {
+            self.word(before);
         }
     }
 
-    /// A kind of operations, behind a blank and a bracket.
-    pub fn operation_kind(&mut self, ty: OperationType) {
-        if write!(self.text, " ({ty}").is_err() {
-            self.is_cut = true;
-        }
-    }
-
-    /// A number, behind what stands before it.
-    pub fn number(&mut self, before: &str, number: usize) {
-        if write!(self.text, "{before}{number}").is_err() {
-            self.is_cut = true;
-        }
-    }
-
-    /// A number that may be below zero, behind what stands before it.
-    pub fn signed(&mut self, before: &str, number: i64) {
-        if write!(self.text, "{before}{number}").is_err() {
-            self.is_cut = true;
-        }
-    }
-
-    pub fn type_text(&mut self, ty: &Type) {
-        if write!(self.text, " {ty}").is_err() {
+    /// Anything that writes itself, behind what stands before it.
+    pub fn item<T: fmt::Display>(&mut self, before: &str, item: &T) {
+        if write!(self.text, "{before}{item}").is_err() {
             self.is_cut = true;
         }
     }

@@ -50,7 +50,7 @@ fn write_token(shown: &mut Shown, token: &Token<'_>) {
         shown.word(" ");
         shown.word(token.text);
     }
-    shown.number(" ", token.start);
+    shown.item(" ", &token.start);
     shown.place(" ", token.pos);
 }
 

@@ -227,7 +227,7 @@ schema{query:Q} ⇒ the same, taken 1
 // How long the name of the first field and its first argument are, and the value of a whole number there.
 pub fn write_sizes(shown: &mut Shown, document: &ExecutableDocument) {
     if let Some(field) = first_field(document) {
-        shown.number("name of ", field.name.node.as_str().len());
+        shown.item("name of ", &field.name.node.as_str().len());
         if let Some(argument) = field.arguments.first() {
             write_size(shown, &argument.1.node);
         }
@@ -236,11 +236,11 @@ pub fn write_sizes(shown: &mut Shown, document: &ExecutableDocument) {
 
 fn write_size(shown: &mut Shown, value: &Value) {
     match value {
-        Value::String(text) => shown.number(", string of ", text.len()),
+        Value::String(text) => shown.item(", string of ", &text.len()),
         Value::Number(number) => {
-            shown.number(", number of ", number.as_str().len());
+            shown.item(", number of ", &number.as_str().len());
             match number.as_i64() {
-                Some(value) => shown.signed(" with the value ", value),
+                Some(value) => shown.item(" with the value ", &value),
                 None if number.as_u64().is_some() => shown.word(" with an unsigned value"),
                 None => {}
             }

@@ -143,7 +143,7 @@ fn write_next(alloc: Global, shown: &mut Shown, tokens: &mut Tokens<'_>) -> Writ
     if !tokens.is_ended() {
         let answer = parse_query_from(alloc, tokens);
         shown.word(seen(alloc, View::Whole, "", answer)?.as_str());
-        shown.number(", taken ", tokens.taken());
+        shown.item(", taken ", &tokens.taken());
         shown.word("; ");
     }
     Ok(())

@@ -41,7 +41,7 @@ fn write_fragments(shown: &mut Shown, fragments: &IndexMap<Name, Positioned<Frag
 }
 
 fn write_operation(shown: &mut Shown, operation: &Positioned<OperationDefinition>) {
-    shown.operation_kind(operation.node.ty);
+    shown.item(" (", &operation.node.ty);
     shown.place(" ", operation.pos);
     for variable in &operation.node.variable_definitions {
         write_variable(shown, variable);

@@ -21,7 +21,7 @@ pub fn write_name(shown: &mut Shown, name: &Positioned<Name>) {
 }
 
 pub fn write_type(shown: &mut Shown, ty: &Positioned<Type>) {
-    shown.type_text(&ty.node);
+    shown.item(" ", &ty.node);
     shown.place("@", ty.pos);
 }
 

@@ -153,7 +153,7 @@ fn each_error_is_told_with_its_places(rt: HostRuntime) -> Result<(), Fail> {
     Ok(())
 }
 
-// Two texts that nest one set too deep, and one whose fault stands behind such a set.
+// One text nests a set too deep, and in the other a fault stands behind such a set.
 #[test]
 fn what_nests_too_deep_is_told_without_a_place(rt: HostRuntime) -> Result<(), Fail> {
     let alloc = rt.alloc();
