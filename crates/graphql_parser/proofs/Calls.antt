@@ -6,14 +6,14 @@ use Rattle.graphql_syntax.specs.tokens.Cuts.{EndsOnce}
 use Rattle.graphql_syntax.specs.tokens.Proper.{AreProperButFaults}
 use Rattle.graphql_parser.specs.declared.error.Error.{Error}
 use Rattle.graphql_parser.specs.declared.error.Error.TheVariants as errors
-use Rattle.graphql_parser.specs.declared.parse.Refusal.{Refusal}
+use Rattle.graphql_grammar.specs.declared.cursor.Refusal.{Refusal}
 use Rattle.graphql_parser.specs.grammar.Answers.{Answers, TakenFor, AreTheDefinitions}
-use Rattle.graphql_parser.specs.grammar.Fronts.{IsRefused, Verdict, syntax, limit}
-use Rattle.graphql_parser.specs.grammar.Limits.{Limits}
+use Rattle.graphql_grammar.specs.grammar.Fronts.{IsRefused, Verdict, syntax, limit}
+use Rattle.graphql_grammar.specs.grammar.Limits.{Limits}
 use Rattle.graphql_parser.specs.grammar.Request.{Definition, request}
-use Rattle.graphql_parser.specs.reading.Ahead.{Ahead, tokens}
+use Rattle.graphql_grammar.specs.reading.Ahead.{Ahead, tokens}
 use Rattle.graphql_parser.specs.reading.Errors.{IsErrorOf}
-use Rattle.graphql_parser.specs.reading.Given.{Refuses}
+use Rattle.graphql_grammar.specs.reading.Given.{Refuses}
 use Rattle.graphql_parser.specs.reading.Request.{request_at}
 use Rattle.graphql_parser.specs.reading.Rules.{IsDocumentOf}
 use Rattle.graphql_parser.proofs.Headline.{refused, RefusedHere}

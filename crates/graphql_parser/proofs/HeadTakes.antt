@@ -4,19 +4,19 @@ use Rattle.graphql_syntax.specs.declared.pos.Pos.{Pos}
 use Rattle.graphql_syntax.specs.declared.pos.Positioned.{Positioned}
 use Rattle.graphql_syntax.specs.tokens.Token.{Token}
 use Rattle.graphql_syntax.specs.trees.Request.{Arguments, Directives, Selection}
-use Rattle.graphql_parser.specs.grammar.Limits.{Limits}
-use Rattle.graphql_parser.specs.grammar.Relations.{Rel}
+use Rattle.graphql_grammar.specs.grammar.Limits.{Limits}
+use Rattle.graphql_grammar.specs.grammar.Relations.{Rel}
 use Rattle.graphql_parser.specs.grammar.Selections.{fragment_name}
-use Rattle.graphql_parser.specs.grammar.Tests.{Test, punct, keyword, any_name}
-use Rattle.graphql_parser.specs.reading.Arguments.{maybe_arguments_at, directives_at}
+use Rattle.graphql_grammar.specs.grammar.Tests.{Test, punct, keyword, any_name}
+use Rattle.graphql_grammar.specs.reading.Arguments.{maybe_arguments_at, directives_at}
 use Rattle.graphql_parser.specs.reading.SelectionSteps.{Heading, Names, brace_at, maybe_brace_at, name_at, behind_colon_at, names_at, given_arguments_at, maybe_condition_at, inline_head_at, behind_dots_at, field_head_at, head_at, onto, item_at}
-use Rattle.graphql_parser.specs.reading.Outcome.{Outcome, Read, Refused, Reader, ◌>>=◌, one_at, deep_at}
+use Rattle.graphql_grammar.specs.reading.Outcome.{Outcome, Read, Refused, Reader, ◌>>=◌, one_at, deep_at}
 use Rattle.graphql_parser.specs.reading.Selections.{inline_first, type_condition_at}
-use Rattle.graphql_parser.proofs.Theory.{Exact}
-use Rattle.graphql_parser.proofs.TokenTests.{punct-within}
-use Rattle.graphql_parser.proofs.Good.{Good}
-use Rattle.graphql_parser.proofs.Loop.{Takes}
-use Rattle.graphql_parser.proofs.ArgumentProductions.{good-maybe_arguments, good-directives}
+use Rattle.graphql_grammar.proofs.Theory.{Exact}
+use Rattle.graphql_grammar.proofs.TokenTests.{punct-within}
+use Rattle.graphql_grammar.proofs.Good.{Good}
+use Rattle.graphql_grammar.proofs.Loop.{Takes}
+use Rattle.graphql_grammar.proofs.ArgumentProductions.{good-maybe_arguments, good-directives}
 use Rattle.graphql_parser.proofs.SelectionProductions.{takes-selection}
 
 pub item-takes : (values s : ℕ) → Takes (item_at values s)

@@ -4,19 +4,19 @@ use Rattle.std.proofs.lemmas.List.{length-map}
 use Rattle.graphql_syntax.specs.tokens.Token.{Token}
 use Rattle.graphql_syntax.specs.tokens.Cuts.{EndsOnce}
 use Rattle.graphql_syntax.specs.tokens.Proper.{AreProperButFaults}
-use Rattle.graphql_parser.specs.declared.parse.Refusal.{Refusal}
-use Rattle.graphql_parser.specs.declared.parse.Refusal.TheVariants.{Memory, Syntax, Limit}
-use Rattle.graphql_parser.specs.grammar.Limits.{Limits}
-use Rattle.graphql_parser.specs.grammar.Fronts.{bares, IsRefused, RefusedToken, Verdict, syntax, limit}
+use Rattle.graphql_grammar.specs.declared.cursor.Refusal.{Refusal}
+use Rattle.graphql_grammar.specs.declared.cursor.Refusal.TheVariants.{Memory, Syntax, Limit}
+use Rattle.graphql_grammar.specs.grammar.Limits.{Limits}
+use Rattle.graphql_grammar.specs.grammar.Fronts.{bares, IsRefused, RefusedToken, Verdict, syntax, limit}
 use Rattle.graphql_parser.specs.grammar.Request.{Definition, request}
 use Rattle.graphql_parser.specs.grammar.Placeless.{placeless_definitions}
 use Rattle.graphql_parser.specs.grammar.Answers.{AreTheDefinitions}
-use Rattle.graphql_parser.specs.reading.Ahead.{Ahead, tokens}
-use Rattle.graphql_parser.specs.reading.Given.{Refuses}
-use Rattle.graphql_parser.specs.reading.Outcome.{Outcome, Read, Refused}
+use Rattle.graphql_grammar.specs.reading.Ahead.{Ahead, tokens}
+use Rattle.graphql_grammar.specs.reading.Given.{Refuses}
+use Rattle.graphql_grammar.specs.reading.Outcome.{Outcome, Read, Refused}
 use Rattle.graphql_parser.specs.reading.Request.{request_at}
-use Rattle.graphql_parser.proofs.Whole.{Says, whole-answers, one-refusal, refusal-bare, trees-bare}
-use Rattle.graphql_parser.proofs.Blind.{Splits, splits}
+use Rattle.graphql_grammar.proofs.Whole.{Says, whole-answers, one-refusal, refusal-bare, trees-bare}
+use Rattle.graphql_grammar.proofs.Blind.{Splits, splits}
 use Rattle.graphql_parser.proofs.RequestProductions.{has-definitions, blind-definitions, blind-request, good-request}
 
 says : (limits : Limits) (ts : List Token) (o : Outcome (List Definition)) → EndsOnce ts → AreProperButFaults ts → request_at limits ts ≡ o → Says request placeless_definitions limits ts o

@@ -4,14 +4,14 @@ use Rattle.graphql_syntax.specs.declared.pos.Pos.{Pos}
 use Rattle.graphql_syntax.specs.declared.pos.Positioned.{Positioned}
 use Rattle.graphql_syntax.specs.tokens.Token.{Token}
 use Rattle.graphql_syntax.specs.trees.Request.{placed, Name, Arguments, Directives, TypeCondition, Selection}
-use Rattle.graphql_parser.specs.grammar.Arguments.{given}
-use Rattle.graphql_parser.specs.grammar.Fronts.{syntax, limit}
-use Rattle.graphql_parser.specs.grammar.Places.{name_of}
+use Rattle.graphql_grammar.specs.grammar.Arguments.{given}
+use Rattle.graphql_grammar.specs.grammar.Fronts.{syntax, limit}
+use Rattle.graphql_grammar.specs.grammar.Places.{name_of}
 use Rattle.graphql_parser.specs.grammar.Selections.{Set, alias_of, field_of, inline_of, fragment_name, selections_of}
-use Rattle.graphql_parser.specs.grammar.Tests.{punct, any_name}
-use Rattle.graphql_parser.specs.reading.Arguments.{maybe_arguments_at, directives_at}
+use Rattle.graphql_grammar.specs.grammar.Tests.{punct, any_name}
+use Rattle.graphql_grammar.specs.reading.Arguments.{maybe_arguments_at, directives_at}
 use Rattle.graphql_parser.specs.reading.SelectionSteps.{Heading, with_set, may_nest, maybe_brace_at, given_arguments_at, Names, as_names, behind_colon_at, names_at, bare_field, bare_spread, bare_inline, maybe_condition_at, inline_head_at, behind_dots_at, field_head_at, head_at, deeper_at, rest_at, item_at, closed, close_at, behind_rest, more, begun, wanted_rest, headed}
-use Rattle.graphql_parser.specs.reading.Outcome.{Outcome, Read, Refused, Reader, ◌>>=◌, one_at, then_at, mapped_at, choose_at, opt_at, deep_at, many_at, plus_at, with_front}
+use Rattle.graphql_grammar.specs.reading.Outcome.{Outcome, Read, Refused, Reader, ◌>>=◌, one_at, then_at, mapped_at, choose_at, opt_at, deep_at, many_at, plus_at, with_front}
 use Rattle.graphql_parser.specs.reading.Selections.{as_alias, aliased_at, field_at, Inline, inline_first, AfterDots, a_name, an_inline, dotted, inline_at, selection_first, selection_at, a_set_at, selection_set_at}
 
 abbrev pair-up : {A B : Type 0} → A → B → List Token → Outcome (A × B)

@@ -5,17 +5,17 @@ use Rattle.graphql_syntax.specs.declared.pos.Pos.{Pos}
 use Rattle.graphql_syntax.specs.declared.pos.Positioned.{Positioned}
 use Rattle.graphql_syntax.specs.tokens.Token.{Token}
 use Rattle.graphql_syntax.specs.trees.Request.{Selection}
-use Rattle.graphql_parser.specs.declared.parse.Refusal.{Refusal}
+use Rattle.graphql_grammar.specs.declared.cursor.Refusal.{Refusal}
 use Rattle.graphql_parser.specs.declared.parse.selections.frames.OpenSet.{OpenSet}
-use Rattle.graphql_parser.specs.grammar.Fronts.{Verdict}
+use Rattle.graphql_grammar.specs.grammar.Fronts.{Verdict}
 use Rattle.graphql_parser.specs.grammar.Selections.{Set}
-use Rattle.graphql_parser.specs.grammar.Tests.{punct}
-use Rattle.graphql_parser.specs.reading.Ahead.{Ahead, tokens}
-use Rattle.graphql_parser.specs.reading.Given.{Refuses, GoesOn}
+use Rattle.graphql_grammar.specs.grammar.Tests.{punct}
+use Rattle.graphql_grammar.specs.reading.Ahead.{Ahead, tokens}
+use Rattle.graphql_grammar.specs.reading.Given.{Refuses, GoesOn}
 use Rattle.graphql_parser.specs.reading.Nest.{Nest}
 use Rattle.graphql_parser.specs.reading.SelectionSteps.{Heading, Opened, closed, more, filled_in, fill_last, onto, head_at, may_nest}
 use Rattle.graphql_parser.specs.reading.OpenSets.{part}
-use Rattle.graphql_parser.specs.reading.Outcome.{Outcome, Read, Refused, ◌>>=◌, one_at}
+use Rattle.graphql_grammar.specs.reading.Outcome.{Outcome, Read, Refused, ◌>>=◌, one_at}
 use Rattle.graphql_parser.specs.reading.Selections.{selection_first, selection_set_at}
 use Rattle.graphql_parser.proofs.OpenSets as sets
 

@@ -4,20 +4,20 @@ use Rattle.graphql_syntax.specs.declared.pos.Pos.{Pos}
 use Rattle.graphql_syntax.specs.declared.pos.Positioned.{Positioned}
 use Rattle.graphql_syntax.specs.tokens.Token.{Token}
 use Rattle.graphql_syntax.specs.trees.Request.{placed, Selection}
-use Rattle.graphql_parser.specs.declared.parse.Refusal.{Refusal}
-use Rattle.graphql_parser.specs.declared.parse.Refusal.TheVariants.{Memory, Syntax, Limit}
-use Rattle.graphql_parser.specs.grammar.Fronts.{Verdict, syntax, limit}
+use Rattle.graphql_grammar.specs.declared.cursor.Refusal.{Refusal}
+use Rattle.graphql_grammar.specs.declared.cursor.Refusal.TheVariants.{Memory, Syntax, Limit}
+use Rattle.graphql_grammar.specs.grammar.Fronts.{Verdict, syntax, limit}
 use Rattle.graphql_parser.specs.grammar.Selections.{Set}
-use Rattle.graphql_parser.specs.grammar.Tests.{punct}
-use Rattle.graphql_parser.specs.reading.Ahead.{Ahead, tokens}
+use Rattle.graphql_grammar.specs.grammar.Tests.{punct}
+use Rattle.graphql_grammar.specs.reading.Ahead.{Ahead, tokens}
 use Rattle.graphql_parser.specs.reading.SelectionSteps.{Heading, with_set, may_nest, head_at, item_at, Opened, closed, close_at, behind_rest, more, begun, wanted_rest, headed, filled, filled_in, fill_last, resume}
-use Rattle.graphql_parser.specs.reading.Given.{Refuses, GoesOn}
-use Rattle.graphql_parser.specs.reading.Outcome.{Outcome, Read, Refused, Reader, ◌>>=◌, one_at}
+use Rattle.graphql_grammar.specs.reading.Given.{Refuses, GoesOn}
+use Rattle.graphql_grammar.specs.reading.Outcome.{Outcome, Read, Refused, Reader, ◌>>=◌, one_at}
 use Rattle.graphql_parser.specs.reading.Selections.{selection_first, selection_set_at}
 use Rattle.graphql_parser.proofs.Heads.{set-law, item-law}
 use Rattle.graphql_parser.proofs.HeadTakes.{item-takes, one-takes}
-use Rattle.graphql_parser.proofs.Loop.{rest-more, rest-stops}
-use Rattle.graphql_parser.proofs.Loops.{go-on}
+use Rattle.graphql_grammar.proofs.Loop.{rest-more, rest-stops}
+use Rattle.graphql_grammar.proofs.Loops.{go-on}
 
 -- ---- an open set, step by step
 

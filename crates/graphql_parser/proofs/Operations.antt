@@ -4,15 +4,15 @@ use Rattle.graphql_syntax.specs.declared.pos.Positioned.{Positioned}
 use Rattle.graphql_syntax.specs.declared.types.OperationType.{OperationType}
 use Rattle.graphql_syntax.specs.tokens.Token.{Token}
 use Rattle.graphql_syntax.specs.trees.Request.{Name, Directives, VariableDefinition}
-use Rattle.graphql_parser.specs.grammar.Arguments.{given}
-use Rattle.graphql_parser.specs.grammar.Fronts.{syntax}
-use Rattle.graphql_parser.specs.grammar.Limits.{Limits}
+use Rattle.graphql_grammar.specs.grammar.Arguments.{given}
+use Rattle.graphql_grammar.specs.grammar.Fronts.{syntax}
+use Rattle.graphql_grammar.specs.grammar.Limits.{Limits}
 use Rattle.graphql_parser.specs.grammar.Request.{Definition, operation_of, name_in}
 use Rattle.graphql_parser.specs.grammar.Selections.{Set}
-use Rattle.graphql_parser.specs.grammar.Tests.{punct, any_name}
-use Rattle.graphql_parser.specs.reading.Arguments.{directives_at, variable_definitions_at}
+use Rattle.graphql_grammar.specs.grammar.Tests.{punct, any_name}
+use Rattle.graphql_grammar.specs.reading.Arguments.{directives_at, variable_definitions_at}
 use Rattle.graphql_parser.specs.reading.Definitions.{maybe_name_at, given_variables_at, worded, worded_at}
-use Rattle.graphql_parser.specs.reading.Outcome.{Outcome, Read, Refused, ◌>>=◌, one_at, then_at, opt_at}
+use Rattle.graphql_grammar.specs.reading.Outcome.{Outcome, Read, Refused, ◌>>=◌, one_at, then_at, opt_at}
 use Rattle.graphql_parser.specs.reading.Request.{operation_type_at, own_set_at, full_operation_at}
 
 abbrev pair-up : {A B : Type 0} → A → B → List Token → Outcome (A × B)

@@ -5,25 +5,26 @@ use Rattle.graphql_syntax.specs.declared.types.OperationType.{OperationType}
 use Rattle.graphql_syntax.specs.declared.types.OperationType.TheVariants.{Mutation, Subscription}
 use Rattle.graphql_syntax.specs.tokens.Token.{Token}
 use Rattle.graphql_syntax.specs.trees.Request.{Directives, VariableDefinition}
-use Rattle.graphql_parser.specs.grammar.Tests.{Test, punct, keyword, any_name, the_end}
-use Rattle.graphql_parser.specs.grammar.Limits.{Limits}
-use Rattle.graphql_parser.specs.grammar.Relations.{Rel, one, ◌⨾◌, ◌∪◌, mapped, opt}
-use Rattle.graphql_parser.specs.grammar.Arguments.{a_directive, directives, variable_definitions}
-use Rattle.graphql_parser.specs.grammar.Fronts.{without_place}
-use Rattle.graphql_parser.specs.grammar.Placeless.{unplaced, placeless_variable, placeless_directives, placeless_set, placeless_definition, placeless_definitions}
+use Rattle.graphql_grammar.specs.grammar.Tests.{Test, punct, keyword, any_name, the_end}
+use Rattle.graphql_grammar.specs.grammar.Limits.{Limits}
+use Rattle.graphql_grammar.specs.grammar.Relations.{Rel, one, ◌⨾◌, ◌∪◌, mapped, opt}
+use Rattle.graphql_grammar.specs.grammar.Arguments.{a_directive, directives, variable_definitions}
+use Rattle.graphql_grammar.specs.grammar.Fronts.{without_place}
+use Rattle.graphql_grammar.specs.grammar.Placeless.{unplaced, placeless_variable, placeless_directives}
+use Rattle.graphql_parser.specs.grammar.Placeless.{placeless_set, placeless_definition, placeless_definitions}
 use Rattle.graphql_parser.specs.grammar.Selections.{Set, fragment_name, a_type_condition}
 use Rattle.graphql_parser.specs.grammar.Request.{own_set, a_short_operation, kind_of, operation_type, operation_of, a_full_operation, fragment_of, a_fragment, a_definition, definitions, request}
-use Rattle.graphql_parser.specs.reading.Outcome.{then_at, choose_at, opt_at}
-use Rattle.graphql_parser.specs.reading.Arguments.{directives_at, variable_definitions_at}
+use Rattle.graphql_grammar.specs.reading.Outcome.{then_at, choose_at, opt_at}
+use Rattle.graphql_grammar.specs.reading.Arguments.{directives_at, variable_definitions_at}
 use Rattle.graphql_parser.specs.reading.Request.{own_set_at, short_operation_at, operation_type_at, full_operation_at, fragment_at, definition_first, definition_at, definitions_at}
-use Rattle.graphql_parser.proofs.Theory.{Within, outside, anything}
-use Rattle.graphql_parser.proofs.TokenTests.{word_of, itself, punct-within, keyword-within, the_end-within, HasSample, keyword-sample}
-use Rattle.graphql_parser.proofs.Good.{Good, Has, Led, good-keyword, good-name, good-name_but, good-mapped, good-next, good-led, good-choose, good-same, good-plus, led-one, led-within, led-mapped, led-then, led-either, has-token, has-pair, has-map, has-plus, has-first}
-use Rattle.graphql_parser.proofs.Extra.{has-opt, good-opt, led-opt, led-star, either-way}
-use Rattle.graphql_parser.proofs.Blind.{Blind, blind-one, blind-then, blind-mapped, blind-either, blind-plus, blind-opt, on-option}
-use Rattle.graphql_parser.proofs.Whole.{blind-whole}
-use Rattle.graphql_parser.proofs.Loop.{Takes, takes-one}
-use Rattle.graphql_parser.proofs.ArgumentProductions.{good-directives, led-directive, has-directives, blind-directives, good-variable_definitions, led-variable_definitions, blind-variable_definitions}
+use Rattle.graphql_grammar.proofs.Theory.{Within, outside, anything}
+use Rattle.graphql_grammar.proofs.TokenTests.{word_of, itself, punct-within, keyword-within, the_end-within, HasSample, keyword-sample}
+use Rattle.graphql_grammar.proofs.Good.{Good, Has, Led, good-keyword, good-name, good-name_but, good-mapped, good-next, good-led, good-choose, good-same, good-plus, led-one, led-within, led-mapped, led-then, led-either, has-token, has-pair, has-map, has-plus, has-first}
+use Rattle.graphql_grammar.proofs.Extra.{has-opt, good-opt, led-opt, led-star, either-way}
+use Rattle.graphql_grammar.proofs.Blind.{Blind, blind-one, blind-then, blind-mapped, blind-either, blind-plus, blind-opt, on-option}
+use Rattle.graphql_grammar.proofs.Whole.{blind-whole}
+use Rattle.graphql_grammar.proofs.Loop.{Takes, takes-one}
+use Rattle.graphql_grammar.proofs.ArgumentProductions.{good-directives, led-directive, has-directives, blind-directives, good-variable_definitions, led-variable_definitions, blind-variable_definitions}
 use Rattle.graphql_parser.proofs.SelectionProductions.{good-sets, led-sets, has-sets, good-type_condition, has-type_condition, fragment-sample}
 use Rattle.graphql_parser.proofs.SelectionPlaces.{blind-sets, blind-type_condition}
 use Prim.Native.String.{String}

@@ -3,15 +3,16 @@ use Rattle.std.proofs.Common.{◌≡◌, ℕ, zero, suc, true, Option, Some, Non
 use Rattle.graphql_syntax.specs.declared.pos.Positioned.{Positioned}
 use Rattle.graphql_syntax.specs.tokens.Token.{Token}
 use Rattle.graphql_syntax.specs.trees.Request.{Arguments, Directives, TypeCondition, Selection, SelectionSet, set_of}
-use Rattle.graphql_parser.specs.grammar.Tests.{punct, keyword, any_name}
-use Rattle.graphql_parser.specs.grammar.Limits.{Limits}
-use Rattle.graphql_parser.specs.grammar.Places.{nowhere}
-use Rattle.graphql_parser.specs.grammar.Relations.{Rel, never}
-use Rattle.graphql_parser.specs.grammar.Fronts.{without_place}
-use Rattle.graphql_parser.specs.grammar.Placeless.{unplaced, placeless_argument, placeless_directives, placeless_condition, placeless_selection, placeless_set}
+use Rattle.graphql_grammar.specs.grammar.Tests.{punct, keyword, any_name}
+use Rattle.graphql_grammar.specs.grammar.Limits.{Limits}
+use Rattle.graphql_grammar.specs.grammar.Places.{nowhere}
+use Rattle.graphql_grammar.specs.grammar.Relations.{Rel, never}
+use Rattle.graphql_grammar.specs.grammar.Fronts.{without_place}
+use Rattle.graphql_grammar.specs.grammar.Placeless.{unplaced, placeless_argument, placeless_directives}
+use Rattle.graphql_parser.specs.grammar.Placeless.{placeless_condition, placeless_selection, placeless_set}
 use Rattle.graphql_parser.specs.grammar.Selections.{Set, aliased, field_of, a_field, fragment_name, a_spread, a_type_condition, inline_of, an_inline_fragment, a_selection, a_set, selection_set}
-use Rattle.graphql_parser.proofs.Blind.{Blind, blind-one, blind-then, blind-mapped, blind-either, blind-plus, blind-opt, blind-never, on-option}
-use Rattle.graphql_parser.proofs.ArgumentProductions.{blind-maybe_arguments, blind-directives}
+use Rattle.graphql_grammar.proofs.Blind.{Blind, blind-one, blind-then, blind-mapped, blind-either, blind-plus, blind-opt, blind-never, on-option}
+use Rattle.graphql_grammar.proofs.ArgumentProductions.{blind-maybe_arguments, blind-directives}
 use Rattle.graphql_parser.proofs.SelectionProductions.{sets}
 
 abbrev pub without-places-of : Option Token × Token → Option Token × Token

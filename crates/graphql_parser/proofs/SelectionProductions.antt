@@ -4,21 +4,21 @@ use Rattle.graphql_syntax.specs.declared.pos.Positioned.{Positioned}
 use Rattle.graphql_syntax.specs.tokens.Token.{Token}
 use Rattle.graphql_syntax.specs.tokens.Proper.{IsProper}
 use Rattle.graphql_syntax.specs.trees.Request.{Arguments, Directives, Selection}
-use Rattle.graphql_parser.specs.grammar.Tests.{Test, punct, keyword, any_name}
-use Rattle.graphql_parser.specs.grammar.Limits.{Limits}
-use Rattle.graphql_parser.specs.grammar.Relations.{Rel, one, never, ◌⨾◌, ◌∪◌, mapped, plus, opt}
-use Rattle.graphql_parser.specs.grammar.Arguments.{arguments, directive_of, a_directive, directives}
+use Rattle.graphql_grammar.specs.grammar.Tests.{Test, punct, keyword, any_name}
+use Rattle.graphql_grammar.specs.grammar.Limits.{Limits}
+use Rattle.graphql_grammar.specs.grammar.Relations.{Rel, one, never, ◌⨾◌, ◌∪◌, mapped, plus, opt}
+use Rattle.graphql_grammar.specs.grammar.Arguments.{arguments, directive_of, a_directive, directives}
 use Rattle.graphql_parser.specs.grammar.Selections.{Set, aliased, a_field, fragment_name, spread_of, a_spread, condition_of, a_type_condition, inline_of, an_inline_fragment, a_selection, selections_of, a_set, selection_set}
-use Rattle.graphql_parser.specs.reading.Outcome.{Reader, one_at, then_at, mapped_at, choose_at, opt_at, deep_at}
-use Rattle.graphql_parser.specs.reading.Arguments.{maybe_arguments_at, directives_at}
+use Rattle.graphql_grammar.specs.reading.Outcome.{Reader, one_at, then_at, mapped_at, choose_at, opt_at, deep_at}
+use Rattle.graphql_grammar.specs.reading.Arguments.{maybe_arguments_at, directives_at}
 use Rattle.graphql_parser.specs.reading.Selections.{as_alias, aliased_at, field_at, type_condition_at, Inline, inline_first, inline_at, AfterDots, a_name, an_inline, dotted, dots_at, selection_first, selection_at, a_set_at, selection_set_at}
-use Rattle.graphql_parser.proofs.Parts.{nested, below, of_selections}
-use Rattle.graphql_parser.proofs.Theory.{Extends, Within, outside, anything}
-use Rattle.graphql_parser.proofs.TokenTests.{punctuator, itself, within-either, punct-within, keyword-within, any_name-within, sample, word_of, HasSample, punct-sample, keyword-sample, name-sample, name-spells}
-use Rattle.graphql_parser.proofs.Good.{Good, Has, Led, good-punct, good-keyword, good-name, good-name_but, good-mapped, good-next, good-led, good-choose, good-nested, good-deep, good-same, led-one, led-within, led-same, led-mapped, led-then, led-either, led-nested, has-token, has-pair, has-map, has-plus, has-first, opens}
-use Rattle.graphql_parser.proofs.Extra.{Opens, good-seq, opens-led, opens-opt, opens-then, good-plus-ahead, has-opt, good-opt, led-opt, led-star, either-way, factored, sets-behind, then-same, both-ways}
-use Rattle.graphql_parser.proofs.Loop.{Takes, takes-one}
-use Rattle.graphql_parser.proofs.ArgumentProductions.{good-maybe_arguments, opens-maybe_arguments, has-maybe_arguments, led-directive, good-directives, opens-directives, has-directives}
+use Rattle.graphql_grammar.proofs.Parts.{nested, below, of_selections}
+use Rattle.graphql_grammar.proofs.Theory.{Extends, Within, outside, anything}
+use Rattle.graphql_grammar.proofs.TokenTests.{punctuator, itself, within-either, punct-within, keyword-within, any_name-within, sample, word_of, HasSample, punct-sample, keyword-sample, name-sample, name-spells}
+use Rattle.graphql_grammar.proofs.Good.{Good, Has, Led, good-punct, good-keyword, good-name, good-name_but, good-mapped, good-next, good-led, good-choose, good-nested, good-deep, good-same, led-one, led-within, led-same, led-mapped, led-then, led-either, led-nested, has-token, has-pair, has-map, has-plus, has-first, opens}
+use Rattle.graphql_grammar.proofs.Extra.{Opens, good-seq, opens-led, opens-opt, opens-then, good-plus-ahead, has-opt, good-opt, led-opt, led-star, either-way, factored, sets-behind, then-same, both-ways}
+use Rattle.graphql_grammar.proofs.Loop.{Takes, takes-one}
+use Rattle.graphql_grammar.proofs.ArgumentProductions.{good-maybe_arguments, opens-maybe_arguments, has-maybe_arguments, led-directive, good-directives, opens-directives, has-directives}
 
 -- ---- names and aliases
 

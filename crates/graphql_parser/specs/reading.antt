@@ -1,23 +1,11 @@
 -- Inner: what private clauses cite.
-pub mod Ahead
-pub mod ArgumentViews
-pub mod Arguments
-pub mod Cursor
 pub mod Definitions
 pub mod Errors
-pub mod Fields
-pub mod Given
 pub mod Nest
 pub mod OpenSets
-pub mod OpenValues
-pub mod Outcome
 pub mod Places
 pub mod Request
 pub mod Rules
 pub mod SelectionSteps
 pub mod Selections
 pub mod Sorting
-pub mod Spelled
-pub mod TypeSteps
-pub mod Types
-pub mod Values

@@ -8,7 +8,8 @@
 //! does. The texts and the places of each `Error` are what `specs/errors` writes down.
 //!
 //! A user names this crate alone: the modules of `graphql_syntax` are given out again. What a reader of the
-//! contracts has to believe stands in `specs/grammar` and `specs/errors`; `specs/reading` is inner.
+//! contracts has to believe stands in `specs/grammar` and `specs/errors`, and below them in `specs/grammar` of
+//! `graphql_grammar`, which has what requests and schema files share; `specs/reading` is inner.
 #![tactic(auto)]
 
 mod error;

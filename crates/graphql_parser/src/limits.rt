@@ -1,6 +1,6 @@
 //! How deep a document may nest.
 ghost use Rattle.std.specs.Prelude.{◌≡◌, ◌↔◌, IsSome, IfSome};
-ghost use Rattle.graphql_parser.specs.grammar.Limits.{default_limits, IsAllowed};
+ghost use Rattle.graphql_grammar.specs.grammar.Limits.{default_limits, IsAllowed};
 
 use std::marker::Model;
 
@@ -24,7 +24,7 @@ pub struct Limits {
 }
 
 impl Model for Limits {
-    ghost use Rattle.graphql_parser.specs.grammar.Limits.{Limits as Budgets, IsAllowed};
+    ghost use Rattle.graphql_grammar.specs.grammar.Limits.{Limits as Budgets, IsAllowed};
 
     ghost Value = { Budgets };
 
@@ -73,7 +73,7 @@ impl Limits {
 impl Default for Limits {
     ghost is_default = { λ limits. limits ≡ default_limits };
 
-    #[tactic(auto, unfolding(crate::specs::grammar::Limits::default_limits))]
+    #[tactic(auto, unfolding(graphql_grammar::specs::grammar::Limits::default_limits))]
     fn default() -> Limits {
         Limits {
             selections: 64,

@@ -1,106 +1,17 @@
-//! Reading a text token by token, with one token in hand.
-ghost use Rattle.std.specs.Prelude.{◌≡◌, ◌≢◌, ◌≤◌, ◌+◌, length, ◌&&◌, false, [], Ok};
-ghost use Rattle.std.specs.Str.{bytes_eq};
-ghost use Rattle.graphql_syntax.specs.tokens.Cuts.{is_last, EndsOnce};
-ghost use Rattle.graphql_syntax.specs.tokens.Proper.{AreProperButFaults, IsProper};
-ghost use Rattle.graphql_syntax.specs.tokens.Seen.{seen};
-ghost use Rattle.graphql_syntax.specs.tokens.Token.{left};
-ghost use Rattle.graphql_parser.specs.declared.parse.Refusal.TheVariants.{Memory, Syntax};
-ghost use Rattle.graphql_parser.specs.grammar.Tests as tests;
-ghost use Rattle.graphql_parser.specs.reading.Ahead.{tokens as ahead};
+//! Parsers, and the errors that they make of their readers' refusals.
+ghost use Rattle.graphql_grammar.specs.declared.cursor.Refusal.TheVariants.{Syntax};
 ghost use Rattle.graphql_parser.specs.reading.Errors.{IsErrorOf};
-ghost use Rattle.graphql_parser.specs.reading.Given.{Gives, GivesWhole};
-ghost use Rattle.graphql_parser.specs.reading.Outcome.{one_at, take_at};
-ghost use Rattle.graphql_parser.specs.reading.Spelled.{punct_of};
 
-mod arguments;
 mod executable;
-mod list;
 mod request;
 mod rules;
 mod selections;
-mod types;
-mod value;
-mod variables;
-mod words;
 
 use crate::error::Error;
-use graphql_syntax::lexer::{Token, TokenKind, Tokens};
+use graphql_grammar::cursor::{Cursor, Refusal};
 use graphql_syntax::pos::Pos;
 pub use request::{parse_query, parse_query_from, parse_query_limited};
-use std::alloc::{AllocError, AllocFailed, Global};
-use std::marker::Model;
-
-/// Why a reader stopped.
-#[derive(Clone, Copy, Debug, PartialEq, Eq)]
-enum Refusal {
-    Memory,
-    /// No document goes on with the token in hand.
-    Syntax,
-    /// Only a document that nests deeper than is allowed goes on with the token in hand.
-    Limit,
-}
-
-/// What a reader gives.
-type Reading<T> = Result<T, Refusal>;
-
-impl From<AllocError> for Refusal {
-    ghost from_gives = { λ _ e. e ≡ Memory };
-
-    fn from(_refused: AllocError) -> Refusal {
-        Refusal::Memory
-    }
-}
-
-impl<T: Drop> From<AllocFailed<T>> for Refusal {
-    ghost from_gives = { λ _ e. e ≡ Memory };
-
-    fn from(_refused: AllocFailed<T>) -> Refusal {
-        Refusal::Memory
-    }
-}
-
-#[inline(always)]
-fn is_punct(kind: TokenKind) -> bool
-    ensures { result ≡ tests.is_punct kind }
-{
-    matches!(kind, TokenKind::Punct)
-}
-
-#[inline(always)]
-fn is_name(kind: TokenKind) -> bool
-    ensures { result ≡ tests.is_name kind }
-{
-    matches!(kind, TokenKind::Name)
-}
-
-#[inline(always)]
-fn is_number(kind: TokenKind) -> bool
-    ensures { result ≡ tests.is_number kind }
-{
-    matches!(kind, TokenKind::Number)
-}
-
-#[inline(always)]
-fn is_string(kind: TokenKind) -> bool
-    ensures { result ≡ tests.is_string kind }
-{
-    matches!(kind, TokenKind::String)
-}
-
-#[inline(always)]
-fn is_block(kind: TokenKind) -> bool
-    ensures { result ≡ tests.is_block kind }
-{
-    matches!(kind, TokenKind::Block)
-}
-
-#[inline(always)]
-fn is_end(kind: TokenKind) -> bool
-    ensures { result ≡ tests.is_end kind }
-{
-    matches!(kind, TokenKind::End)
-}
+use std::alloc::Global;
 
 #[cold]
 #[inline(never)]
@@ -117,141 +28,13 @@ fn syntax_error(alloc: Global, start: Pos) -> Error
     }
 }
 
-/// The tokens of a text that are still to be read. The first is in hand; the others are taken
-/// from the lexer one by one, each when the one before it is used up.
-#[derive(Drop)]
-struct Cursor<'a> {
-    tokens: Tokens<'a>,
-    hand: Token<'a>,
-}
-
-impl<'a> Model for Cursor<'a> {
-    ghost use Rattle.graphql_parser.specs.reading.Ahead.{Ahead};
-
-    ghost Value = { Ahead };
-
-    ghost use Rattle.graphql_parser.specs.reading.Cursor.{shown, IsReading};
-
-    ghost view = { shown };
-
-    ghost invariant = { IsReading };
-}
-
-impl<'a> Cursor<'a> {
-    fn new(mut tokens: Tokens<'a>) -> Cursor<'a>
-        requires { left tokens ≢ [] }
-        ensures left { ahead result ≡ left tokens.entry }
-        ensures whole { result.whole ≡ tokens.entry.whole }
-        ensures taken { result.taken ≡ tokens.entry.taken + 1 }
-        ensures ends { EndsOnce (left tokens.entry) }
-        ensures proper { AreProperButFaults (left tokens.entry) }
-    {
-        let hand = tokens.next_token();
-        Cursor { tokens, hand }
-    }
-
-    /// The tokens that are still to come, behind the one in hand.
-    fn into_tokens(self) -> Tokens<'a>
-        ensures left { left result ≡ self.entry.behind }
-        ensures whole { result.whole ≡ self.entry.whole }
-        ensures taken { result.taken ≡ self.entry.taken }
-        ensures within { result.taken ≤ length result.whole }
-    {
-        self.tokens
-    }
-
-    // Field by field: a copy of the whole would carry the padding along.
-    #[inline(never)]
-    fn advance(&mut self)
-        requires { is_last self.old.hand.bare.kind ≡ false }
-        ensures left { ahead self.new ≡ self.old.behind }
-        ensures taken { self.new.taken ≡ self.old.taken + 1 }
-        ensures whole { self.new.whole ≡ self.old.whole }
-    {
-        let next = self.tokens.next_token();
-        self.hand.kind = next.kind;
-        self.hand.text = next.text;
-        self.hand.start = next.start;
-        self.hand.pos = next.pos;
-    }
-
-    /// The token in hand.
-    #[inline(always)]
-    fn hand(&self) -> Token<'a>
-        ensures token { seen result ≡ self.now.hand }
-        ensures proper { is_last self.now.hand.bare.kind ≡ false → IsProper self.now.hand }
-    {
-        self.hand
-    }
-
-    #[inline(always)]
-    fn is_at_punct(&self, text: &str) -> bool
-        ensures { result ≡ punct_of text.now self.now.hand.bare }
-    {
-        is_punct(self.hand.kind) && self.hand.text == text
-    }
-
-    #[inline(always)]
-    fn is_at_name(&self) -> bool
-        ensures { result ≡ tests.any_name self.now.hand.bare }
-    {
-        is_name(self.hand.kind)
-    }
-
-    /// Takes the punctuator, where it is in hand.
-    fn take_punct(&mut self, text: &str) -> bool
-        ensures { Gives (λ taken. taken) (Ok result) self.old self.new (take_at (punct_of text.now)) }
-    {
-        let is_there = self.is_at_punct(text);
-        if is_there {
-            self.advance();
-        }
-        is_there
-    }
-
-    #[inline(always)]
-    fn expect_punct(&mut self, text: &str) -> Reading<Token<'a>>
-        ensures { Gives seen result self.old self.new (one_at (punct_of text.now)) }
-    {
-        if !self.is_at_punct(text) {
-            return Err(Refusal::Syntax);
-        }
-        let token = self.hand;
-        self.advance();
-        Ok(token)
-    }
-
-    #[inline(always)]
-    fn expect_name(&mut self) -> Reading<Token<'a>>
-        ensures { Gives seen result self.old self.new (one_at tests.any_name) }
-    {
-        if !self.is_at_name() {
-            return Err(Refusal::Syntax);
-        }
-        let token = self.hand;
-        self.advance();
-        Ok(token)
-    }
-
-    /// The end of the text has to be in hand. It stays there.
-    fn expect_end(&self) -> Reading<()>
-        ensures { GivesWhole (λ _. self.now.hand) result self.now self.now (one_at tests.the_end) }
-    {
-        if is_end(self.hand.kind) {
-            Ok(())
-        } else {
-            Err(Refusal::Syntax)
-        }
-    }
-
-    /// The error of a refusal; the refused token is in hand.
-    fn error(&self, alloc: Global, refusal: Refusal) -> Error
-        ensures { IsErrorOf refusal self.now.hand.pos result }
-    {
-        match refusal {
-            Refusal::Memory => Error::OutOfMemory,
-            Refusal::Limit => Error::RecursionLimitExceeded,
-            Refusal::Syntax => syntax_error(alloc, self.hand.pos),
-        }
+/// The error of a refusal; the refused token is in hand.
+fn error_of(alloc: Global, cursor: &Cursor, refusal: Refusal) -> Error
+    ensures { IsErrorOf refusal cursor.now.hand.pos result }
+{
+    match refusal {
+        Refusal::Memory => Error::OutOfMemory,
+        Refusal::Limit => Error::RecursionLimitExceeded,
+        Refusal::Syntax => syntax_error(alloc, cursor.hand().pos),
     }
 }

@@ -7,8 +7,8 @@ use Rattle.graphql_syntax.specs.tokens.Token.{Token}
 use Rattle.graphql_syntax.specs.trees.RequestViews.{document_tree}
 use Rattle.graphql_parser.specs.declared.error.Error.{Error}
 use Rattle.graphql_parser.specs.declared.error.Error.TheVariants.{Syntax, MultipleRoots, MissingQueryRoot, MultipleOperations, OperationDuplicated, FragmentDuplicated, MissingOperation, RecursionLimitExceeded, OutOfMemory}
-use Rattle.graphql_parser.specs.grammar.Limits.{Limits}
-use Rattle.graphql_parser.specs.grammar.Fronts.{IsTheTree, IsRefused, RefusedToken, syntax, limit}
+use Rattle.graphql_grammar.specs.grammar.Limits.{Limits}
+use Rattle.graphql_grammar.specs.grammar.Fronts.{IsTheTree, IsRefused, RefusedToken, syntax, limit}
 use Rattle.graphql_parser.specs.grammar.Request.{Definition, request}
 use Rattle.graphql_parser.specs.grammar.Placeless.{placeless_definitions}
 use Rattle.graphql_parser.specs.grammar.Documents.{document_of}

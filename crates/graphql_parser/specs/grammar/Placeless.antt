@@ -1,34 +1,9 @@
 -- Trees of requests without their places: each place is 0:0.
 use Rattle.std.specs.Prelude.{List, map, option_map}
-use Rattle.graphql_syntax.specs.declared.pos.Positioned.{Positioned}
-use Rattle.graphql_syntax.specs.trees.Request.{Argument, Directive, VariableDefinition, TypeCondition, FragmentSpread, Selection, SelectionSet, field, fragment_spread, inline_fragment, no_selections, selection_and, OperationDefinition, FragmentDefinition}
-use Rattle.graphql_parser.specs.grammar.Places.{nowhere}
+use Rattle.graphql_syntax.specs.trees.Request.{TypeCondition, FragmentSpread, Selection, SelectionSet, field, fragment_spread, inline_fragment, no_selections, selection_and, OperationDefinition, FragmentDefinition}
+use Rattle.graphql_grammar.specs.grammar.Places.{nowhere}
+use Rattle.graphql_grammar.specs.grammar.Placeless.{unplaced, bare_node, placeless_argument, placeless_directives, placeless_variable}
 use Rattle.graphql_parser.specs.grammar.Request.{Definition, operation, fragment}
-
--- the node without its place, and what is inside it without places too
-abbrev pub unplaced : {A : Type 0} → (A → A) → Positioned A → Positioned A
-unplaced f p = record { pos = nowhere; node = f p.node }
-
--- the node without its place, where there are no places inside it: a name, a value, a type
-abbrev pub bare_node : {A : Type 0} → Positioned A → Positioned A
-bare_node p = record { pos = nowhere; node = p.node }
-
-abbrev pub placeless_argument : Argument → Argument
-placeless_argument a = (bare_node a.0, bare_node a.1)
-
-abbrev pub placeless_directive : Directive → Directive
-placeless_directive d = record { name = bare_node d.name; arguments = map placeless_argument d.arguments }
-
-abbrev pub placeless_directives : List (Positioned Directive) → List (Positioned Directive)
-placeless_directives ds = map (unplaced placeless_directive) ds
-
-abbrev pub placeless_variable : VariableDefinition → VariableDefinition
-placeless_variable v = record {
-  name = bare_node v.name;
-  var_type = bare_node v.var_type;
-  directives = placeless_directives v.directives;
-  default_value = option_map bare_node v.default_value;
-}
 
 abbrev pub placeless_condition : TypeCondition → TypeCondition
 placeless_condition c = record { on = bare_node c.on }

@@ -5,12 +5,12 @@ use Rattle.graphql_syntax.specs.declared.types.OperationType.{OperationType}
 use Rattle.graphql_syntax.specs.declared.types.OperationType.TheVariants.{Query, Mutation, Subscription}
 use Rattle.graphql_syntax.specs.tokens.Token.{Token}
 use Rattle.graphql_syntax.specs.trees.Request.{Name, Directives, VariableDefinition, TypeCondition, OperationDefinition, FragmentDefinition}
-use Rattle.graphql_parser.specs.grammar.Arguments.{given, directives, variable_definitions}
-use Rattle.graphql_parser.specs.grammar.Fronts.{Grammar, whole}
-use Rattle.graphql_parser.specs.grammar.Places.{at}
-use Rattle.graphql_parser.specs.grammar.Relations.{Rel, one, ◌⨾◌, ◌∪◌, mapped, plus, opt}
+use Rattle.graphql_grammar.specs.grammar.Arguments.{given, directives, variable_definitions}
+use Rattle.graphql_grammar.specs.grammar.Fronts.{Grammar, whole}
+use Rattle.graphql_grammar.specs.grammar.Places.{at}
+use Rattle.graphql_grammar.specs.grammar.Relations.{Rel, one, ◌⨾◌, ◌∪◌, mapped, plus, opt}
 use Rattle.graphql_parser.specs.grammar.Selections.{Set, fragment_name, a_type_condition, selection_set}
-use Rattle.graphql_parser.specs.grammar.Tests.{keyword, any_name}
+use Rattle.graphql_grammar.specs.grammar.Tests.{keyword, any_name}
 
 -- a definition, with the name of its operation where it has one, or of its fragment
 pub data Definition : Type 0 where

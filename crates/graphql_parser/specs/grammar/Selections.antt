@@ -4,10 +4,10 @@ use Rattle.graphql_syntax.specs.declared.pos.Pos.{Pos}
 use Rattle.graphql_syntax.specs.declared.pos.Positioned.{Positioned}
 use Rattle.graphql_syntax.specs.tokens.Token.{Token}
 use Rattle.graphql_syntax.specs.trees.Request.{Name, Arguments, Directives, TypeCondition, Selection, field, fragment_spread, inline_fragment, SelectionSet, no_selections, set_of}
-use Rattle.graphql_parser.specs.grammar.Arguments.{given, arguments, directives}
-use Rattle.graphql_parser.specs.grammar.Places.{at, name_of, nowhere}
-use Rattle.graphql_parser.specs.grammar.Relations.{Rel, one, never, ◌⨾◌, ◌∪◌, mapped, plus, opt}
-use Rattle.graphql_parser.specs.grammar.Tests.{Test, punct, keyword, any_name, name_but}
+use Rattle.graphql_grammar.specs.grammar.Arguments.{given, arguments, directives}
+use Rattle.graphql_grammar.specs.grammar.Places.{at, name_of, nowhere}
+use Rattle.graphql_grammar.specs.grammar.Relations.{Rel, one, never, ◌⨾◌, ◌∪◌, mapped, plus, opt}
+use Rattle.graphql_grammar.specs.grammar.Tests.{Test, punct, keyword, any_name, name_but}
 
 abbrev pub Set : Type 0
 Set = Positioned SelectionSet

@@ -8,14 +8,14 @@ use Rattle.graphql_syntax.specs.trees.Request.{Name, Directives, VariableDefinit
 use Rattle.graphql_syntax.specs.trees.RequestViews.{operation_tree, fragment_tree}
 use Rattle.graphql_parser.specs.declared.parse.executable.Definition as code
 use Rattle.graphql_parser.specs.declared.parse.executable.Definition.TheVariants.{Operation, Fragment}
-use Rattle.graphql_parser.specs.grammar.Arguments.{given}
-use Rattle.graphql_parser.specs.grammar.Limits.{Limits}
-use Rattle.graphql_parser.specs.grammar.Places.{at}
+use Rattle.graphql_grammar.specs.grammar.Arguments.{given}
+use Rattle.graphql_grammar.specs.grammar.Limits.{Limits}
+use Rattle.graphql_grammar.specs.grammar.Places.{at}
 use Rattle.graphql_parser.specs.grammar.Request.{Definition, operation, fragment}
 use Rattle.graphql_parser.specs.grammar.Selections.{Set}
-use Rattle.graphql_parser.specs.grammar.Tests.{punct, any_name}
-use Rattle.graphql_parser.specs.reading.Arguments.{directives_at, variable_definitions_at}
-use Rattle.graphql_parser.specs.reading.Outcome.{Reader, one_at, then_at, mapped_at, choose_at, none_at, opt_at}
+use Rattle.graphql_grammar.specs.grammar.Tests.{punct, any_name}
+use Rattle.graphql_grammar.specs.reading.Arguments.{directives_at, variable_definitions_at}
+use Rattle.graphql_grammar.specs.reading.Outcome.{Reader, one_at, then_at, mapped_at, choose_at, none_at, opt_at}
 use Rattle.graphql_parser.specs.reading.Request.{operation_type_at, own_set_at}
 
 abbrev pub definition_tree : code.Definition → Definition

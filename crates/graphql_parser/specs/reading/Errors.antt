@@ -3,8 +3,8 @@ use Rattle.std.specs.Prelude.{◌≡◌, None, string_bytes}
 use Rattle.graphql_syntax.specs.declared.pos.Pos.{Pos}
 use Rattle.graphql_parser.specs.declared.error.Error.{Error}
 use Rattle.graphql_parser.specs.declared.error.Error.TheVariants.{Syntax, RecursionLimitExceeded, OutOfMemory}
-use Rattle.graphql_parser.specs.declared.parse.Refusal.{Refusal}
-use Rattle.graphql_parser.specs.declared.parse.Refusal.TheVariants as refusals
+use Rattle.graphql_grammar.specs.declared.cursor.Refusal.{Refusal}
+use Rattle.graphql_grammar.specs.declared.cursor.Refusal.TheVariants as refusals
 use Rattle.graphql_parser.specs.grammar.Answers.{syntax_message}
 
 -- the error of a refusal at this place; for want of memory it may be no other than that

@@ -3,12 +3,12 @@ use Rattle.std.specs.Prelude.{true, ◌||◌, List}
 use Rattle.graphql_syntax.specs.declared.types.OperationType.{OperationType}
 use Rattle.graphql_syntax.specs.declared.types.OperationType.TheVariants.{Query, Mutation, Subscription}
 use Rattle.graphql_syntax.specs.tokens.Token.{Token}
-use Rattle.graphql_parser.specs.grammar.Limits.{Limits}
+use Rattle.graphql_grammar.specs.grammar.Limits.{Limits}
 use Rattle.graphql_parser.specs.grammar.Request.{Definition, query_of, kind_of, operation_of, fragment_of}
 use Rattle.graphql_parser.specs.grammar.Selections.{Set, fragment_name}
-use Rattle.graphql_parser.specs.grammar.Tests.{Test, punct, keyword, any_name}
-use Rattle.graphql_parser.specs.reading.Arguments.{directives_at, variable_definitions_at}
-use Rattle.graphql_parser.specs.reading.Outcome.{Reader, one_at, then_at, mapped_at, choose_at, opt_at, plus_at, whole_at}
+use Rattle.graphql_grammar.specs.grammar.Tests.{Test, punct, keyword, any_name}
+use Rattle.graphql_grammar.specs.reading.Arguments.{directives_at, variable_definitions_at}
+use Rattle.graphql_grammar.specs.reading.Outcome.{Reader, one_at, then_at, mapped_at, choose_at, opt_at, plus_at, whole_at}
 use Rattle.graphql_parser.specs.reading.Selections.{type_condition_at, selection_set_at}
 
 abbrev pub own_set_at : Limits → Reader Set

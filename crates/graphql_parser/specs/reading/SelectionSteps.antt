@@ -4,13 +4,13 @@ use Rattle.graphql_syntax.specs.declared.pos.Pos.{Pos}
 use Rattle.graphql_syntax.specs.declared.pos.Positioned.{Positioned}
 use Rattle.graphql_syntax.specs.tokens.Token.{Token}
 use Rattle.graphql_syntax.specs.trees.Request.{placed, Name, Arguments, Directives, TypeCondition, Selection, field, fragment_spread, inline_fragment, no_selections, set_of}
-use Rattle.graphql_parser.specs.grammar.Arguments.{given}
-use Rattle.graphql_parser.specs.grammar.Fronts.{syntax}
-use Rattle.graphql_parser.specs.grammar.Places.{name_of, nowhere}
+use Rattle.graphql_grammar.specs.grammar.Arguments.{given}
+use Rattle.graphql_grammar.specs.grammar.Fronts.{syntax}
+use Rattle.graphql_grammar.specs.grammar.Places.{name_of, nowhere}
 use Rattle.graphql_parser.specs.grammar.Selections.{Set, fragment_name}
-use Rattle.graphql_parser.specs.grammar.Tests.{punct, keyword, any_name}
-use Rattle.graphql_parser.specs.reading.Arguments.{maybe_arguments_at, directives_at}
-use Rattle.graphql_parser.specs.reading.Outcome.{Outcome, Read, Refused, Reader, ◌>>=◌, one_at, then_at, mapped_at, choose_at, none_at, deep_at, many_at, with_front}
+use Rattle.graphql_grammar.specs.grammar.Tests.{punct, keyword, any_name}
+use Rattle.graphql_grammar.specs.reading.Arguments.{maybe_arguments_at, directives_at}
+use Rattle.graphql_grammar.specs.reading.Outcome.{Outcome, Read, Refused, Reader, ◌>>=◌, one_at, then_at, mapped_at, choose_at, none_at, deep_at, many_at, with_front}
 use Rattle.graphql_parser.specs.reading.Selections.{type_condition_at, inline_first, inline_at, selection_first, selection_at, selection_set_at}
 
 -- ---- a selection up to its set

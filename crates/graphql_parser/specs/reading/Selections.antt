@@ -4,9 +4,9 @@ use Rattle.graphql_syntax.specs.declared.pos.Positioned.{Positioned}
 use Rattle.graphql_syntax.specs.tokens.Token.{Token}
 use Rattle.graphql_syntax.specs.trees.Request.{Directives, TypeCondition, Selection}
 use Rattle.graphql_parser.specs.grammar.Selections.{Set, field_of, fragment_name, spread_of, condition_of, inline_of, selections_of}
-use Rattle.graphql_parser.specs.grammar.Tests.{Test, punct, keyword, any_name}
-use Rattle.graphql_parser.specs.reading.Arguments.{maybe_arguments_at, directives_at}
-use Rattle.graphql_parser.specs.reading.Outcome.{Reader, one_at, then_at, mapped_at, choose_at, opt_at, deep_at, plus_at}
+use Rattle.graphql_grammar.specs.grammar.Tests.{Test, punct, keyword, any_name}
+use Rattle.graphql_grammar.specs.reading.Arguments.{maybe_arguments_at, directives_at}
+use Rattle.graphql_grammar.specs.reading.Outcome.{Reader, one_at, then_at, mapped_at, choose_at, opt_at, deep_at, plus_at}
 
 -- ---- fields
 

@@ -4,19 +4,19 @@ ghost use Rattle.graphql_syntax.specs.tokens.Seen.{seen};
 ghost use Rattle.graphql_syntax.specs.trees.Request as request;
 ghost use Rattle.graphql_syntax.specs.trees.RequestViews.{directive_tree, variable_definition_tree, selection_set_tree};
 ghost use Rattle.graphql_parser.specs.grammar.Selections.{fragment_name};
-ghost use Rattle.graphql_parser.specs.reading.ArgumentViews.{trees_in};
-ghost use Rattle.graphql_parser.specs.reading.Arguments.{directives_at};
+ghost use Rattle.graphql_grammar.specs.reading.ArgumentViews.{trees_in};
+ghost use Rattle.graphql_grammar.specs.reading.Arguments.{directives_at};
 ghost use Rattle.graphql_parser.specs.reading.Definitions.{definition_tree, in_definitions, maybe_name_at, given_variables_at, worded_at};
-ghost use Rattle.graphql_parser.specs.reading.Given.{Gives, GivesWhole};
-ghost use Rattle.graphql_parser.specs.reading.Outcome.{one_at};
+ghost use Rattle.graphql_grammar.specs.reading.Given.{Gives, GivesWhole};
+ghost use Rattle.graphql_grammar.specs.reading.Outcome.{one_at};
 ghost use Rattle.graphql_parser.specs.reading.Request.{own_set_at, short_operation_at, operation_type_at, fragment_at, definition_first, definition_at, definitions_at, request_at};
 
-use super::arguments::read_directives;
-use super::list::push;
-use super::selections::{read_selection_set, read_type_condition};
-use super::variables::read_maybe_variable_definitions;
-use super::{Cursor, Reading, Refusal};
+use super::selections::{is_at_fragment_name, read_selection_set, read_type_condition};
 use crate::limits::Limits;
+use graphql_grammar::arguments::read_directives;
+use graphql_grammar::cursor::{Cursor, Reading, Refusal};
+use graphql_grammar::list::push;
+use graphql_grammar::variables::read_maybe_variable_definitions;
 use graphql_syntax::lexer::Token;
 use graphql_syntax::pos::Positioned;
 use graphql_syntax::types::{
@@ -35,41 +35,39 @@ pub(super) enum Definition {
     Fragment(Name, Positioned<FragmentDefinition>),
 }
 
-impl<'a> Cursor<'a> {
-    fn is_at_definition(&self) -> bool
-        ensures { result ≡ definition_first self.now.hand.bare }
-    {
-        self.is_at_punct("{")
-            || self.is_at_keyword("query")
-            || self.is_at_keyword("mutation")
-            || self.is_at_keyword("subscription")
-            || self.is_at_keyword("fragment")
-    }
+fn is_at_definition(cursor: &Cursor) -> bool
+    ensures { result ≡ definition_first cursor.now.hand.bare }
+{
+    cursor.is_at_punct("{")
+        || cursor.is_at_keyword("query")
+        || cursor.is_at_keyword("mutation")
+        || cursor.is_at_keyword("subscription")
+        || cursor.is_at_keyword("fragment")
+}
 
-    fn expect_fragment_name(&mut self) -> Reading<Token<'a>>
-        ensures { Gives seen result self.old self.new (one_at fragment_name) }
-    {
-        if !self.is_at_fragment_name() {
-            return Err(Refusal::Syntax);
-        }
-        Ok(self.take())
+fn expect_fragment_name<'a>(cursor: &mut Cursor<'a>) -> Reading<Token<'a>>
+    ensures { Gives seen result cursor.old cursor.new (one_at fragment_name) }
+{
+    if !is_at_fragment_name(cursor) {
+        return Err(Refusal::Syntax);
     }
+    Ok(cursor.take())
+}
 
-    /// The keyword of an operation, and the kind that it tells.
-    fn expect_operation_type(&mut self) -> Reading<(Token<'a>, OperationType)>
-        ensures { Gives (λ x. (seen x.0, x.1)) result self.old self.new operation_type_at }
-    {
-        let kind = if self.is_at_keyword("query") {
-            OperationType::Query
-        } else if self.is_at_keyword("mutation") {
-            OperationType::Mutation
-        } else if self.is_at_keyword("subscription") {
-            OperationType::Subscription
-        } else {
-            return Err(Refusal::Syntax);
-        };
-        Ok((self.take(), kind))
-    }
+/// The keyword of an operation, and the kind that it tells.
+fn expect_operation_type<'a>(cursor: &mut Cursor<'a>) -> Reading<(Token<'a>, OperationType)>
+    ensures { Gives (λ x. (seen x.0, x.1)) result cursor.old cursor.new operation_type_at }
+{
+    let kind = if cursor.is_at_keyword("query") {
+        OperationType::Query
+    } else if cursor.is_at_keyword("mutation") {
+        OperationType::Mutation
+    } else if cursor.is_at_keyword("subscription") {
+        OperationType::Subscription
+    } else {
+        return Err(Refusal::Syntax);
+    };
+    Ok((cursor.take(), kind))
 }
 
 /// The set of a definition, whose nesting isn't counted.
@@ -133,7 +131,7 @@ fn read_maybe_name(alloc: Global, cursor: &mut Cursor) -> Reading<Option<Name>>
 fn read_operation(alloc: Global, cursor: &mut Cursor, limits: Limits) -> Reading<Definition>
     ensures { Gives definition_tree result cursor.old cursor.new (worded_at limits) }
 {
-    let (word, ty) = cursor.expect_operation_type()?;
+    let (word, ty) = expect_operation_type(cursor)?;
     let name = read_maybe_name(alloc, cursor)?;
     let variable_definitions = read_own_variables(alloc, cursor, limits)?;
     let directives = read_own_directives(alloc, cursor, limits)?;
@@ -151,7 +149,7 @@ fn read_fragment(alloc: Global, cursor: &mut Cursor, limits: Limits) -> Reading<
     ensures { Gives definition_tree result cursor.old cursor.new (fragment_at limits) }
 {
     let word = cursor.expect_keyword("fragment")?;
-    let name = cursor.expect_fragment_name()?;
+    let name = expect_fragment_name(cursor)?;
     let name = Name::new(alloc, name.text)?;
     let type_condition = read_type_condition(alloc, cursor)?;
     let directives = read_own_directives(alloc, cursor, limits)?;
@@ -183,7 +181,7 @@ fn read_definitions(alloc: Global, cursor: &mut Cursor, limits: Limits) -> Readi
     loop {
         let definition = read_definition(alloc, cursor, limits)?;
         push(&mut definitions, definition)?;
-        if !cursor.is_at_definition() {
+        if !is_at_definition(cursor) {
             return Ok(definitions);
         }
     }

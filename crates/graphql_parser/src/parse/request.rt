@@ -6,13 +6,14 @@ ghost use Rattle.graphql_syntax.specs.tokens.Edition.{October2021};
 ghost use Rattle.graphql_syntax.specs.tokens.Proper.{IsCutInto};
 ghost use Rattle.graphql_syntax.specs.tokens.Token.{Token as SpecToken, left};
 ghost use Rattle.graphql_parser.specs.grammar.Answers.{Answers, TakenFor};
-ghost use Rattle.graphql_parser.specs.grammar.Limits.{default_limits};
+ghost use Rattle.graphql_grammar.specs.grammar.Limits.{default_limits};
 
-use super::Cursor;
+use super::error_of;
 use super::executable::read_request;
 use super::rules::document_of;
 use crate::error::Result;
 use crate::limits::Limits;
+use graphql_grammar::cursor::Cursor;
 use graphql_syntax::lexer::Tokens;
 use graphql_syntax::types::ExecutableDocument;
 use std::alloc::Global;
@@ -31,7 +32,7 @@ fn read_document(
     let mut cursor = Cursor::new(mem::replace(tokens, Tokens::new("")));
     let answer = match read_request(alloc, &mut cursor, limits) {
         Ok(definitions) => document_of(alloc, definitions),
-        Err(refusal) => Err(cursor.error(alloc, refusal)),
+        Err(refusal) => Err(error_of(alloc, &cursor, refusal)),
     };
     *tokens = cursor.into_tokens();
     answer

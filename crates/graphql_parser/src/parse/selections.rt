@@ -1,17 +1,17 @@
 //! Readers of selection sets: one loop over the sets that are open.
 ghost use Rattle.graphql_syntax.specs.trees.Request as request;
 ghost use Rattle.graphql_syntax.specs.trees.RequestViews.{selection_set_tree};
-ghost use Rattle.graphql_parser.specs.reading.Given.{Gives};
+ghost use Rattle.graphql_grammar.specs.reading.Given.{Gives};
 ghost use Rattle.graphql_parser.specs.reading.Selections.{selection_set_at};
 
 mod frames;
 mod heads;
 
-use super::{Cursor, Reading};
 use frames::{Frames, OpenSet, fill_last};
+use graphql_grammar::cursor::{Cursor, Reading};
 use graphql_syntax::pos::Positioned;
 use graphql_syntax::types::SelectionSet;
-pub(super) use heads::read_type_condition;
+pub(super) use heads::{is_at_fragment_name, read_type_condition};
 use std::alloc::Global;
 
 /// A selection set in which sets nest at most `selections` deep, and whose values nest at most
@@ -44,7 +44,7 @@ pub(super) fn read_selection_set(
             continue;
         }
         // Each set that ends here is given to the selection that waits for it.
-        while !cursor.is_at_selection() {
+        while !heads::is_at_selection(cursor) {
             cursor.expect_punct("}")?;
             let set = own.close(&mut items)?;
             match frames.leave() {

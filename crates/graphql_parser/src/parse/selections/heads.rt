@@ -5,12 +5,13 @@ ghost use Rattle.graphql_syntax.specs.trees.RequestViews.{arguments_tree, direct
 ghost use Rattle.graphql_syntax.specs.tokens.Seen.{seen};
 ghost use Rattle.graphql_parser.specs.grammar.Selections.{fragment_name};
 ghost use Rattle.graphql_parser.specs.reading.SelectionSteps.{names_at, maybe_brace_at, bare_field, bare_inline, onto, field_head_at, spread_at, inline_head_at, maybe_condition_at, behind_dots_at, head_at};
-ghost use Rattle.graphql_parser.specs.reading.Given.{Gives};
+ghost use Rattle.graphql_grammar.specs.reading.Given.{Gives};
 ghost use Rattle.graphql_parser.specs.reading.Selections.{type_condition_at, inline_first, selection_first};
 
-use crate::parse::arguments::{read_directives, read_maybe_arguments};
-use crate::parse::words::{name_in, read_name};
-use crate::parse::{Cursor, Reading, Refusal, list};
+use graphql_grammar::arguments::{read_directives, read_maybe_arguments};
+use graphql_grammar::cursor::{Cursor, Reading, Refusal};
+use graphql_grammar::list;
+use graphql_grammar::words::{name_in, read_name};
 use graphql_syntax::lexer::Token;
 use graphql_syntax::pos::{Pos, Positioned};
 use graphql_syntax::types::{
@@ -28,27 +29,25 @@ type Arguments = Vec<(Positioned<Name>, Positioned<Value>)>;
 
 type Selections = Vec<Positioned<Selection>>;
 
-impl Cursor<'_> {
-    #[inline(always)]
-    pub(in crate::parse) fn is_at_fragment_name(&self) -> bool
-        ensures { result ≡ fragment_name self.now.hand.bare }
-    {
-        self.is_at_name() && !self.is_at_keyword("on")
-    }
+#[inline(always)]
+pub(in crate::parse) fn is_at_fragment_name(cursor: &Cursor) -> bool
+    ensures { result ≡ fragment_name cursor.now.hand.bare }
+{
+    cursor.is_at_name() && !cursor.is_at_keyword("on")
+}
 
-    #[inline(always)]
-    fn is_at_inline(&self) -> bool
-        ensures { result ≡ inline_first self.now.hand.bare }
-    {
-        self.is_at_keyword("on") || self.is_at_punct("@") || self.is_at_punct("{")
-    }
+#[inline(always)]
+fn is_at_inline(cursor: &Cursor) -> bool
+    ensures { result ≡ inline_first cursor.now.hand.bare }
+{
+    cursor.is_at_keyword("on") || cursor.is_at_punct("@") || cursor.is_at_punct("{")
+}
 
-    #[inline(always)]
-    pub(super) fn is_at_selection(&self) -> bool
-        ensures { result ≡ selection_first self.now.hand.bare }
-    {
-        self.is_at_name() || self.is_at_punct("...")
-    }
+#[inline(always)]
+pub(super) fn is_at_selection(cursor: &Cursor) -> bool
+    ensures { result ≡ selection_first cursor.now.hand.bare }
+{
+    cursor.is_at_name() || cursor.is_at_punct("...")
 }
 
 #[inline(always)]
@@ -221,12 +220,12 @@ fn read_behind_dots(
 ) -> Reading<Option<Pos>>
     ensures { Gives (λ place. (selection_trees items.new.items, place)) result cursor.old cursor.new (onto (selection_trees items.old.items) (behind_dots_at values nests dots)) }
 {
-    if cursor.is_at_fragment_name() {
+    if is_at_fragment_name(cursor) {
         let name = cursor.take();
         return read_spread(alloc, cursor, values, dots, name, items);
     }
     if !nests {
-        return Err(if cursor.is_at_inline() {
+        return Err(if is_at_inline(cursor) {
             Refusal::Limit
         } else {
             Refusal::Syntax

@@ -1,10 +1,10 @@
 use Rattle.std.proofs.Common.{◌≡◌, false, List, ◌∷◌, sym, ◌∙◌}
 use Rattle.graphql_syntax.specs.tokens.Token.{Token}
-use Rattle.graphql_parser.specs.grammar.Limits.{Limits}
-use Rattle.graphql_parser.specs.grammar.Tests.{punct, keyword}
+use Rattle.graphql_grammar.specs.grammar.Limits.{Limits}
+use Rattle.graphql_grammar.specs.grammar.Tests.{punct, keyword}
 use Rattle.graphql_parser.specs.reading.Definitions.{definition_tree, worded_at}
 use Rattle.graphql_parser.specs.reading.Request.{definition_at}
-use Rattle.graphql_parser.proofs.Loops.{there}
+use Rattle.graphql_grammar.proofs.Loops.{there}
 use Rattle.graphql_parser.proofs.Operations.{operation-law}
 use Rattle.graphql_parser.proofs.parse.executable.read_definition.Goals as goal
 

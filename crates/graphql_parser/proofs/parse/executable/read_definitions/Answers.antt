@@ -1,9 +1,9 @@
 use Rattle.std.proofs.Common.{sym, ◌∙◌, arith}
 use Rattle.std.proofs.lemmas.Result.{err_from_is_err_and}
-use Rattle.graphql_parser.specs.reading.Ahead.{tokens}
+use Rattle.graphql_grammar.specs.reading.Ahead.{tokens}
 use Rattle.graphql_parser.specs.reading.Definitions.{definition_tree, in_definitions}
 use Rattle.graphql_parser.specs.reading.Request.{definition_first, definition_at}
-use Rattle.graphql_parser.proofs.Loops.{stops, goes, ends}
+use Rattle.graphql_grammar.proofs.Loops.{stops, goes, ends}
 use Rattle.graphql_parser.proofs.RequestProductions.{takes-definition}
 use Rattle.graphql_parser.proofs.parse.executable.read_definitions.Goals as goal
 

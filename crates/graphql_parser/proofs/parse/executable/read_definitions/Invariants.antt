@@ -1,7 +1,7 @@
 use Rattle.std.proofs.Common.{length}
 use Rattle.graphql_parser.specs.reading.Definitions.{in_definitions}
 use Rattle.graphql_parser.specs.reading.Request.{definition_first, definition_at}
-use Rattle.graphql_parser.proofs.Loops.{Kept}
+use Rattle.graphql_grammar.proofs.Loops.{Kept}
 use Rattle.graphql_parser.proofs.parse.executable.read_definitions.Given as goal
 
 abbrev pub invariant-loop-definitions : goal.invariant-loop-definitions

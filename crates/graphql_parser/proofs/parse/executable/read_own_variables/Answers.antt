@@ -1,10 +1,10 @@
 use Rattle.std.proofs.Common.{◌≡◌, ap₂, subst}
 use Rattle.graphql_syntax.specs.trees.Request.{placed}
 use Rattle.graphql_syntax.specs.trees.RequestViews.{variable_definition_tree}
-use Rattle.graphql_parser.specs.grammar.Limits.{Limits}
-use Rattle.graphql_parser.specs.reading.ArgumentViews.{trees_in}
+use Rattle.graphql_grammar.specs.grammar.Limits.{Limits}
+use Rattle.graphql_grammar.specs.reading.ArgumentViews.{trees_in}
 use Rattle.graphql_parser.specs.reading.Definitions.{given_variables_at}
-use Rattle.graphql_parser.specs.reading.Given.{Gives}
+use Rattle.graphql_grammar.specs.reading.Given.{Gives}
 use Rattle.graphql_parser.proofs.parse.executable.read_own_variables.Goals as goal
 
 pub returns : goal.returns

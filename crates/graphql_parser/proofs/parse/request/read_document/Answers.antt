@@ -3,8 +3,8 @@ use Rattle.graphql_syntax.specs.tokens.Cuts.{EndsOnce}
 use Rattle.graphql_syntax.specs.tokens.Proper.{AreProperButFaults}
 use Rattle.graphql_syntax.specs.tokens.Token.{Token, left}
 use Rattle.graphql_parser.specs.grammar.Answers.{Answers, TakenFor}
-use Rattle.graphql_parser.specs.reading.Ahead.{tokens}
-use Rattle.graphql_parser.specs.reading.Given.{GoesOn}
+use Rattle.graphql_grammar.specs.reading.Ahead.{tokens}
+use Rattle.graphql_grammar.specs.reading.Given.{GoesOn}
 use Rattle.graphql_parser.specs.reading.Definitions.{in_definitions}
 use Rattle.graphql_parser.proofs.Headline.{accepted, accepted-all}
 use Rattle.graphql_parser.proofs.Calls.{document-answers, document-taken, refusal-answers, refusal-taken, taken-between}
@@ -47,7 +47,7 @@ returns-clause-answer c =
     subst (λ (ts : List Token). Answers limits ts c.match-read_request.answer) (ahead-is c)
     (elim c.match-read_request.branch [
       | in-Ok w ↦ subst (Answers limits ts) (sym w.answer-is) (document-answers limits ts (in_definitions w.in-Ok.definitions) _ (accepted limits ts _ (in_definitions w.in-Ok.definitions) (ends c) (proper c) w.in-Ok.ensures.0) w.document_of-answer.ensures)
-      | in-Err w ↦ subst (Answers limits ts) (sym w.answer-is) (refusal-answers limits c.new-cursor.result c.read_request.new.cursor w.in-Err.refusal w.error.result (ends c) (proper c) w.in-Err.ensures.0 w.error.ensures)
+      | in-Err w ↦ subst (Answers limits ts) (sym w.answer-is) (refusal-answers limits c.new-cursor.result c.read_request.new.cursor w.in-Err.refusal w.error_of.result (ends c) (proper c) w.in-Err.ensures.0 w.error_of.ensures)
     ])
 
 pub returns-clause-taken : goal.returns-clause-taken
@@ -67,7 +67,7 @@ returns-clause-taken c =
         sums c w.in-Err.ensures.1,
         subst (λ (ts : List Token). TakenFor limits ts c.match-read_request.answer (count c)) (ahead-is c)
             (subst (λ r. TakenFor limits ts r (count c)) (sym w.answer-is)
-            (refusal-taken limits c.new-cursor.result c.read_request.new.cursor w.in-Err.refusal w.error.result (count c) (taken c w.in-Err.ensures.1) (ends c) (proper c) w.in-Err.ensures.0 w.error.ensures)),
+            (refusal-taken limits c.new-cursor.result c.read_request.new.cursor w.in-Err.refusal w.error_of.result (count c) (taken c w.in-Err.ensures.1) (ends c) (proper c) w.in-Err.ensures.0 w.error_of.ensures)),
       )
     ]
   where

@@ -4,10 +4,10 @@ use Rattle.std.proofs.lemmas.Result.{err_from_is_err_and}
 use Rattle.graphql_syntax.specs.tokens.Seen.{seen}
 use Rattle.graphql_syntax.specs.trees.Request.{placed}
 use Rattle.graphql_syntax.specs.trees.RequestViews.{selection_tree, selection_trees}
-use Rattle.graphql_parser.specs.grammar.Tests.{punct}
-use Rattle.graphql_parser.specs.reading.Ahead.{tokens}
+use Rattle.graphql_grammar.specs.grammar.Tests.{punct}
+use Rattle.graphql_grammar.specs.reading.Ahead.{tokens}
 use Rattle.graphql_parser.proofs.HeadTakes.{head-nests, onto-takes, one-takes}
-use Rattle.graphql_parser.proofs.Loops.{go-on}
+use Rattle.graphql_grammar.proofs.Loops.{go-on}
 use Rattle.graphql_parser.proofs.OpenParts.{opens, enters, reads, again, ends, leaves, reads-not}
 use Rattle.graphql_parser.proofs.OpenSets.{opens-not, closes-not}
 use Rattle.graphql_parser.proofs.parse.selections.read_selection_set.Goals as goal

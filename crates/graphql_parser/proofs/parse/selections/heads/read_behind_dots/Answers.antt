@@ -6,7 +6,7 @@ use Rattle.graphql_syntax.specs.trees.Request as request
 use Rattle.graphql_syntax.specs.trees.RequestViews.{selection_trees}
 use Rattle.graphql_parser.specs.grammar.Selections.{fragment_name}
 use Rattle.graphql_parser.specs.reading.SelectionSteps.{behind_dots_at, spread_at, onto}
-use Rattle.graphql_parser.proofs.Steps.{gives-behind}
+use Rattle.graphql_grammar.proofs.Steps.{gives-behind}
 use Rattle.graphql_parser.proofs.parse.selections.heads.read_behind_dots.Goals as goal
 
 named : (values : ℕ) (nests : Bool) (dots : Pos) (front : List (Positioned request.Selection)) (t name : Token) (ts rest : List Token) → fragment_name t.bare ≡ true → name ≡ t → rest ≡ ts → onto front (behind_dots_at values nests dots) (t ∷ ts) ≡ onto front (spread_at values dots name) rest

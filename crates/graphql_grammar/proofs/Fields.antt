@@ -1,0 +1,118 @@
+-- The fields of an object: pairs put in place one by one give the merged list.
+use Rattle.std.proofs.Common.{◌≡◌, ℕ, Bool, true, false, not, ◌&&◌, ◌||◌, cond, List, [], ◌∷◌, ◌++◌, map, nat_eq, refl, sym, ap, ap₂, ◌∙◌, subst, append_assoc, append-nil}
+use Rattle.std.specs.Cmp.Lexicographic.{pointwise, same_text}
+use Rattle.std.specs.List.{list_any}
+use Rattle.std.specs.Str.{bytes_eq}
+use Rattle.indexmap.specs.IndexMap.{insert_entry, insert_all}
+use Rattle.graphql_grammar.specs.grammar.Merged.{has_name, without, last_value, merged}
+use Rattle.graphql_grammar.specs.reading.Fields.{are_distinct, put, put_all}
+
+without-put-same : {A : Type 0} (n : List ℕ) (l : List (List ℕ × A)) (p : List ℕ × A) → bytes_eq p.0 n ≡ true → without n (put l p) ≡ without n l
+without-put-same n [] p e = rw e refl
+without-put-same {A} n (q ∷ qs) p e = go (without-put-same n qs p e) (bytes_eq p.0 q.0) refl (bytes_eq q.0 n) refl
+  where
+    go : without n (put qs p) ≡ without n qs → (w : Bool) → bytes_eq p.0 q.0 ≡ w → (v : Bool) → bytes_eq q.0 n ≡ v → without n (cond w ((q.0, p.1) ∷ qs) (q ∷ put qs p)) ≡ cond v (without n qs) (q ∷ without n qs)
+    go more true h true k = rw k refl
+    go more true h false k = absurd (differ (subst (λ (m : List ℕ). bytes_eq m n ≡ true) (same_text p.0 q.0 (sym h)) e) k)
+      where
+        differ : bytes_eq q.0 n ≡ true → bytes_eq q.0 n ≡ false → ⊥
+        differ a b = cc
+    go more false h true k = rw k more
+    go more false h false k = rw k (ap (λ (l : List (List ℕ × A)). q ∷ l) more)
+
+without-put-other : {A : Type 0} (n : List ℕ) (l : List (List ℕ × A)) (p : List ℕ × A) → bytes_eq p.0 n ≡ false → without n (put l p) ≡ put (without n l) p
+without-put-other n [] p e = rw e refl
+without-put-other {A} n (q ∷ qs) p e = go (without-put-other n qs p e) (bytes_eq p.0 q.0) refl (bytes_eq q.0 n) refl
+  where
+    go : without n (put qs p) ≡ put (without n qs) p → (w : Bool) → bytes_eq p.0 q.0 ≡ w → (v : Bool) → bytes_eq q.0 n ≡ v → without n (cond w ((q.0, p.1) ∷ qs) (q ∷ put qs p)) ≡ put (cond v (without n qs) (q ∷ without n qs)) p
+    go more true h true k = absurd (differ (subst (λ (m : List ℕ). bytes_eq m n ≡ true) (sym (same_text p.0 q.0 (sym h))) k) e)
+      where
+        differ : bytes_eq p.0 n ≡ true → bytes_eq p.0 n ≡ false → ⊥
+        differ a b = cc
+    go more true h false k = rw (k, h) refl
+    go more false h true k = rw k more
+    go more false h false k = rw (k, h) (ap (λ (l : List (List ℕ × A)). q ∷ l) more)
+
+last-behind : {A : Type 0} (n : List ℕ) (a : A) (ps : List (List ℕ × A)) (p : List ℕ × A) → last_value n a (ps ++ p ∷ []) ≡ cond (has_name n p) p.1 (last_value n a ps)
+last-behind n a [] p = refl
+last-behind n a (q ∷ ps) p = last-behind n (cond (has_name n q) q.1 a) ps p
+
+-- one pair more
+merged-behind : {A : Type 0} (ps : List (List ℕ × A)) (p : List ℕ × A) → merged (ps ++ p ∷ []) ≡ put (merged ps) p
+merged-behind [] p = refl
+merged-behind {A} (q ∷ qs) p = ap₂ (λ (a : A) (l : List (List ℕ × A)). (q.0, a) ∷ l) (last-behind q.0 q.1 qs p) (ap (without q.0) (merged-behind qs p)) ∙ go (bytes_eq p.0 q.0) refl
+  where
+    go : (w : Bool) → bytes_eq p.0 q.0 ≡ w → (q.0, cond w p.1 (last_value q.0 q.1 qs)) ∷ without q.0 (put (merged qs) p) ≡ cond w ((q.0, p.1) ∷ without q.0 (merged qs)) ((q.0, last_value q.0 q.1 qs) ∷ put (without q.0 (merged qs)) p)
+    go true e = ap (λ (l : List (List ℕ × A)). (q.0, p.1) ∷ l) (without-put-same q.0 (merged qs) p e)
+    go false e = ap (λ (l : List (List ℕ × A)). (q.0, last_value q.0 q.1 qs) ∷ l) (without-put-other q.0 (merged qs) p e)
+
+put-all-merged : {A : Type 0} (front ps : List (List ℕ × A)) → put_all (merged front) ps ≡ merged (front ++ ps)
+put-all-merged front [] = ap merged (sym (append-nil front))
+put-all-merged {A} front (p ∷ ps) = ap (λ (l : List (List ℕ × A)). put_all l ps) (sym (merged-behind front p)) ∙ put-all-merged (front ++ p ∷ []) ps ∙ ap merged (append_assoc front (p ∷ []) ps)
+
+-- ---- a map in the order of insertion does the same
+
+insert-puts : {A : Type 0} (l : List (List ℕ × A)) (p : List ℕ × A) → insert_entry (pointwise nat_eq) l p.0 p.1 ≡ put l p
+insert-puts [] p = refl
+insert-puts {A} (q ∷ qs) p = ap (λ (l : List (List ℕ × A)). cond (bytes_eq p.0 q.0) ((q.0, p.1) ∷ qs) (q ∷ l)) (insert-puts qs p)
+
+insert-all-puts : {A : Type 0} (front ps : List (List ℕ × A)) → insert_all (pointwise nat_eq) front ps ≡ put_all front ps
+insert-all-puts front [] = refl
+insert-all-puts {A} front (p ∷ ps) = ap (λ (l : List (List ℕ × A)). insert_all (pointwise nat_eq) l ps) (insert-puts front p) ∙ insert-all-puts (put front p) ps
+
+pub merged-by-inserting : {A : Type 0} (ps : List (List ℕ × A)) → insert_all (pointwise nat_eq) [] ps ≡ merged ps
+merged-by-inserting ps = insert-all-puts [] ps ∙ put-all-merged [] ps
+
+-- ---- distinct names
+
+either-false : (a b : Bool) → (a || b) ≡ false → (a ≡ false) × (b ≡ false)
+either-false true b e = absurd cc
+either-false false b e = (refl, e)
+
+both-true : (a b : Bool) → (not a && b) ≡ true → (a ≡ false) × (b ≡ true)
+both-true true b e = absurd cc
+both-true false b e = (refl, e)
+
+without-none : {A : Type 0} (n : List ℕ) (ps : List (List ℕ × A)) → list_any (has_name n) ps ≡ false → without n ps ≡ ps
+without-none n [] e = refl
+without-none {A} n (p ∷ ps) e =
+    let both = either-false (has_name n p) (list_any (has_name n) ps) e in
+    rw both.0 (ap (λ (l : List (List ℕ × A)). p ∷ l) (without-none n ps both.1))
+
+last-none : {A : Type 0} (n : List ℕ) (a : A) (ps : List (List ℕ × A)) → list_any (has_name n) ps ≡ false → last_value n a ps ≡ a
+last-none n a [] e = refl
+last-none n a (p ∷ ps) e =
+    let both = either-false (has_name n p) (list_any (has_name n) ps) e in
+    rw both.0 (last-none n a ps both.1)
+
+-- they stay as they are
+pub merged-distinct : {A : Type 0} (ps : List (List ℕ × A)) → are_distinct ps ≡ true → merged ps ≡ ps
+merged-distinct [] e = refl
+merged-distinct {A} (p ∷ ps) e =
+    let both = both-true (list_any (has_name p.0) ps) (are_distinct ps) e in
+    ap₂ (λ (a : A) (l : List (List ℕ × A)). (p.0, a) ∷ l) (last-none p.0 p.1 ps both.0) (ap (without p.0) (merged-distinct ps both.1) ∙ without-none p.0 ps both.0)
+
+-- ---- values may be replaced before or after, as by the trees for which they stand
+
+abbrev on-values : {A B : Type 0} → (A → B) → List (List ℕ × A) → List (List ℕ × B)
+on-values f ps = map (λ p. (p.0, f p.1)) ps
+
+without-map : {A B : Type 0} (f : A → B) (n : List ℕ) (l : List (List ℕ × A)) → without n (on-values f l) ≡ on-values f (without n l)
+without-map f n [] = refl
+without-map {A} {B} f n (p ∷ ps) = go (without-map f n ps) (bytes_eq p.0 n)
+  where
+    go : without n (on-values f ps) ≡ on-values f (without n ps) → (w : Bool) → cond w (without n (on-values f ps)) ((p.0, f p.1) ∷ without n (on-values f ps)) ≡ on-values f (cond w (without n ps) (p ∷ without n ps))
+    go more true = more
+    go more false = ap (λ (l : List (List ℕ × B)). (p.0, f p.1) ∷ l) more
+
+last-map : {A B : Type 0} (f : A → B) (n : List ℕ) (a : A) (l : List (List ℕ × A)) → last_value n (f a) (on-values f l) ≡ f (last_value n a l)
+last-map f n a [] = refl
+last-map {A} {B} f n a (p ∷ ps) = ap (λ (b : B). last_value n b (on-values f ps)) (go (bytes_eq p.0 n)) ∙ last-map f n (cond (has_name n p) p.1 a) ps
+  where
+    go : (w : Bool) → cond w (f p.1) (f a) ≡ f (cond w p.1 a)
+    go true = refl
+    go false = refl
+
+pub merged-map : {A B : Type 0} (f : A → B) (l : List (List ℕ × A)) → merged (on-values f l) ≡ on-values f (merged l)
+merged-map f [] = refl
+merged-map {A} {B} f (p ∷ ps) = ap₂ (λ (b : B) (l : List (List ℕ × B)). (p.0, b) ∷ l) (last-map f p.0 p.1 ps) (ap (without p.0) (merged-map f ps) ∙ without-map f p.0 (merged ps))

@@ -1,0 +1,238 @@
+-- Reading a type reference step by step gives what reading it level by level gives; and what the loops keep.
+use Rattle.std.proofs.Common.{◌≡◌, ℕ, zero, suc, ◌≤◌, ◌+◌, ◌-◌, Bool, true, false, cond, Option, List, [], ◌∷◌, refl, sym, ap, ◌∙◌, Result, Err, arith}
+use Rattle.graphql_syntax.specs.declared.pos.Positioned.{Positioned}
+use Rattle.graphql_syntax.specs.tokens.Token.{Bare, Token}
+use Rattle.graphql_syntax.specs.trees.TypeTree.{TypeTree, named, list}
+use Rattle.graphql_grammar.specs.declared.cursor.Refusal.{Refusal}
+use Rattle.graphql_grammar.specs.declared.cursor.Refusal.TheVariants.{Memory, Syntax, Limit}
+use Rattle.graphql_grammar.specs.grammar.Fronts.{Verdict, syntax, limit}
+use Rattle.graphql_grammar.specs.grammar.Places.{at}
+use Rattle.graphql_grammar.specs.grammar.Tests.{punct, any_name}
+use Rattle.graphql_grammar.specs.grammar.Types.{nullable, named_of, list_of}
+use Rattle.graphql_grammar.specs.reading.Ahead.{Ahead, tokens}
+use Rattle.graphql_grammar.specs.reading.Given.{Gives, GoesOn}
+use Rattle.graphql_grammar.specs.reading.Outcome.{Outcome, Read, Refused, Reader, ◌>>=◌, one_at, then_at, mapped_at, deep_at, opt_at}
+use Rattle.graphql_grammar.specs.reading.Types.{mark_at, named_type_at, list_type_at, type_at}
+use Rattle.graphql_grammar.specs.reading.TypeSteps.{opens_at, nullable_at, named_at, close_at, closes_at, steps_at}
+use Rattle.graphql_grammar.proofs.Loops.{go-on, stays, there}
+use Rattle.graphql_grammar.proofs.Readers.{mapped-on, then-on, on-same, grouped}
+use Rattle.graphql_grammar.proofs.TokenTests.{any_name-is}
+use Prim.Native.String.{String}
+
+name-no-punct : (word : String) (t : Bare) → any_name t ≡ true → punct word t ≡ false
+name-no-punct word t e = ap (λ (t : Bare). punct word t) (any_name-is t e)
+
+-- ---- marks, names and ends of lists
+
+nullable-mark : (ts : List Token) → nullable_at ts ≡ mapped_at nullable mark_at ts
+unfolding opt_at
+nullable-mark [] = refl
+nullable-mark (t ∷ ts) = go (punct "!" t.bare) refl
+  where
+    go : (w : Bool) → punct "!" t.bare ≡ w → nullable_at (t ∷ ts) ≡ mapped_at nullable mark_at (t ∷ ts)
+    go true e = rw e refl
+    go false e = rw e refl
+
+by-mark : {A : Type 0} (k : Bool → Reader A) (ts : List Token) → (mark_at ts >>= λ mark. k (nullable mark)) ≡ (nullable_at ts >>= k)
+by-mark k ts = sym (mapped-on nullable mark_at k ts) ∙ ap (λ (o : Outcome Bool). o >>= k) (sym (nullable-mark ts))
+
+abbrev named_node : Token → Bool → TypeTree
+named_node t null = named t.bare.spelling null
+
+-- what is done with the node of a tree
+abbrev on-node : {A : Type 0} → (TypeTree → Reader A) → Outcome (Positioned TypeTree) → Outcome A
+on-node k o = o >>= λ x rest. k x.node rest
+
+named-node : {A : Type 0} (k : TypeTree → Reader A) (ts : List Token) → on-node k (named_type_at ts) ≡ (named_at ts >>= k)
+named-node {A} k ts =
+    mapped-on named_of (then_at (one_at any_name) mark_at) (λ x. k x.node) ts
+    ∙ then-on (one_at any_name) mark_at (λ x. k (named_of x).node) ts
+    ∙ on-same (one_at any_name ts) (λ t rest. mark_at rest >>= λ mark. k (named_node t (nullable mark))) (λ t rest. nullable_at rest >>= λ null. k (named_node t null)) (λ t rest. by-mark (λ null. k (named_node t null)) rest)
+    ∙ sym (then-on (one_at any_name) nullable_at (λ x. k (named_node x.0 x.1)) ts)
+    ∙ sym (mapped-on (λ x. named_node x.0 x.1) (then_at (one_at any_name) nullable_at) k ts)
+
+close-end : {A : Type 0} (item : Positioned TypeTree) (first : Token) (k : TypeTree → Reader A) (ts : List Token) → (then_at (one_at (punct "]")) mark_at ts >>= λ end. k (list_of (first, (item, end))).node) ≡ (close_at item.node ts >>= k)
+close-end {A} item first k ts =
+    then-on (one_at (punct "]")) mark_at (λ end. k (list_of (first, (item, end))).node) ts
+    ∙ on-same (one_at (punct "]") ts) (λ t rest. mark_at rest >>= λ mark. k (list item.node (nullable mark))) (λ t rest. nullable_at rest >>= λ null. k (list item.node null)) (λ t rest. by-mark (λ null. k (list item.node null)) rest)
+    ∙ sym (then-on (one_at (punct "]")) nullable_at (λ x. k (list item.node x.1)) ts)
+    ∙ sym (mapped-on (λ x. list item.node x.1) (then_at (one_at (punct "]")) nullable_at) k ts)
+
+-- ---- levels
+
+-- what follows where so many lists are open
+abbrev behind : ℕ → Reader TypeTree
+behind opened ts = named_at ts >>= closes_at opened
+
+abbrev inside : ℕ → ℕ → Reader TypeTree
+inside opened more ts = opens_at opened more ts >>= behind
+
+opens-more : (opened more : ℕ) (t : Token) (ts : List Token) → punct "[" t.bare ≡ true → opens_at opened (suc more) (t ∷ ts) ≡ opens_at (suc opened) more ts
+unfolding opens_at
+opens-more opened more t ts e = rw e (go (opens_at (suc opened) more ts))
+  where
+    pair : ℕ → List Token → Outcome (Token × ℕ)
+    pair n rest = Read (t, n) rest
+
+    go : (o : Outcome ℕ) → ((o >>= pair) >>= λ x rest. Read x.1 rest) ≡ o
+    go (Read n rest) = refl
+    go (Refused v rest) = refl
+
+opens-full : (opened : ℕ) (t : Token) (ts : List Token) → punct "[" t.bare ≡ true → opens_at opened 0 (t ∷ ts) ≡ Refused limit (t ∷ ts)
+unfolding opens_at
+opens-full opened t ts e = rw e refl
+
+opens-no-more : (opened more : ℕ) (t : Token) (ts : List Token) → punct "[" t.bare ≡ false → opens_at opened more (t ∷ ts) ≡ Read opened (t ∷ ts)
+unfolding opens_at
+opens-no-more opened zero t ts e = rw e refl
+opens-no-more opened (suc more) t ts e = rw e refl
+
+-- where no list opens, a name stands
+inside-name : (opened more : ℕ) (t : Token) (ts : List Token) → punct "[" t.bare ≡ false → inside opened more (t ∷ ts) ≡ on-node (closes_at opened) (named_type_at (t ∷ ts))
+inside-name opened more t ts e = ap (λ (o : Outcome ℕ). o >>= behind) (opens-no-more opened more t ts e) ∙ sym (named-node (closes_at opened) (t ∷ ts))
+
+-- a list that is open and closes
+one-level : (opened : ℕ) (t : Token) (ts : List Token) (r : Reader (Positioned TypeTree)) → on-node (closes_at (suc opened)) (r ts) ≡ (then_at r (then_at (one_at (punct "]")) mark_at) ts >>= λ x. closes_at opened (list_of (t, x)).node)
+unfolding closes_at
+one-level opened t ts r =
+    on-same (r ts) (λ item. closes_at (suc opened) item.node) (λ item rest. then_at (one_at (punct "]")) mark_at rest >>= λ end. closes_at opened (list_of (t, (item, end))).node) (λ item rest. sym (close-end item t (closes_at opened) rest))
+    ∙ sym (then-on r (then_at (one_at (punct "]")) mark_at) (λ x. closes_at opened (list_of (t, x)).node) ts)
+
+-- what a list gives at its first token
+list-on : {A : Type 0} (t : Token) (ts : List Token) (r : Reader (Positioned TypeTree)) (k : Positioned TypeTree → Reader A) → punct "[" t.bare ≡ true → (list_type_at r (t ∷ ts) >>= k) ≡ (then_at r (then_at (one_at (punct "]")) mark_at) ts >>= λ x. k (list_of (t, x)))
+list-on t ts r k e =
+    mapped-on list_of (then_at (one_at (punct "[")) (then_at r (then_at (one_at (punct "]")) mark_at))) k (t ∷ ts)
+    ∙ then-on (one_at (punct "[")) (then_at r (then_at (one_at (punct "]")) mark_at)) (λ x. k (list_of x)) (t ∷ ts)
+    ∙ rw e refl
+
+-- steps give what levels give
+by-levels : (more opened : ℕ) (ts : List Token) → inside opened more ts ≡ on-node (closes_at opened) (type_at more ts)
+unfolding opens_at type_at
+by-levels zero opened [] = refl
+by-levels (suc more) opened [] = refl
+by-levels zero opened (t ∷ ts) = go (any_name t.bare) (punct "[" t.bare) refl refl
+  where
+    go : (n w : Bool) → any_name t.bare ≡ n → punct "[" t.bare ≡ w → inside opened 0 (t ∷ ts) ≡ on-node (closes_at opened) (type_at 0 (t ∷ ts))
+    go true w e h = inside-name opened 0 t ts (name-no-punct "[" t.bare e) ∙ rw e refl
+    go false true e h = ap (λ (o : Outcome ℕ). o >>= behind) (opens-full opened t ts h) ∙ rw (e, h) refl
+    go false false e h = inside-name opened 0 t ts h ∙ rw (e, h) refl
+by-levels (suc more) opened (t ∷ ts) = go (by-levels more (suc opened) ts) (any_name t.bare) (punct "[" t.bare) refl refl
+  where
+    go : inside (suc opened) more ts ≡ on-node (closes_at (suc opened)) (type_at more ts) → (n w : Bool) → any_name t.bare ≡ n → punct "[" t.bare ≡ w → inside opened (suc more) (t ∷ ts) ≡ on-node (closes_at opened) (type_at (suc more) (t ∷ ts))
+    go below true w e h = inside-name opened (suc more) t ts (name-no-punct "[" t.bare e) ∙ rw e refl
+    go below false true e h =
+        ap (λ (o : Outcome ℕ). o >>= behind) (opens-more opened more t ts h)
+        ∙ below
+        ∙ one-level opened t ts (type_at more)
+        ∙ sym (list-on t ts (type_at more) (λ x. closes_at opened x.node) h)
+        ∙ rw e refl
+    go below false false e h = inside-name opened (suc more) t ts h ∙ rw (e, h) refl
+
+-- ---- places
+
+-- this tree stands at this token
+abbrev set-at : Token → TypeTree → Reader (Positioned TypeTree)
+set-at t node rest = Read (at t node) rest
+
+stands : {A : Type 0} (t : Token) (f : A → TypeTree) (o : Outcome A) → (o >>= λ a. set-at t (f a)) ≡ on-node (set-at t) (o >>= λ a. set-at t (f a))
+stands t f (Read a rest) = refl
+stands t f (Refused v rest) = refl
+
+name-stands : (t : Token) (ts : List Token) → any_name t.bare ≡ true → named_type_at (t ∷ ts) ≡ on-node (set-at t) (named_type_at (t ∷ ts))
+name-stands t ts e =
+    let read : named_type_at (t ∷ ts) ≡ (mark_at ts >>= λ mark. set-at t (named_node t (nullable mark))) = then-on (one_at any_name) mark_at (λ x rest. Read (named_of x) rest) (t ∷ ts) ∙ rw e refl in
+    read ∙ stands t (λ mark. named_node t (nullable mark)) (mark_at ts) ∙ ap (on-node (set-at t)) (sym read)
+
+list-stands : (t : Token) (ts : List Token) (r : Reader (Positioned TypeTree)) → punct "[" t.bare ≡ true → list_type_at r (t ∷ ts) ≡ on-node (set-at t) (list_type_at r (t ∷ ts))
+list-stands t ts r e =
+    let more : Reader (Positioned TypeTree × (Token × Option Token)) = then_at r (then_at (one_at (punct "]")) mark_at) in
+    let read : list_type_at r (t ∷ ts) ≡ (more ts >>= λ x. set-at t (list_of (t, x)).node) = then-on (one_at (punct "[")) more (λ x rest. Read (list_of x) rest) (t ∷ ts) ∙ rw e refl in
+    read ∙ stands t (λ x. (list_of (t, x)).node) (more ts) ∙ ap (on-node (set-at t)) (sym read)
+
+choice-stands : (t : Token) (w : Bool) (x y : Outcome (Positioned TypeTree)) → (w ≡ true → x ≡ on-node (set-at t) x) → (w ≡ false → y ≡ on-node (set-at t) y) → cond w x y ≡ on-node (set-at t) (cond w x y)
+choice-stands t true x y h k = h refl
+choice-stands t false x y h k = k refl
+
+list-type-stands : (t : Token) (ts : List Token) (r : Reader (Positioned TypeTree)) → list_type_at r (t ∷ ts) ≡ on-node (set-at t) (list_type_at r (t ∷ ts))
+list-type-stands t ts r = go (punct "[" t.bare) refl
+  where
+    go : (w : Bool) → punct "[" t.bare ≡ w → list_type_at r (t ∷ ts) ≡ on-node (set-at t) (list_type_at r (t ∷ ts))
+    go true e = list-stands t ts r e
+    go false e = rw e refl
+
+-- a type stands at its first token
+at-first : (n : ℕ) (t : Token) (ts : List Token) → type_at n (t ∷ ts) ≡ on-node (set-at t) (type_at n (t ∷ ts))
+unfolding type_at
+at-first zero t ts = choice-stands t (any_name t.bare) (named_type_at (t ∷ ts)) (deep_at (punct "[") (t ∷ ts)) (name-stands t ts) (λ _. choice-stands t (punct "[" t.bare) _ _ (λ _. refl) (λ _. refl))
+at-first (suc n) t ts = choice-stands t (any_name t.bare) (named_type_at (t ∷ ts)) (list_type_at (type_at n) (t ∷ ts)) (name-stands t ts) (λ _. list-type-stands t ts (type_at n))
+
+-- the reader in steps reads types
+pub steps : (n : ℕ) (ts : List Token) → steps_at n ts ≡ type_at n ts
+unfolding closes_at type_at
+steps zero [] = refl
+steps (suc n) [] = refl
+steps n (t ∷ ts) =
+    sym (grouped (opens_at 0 n (t ∷ ts)) behind (set-at t) ∙ on-same (opens_at 0 n (t ∷ ts)) (λ opened rest. behind opened rest >>= set-at t) (λ opened rest. named_at rest >>= λ item rest'. closes_at opened item rest' >>= set-at t) (λ opened rest. grouped (named_at rest) (closes_at opened) (set-at t)))
+    ∙ ap (λ (o : Outcome TypeTree). o >>= set-at t) (by-levels n 0 (t ∷ ts))
+    ∙ grouped (type_at n (t ∷ ts)) (λ x. closes_at 0 x.node) (set-at t)
+    ∙ sym (at-first n t ts)
+
+-- ---- loops
+
+-- The cursor has gone on, and what one reader gives at the first place another gives at the second.
+pub record Becomes {Y : Type 0} (r : Reader Y) (initial : Ahead) (s : Reader Y) (now : Ahead) : Type 0 where
+  pub told : r (tokens initial) ≡ s (tokens now)
+  pub on : GoesOn initial now
+
+pub becomes-itself : {Y : Type 0} (r : Reader Y) (initial : Ahead) → Becomes r initial r initial
+becomes-itself r initial = record { told = refl; on = stays initial }
+
+pub opens-begin : (n : ℕ) (initial : Ahead) → Becomes (opens_at 0 n) initial (opens_at 0 (n - 0)) initial
+opens-begin n initial = let same : n ≡ n - 0 = omega arith in record { told = ap (λ (k : ℕ). opens_at 0 k (tokens initial)) same; on = stays initial }
+
+-- one more is open
+pub opens-goes : (n opened next : ℕ) (initial now after : Ahead) → Becomes (opens_at 0 n) initial (opens_at opened (n - opened)) now → next ≤ n → next ≡ opened + 1 → punct "[" now.hand.bare ≡ true → tokens after ≡ now.behind → GoesOn now after → Becomes (opens_at 0 n) initial (opens_at next (n - next)) after
+opens-goes n opened next initial now after kept within more at left on =
+    let one-less : n - opened ≡ suc (n - next) = omega (arith, within, more) in
+    let is-next : suc opened ≡ next = omega (arith, more) in
+    record {
+      told = kept.told ∙ ap (λ (k : ℕ). opens_at opened k (tokens now)) one-less ∙ opens-more opened (n - next) now.hand now.behind at ∙ ap (λ (k : ℕ). opens_at k (n - next) now.behind) is-next ∙ ap (opens_at next (n - next)) (sym left);
+      on = go-on initial now after kept.on on;
+    }
+
+-- no more are open
+pub opens-ends : (n opened : ℕ) (initial now : Ahead) → Becomes (opens_at 0 n) initial (opens_at opened (n - opened)) now → punct "[" now.hand.bare ≡ false → (opens_at 0 n (tokens initial) ≡ Read opened (tokens now)) × GoesOn initial now
+opens-ends n opened initial now kept at = (kept.told ∙ opens-no-more opened (n - opened) now.hand now.behind at, kept.on)
+
+-- or no more may be
+pub opens-stops : (n opened : ℕ) (initial now : Ahead) → Becomes (opens_at 0 n) initial (opens_at opened (n - opened)) now → opened ≡ n → punct "[" now.hand.bare ≡ true → (opens_at 0 n (tokens initial) ≡ Refused limit (tokens now)) × GoesOn initial now
+opens-stops n opened initial now kept full at =
+    let no-more : n - opened ≡ 0 = omega (arith, full) in
+    (kept.told ∙ ap (λ (k : ℕ). opens_at opened k (tokens now)) no-more ∙ opens-full opened now.hand now.behind at, kept.on)
+
+-- one list closes
+pub closes-goes : (total left next : ℕ) (first item whole : TypeTree) (initial now after : Ahead) → Becomes (closes_at total first) initial (closes_at left item) now → left ≡ suc next → (close_at item (tokens now) ≡ Read whole (tokens after)) × GoesOn now after → Becomes (closes_at total first) initial (closes_at next whole) after
+unfolding closes_at
+closes-goes total left next first item whole initial now after kept more h = record {
+  told = kept.told ∙ ap (λ (k : ℕ). closes_at k item (tokens now)) more ∙ ap (λ (o : Outcome TypeTree). o >>= closes_at next) h.0;
+  on = go-on initial now after kept.on h.1;
+}
+
+-- all are closed
+pub closes-ends : (total left : ℕ) (first item : TypeTree) (initial now : Ahead) → Becomes (closes_at total first) initial (closes_at left item) now → left ≡ 0 → (closes_at total first (tokens initial) ≡ Read item (tokens now)) × GoesOn initial now
+unfolding closes_at
+closes-ends total left first item initial now kept done = (kept.told ∙ ap (λ (k : ℕ). closes_at k item (tokens now)) done, kept.on)
+
+-- or one doesn't close
+closes-refused : (total left next : ℕ) (first item : TypeTree) (initial now after : Ahead) (v : Verdict) → Becomes (closes_at total first) initial (closes_at left item) now → left ≡ suc next → close_at item (tokens now) ≡ Refused v (tokens after) → closes_at total first (tokens initial) ≡ Refused v (tokens after)
+unfolding closes_at
+closes-refused total left next first item initial now after v kept more h = kept.told ∙ ap (λ (k : ℕ). closes_at k item (tokens now)) more ∙ ap (λ (o : Outcome TypeTree). o >>= closes_at next) h
+
+pub closes-stops : {X : Type 0} (view : X → TypeTree) (total left next : ℕ) (first item : TypeTree) (initial now after : Ahead) (e : Refusal) → Becomes (closes_at total first) initial (closes_at left item) now → left ≡ suc next → Gives view (Err e) now after (close_at item) → Gives view (Err e) initial after (closes_at total first)
+closes-stops view total left next first item initial now after Memory kept more h = (tt, go-on initial now after kept.on h.1)
+closes-stops view total left next first item initial now after Syntax kept more h = (closes-refused total left next first item initial now after syntax kept more h.0, go-on initial now after kept.on h.1)
+closes-stops view total left next first item initial now after Limit kept more h = (closes-refused total left next first item initial now after limit kept more h.0, go-on initial now after kept.on h.1)
+
+-- what is read in steps is read
+pub from-steps : {X : Type 0} (view : X → Positioned TypeTree) (result : Result X Refusal) (n : ℕ) (old new : Ahead) → Gives view result old new (steps_at n) → Gives view result old new (type_at n)
+from-steps view result n old new h = there view result old new (steps_at n) (type_at n) (steps n (tokens old)) h

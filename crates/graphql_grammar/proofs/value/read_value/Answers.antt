@@ -1,0 +1,14 @@
+use Rattle.std.proofs.Common.{ap, sym, ◌∙◌}
+use Rattle.graphql_syntax.specs.declared.pos.Positioned.{Positioned}
+use Rattle.graphql_syntax.specs.tokens.Token.{Token}
+use Rattle.graphql_grammar.specs.reading.Ahead.{tokens}
+use Rattle.graphql_grammar.specs.reading.Outcome.{Read}
+use Rattle.graphql_grammar.proofs.ValueLoop.{value-stands}
+use Rattle.graphql_grammar.proofs.value.read_value.Goals as goal
+
+pub returns : goal.returns
+returns g c =
+    let tree = g.V.Literal.tree in
+    let place = ap (λ (p : Positioned g.row.V.Denot). p.pos) c.new.ensures ∙ ap (λ (t : Token). t.pos) c.hand.ensures.token in
+    let read = c.in_ok-node.ensures.0 ∙ ap (λ (p : Positioned g.row.V.Denot). Read (tree p.node) (tokens c.read_node.new.cursor)) (sym c.new.ensures) in
+    (value-stands tree g.V.Literal.VARIABLES c.args.limit c.args.cursor.now c.read_node.new.cursor c.new.result place read, c.in_ok-node.ensures.1)

@@ -1,0 +1,98 @@
+//! Values: one loop over the lists and objects that are open.
+ghost use Rattle.std.specs.Prelude.{◌<◌, pred};
+ghost use Rattle.graphql_syntax.specs.trees.Request as request;
+ghost use Rattle.graphql_grammar.specs.reading.OpenValues.{node_at, opened, met, open_rest, Meets};
+ghost use Rattle.graphql_grammar.specs.reading.Given.{Gives};
+ghost use Rattle.graphql_grammar.specs.reading.Values.{value_at};
+
+mod fields;
+mod fill;
+mod frames;
+mod simple;
+#[cfg(test)]
+mod tests;
+
+use crate::cursor::{Cursor, Reading};
+use fields::merge;
+use fill::{enter, fill_list, fill_object};
+use frames::{Frame, Frames, Open};
+use graphql_syntax::pos::Positioned;
+use graphql_syntax::value::Literal;
+use simple::read_simple;
+use std::alloc::Global;
+
+/// Where the reading of a list or an object stops: at its end, or behind the first token of one inside it.
+#[derive(Drop)]
+enum Stop<V> {
+    Closed(V),
+    Entered(Frame<V>, Open<V>),
+}
+
+/// Reads on in a list or an object, inside which so many levels are left.
+fn go_on<V: Literal>(
+    alloc: Global,
+    cursor: &mut Cursor,
+    innermost: Open<V>,
+    left: usize,
+) -> Reading<Stop<V>>
+    ensures { Meets V.VARIABLES left (met V.tree) result cursor.old cursor.new (open_rest V.VARIABLES left (opened V.tree innermost)) }
+{
+    match innermost {
+        Open::List(mut items) => match fill_list(alloc, cursor, &mut items, left)? {
+            None => Ok(Stop::Closed(V::list(items))),
+            Some(inner) => Ok(Stop::Entered(Frame::List(items), inner)),
+        },
+        Open::Object(mut fields) => match fill_object(alloc, cursor, &mut fields, left)? {
+            None => Ok(Stop::Closed(V::object(merge(alloc, fields)?))),
+            Some((name, inner)) => Ok(Stop::Entered(Frame::Object(fields, name), inner)),
+        },
+    }
+}
+
+/// The rest of a list or an object behind its first token.
+fn read_open<V: Literal>(
+    alloc: Global,
+    cursor: &mut Cursor,
+    first: Open<V>,
+    limit: usize,
+) -> Reading<V>
+    requires { 0 < limit }
+    ensures { Gives V.tree result cursor.old cursor.new (open_rest V.VARIABLES (pred limit) (opened V.tree first)) }
+{
+    let mut frames = Frames::new(alloc, limit);
+    let mut innermost = first;
+    loop {
+        innermost = match go_on(alloc, cursor, innermost, frames.left())? {
+            Stop::Entered(frame, inner) => {
+                frames.push(frame)?;
+                inner
+            }
+            Stop::Closed(value) => match frames.pop() {
+                None => return Ok(value),
+                Some(frame) => frame.fill(value)?,
+            },
+        };
+    }
+}
+
+fn read_node<V: Literal>(alloc: Global, cursor: &mut Cursor, limit: usize) -> Reading<V>
+    ensures { Gives V.tree result cursor.old cursor.new (node_at (value_at V.VARIABLES limit)) }
+{
+    match enter(alloc, cursor, limit)? {
+        None => read_simple(alloc, cursor),
+        Some(first) => read_open(alloc, cursor, first, limit),
+    }
+}
+
+/// A value whose lists and objects nest at most `limit` deep. It stands at its first token.
+pub fn read_value<V: Literal>(
+    alloc: Global,
+    cursor: &mut Cursor,
+    limit: usize,
+) -> Reading<Positioned<V>>
+    ensures { Gives (request.placed V.tree) result cursor.old cursor.new (value_at V.VARIABLES limit) }
+{
+    let pos = cursor.hand().pos;
+    let node = read_node(alloc, cursor, limit)?;
+    Ok(Positioned::new(node, pos))
+}

@@ -1,0 +1,81 @@
+//! Lists and objects filled with what stands alone, up to their end or to a list or an object inside them.
+ghost use Rattle.std.specs.Prelude.{map, option_map};
+ghost use Rattle.graphql_grammar.specs.reading.OpenValues.{field_tree, opened, list_stop, object_stop, key_at, enter_at, list_rest, object_rest, Meets};
+ghost use Rattle.graphql_grammar.specs.reading.Given.{Gives};
+
+use super::frames::Open;
+use super::simple::read_simple;
+use crate::cursor::{Cursor, Reading, Refusal};
+use graphql_syntax::value::{Literal, Name};
+use std::alloc::Global;
+
+/// A list or an object that begins here, where so many levels are left.
+pub fn enter<V: Literal>(
+    alloc: Global,
+    cursor: &mut Cursor,
+    left: usize,
+) -> Reading<Option<Open<V>>>
+    ensures { Gives (option_map (opened V.tree)) result cursor.old cursor.new (enter_at left) }
+{
+    let opening = if cursor.is_at_punct("[") {
+        Open::List(Vec::new(alloc))
+    } else if cursor.is_at_punct("{") {
+        Open::Object(Vec::new(alloc))
+    } else {
+        return Ok(None);
+    };
+    if left == 0 {
+        return Err(Refusal::Limit);
+    }
+    cursor.advance();
+    Ok(Some(opening))
+}
+
+/// The end of an object, or else the name of its next value.
+fn read_key(alloc: Global, cursor: &mut Cursor) -> Reading<Option<Name>>
+    ensures { Gives (λ key. key) result cursor.old cursor.new key_at }
+{
+    if cursor.take_punct("}") {
+        return Ok(None);
+    }
+    let token = cursor.expect_name()?;
+    let name = Name::new(alloc, token.text)?;
+    cursor.expect_punct(":")?;
+    Ok(Some(name))
+}
+
+/// Gives what begins inside the list, or None at its end.
+pub fn fill_list<V: Literal>(
+    alloc: Global,
+    cursor: &mut Cursor,
+    items: &mut Vec<V>,
+    left: usize,
+) -> Reading<Option<Open<V>>>
+    ensures { Meets V.VARIABLES left (list_stop V.tree items.new.items) result cursor.old cursor.new (list_rest V.VARIABLES left (map V.tree items.old.items)) }
+{
+    while !cursor.take_punct("]") {
+        if let Some(inner) = enter(alloc, cursor, left)? {
+            return Ok(Some(inner));
+        }
+        items.push(read_simple(alloc, cursor)?)?;
+    }
+    Ok(None)
+}
+
+/// Gives what begins inside the object, with its name, or None at its end.
+pub fn fill_object<V: Literal>(
+    alloc: Global,
+    cursor: &mut Cursor,
+    fields: &mut Vec<(Name, V)>,
+    left: usize,
+) -> Reading<Option<(Name, Open<V>)>>
+    ensures { Meets V.VARIABLES left (object_stop V.tree fields.new.items) result cursor.old cursor.new (object_rest V.VARIABLES left (map (field_tree V.tree) fields.old.items)) }
+{
+    while let Some(name) = read_key(alloc, cursor)? {
+        if let Some(inner) = enter(alloc, cursor, left)? {
+            return Ok(Some((name, inner)));
+        }
+        fields.push((name, read_simple(alloc, cursor)?))?;
+    }
+    Ok(None)
+}

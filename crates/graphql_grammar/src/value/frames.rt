@@ -1,0 +1,85 @@
+//! Lists and objects that are open while a value inside them is read.
+ghost use Rattle.std.specs.Prelude.{◌≡◌, ◌+◌, ◌<◌, [], ◌∷◌, ◌++◌, length, IfOk, IfNone, option_to_list};
+
+use crate::list::push;
+use graphql_syntax::value::{Literal, Name};
+use std::alloc::{AllocError, AllocFailed, Global};
+
+/// A list or an object with what it holds so far. The fields of an object are pairs as they are written.
+#[derive(Drop)]
+pub enum Open<V> {
+    List(Vec<V>),
+    Object(Vec<(Name, V)>),
+}
+
+/// The same, waiting for a value; an object has the name of the value.
+#[derive(Drop)]
+pub enum Frame<V> {
+    List(Vec<V>),
+    Object(Vec<(Name, V)>, Name),
+}
+
+impl<V: Literal> Frame<V> {
+    ghost use Rattle.graphql_grammar.specs.reading.OpenValues.{opened, waiting, add};
+
+    /// With the value for which it waits.
+    #[inline(always)]
+    pub fn fill(self, value: V) -> Result<Open<V>, AllocError>
+        ensures { IfOk result (λ o. opened V.tree o ≡ add (waiting V.tree self) (V.tree value)) }
+    {
+        match self {
+            Frame::List(mut items) => {
+                push(&mut items, value)?;
+                Ok(Open::List(items))
+            }
+            Frame::Object(mut fields, name) => {
+                push(&mut fields, (name, value))?;
+                Ok(Open::Object(fields))
+            }
+        }
+    }
+}
+
+/// The lists and objects around the one that is read, which together are at most `limit`.
+#[derive(Drop)]
+pub struct Frames<V> {
+    outer: Vec<Frame<V>>,
+    limit: usize,
+    ghost bounded: { length outer.items < limit },
+}
+
+impl<V> Frames<V> {
+    pub fn new(alloc: Global, limit: usize) -> Frames<V>
+        requires { 0 < limit }
+        ensures outer { result.outer.items ≡ [] }
+        ensures limit { result.limit ≡ limit }
+    {
+        Frames {
+            outer: Vec::new(alloc),
+            limit,
+        }
+    }
+
+    /// How many levels may open inside the one that is read.
+    pub fn left(&self) -> usize
+        ensures { result + length self.now.outer.items + 1 ≡ self.now.limit }
+    {
+        self.limit - self.outer.len() - 1
+    }
+
+    pub fn push(&mut self, frame: Frame<V>) -> Result<(), AllocFailed<Frame<V>>>
+        requires { length self.old.outer.items + 1 < self.old.limit }
+        ensures outer { IfOk result (λ _. self.new.outer.items ≡ self.old.outer.items ++ frame ∷ []) }
+        ensures limit { self.new.limit ≡ self.old.limit }
+    {
+        self.outer.push(frame)
+    }
+
+    pub fn pop(&mut self) -> Option<Frame<V>>
+        ensures outer { self.old.outer.items ≡ self.new.outer.items ++ option_to_list result }
+        ensures none { IfNone result (self.old.outer.items ≡ []) }
+        ensures limit { self.new.limit ≡ self.old.limit }
+    {
+        self.outer.pop()
+    }
+}

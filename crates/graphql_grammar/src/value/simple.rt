@@ -1,0 +1,111 @@
+//! Values that are neither lists nor objects.
+ghost use Rattle.std.specs.Prelude.{◌≡◌, IfOk};
+ghost use Rattle.graphql_grammar.specs.grammar.Values as grammar;
+ghost use Rattle.graphql_grammar.specs.reading.OpenValues.{node_at, word_tree};
+ghost use Rattle.graphql_grammar.specs.reading.Given.{Gives};
+ghost use Rattle.graphql_grammar.specs.reading.Spelled.{IsQuoted};
+ghost use Rattle.graphql_grammar.specs.reading.Values.{simple_at, word_at, number_at, string_at, block_at, variable_at};
+
+use crate::cursor::{Cursor, Reading, Refusal, is_block, is_number, is_string};
+use graphql_syntax::lexer::TokenKind;
+use graphql_syntax::text::{block_string_value, string_value};
+use graphql_syntax::value::{Literal, Name, Number};
+use std::alloc::{AllocError, Global};
+
+fn word_of<V: Literal>(alloc: Global, text: &str) -> Result<V, AllocError>
+    ensures { IfOk result (λ v. V.tree v ≡ word_tree text.now) }
+{
+    if text == "true" {
+        return Ok(V::boolean(true));
+    }
+    if text == "false" {
+        return Ok(V::boolean(false));
+    }
+    if text == "null" {
+        return Ok(V::null());
+    }
+    Ok(V::enumeration(Name::new(alloc, text)?))
+}
+
+fn read_word<V: Literal>(alloc: Global, cursor: &mut Cursor) -> Reading<V>
+    ensures { Gives V.tree result cursor.old cursor.new (node_at word_at) }
+{
+    let token = cursor.expect_name()?;
+    Ok(word_of(alloc, token.text)?)
+}
+
+fn read_number<V: Literal>(alloc: Global, cursor: &mut Cursor) -> Reading<V>
+    ensures { Gives V.tree result cursor.old cursor.new (node_at number_at) }
+{
+    let token = cursor.hand();
+    if !is_number(token.kind) {
+        return Err(Refusal::Syntax);
+    }
+    let Some(number) = Number::new(alloc, token.text)? else {
+        unreachable!()
+    };
+    cursor.advance();
+    Ok(V::number(number))
+}
+
+/// What stands between so many quotes.
+fn inside(text: &str, quotes: usize) -> &str
+    requires { IsQuoted quotes text.now }
+    ensures { result.now ≡ grammar.inside quotes text.now }
+{
+    let front = &text[..text.len() - quotes];
+    &front[quotes..]
+}
+
+fn read_string<V: Literal>(alloc: Global, cursor: &mut Cursor) -> Reading<V>
+    ensures { Gives V.tree result cursor.old cursor.new (node_at string_at) }
+{
+    let token = cursor.hand();
+    if !is_string(token.kind) {
+        return Err(Refusal::Syntax);
+    }
+    let Some(text) = string_value(alloc, inside(token.text, 1))? else {
+        return Err(Refusal::Syntax);
+    };
+    cursor.advance();
+    Ok(V::string(text))
+}
+
+fn read_block<V: Literal>(alloc: Global, cursor: &mut Cursor) -> Reading<V>
+    ensures { Gives V.tree result cursor.old cursor.new (node_at block_at) }
+{
+    let token = cursor.hand();
+    if !is_block(token.kind) {
+        return Err(Refusal::Syntax);
+    }
+    let text = block_string_value(alloc, inside(token.text, 3))?;
+    cursor.advance();
+    Ok(V::string(text))
+}
+
+fn read_variable<V: Literal>(alloc: Global, cursor: &mut Cursor) -> Reading<V>
+    ensures { Gives V.tree result cursor.old cursor.new (node_at (variable_at V.VARIABLES)) }
+{
+    if !(cursor.is_at_punct("$") && V::VARIABLES) {
+        return Err(Refusal::Syntax);
+    }
+    cursor.advance();
+    let token = cursor.expect_name()?;
+    match V::variable(Name::new(alloc, token.text)?) {
+        Some(variable) => Ok(variable),
+        None => unreachable!(),
+    }
+}
+
+/// A value that is neither a list nor an object.
+pub fn read_simple<V: Literal>(alloc: Global, cursor: &mut Cursor) -> Reading<V>
+    ensures { Gives V.tree result cursor.old cursor.new (node_at (simple_at V.VARIABLES)) }
+{
+    match cursor.hand().kind {
+        TokenKind::Name => read_word(alloc, cursor),
+        TokenKind::Number => read_number(alloc, cursor),
+        TokenKind::String => read_string(alloc, cursor),
+        TokenKind::Block => read_block(alloc, cursor),
+        _ => read_variable(alloc, cursor),
+    }
+}

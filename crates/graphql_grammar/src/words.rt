@@ -1,0 +1,31 @@
+//! Readers of names.
+ghost use Rattle.std.specs.Prelude.{◌≡◌, IfOk};
+ghost use Rattle.graphql_syntax.specs.tokens.Seen.{seen};
+ghost use Rattle.graphql_grammar.specs.grammar.Places.{name_of};
+ghost use Rattle.graphql_grammar.specs.grammar.Tests.{any_name};
+ghost use Rattle.graphql_grammar.specs.reading.Given.{Gives};
+ghost use Rattle.graphql_grammar.specs.reading.Outcome.{one_at, mapped_at};
+
+use crate::cursor::{Cursor, Reading};
+use graphql_syntax::lexer::Token;
+use graphql_syntax::pos::Positioned;
+use graphql_syntax::value::Name;
+use std::alloc::{AllocError, Global};
+
+/// The name that a token is.
+#[inline(always)]
+pub fn name_in(alloc: Global, token: Token) -> Result<Positioned<Name>, AllocError>
+    ensures { IfOk result (λ name. name ≡ name_of (seen token.entry)) }
+{
+    Ok(Positioned::new(Name::new(alloc, token.text)?, token.pos))
+}
+
+/// Reads a name.
+#[inline(always)]
+pub fn read_name(alloc: Global, cursor: &mut Cursor) -> Reading<Positioned<Name>>
+    ensures { Gives (λ name. name) result cursor.old cursor.new (mapped_at name_of (one_at any_name)) }
+{
+    let token = cursor.expect_name()?;
+    let name = name_in(alloc, token)?;
+    Ok(name)
+}
