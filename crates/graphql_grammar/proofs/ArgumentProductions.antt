@@ -1,6 +1,6 @@
 -- Arguments, directives and variable definitions are read exactly, at every budget; and their places don't matter.
 use Rattle.std.proofs.Common.{◌≡◌, ℕ, Bool, true, false, cond, ◌&&◌, ◌||◌, IsTrue, Option, Some, None, List, [], ◌∷◌, ◌++◌, map, option_map, ◌↔◌, inl, inr, refl, sym, ap, ◌∙◌, subst, append-nil}
-use Rattle.graphql_syntax.specs.tokens.Token.{Token}
+use Rattle.graphql_tokens.specs.tokens.Token.{Token}
 use Rattle.graphql_syntax.specs.trees.Request.{Argument, Directive, Directives, VariableDefinition}
 use Rattle.graphql_syntax.specs.trees.Request as trees
 use Rattle.graphql_grammar.specs.grammar.Arguments.{an_argument, arguments, given, a_directive, directives, a_default, default_and_directives, a_variable_definition, variable_definitions}

@@ -1,6 +1,6 @@
 -- Places don't matter: with other places there is a tree too, the same but for places.
 use Rattle.std.proofs.Common.{◌≡◌, ℕ, zero, suc, IsTrue, map, Option, Some, None, List, [], ◌∷◌, ◌++◌, ◌↔◌, inl, inr, refl, sym, ap, ap₂, ◌∙◌, subst}
-use Rattle.graphql_syntax.specs.tokens.Token.{Bare, Token}
+use Rattle.graphql_tokens.specs.tokens.Token.{Bare, Token}
 use Rattle.graphql_grammar.specs.grammar.Tests.{Test}
 use Rattle.graphql_grammar.specs.grammar.Limits.{Limits}
 use Rattle.graphql_grammar.specs.grammar.Relations.{Rel, one, ◌⨾◌, ◌∪◌, mapped, never, opt, star, plus, cons}

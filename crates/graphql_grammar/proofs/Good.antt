@@ -1,6 +1,6 @@
 -- The theory once more, over whole readers: records, so that what is meant is inferred.
 use Rattle.std.proofs.Common.{◌≡◌, IsTrue, ◌↔◌, List, [], ◌∷◌, refl}
-use Rattle.graphql_syntax.specs.tokens.Token.{Token}
+use Rattle.graphql_tokens.specs.tokens.Token.{Token}
 use Rattle.graphql_grammar.specs.grammar.Tests.{Test, punct, keyword, any_name, name_but}
 use Rattle.graphql_grammar.specs.grammar.Limits.{Limits}
 use Rattle.graphql_grammar.specs.grammar.Relations.{Rel, one, ◌⨾◌, ◌∪◌, mapped, star, plus}

@@ -1,6 +1,6 @@
 -- Reading any number, as a loop does.
 use Rattle.std.proofs.Common.{◌≡◌, ℕ, zero, suc, ◌<◌, true, false, cond, List, [], ◌∷◌, ◌++◌, length, refl, sym, ap, ◌∙◌, subst, append_assoc, append-nil, arith}
-use Rattle.graphql_syntax.specs.tokens.Token.{Token}
+use Rattle.graphql_tokens.specs.tokens.Token.{Token}
 use Rattle.graphql_grammar.specs.grammar.Tests.{Test}
 use Rattle.graphql_grammar.specs.grammar.Limits.{Limits}
 use Rattle.graphql_grammar.specs.grammar.Relations.{Rel}

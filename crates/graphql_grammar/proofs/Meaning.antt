@@ -1,6 +1,6 @@
 -- One token with what it means, read by a function that decides the meaning.
 use Rattle.std.proofs.Common.{◌≡◌, Bool, true, false, cond, IsTrue, Option, Some, None, List, [], ◌∷◌, ◌++◌, inl, refl, sym, ap, ◌∙◌, subst}
-use Rattle.graphql_syntax.specs.tokens.Token.{Bare, Token}
+use Rattle.graphql_tokens.specs.tokens.Token.{Bare, Token}
 use Rattle.graphql_grammar.specs.grammar.Tests.{Test}
 use Rattle.graphql_grammar.specs.grammar.Limits.{Limits}
 use Rattle.graphql_grammar.specs.grammar.Relations.{meaning}

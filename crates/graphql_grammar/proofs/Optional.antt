@@ -1,6 +1,6 @@
 -- Alternatives that may be empty, and optional parts by the token in sight.
 use Rattle.std.proofs.Common.{◌≡◌, true, false, Option, Some, None, List, ◌∷◌, ◌++◌, inl, inr, refl, sym, ap, ◌∙◌, subst}
-use Rattle.graphql_syntax.specs.tokens.Token.{Token}
+use Rattle.graphql_tokens.specs.tokens.Token.{Token}
 use Rattle.graphql_grammar.specs.grammar.Tests.{Test}
 use Rattle.graphql_grammar.specs.grammar.Limits.{Limits}
 use Rattle.graphql_grammar.specs.grammar.Relations.{Rel, ◌∪◌, star, plus}

@@ -9,11 +9,11 @@ use Rattle.std.specs.Char.{is_ascii_digit}
 use Rattle.std.specs.List.{concat}
 use Rattle.std.specs.Str.{encode_utf8_all, IsUtf8, IsCharBoundary}
 use lib.Utf8.{encode}
-use Rattle.graphql_syntax.specs.tokens.Numbers.{AllDigits, AreDigits, is_minus, is_sign, is_e, IsOptional, IsWhole, IsFraction, IsExponent, IsNumber}
-use Rattle.graphql_syntax.specs.tokens.Proper.{IsProper, IsProperBare, Spells}
-use Rattle.graphql_syntax.specs.tokens.Token.{Token}
-use Rattle.graphql_syntax.specs.declared.lexer.TokenKind.{TokenKind}
-use Rattle.graphql_syntax.specs.declared.lexer.TokenKind.TheVariants as kinds
+use Rattle.graphql_tokens.specs.tokens.Numbers.{AllDigits, AreDigits, is_minus, is_sign, is_e, IsOptional, IsWhole, IsFraction, IsExponent, IsNumber}
+use Rattle.graphql_tokens.specs.tokens.Proper.{IsProper, IsProperBare, Spells}
+use Rattle.graphql_tokens.specs.tokens.Token.{Token}
+use Rattle.graphql_tokens.specs.declared.lexer.TokenKind.{TokenKind}
+use Rattle.graphql_tokens.specs.declared.lexer.TokenKind.TheVariants as kinds
 use Rattle.graphql_grammar.specs.grammar.Tests.{is_number, is_string, is_block}
 use Rattle.graphql_grammar.specs.reading.Spelled.{IsQuoted}
 use Rattle.graphql_grammar.proofs.TokenTests.{are-ascii, ascii-bytes}

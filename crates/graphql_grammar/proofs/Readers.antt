@@ -1,6 +1,6 @@
 -- Laws of readers, whatever they read.
 use Rattle.std.proofs.Common.{◌≡◌, List, refl}
-use Rattle.graphql_syntax.specs.tokens.Token.{Token}
+use Rattle.graphql_tokens.specs.tokens.Token.{Token}
 use Rattle.graphql_grammar.specs.reading.Outcome.{Outcome, Read, Refused, Reader, ◌>>=◌, then_at, mapped_at}
 
 -- what goes on behind a mapped reader

@@ -1,20 +1,20 @@
 -- What the readers of single tokens give.
 use Rattle.std.proofs.Common.{◌≡◌, ℕ, true, false, Option, Some, None, List, ◌∷◌, refl, sym, ap, ◌∙◌, subst}
 use Rattle.std.specs.Str.{chars, encode_utf8_all}
-use Rattle.graphql_syntax.specs.inner.Contents.{content_value}
-use Rattle.graphql_syntax.specs.tokens.BlockText.{block_value}
-use Rattle.graphql_syntax.specs.tokens.Cuts.{is_last}
-use Rattle.graphql_syntax.specs.tokens.Edition.{Later}
-use Rattle.graphql_syntax.specs.tokens.Numbers.{IsNumber}
-use Rattle.graphql_syntax.specs.tokens.Proper.{IsProper}
-use Rattle.graphql_syntax.specs.tokens.Seen.{seen}
-use Rattle.graphql_syntax.specs.tokens.Strings.{StringMeans, IsContent}
-use Rattle.graphql_syntax.specs.tokens.Token.{Token}
+use Rattle.graphql_tokens.specs.inner.Contents.{content_value}
+use Rattle.graphql_tokens.specs.tokens.BlockText.{block_value}
+use Rattle.graphql_tokens.specs.tokens.Cuts.{is_last}
+use Rattle.graphql_tokens.specs.tokens.Edition.{Later}
+use Rattle.graphql_tokens.specs.tokens.Numbers.{IsNumber}
+use Rattle.graphql_tokens.specs.tokens.Proper.{IsProper}
+use Rattle.graphql_tokens.specs.tokens.Seen.{seen}
+use Rattle.graphql_tokens.specs.tokens.Strings.{StringMeans, IsContent}
+use Rattle.graphql_tokens.specs.tokens.Token.{Token}
 use Rattle.graphql_syntax.specs.trees.ValueTree.{string}
-use Rattle.graphql_syntax.specs.declared.lexer.Token.{Token as LentToken}
-use Rattle.graphql_syntax.specs.declared.lexer.TokenKind.{TokenKind}
-use Rattle.graphql_syntax.specs.declared.lexer.TokenKind.TheVariants as kinds
-use Rattle.graphql_syntax.proofs.Meanings.{content_means, means_content}
+use Rattle.graphql_tokens.specs.declared.lexer.Token.{Token as LentToken}
+use Rattle.graphql_tokens.specs.declared.lexer.TokenKind.{TokenKind}
+use Rattle.graphql_tokens.specs.declared.lexer.TokenKind.TheVariants as kinds
+use Rattle.graphql_tokens.proofs.Meanings.{content_means, means_content}
 use Rattle.graphql_grammar.specs.grammar.Fronts.{syntax}
 use Rattle.graphql_grammar.specs.grammar.Tests.{is_number, is_string, is_block}
 use Rattle.graphql_grammar.specs.grammar.Values.{inside}

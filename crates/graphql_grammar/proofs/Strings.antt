@@ -1,9 +1,9 @@
 -- What strings and block strings stand for is what the readers make of them.
 use Rattle.std.proofs.Common.{◌≡◌, ℕ, Option, Some, None, List, refl, sym, ap, ◌∙◌, option_map}
 use Rattle.std.specs.Str.{chars, encode_utf8_all}
-use Rattle.graphql_syntax.specs.inner.Contents.{content_value}
-use Rattle.graphql_syntax.specs.tokens.Token.{Bare}
-use Rattle.graphql_syntax.proofs.Meanings.{content_means, means_content}
+use Rattle.graphql_tokens.specs.inner.Contents.{content_value}
+use Rattle.graphql_tokens.specs.tokens.Token.{Bare}
+use Rattle.graphql_tokens.proofs.Meanings.{content_means, means_content}
 use Rattle.graphql_grammar.specs.grammar.Values.{inside, StringStands, BlockStands}
 use Rattle.graphql_grammar.specs.reading.Values.{string_text, block_text}
 use Rattle.graphql_grammar.proofs.Meaning.{Decides}

@@ -1,8 +1,8 @@
 -- What it means that a reader follows a grammar exactly, and that it does so where its parts do.
 use Rattle.std.proofs.Common.{◌≡◌, ℕ, zero, suc, ◌<◌, ◌≤◌, Bool, true, false, cond, not, IsTrue, ◌⊎◌, inl, inr, List, [], ◌∷◌, ◌++◌, length, refl, sym, ap, ◌∙◌, subst, append_assoc, length-append, arith}
-use Rattle.graphql_syntax.specs.tokens.Token.{Bare, Token}
-use Rattle.graphql_syntax.specs.tokens.Cuts.{is_last}
-use Rattle.graphql_syntax.specs.tokens.Proper.{AreProper, IsProper}
+use Rattle.graphql_tokens.specs.tokens.Token.{Bare, Token}
+use Rattle.graphql_tokens.specs.tokens.Cuts.{is_last}
+use Rattle.graphql_tokens.specs.tokens.Proper.{AreProper, IsProper}
 use Rattle.graphql_grammar.specs.grammar.Tests.{Test}
 use Rattle.graphql_grammar.specs.grammar.Limits.{Limits}
 use Rattle.graphql_grammar.specs.grammar.Relations.{Rel, one, Then, ◌⨾◌, ◌∪◌, mapped, star, plus, cons}

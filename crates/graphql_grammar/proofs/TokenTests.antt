@@ -6,12 +6,12 @@ use Rattle.std.specs.List.{AllByRecursion}
 use lib.Utf8.{encode}
 use Rattle.std.specs.Str.{bytes_eq, encode_utf8_all}
 use Rattle.std.specs.Cmp.Lexicographic.{same_text}
-use Rattle.graphql_syntax.specs.tokens.Token.{Bare, Token}
-use Rattle.graphql_syntax.specs.tokens.Cuts.{is_last}
-use Rattle.graphql_syntax.specs.tokens.Proper.{IsProper, Spells}
-use Rattle.graphql_syntax.specs.tokens.Spelling.{IsPunct, IsName}
-use Rattle.graphql_syntax.specs.declared.lexer.TokenKind.{TokenKind}
-use Rattle.graphql_syntax.specs.declared.lexer.TokenKind.TheVariants.{Punct, Name, End}
+use Rattle.graphql_tokens.specs.tokens.Token.{Bare, Token}
+use Rattle.graphql_tokens.specs.tokens.Cuts.{is_last}
+use Rattle.graphql_tokens.specs.tokens.Proper.{IsProper, Spells}
+use Rattle.graphql_tokens.specs.tokens.Spelling.{IsPunct, IsName}
+use Rattle.graphql_tokens.specs.declared.lexer.TokenKind.{TokenKind}
+use Rattle.graphql_tokens.specs.declared.lexer.TokenKind.TheVariants.{Punct, Name, End}
 use Rattle.graphql_grammar.specs.grammar.Tests.{Test, is_punct, is_name, is_end, is_among, punct, keyword, any_name, name_but, the_end}
 use Rattle.graphql_grammar.specs.grammar.Places.{nowhere}
 use Rattle.graphql_grammar.proofs.Theory.{Within, anything, IsInner}

@@ -1,7 +1,7 @@
 -- Types are read exactly, at every budget; and their places don't matter.
 use Rattle.std.proofs.Common.{◌≡◌, ℕ, zero, suc, ◌||◌, Option, Some, None, List, [], ◌↔◌, inl, inr, refl, sym, ap, subst}
-use Rattle.graphql_syntax.specs.declared.pos.Positioned.{Positioned}
-use Rattle.graphql_syntax.specs.tokens.Token.{Token}
+use Rattle.graphql_tokens.specs.declared.pos.Positioned.{Positioned}
+use Rattle.graphql_tokens.specs.tokens.Token.{Token}
 use Rattle.graphql_syntax.specs.trees.TypeTree.{TypeTree, named, list}
 use Rattle.graphql_grammar.specs.grammar.Fronts.{without_place}
 use Rattle.graphql_grammar.specs.grammar.Limits.{Limits}

@@ -1,7 +1,7 @@
 -- What each step of the loop over frames does to what is read.
 use Rattle.std.proofs.Common.{◌≡◌, ℕ, zero, suc, pred, ◌+◌, ◌<◌, ◌≤◌, Bool, true, false, ◌||◌, cond, nat_lt, Option, Some, None, List, [], ◌∷◌, ◌++◌, length, map, refl, sym, ap, ap₂, ◌∙◌, subst, length-append, arith}
 use Rattle.std.proofs.lemmas.Bool.Decides.{nat_tests}
-use Rattle.graphql_syntax.specs.tokens.Token.{Bare, Token}
+use Rattle.graphql_tokens.specs.tokens.Token.{Bare, Token}
 use Rattle.graphql_syntax.specs.trees.ValueTree.{Tree}
 use Rattle.graphql_grammar.specs.grammar.Fronts.{Verdict, syntax, limit}
 use Rattle.graphql_grammar.specs.grammar.Tests.{Test, punct, any_name, any_number, any_string, any_block}

@@ -1,6 +1,6 @@
 -- A value stands at its first token.
 use Rattle.std.proofs.Common.{◌≡◌, ℕ, zero, suc, Bool, true, false, cond, Option, Some, None, List, [], ◌∷◌, refl}
-use Rattle.graphql_syntax.specs.tokens.Token.{Bare, Token}
+use Rattle.graphql_tokens.specs.tokens.Token.{Bare, Token}
 use Rattle.graphql_grammar.specs.grammar.Fronts.{syntax, limit}
 use Rattle.graphql_grammar.specs.grammar.Places.{at}
 use Rattle.graphql_grammar.specs.grammar.Tests.{Test, punct, keyword, any_name, name_but, any_number, any_string, any_block}

@@ -1,7 +1,7 @@
 -- Values are read exactly, at every budget; and their places don't matter.
 use Rattle.std.proofs.Common.{◌≡◌, ℕ, zero, suc, Bool, true, false, not, ◌||◌, IsTrue, List, [], ◌∷◌, map, codes, ◌↔◌, inl, inr, refl, sym, ap, subst}
 use Rattle.std.specs.Str.{bytes_eq}
-use Rattle.graphql_syntax.specs.tokens.Token.{Token}
+use Rattle.graphql_tokens.specs.tokens.Token.{Token}
 use Rattle.graphql_syntax.specs.trees.ValueTree.{Tree, list, object, trees_of, fields_of}
 use Rattle.graphql_grammar.specs.grammar.Fronts.{without_place}
 use Rattle.graphql_grammar.specs.grammar.Limits.{Limits}

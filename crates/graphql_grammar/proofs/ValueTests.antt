@@ -1,12 +1,12 @@
 -- Tests of the tokens that only values are made of: what passes them, and tokens that do.
 use Rattle.std.proofs.Common.{◌≡◌, ℕ, Bool, true, false, ◌&&◌, IsTrue, List, [], codes, inl, refl, sym, ap, subst}
-use Rattle.graphql_syntax.specs.tokens.Token.{Bare}
-use Rattle.graphql_syntax.specs.tokens.Cuts.{is_last}
-use Rattle.graphql_syntax.specs.tokens.Edition.{Later}
-use Rattle.graphql_syntax.specs.tokens.Proper.{Spells}
-use Rattle.graphql_syntax.specs.tokens.Spelling.{IsSpelling}
-use Rattle.graphql_syntax.specs.declared.lexer.TokenKind.{TokenKind}
-use Rattle.graphql_syntax.specs.declared.lexer.TokenKind.TheVariants as kinds
+use Rattle.graphql_tokens.specs.tokens.Token.{Bare}
+use Rattle.graphql_tokens.specs.tokens.Cuts.{is_last}
+use Rattle.graphql_tokens.specs.tokens.Edition.{Later}
+use Rattle.graphql_tokens.specs.tokens.Proper.{Spells}
+use Rattle.graphql_tokens.specs.tokens.Spelling.{IsSpelling}
+use Rattle.graphql_tokens.specs.declared.lexer.TokenKind.{TokenKind}
+use Rattle.graphql_tokens.specs.declared.lexer.TokenKind.TheVariants as kinds
 use Rattle.graphql_grammar.specs.grammar.Tests.{Test, is_number, is_string, is_block, punct, any_number, any_string, any_block}
 use Rattle.graphql_grammar.specs.grammar.Values.{dollar}
 use Rattle.graphql_grammar.proofs.Theory.{Within, IsInner}

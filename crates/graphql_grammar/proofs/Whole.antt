@@ -1,10 +1,10 @@
 -- The reader of a whole list answers what the grammar says.
 use Rattle.std.proofs.Common.{◌≡◌, ℕ, zero, suc, ◌<◌, Bool, true, false, cond, IsTrue, ◌⊎◌, inl, inr, List, [], ◌∷◌, ◌++◌, length, take, drop, refl, sym, ap, ◌∙◌, subst, append_assoc, append-nil, length-append, take-append-drop, arith}
-use Rattle.graphql_syntax.specs.tokens.Token.{Bare, Token}
-use Rattle.graphql_syntax.specs.tokens.Cuts.{is_last, EndsOnce}
-use Rattle.graphql_syntax.specs.tokens.Proper.{IsProper, AreProper, AreProperButFaults}
-use Rattle.graphql_syntax.specs.declared.lexer.TokenKind.{TokenKind}
-use Rattle.graphql_syntax.specs.declared.lexer.TokenKind.TheVariants.{Fault, End}
+use Rattle.graphql_tokens.specs.tokens.Token.{Bare, Token}
+use Rattle.graphql_tokens.specs.tokens.Cuts.{is_last, EndsOnce}
+use Rattle.graphql_tokens.specs.tokens.Proper.{IsProper, AreProper, AreProperButFaults}
+use Rattle.graphql_tokens.specs.declared.lexer.TokenKind.{TokenKind}
+use Rattle.graphql_tokens.specs.declared.lexer.TokenKind.TheVariants.{Fault, End}
 use Rattle.graphql_grammar.specs.grammar.Tests.{the_end}
 use Rattle.graphql_grammar.specs.grammar.Limits.{Limits}
 use Rattle.graphql_grammar.specs.grammar.Relations.{Rel, one, ◌⨾◌}

@@ -1,10 +1,10 @@
 //! Reading a text token by token, with one token in hand.
 ghost use Rattle.std.specs.Prelude.{◌≡◌, ◌≢◌, ◌≤◌, ◌+◌, length, ◌&&◌, false, [], Ok};
 ghost use Rattle.std.specs.Str.{bytes_eq};
-ghost use Rattle.graphql_syntax.specs.tokens.Cuts.{is_last, EndsOnce};
-ghost use Rattle.graphql_syntax.specs.tokens.Proper.{AreProperButFaults, IsProper};
-ghost use Rattle.graphql_syntax.specs.tokens.Seen.{seen};
-ghost use Rattle.graphql_syntax.specs.tokens.Token.{left};
+ghost use Rattle.graphql_tokens.specs.tokens.Cuts.{is_last, EndsOnce};
+ghost use Rattle.graphql_tokens.specs.tokens.Proper.{AreProperButFaults, IsProper};
+ghost use Rattle.graphql_tokens.specs.tokens.Seen.{seen};
+ghost use Rattle.graphql_tokens.specs.tokens.Token.{left};
 ghost use Rattle.graphql_grammar.specs.declared.cursor.Refusal.TheVariants.{Memory};
 ghost use Rattle.graphql_grammar.specs.grammar.Tests as tests;
 ghost use Rattle.graphql_grammar.specs.reading.Ahead.{tokens as ahead};

@@ -1,6 +1,6 @@
 //! Readers of names.
 ghost use Rattle.std.specs.Prelude.{◌≡◌, IfOk};
-ghost use Rattle.graphql_syntax.specs.tokens.Seen.{seen};
+ghost use Rattle.graphql_tokens.specs.tokens.Seen.{seen};
 ghost use Rattle.graphql_grammar.specs.grammar.Places.{name_of};
 ghost use Rattle.graphql_grammar.specs.grammar.Tests.{any_name};
 ghost use Rattle.graphql_grammar.specs.reading.Given.{Gives};

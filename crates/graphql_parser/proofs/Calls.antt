@@ -1,9 +1,9 @@
 -- The parser's answers, and how many tokens are taken for them, from what the readers of the code give.
 use Rattle.std.proofs.Common.{◌≡◌, ℕ, suc, ◌+◌, ◌-◌, ◌≤◌, Result, Ok, Err, List, ◌∷◌, ◌++◌, length, drop, sym, ap, ◌∙◌, subst, length-drop, length-append, arith}
 use Rattle.graphql_syntax.specs.declared.types.executable.ExecutableDocument.{ExecutableDocument}
-use Rattle.graphql_syntax.specs.tokens.Token.{Token}
-use Rattle.graphql_syntax.specs.tokens.Cuts.{EndsOnce}
-use Rattle.graphql_syntax.specs.tokens.Proper.{AreProperButFaults}
+use Rattle.graphql_tokens.specs.tokens.Token.{Token}
+use Rattle.graphql_tokens.specs.tokens.Cuts.{EndsOnce}
+use Rattle.graphql_tokens.specs.tokens.Proper.{AreProperButFaults}
 use Rattle.graphql_parser.specs.declared.error.Error.{Error}
 use Rattle.graphql_parser.specs.declared.error.Error.TheVariants as errors
 use Rattle.graphql_grammar.specs.declared.cursor.Refusal.{Refusal}

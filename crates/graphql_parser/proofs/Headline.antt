@@ -1,9 +1,9 @@
 -- What the reader of whole requests gives, by the grammar alone.
 use Rattle.std.proofs.Common.{◌≡◌, ℕ, suc, pred, ◌+◌, ◌⊎◌, inl, inr, List, [], ◌∷◌, ◌++◌, length, refl, sym, ap, ◌∙◌, subst, length-append, arith}
 use Rattle.std.proofs.lemmas.List.{length-map}
-use Rattle.graphql_syntax.specs.tokens.Token.{Token}
-use Rattle.graphql_syntax.specs.tokens.Cuts.{EndsOnce}
-use Rattle.graphql_syntax.specs.tokens.Proper.{AreProperButFaults}
+use Rattle.graphql_tokens.specs.tokens.Token.{Token}
+use Rattle.graphql_tokens.specs.tokens.Cuts.{EndsOnce}
+use Rattle.graphql_tokens.specs.tokens.Proper.{AreProperButFaults}
 use Rattle.graphql_grammar.specs.declared.cursor.Refusal.{Refusal}
 use Rattle.graphql_grammar.specs.declared.cursor.Refusal.TheVariants.{Memory, Syntax, Limit}
 use Rattle.graphql_grammar.specs.grammar.Limits.{Limits}

@@ -1,8 +1,8 @@
 -- A selection is read up to its set, and then its set is.
 use Rattle.std.proofs.Common.{◌≡◌, ℕ, zero, suc, Bool, true, false, cond, Option, Some, None, List, [], ◌∷◌, refl, sym, ap, ◌∙◌}
-use Rattle.graphql_syntax.specs.declared.pos.Pos.{Pos}
-use Rattle.graphql_syntax.specs.declared.pos.Positioned.{Positioned}
-use Rattle.graphql_syntax.specs.tokens.Token.{Token}
+use Rattle.graphql_tokens.specs.declared.pos.Pos.{Pos}
+use Rattle.graphql_tokens.specs.declared.pos.Positioned.{Positioned}
+use Rattle.graphql_tokens.specs.tokens.Token.{Token}
 use Rattle.graphql_syntax.specs.trees.Request.{placed, Name, Arguments, Directives, TypeCondition, Selection}
 use Rattle.graphql_grammar.specs.grammar.Arguments.{given}
 use Rattle.graphql_grammar.specs.grammar.Fronts.{syntax, limit}

@@ -1,8 +1,8 @@
 -- An operation that begins with its keyword is read as the code reads it.
 use Rattle.std.proofs.Common.{◌≡◌, Bool, true, false, cond, Option, Some, None, List, [], ◌∷◌, refl, ap, ◌∙◌}
-use Rattle.graphql_syntax.specs.declared.pos.Positioned.{Positioned}
+use Rattle.graphql_tokens.specs.declared.pos.Positioned.{Positioned}
 use Rattle.graphql_syntax.specs.declared.types.OperationType.{OperationType}
-use Rattle.graphql_syntax.specs.tokens.Token.{Token}
+use Rattle.graphql_tokens.specs.tokens.Token.{Token}
 use Rattle.graphql_syntax.specs.trees.Request.{Name, Directives, VariableDefinition}
 use Rattle.graphql_grammar.specs.grammar.Arguments.{given}
 use Rattle.graphql_grammar.specs.grammar.Fronts.{syntax}

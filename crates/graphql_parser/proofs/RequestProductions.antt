@@ -1,9 +1,9 @@
 -- Operations, fragments and documents are read exactly, have phrases, and don't look at places.
 use Rattle.std.proofs.Common.{◌≡◌, true, IsTrue, Option, Some, None, List, [], ◌∷◌, map, refl}
-use Rattle.graphql_syntax.specs.declared.pos.Positioned.{Positioned}
+use Rattle.graphql_tokens.specs.declared.pos.Positioned.{Positioned}
 use Rattle.graphql_syntax.specs.declared.types.OperationType.{OperationType}
 use Rattle.graphql_syntax.specs.declared.types.OperationType.TheVariants.{Mutation, Subscription}
-use Rattle.graphql_syntax.specs.tokens.Token.{Token}
+use Rattle.graphql_tokens.specs.tokens.Token.{Token}
 use Rattle.graphql_syntax.specs.trees.Request.{Directives, VariableDefinition}
 use Rattle.graphql_grammar.specs.grammar.Tests.{Test, punct, keyword, any_name, the_end}
 use Rattle.graphql_grammar.specs.grammar.Limits.{Limits}

@@ -2,8 +2,8 @@
 use Rattle.std.proofs.Common.{◌≡◌, Bool, true, false, cond, Option, Some, None, option_map, List, [], ◌∷◌, ◌++◌, map, refl, sym, ap, ◌∙◌}
 use Rattle.std.specs.Map.{lookup}
 use Rattle.std.specs.Str.{bytes_eq}
-use Rattle.graphql_syntax.specs.declared.pos.Pos.{Pos}
-use Rattle.graphql_syntax.specs.declared.pos.Positioned.{Positioned}
+use Rattle.graphql_tokens.specs.declared.pos.Pos.{Pos}
+use Rattle.graphql_tokens.specs.declared.pos.Positioned.{Positioned}
 use Rattle.graphql_syntax.specs.trees.Request.{Name, OperationDefinition, FragmentDefinition, single, multiple, placed}
 use Rattle.graphql_syntax.specs.trees.RequestViews.{entry_tree}
 use Rattle.indexmap.specs.IndexMap.{insert_entry}

@@ -1,7 +1,7 @@
 -- Selections and selection sets don't look at places.
 use Rattle.std.proofs.Common.{◌≡◌, ℕ, zero, suc, true, Option, Some, None, List, [], ◌∷◌, map, refl, ap}
-use Rattle.graphql_syntax.specs.declared.pos.Positioned.{Positioned}
-use Rattle.graphql_syntax.specs.tokens.Token.{Token}
+use Rattle.graphql_tokens.specs.declared.pos.Positioned.{Positioned}
+use Rattle.graphql_tokens.specs.tokens.Token.{Token}
 use Rattle.graphql_syntax.specs.trees.Request.{Arguments, Directives, TypeCondition, Selection, SelectionSet, set_of}
 use Rattle.graphql_grammar.specs.grammar.Tests.{punct, keyword, any_name}
 use Rattle.graphql_grammar.specs.grammar.Limits.{Limits}

@@ -1,8 +1,8 @@
 -- Selections and selection sets are read exactly at every budget, and have phrases.
 use Rattle.std.proofs.Common.{◌≡◌, ℕ, zero, suc, Bool, true, false, ◌||◌, IsTrue, ◌↔◌, codes, inl, inr, Option, Some, None, List, [], ◌∷◌, ◌++◌, refl, sym, ap, ◌∙◌, subst, append-nil}
-use Rattle.graphql_syntax.specs.declared.pos.Positioned.{Positioned}
-use Rattle.graphql_syntax.specs.tokens.Token.{Token}
-use Rattle.graphql_syntax.specs.tokens.Proper.{IsProper}
+use Rattle.graphql_tokens.specs.declared.pos.Positioned.{Positioned}
+use Rattle.graphql_tokens.specs.tokens.Token.{Token}
+use Rattle.graphql_tokens.specs.tokens.Proper.{IsProper}
 use Rattle.graphql_syntax.specs.trees.Request.{Arguments, Directives, Selection}
 use Rattle.graphql_grammar.specs.grammar.Tests.{Test, punct, keyword, any_name}
 use Rattle.graphql_grammar.specs.grammar.Limits.{Limits}

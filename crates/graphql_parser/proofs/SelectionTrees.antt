@@ -1,6 +1,6 @@
 -- The trees of selections that the code makes and changes.
 use Rattle.std.proofs.Common.{◌≡◌, ℕ, zero, suc, List, [], ◌∷◌, length, sym, ap, ◌∙◌, option_map, slice_set, slice_index_or, arith}
-use Rattle.graphql_syntax.specs.declared.pos.Positioned.{Positioned}
+use Rattle.graphql_tokens.specs.declared.pos.Positioned.{Positioned}
 use Rattle.graphql_syntax.specs.declared.types.executable.Field.{Field, out-Field, roll-Field, fold-roll-Field, fold_out-Field}
 use Rattle.graphql_syntax.specs.declared.types.executable.FragmentSpread.{FragmentSpread}
 use Rattle.graphql_syntax.specs.declared.types.executable.InlineFragment.{InlineFragment, out-InlineFragment, roll-InlineFragment, fold-roll-InlineFragment, fold_out-InlineFragment}

@@ -3,8 +3,8 @@ use Rattle.std.proofs.Common.{◌≡◌, is_some, Option, Some, None, option_map
 use Rattle.std.specs.Map.{lookup}
 use Rattle.std.specs.Str.{bytes_eq}
 use Rattle.std.proofs.lemmas.List.{append-nil}
-use Rattle.graphql_syntax.specs.declared.pos.Pos.{Pos}
-use Rattle.graphql_syntax.specs.declared.pos.Positioned.{Positioned}
+use Rattle.graphql_tokens.specs.declared.pos.Pos.{Pos}
+use Rattle.graphql_tokens.specs.declared.pos.Positioned.{Positioned}
 use Rattle.graphql_syntax.specs.declared.types.executable.OperationDefinition.{OperationDefinition}
 use Rattle.graphql_syntax.specs.declared.types.executable.FragmentDefinition.{FragmentDefinition}
 use Rattle.graphql_syntax.specs.declared.types.executable.DocumentOperations.{DocumentOperations}

@@ -29,7 +29,7 @@ enum Left {
 
 impl Model for ErrorPositions {
     ghost use Rattle.std.specs.Prelude.{List};
-    ghost use Rattle.graphql_syntax.specs.declared.pos.Pos.{Pos as Place};
+    ghost use Rattle.graphql_tokens.specs.declared.pos.Pos.{Pos as Place};
     ghost use Rattle.graphql_parser.specs.reading.Places.{list_of};
 
     ghost Value = { List Place };

@@ -1,7 +1,7 @@
 -- What is made of clones, place by place, has the tree of the whole.
 use Rattle.std.proofs.Common.{◌≡◌, List, [], ◌∷◌, map, Option, Some, None, option_map, refl, ap}
 use Rattle.std.specs.List.{AllZip}
-use Rattle.graphql_syntax.specs.declared.pos.Positioned.{Positioned}
+use Rattle.graphql_tokens.specs.declared.pos.Positioned.{Positioned}
 use Rattle.graphql_syntax.specs.trees.Request.{Name, placed}
 use Rattle.graphql_syntax.specs.trees.RequestViews.{entry_tree}
 use Rattle.graphql_syntax.specs.trees.ValueTree.{Tree}

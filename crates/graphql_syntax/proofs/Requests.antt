@@ -1,6 +1,6 @@
 -- The equations of the trees of a request, at values that code makes and takes apart.
 use Rattle.std.proofs.Common.{◌≡◌, List, [], ◌∷◌, refl, ap, sym, ◌∙◌, option_map}
-use Rattle.graphql_syntax.specs.declared.pos.Positioned.{Positioned}
+use Rattle.graphql_tokens.specs.declared.pos.Positioned.{Positioned}
 use Rattle.graphql_syntax.specs.declared.types.executable.Field.{Field, out-Field, roll-Field, fold-roll-Field, fold_out-Field}
 use Rattle.graphql_syntax.specs.declared.types.executable.FragmentSpread.{FragmentSpread}
 use Rattle.graphql_syntax.specs.declared.types.executable.InlineFragment.{InlineFragment, out-InlineFragment, roll-InlineFragment, fold-roll-InlineFragment, fold_out-InlineFragment}

@@ -1,7 +1,6 @@
 -- Public: what accessors and conversions give.
 pub mod Constants
 pub mod Defaults
-pub mod Integers
 pub mod Lending
 pub mod Named
 pub mod Operations

@@ -1,17 +1,4 @@
 -- Inner: what the code keeps and finds, on the way to the public definitions.
-pub mod Blocks
-pub mod Calculator
-pub mod Contents
-pub mod Cursor
-pub mod Escapes
-pub mod Lexer
-pub mod Lexing
 pub mod Loans
-pub mod NameText
-pub mod Numbers
-pub mod Numerals
-pub mod Quoted
-pub mod Reading
-pub mod Running
 pub mod TreeLaws
 pub mod TypeLaws

@@ -3,14 +3,11 @@ mod convert;
 mod copy;
 mod equality;
 mod literal;
-mod name;
-mod number;
-mod numeral;
 
 pub(crate) use convert::{const_of, holds_variable};
+pub use graphql_tokens::name::Name;
+pub use graphql_tokens::number::Number;
 pub use literal::Literal;
-pub use name::Name;
-pub use number::Number;
 
 /// A value in which no variable stands, as in the default value of a variable.
 ///

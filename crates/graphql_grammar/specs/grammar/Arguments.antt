@@ -1,7 +1,7 @@
 -- Arguments, directives and variable definitions, and their places.
 use Rattle.std.specs.Prelude.{ℕ, Bool, true, false, Option, Some, None, List, []}
-use Rattle.graphql_syntax.specs.declared.pos.Positioned.{Positioned}
-use Rattle.graphql_syntax.specs.tokens.Token.{Token}
+use Rattle.graphql_tokens.specs.declared.pos.Positioned.{Positioned}
+use Rattle.graphql_tokens.specs.tokens.Token.{Token}
 use Rattle.graphql_syntax.specs.trees.Request.{Name, Argument, Directive, Directives, VariableDefinition}
 use Rattle.graphql_syntax.specs.trees.Request as trees
 use Rattle.graphql_syntax.specs.trees.TypeTree.{TypeTree}

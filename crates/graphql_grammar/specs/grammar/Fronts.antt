@@ -1,8 +1,8 @@
 -- Fronts that some tree completes, and the first token whose front none completes.
 -- A front is a beginning of a list of tokens.
 use Rattle.std.specs.Prelude.{◌≡◌, ℕ, suc, ◌<◌, ◌≤◌, List, ◌∷◌, ◌++◌, length, take, map}
-use Rattle.graphql_syntax.specs.tokens.Token.{Bare, Token}
-use Rattle.graphql_syntax.specs.tokens.Proper.{AreProper}
+use Rattle.graphql_tokens.specs.tokens.Token.{Bare, Token}
+use Rattle.graphql_tokens.specs.tokens.Proper.{AreProper}
 use Rattle.graphql_grammar.specs.grammar.Tests.{the_end}
 use Rattle.graphql_grammar.specs.grammar.Relations.{Rel, one, ◌⨾◌, mapped}
 use Rattle.graphql_grammar.specs.grammar.Limits.{Limits}

@@ -1,6 +1,6 @@
 -- Trees without their places: each place is 0:0.
 use Rattle.std.specs.Prelude.{List, map, option_map}
-use Rattle.graphql_syntax.specs.declared.pos.Positioned.{Positioned}
+use Rattle.graphql_tokens.specs.declared.pos.Positioned.{Positioned}
 use Rattle.graphql_syntax.specs.trees.Request.{Argument, Directive, VariableDefinition}
 use Rattle.graphql_grammar.specs.grammar.Places.{nowhere}
 

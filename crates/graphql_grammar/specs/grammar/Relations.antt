@@ -1,6 +1,6 @@
 -- The notation of the grammar: relations between the tokens of a phrase and its tree, and how they are put together.
 use Rattle.std.specs.Prelude.{◌≡◌, ◌⊎◌, IsTrue, Option, Some, None, List, [], ◌∷◌, ◌++◌}
-use Rattle.graphql_syntax.specs.tokens.Token.{Bare, Token}
+use Rattle.graphql_tokens.specs.tokens.Token.{Bare, Token}
 use Rattle.graphql_grammar.specs.grammar.Tests.{Test}
 
 -- these tokens are a phrase, with this tree

@@ -1,10 +1,10 @@
 -- Tests of one token. They look at its kind and its spelling, and never at its place.
 use Rattle.std.specs.Prelude.{ℕ, Bool, true, false, not, ◌&&◌, ◌||◌, List, [], ◌∷◌, codes}
 use Rattle.std.specs.Str.{bytes_eq}
-use Rattle.graphql_syntax.specs.tokens.Token.{Bare}
-use Rattle.graphql_syntax.specs.declared.lexer.TokenKind.{TokenKind}
-use Rattle.graphql_syntax.specs.declared.lexer.TokenKind.TheVariants as kinds
-use Rattle.graphql_syntax.specs.declared.lexer.TokenKind.TheVariants.{Punct, Name, End}
+use Rattle.graphql_tokens.specs.tokens.Token.{Bare}
+use Rattle.graphql_tokens.specs.declared.lexer.TokenKind.{TokenKind}
+use Rattle.graphql_tokens.specs.declared.lexer.TokenKind.TheVariants as kinds
+use Rattle.graphql_tokens.specs.declared.lexer.TokenKind.TheVariants.{Punct, Name, End}
 use Prim.Native.String.{String}
 
 abbrev pub Test : Type 0

@@ -1,7 +1,7 @@
 -- Type references, and their places.
 use Rattle.std.specs.Prelude.{ℕ, zero, suc, Bool, true, false, Option, Some, None}
-use Rattle.graphql_syntax.specs.declared.pos.Positioned.{Positioned}
-use Rattle.graphql_syntax.specs.tokens.Token.{Token}
+use Rattle.graphql_tokens.specs.declared.pos.Positioned.{Positioned}
+use Rattle.graphql_tokens.specs.tokens.Token.{Token}
 use Rattle.graphql_syntax.specs.trees.TypeTree.{TypeTree, named, list}
 use Rattle.graphql_grammar.specs.grammar.Tests.{punct, any_name}
 use Rattle.graphql_grammar.specs.grammar.Relations.{Rel, one, ◌⨾◌, ◌∪◌, mapped, opt}

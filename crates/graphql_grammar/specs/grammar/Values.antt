@@ -1,11 +1,11 @@
 -- Values, and their places.
 use Rattle.std.specs.Prelude.{◌≡◌, ℕ, zero, suc, Bool, true, false, ◌-◌, ◌&&◌, List, [], ◌∷◌, length, take, drop, map}
 use Rattle.std.specs.Str.{chars, encode_utf8_all}
-use Rattle.graphql_syntax.specs.declared.pos.Positioned.{Positioned}
-use Rattle.graphql_syntax.specs.tokens.BlockText.{block_value}
-use Rattle.graphql_syntax.specs.tokens.Edition.{Later}
-use Rattle.graphql_syntax.specs.tokens.Strings.{StringMeans}
-use Rattle.graphql_syntax.specs.tokens.Token.{Bare, Token}
+use Rattle.graphql_tokens.specs.declared.pos.Positioned.{Positioned}
+use Rattle.graphql_tokens.specs.tokens.BlockText.{block_value}
+use Rattle.graphql_tokens.specs.tokens.Edition.{Later}
+use Rattle.graphql_tokens.specs.tokens.Strings.{StringMeans}
+use Rattle.graphql_tokens.specs.tokens.Token.{Bare, Token}
 use Rattle.graphql_syntax.specs.trees.ValueTree.{Tree, variable, null, number, string, boolean, enumeration, list, object, trees_of, fields_of}
 use Rattle.graphql_grammar.specs.grammar.Merged.{merged}
 use Rattle.graphql_grammar.specs.grammar.Places.{at}

@@ -1,6 +1,6 @@
 -- What a cursor shows.
 use Rattle.std.specs.Prelude.{ℕ, List, ◌∷◌}
-use Rattle.graphql_syntax.specs.tokens.Token.{Token}
+use Rattle.graphql_tokens.specs.tokens.Token.{Token}
 
 -- the tokens of the text, the token in hand, those behind it, and how many were taken from the lexer
 pub record Ahead : Type 0 where

@@ -1,7 +1,7 @@
 -- What the parts of arguments and directives in the code stand for, whatever their values are.
 use Rattle.std.specs.Prelude.{List, map, Vec}
 use Rattle.std.specs.declared.alloc.Global.{Global}
-use Rattle.graphql_syntax.specs.declared.pos.Positioned.{Positioned}
+use Rattle.graphql_tokens.specs.declared.pos.Positioned.{Positioned}
 use Rattle.graphql_syntax.specs.trees.Request as request
 use Rattle.graphql_syntax.specs.trees.Request.{Name, placed}
 use Rattle.graphql_syntax.specs.trees.ValueTree.{Tree}

@@ -1,6 +1,6 @@
 -- Reading arguments, directives and variable definitions from lists of tokens.
 use Rattle.std.specs.Prelude.{ℕ, Bool, true, false, Option, List}
-use Rattle.graphql_syntax.specs.declared.pos.Positioned.{Positioned}
+use Rattle.graphql_tokens.specs.declared.pos.Positioned.{Positioned}
 use Rattle.graphql_syntax.specs.trees.Request.{Argument, Directive, Directives, VariableDefinition}
 use Rattle.graphql_syntax.specs.trees.Request as trees
 use Rattle.graphql_grammar.specs.grammar.Arguments.{argument_of, directive_of, variable_of}

@@ -1,9 +1,9 @@
 -- How a cursor shows it.
 use Rattle.std.specs.Prelude.{◌≤◌, length}
-use Rattle.graphql_syntax.specs.tokens.Seen.{seen}
-use Rattle.graphql_syntax.specs.tokens.Cuts.{EndsOnce}
-use Rattle.graphql_syntax.specs.tokens.Proper.{AreProperButFaults}
-use Rattle.graphql_syntax.specs.tokens.Token.{left}
+use Rattle.graphql_tokens.specs.tokens.Seen.{seen}
+use Rattle.graphql_tokens.specs.tokens.Cuts.{EndsOnce}
+use Rattle.graphql_tokens.specs.tokens.Proper.{AreProperButFaults}
+use Rattle.graphql_tokens.specs.tokens.Token.{left}
 use Rattle.graphql_grammar.specs.reading.Ahead.{Ahead, tokens}
 use Rattle.graphql_grammar.specs.declared.cursor.Cursor.TheInside.{Inside}
 

@@ -1,7 +1,7 @@
 -- Lists and objects that are open while a value inside them is read.
 use Rattle.std.specs.Prelude.{◌≡◌, ℕ, pred, ◌+◌, ◌<◌, Bool, true, false, cond, nat_lt, codes, Option, Some, None, option_map, Result, Ok, Err, List, [], ◌∷◌, ◌++◌, length, map}
 use Rattle.std.specs.Str.{bytes_eq}
-use Rattle.graphql_syntax.specs.tokens.Token.{Token}
+use Rattle.graphql_tokens.specs.tokens.Token.{Token}
 use Rattle.graphql_syntax.specs.trees.ValueTree.{Tree, null, boolean, enumeration, list, object, trees_of, fields_of}
 use Rattle.graphql_grammar.specs.declared.cursor.Refusal.{Refusal}
 use Rattle.graphql_grammar.specs.declared.value.frames.Open.{Open}

@@ -1,6 +1,6 @@
 -- Reading a list of tokens from left to right, with one token in sight.
 use Rattle.std.specs.Prelude.{ℕ, zero, suc, Bool, true, false, cond, Option, Some, None, List, [], ◌∷◌, ◌++◌, length}
-use Rattle.graphql_syntax.specs.tokens.Token.{Bare, Token}
+use Rattle.graphql_tokens.specs.tokens.Token.{Bare, Token}
 use Rattle.graphql_grammar.specs.grammar.Tests.{Test, the_end}
 use Rattle.graphql_grammar.specs.grammar.Relations.{cons}
 use Rattle.graphql_grammar.specs.grammar.Fronts.{Verdict, syntax, limit}

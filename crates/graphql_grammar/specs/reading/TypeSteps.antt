@@ -1,7 +1,7 @@
 -- Reading a type reference as a loop does: what opens lists, a name, and what closes them.
 use Rattle.std.specs.Prelude.{ℕ, zero, suc, Bool, true, false}
-use Rattle.graphql_syntax.specs.declared.pos.Positioned.{Positioned}
-use Rattle.graphql_syntax.specs.tokens.Token.{Token}
+use Rattle.graphql_tokens.specs.declared.pos.Positioned.{Positioned}
+use Rattle.graphql_tokens.specs.tokens.Token.{Token}
 use Rattle.graphql_syntax.specs.trees.TypeTree.{TypeTree, named, list}
 use Rattle.graphql_grammar.specs.grammar.Places.{at}
 use Rattle.graphql_grammar.specs.grammar.Tests.{punct, any_name}

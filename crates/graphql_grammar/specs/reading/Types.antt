@@ -1,7 +1,7 @@
 -- Reading type references from lists of tokens.
 use Rattle.std.specs.Prelude.{ℕ, zero, suc, Option}
-use Rattle.graphql_syntax.specs.declared.pos.Positioned.{Positioned}
-use Rattle.graphql_syntax.specs.tokens.Token.{Token}
+use Rattle.graphql_tokens.specs.declared.pos.Positioned.{Positioned}
+use Rattle.graphql_tokens.specs.tokens.Token.{Token}
 use Rattle.graphql_syntax.specs.trees.TypeTree.{TypeTree}
 use Rattle.graphql_grammar.specs.grammar.Tests.{punct, any_name}
 use Rattle.graphql_grammar.specs.grammar.Types.{named_of, list_of}

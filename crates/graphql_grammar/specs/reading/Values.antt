@@ -1,9 +1,9 @@
 -- Reading values from lists of tokens.
 use Rattle.std.specs.Prelude.{ℕ, zero, suc, Bool, ◌||◌, Option, Some, option_map, List, [], ◌∷◌}
 use Rattle.std.specs.Str.{chars, encode_utf8_all}
-use Rattle.graphql_syntax.specs.inner.Contents.{content_value}
-use Rattle.graphql_syntax.specs.tokens.BlockText.{block_value}
-use Rattle.graphql_syntax.specs.tokens.Token.{Bare}
+use Rattle.graphql_tokens.specs.inner.Contents.{content_value}
+use Rattle.graphql_tokens.specs.tokens.BlockText.{block_value}
+use Rattle.graphql_tokens.specs.tokens.Token.{Bare}
 use Rattle.graphql_syntax.specs.trees.ValueTree.{Tree}
 use Rattle.graphql_grammar.specs.grammar.Tests.{Test, punct, keyword, any_name, name_but, any_number, any_string, any_block}
 use Rattle.graphql_grammar.specs.grammar.Values.{Value, inside, true_of, false_of, null_of, enumeration_of, number_of, string_of, dollar, variable_of, list_of, field_of, object_of}

@@ -1,9 +1,9 @@
 -- What the answer of a parser of requests says of the tokens of its text.
 use Rattle.std.specs.Prelude.{◌≡◌, ℕ, ◌≤◌, length, None, Result, Ok, Err, List, ◌++◌, codes, string_bytes}
 use Rattle.std.specs.Fmt.{decimal}
-use Rattle.graphql_syntax.specs.declared.pos.Pos.{Pos}
+use Rattle.graphql_tokens.specs.declared.pos.Pos.{Pos}
 use Rattle.graphql_syntax.specs.declared.types.executable.ExecutableDocument.{ExecutableDocument}
-use Rattle.graphql_syntax.specs.tokens.Token.{Token}
+use Rattle.graphql_tokens.specs.tokens.Token.{Token}
 use Rattle.graphql_syntax.specs.trees.RequestViews.{document_tree}
 use Rattle.graphql_parser.specs.declared.error.Error.{Error}
 use Rattle.graphql_parser.specs.declared.error.Error.TheVariants.{Syntax, MultipleRoots, MissingQueryRoot, MultipleOperations, OperationDuplicated, FragmentDuplicated, MissingOperation, RecursionLimitExceeded, OutOfMemory}

@@ -1,6 +1,6 @@
 -- The document of a list of definitions that breaks no rule.
 use Rattle.std.specs.Prelude.{List, [], ◌∷◌, Some, None}
-use Rattle.graphql_syntax.specs.declared.pos.Positioned.{Positioned}
+use Rattle.graphql_tokens.specs.declared.pos.Positioned.{Positioned}
 use Rattle.graphql_syntax.specs.trees.Request.{Name, OperationDefinition, FragmentDefinition, Operations, single, multiple, Document}
 use Rattle.graphql_parser.specs.grammar.Request.{Definition, operation, fragment}
 

@@ -1,9 +1,9 @@
 -- The grammar of requests: operations, fragments and documents, and their places.
 use Rattle.std.specs.Prelude.{true, Option, Some, None, List, []}
-use Rattle.graphql_syntax.specs.declared.pos.Positioned.{Positioned}
+use Rattle.graphql_tokens.specs.declared.pos.Positioned.{Positioned}
 use Rattle.graphql_syntax.specs.declared.types.OperationType.{OperationType}
 use Rattle.graphql_syntax.specs.declared.types.OperationType.TheVariants.{Query, Mutation, Subscription}
-use Rattle.graphql_syntax.specs.tokens.Token.{Token}
+use Rattle.graphql_tokens.specs.tokens.Token.{Token}
 use Rattle.graphql_syntax.specs.trees.Request.{Name, Directives, VariableDefinition, TypeCondition, OperationDefinition, FragmentDefinition}
 use Rattle.graphql_grammar.specs.grammar.Arguments.{given, directives, variable_definitions}
 use Rattle.graphql_grammar.specs.grammar.Fronts.{Grammar, whole}

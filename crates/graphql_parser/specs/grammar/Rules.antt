@@ -1,7 +1,7 @@
 -- The rules that the definitions of a request keep, by what stands before each definition.
 use Rattle.std.specs.Prelude.{◌≡◌, Option, Some, None, option_map, cond, List, [], ◌∷◌, ◌++◌}
 use Rattle.std.specs.Str.{bytes_eq}
-use Rattle.graphql_syntax.specs.declared.pos.Pos.{Pos}
+use Rattle.graphql_tokens.specs.declared.pos.Pos.{Pos}
 use Rattle.graphql_syntax.specs.trees.Request.{Name}
 use Rattle.graphql_parser.specs.grammar.Request.{Definition, operation, fragment}
 

@@ -1,8 +1,8 @@
 -- Selections and selection sets, and their places.
 use Rattle.std.specs.Prelude.{ℕ, zero, suc, true, Option, Some, None, List, [], ◌∷◌}
-use Rattle.graphql_syntax.specs.declared.pos.Pos.{Pos}
-use Rattle.graphql_syntax.specs.declared.pos.Positioned.{Positioned}
-use Rattle.graphql_syntax.specs.tokens.Token.{Token}
+use Rattle.graphql_tokens.specs.declared.pos.Pos.{Pos}
+use Rattle.graphql_tokens.specs.declared.pos.Positioned.{Positioned}
+use Rattle.graphql_tokens.specs.tokens.Token.{Token}
 use Rattle.graphql_syntax.specs.trees.Request.{Name, Arguments, Directives, TypeCondition, Selection, field, fragment_spread, inline_fragment, SelectionSet, no_selections, set_of}
 use Rattle.graphql_grammar.specs.grammar.Arguments.{given, arguments, directives}
 use Rattle.graphql_grammar.specs.grammar.Places.{at, name_of, nowhere}

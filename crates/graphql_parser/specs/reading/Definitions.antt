@@ -1,9 +1,9 @@
 -- The definitions of the code, and how it reads operations.
 use Rattle.std.specs.Prelude.{true, Option, Some, None, List, map, Vec}
 use Rattle.std.specs.declared.alloc.Global.{Global}
-use Rattle.graphql_syntax.specs.declared.pos.Positioned.{Positioned}
+use Rattle.graphql_tokens.specs.declared.pos.Positioned.{Positioned}
 use Rattle.graphql_syntax.specs.declared.types.OperationType.{OperationType}
-use Rattle.graphql_syntax.specs.tokens.Token.{Token}
+use Rattle.graphql_tokens.specs.tokens.Token.{Token}
 use Rattle.graphql_syntax.specs.trees.Request.{Name, Directives, VariableDefinition, placed}
 use Rattle.graphql_syntax.specs.trees.RequestViews.{operation_tree, fragment_tree}
 use Rattle.graphql_parser.specs.declared.parse.executable.Definition as code

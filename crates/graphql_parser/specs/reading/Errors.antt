@@ -1,6 +1,6 @@
 -- The error that a refusal becomes.
 use Rattle.std.specs.Prelude.{◌≡◌, None, string_bytes}
-use Rattle.graphql_syntax.specs.declared.pos.Pos.{Pos}
+use Rattle.graphql_tokens.specs.declared.pos.Pos.{Pos}
 use Rattle.graphql_parser.specs.declared.error.Error.{Error}
 use Rattle.graphql_parser.specs.declared.error.Error.TheVariants.{Syntax, RecursionLimitExceeded, OutOfMemory}
 use Rattle.graphql_grammar.specs.declared.cursor.Refusal.{Refusal}

@@ -1,6 +1,6 @@
 -- The open sets of the code, as readers of lists see them.
 use Rattle.std.specs.Prelude.{◌-◌, ◌≤◌, List, length, drop, reverse}
-use Rattle.graphql_syntax.specs.declared.pos.Positioned.{Positioned}
+use Rattle.graphql_tokens.specs.declared.pos.Positioned.{Positioned}
 use Rattle.graphql_syntax.specs.trees.Request.{Selection}
 use Rattle.graphql_parser.specs.declared.parse.selections.frames.OpenSet.{OpenSet}
 use Rattle.graphql_parser.specs.declared.parse.selections.frames.Frames.TheInside.{Inside}

@@ -1,6 +1,6 @@
 -- The list that an iterator over an error's places has left.
 use Rattle.std.specs.Prelude.{List, [], ◌∷◌}
-use Rattle.graphql_syntax.specs.declared.pos.Pos.{Pos}
+use Rattle.graphql_tokens.specs.declared.pos.Pos.{Pos}
 use Rattle.graphql_parser.specs.declared.positions.Left.{Left}
 use Rattle.graphql_parser.specs.declared.positions.Left.TheVariants.{Two, One, Zero}
 

@@ -2,7 +2,7 @@
 use Rattle.std.specs.Prelude.{true, ◌||◌, List}
 use Rattle.graphql_syntax.specs.declared.types.OperationType.{OperationType}
 use Rattle.graphql_syntax.specs.declared.types.OperationType.TheVariants.{Query, Mutation, Subscription}
-use Rattle.graphql_syntax.specs.tokens.Token.{Token}
+use Rattle.graphql_tokens.specs.tokens.Token.{Token}
 use Rattle.graphql_grammar.specs.grammar.Limits.{Limits}
 use Rattle.graphql_parser.specs.grammar.Request.{Definition, query_of, kind_of, operation_of, fragment_of}
 use Rattle.graphql_parser.specs.grammar.Selections.{Set, fragment_name}

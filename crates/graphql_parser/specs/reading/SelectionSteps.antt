@@ -1,8 +1,8 @@
 -- Reading selection sets by the sets that are open around the one that is read.
 use Rattle.std.specs.Prelude.{ℕ, zero, suc, pred, Bool, true, false, cond, Option, Some, None, List, [], ◌∷◌, ◌++◌}
-use Rattle.graphql_syntax.specs.declared.pos.Pos.{Pos}
-use Rattle.graphql_syntax.specs.declared.pos.Positioned.{Positioned}
-use Rattle.graphql_syntax.specs.tokens.Token.{Token}
+use Rattle.graphql_tokens.specs.declared.pos.Pos.{Pos}
+use Rattle.graphql_tokens.specs.declared.pos.Positioned.{Positioned}
+use Rattle.graphql_tokens.specs.tokens.Token.{Token}
 use Rattle.graphql_syntax.specs.trees.Request.{placed, Name, Arguments, Directives, TypeCondition, Selection, field, fragment_spread, inline_fragment, no_selections, set_of}
 use Rattle.graphql_grammar.specs.grammar.Arguments.{given}
 use Rattle.graphql_grammar.specs.grammar.Fronts.{syntax}

@@ -1,7 +1,7 @@
 -- Reading selections and selection sets from lists of tokens.
 use Rattle.std.specs.Prelude.{ℕ, zero, suc, true, ◌||◌, Option, Some, None}
-use Rattle.graphql_syntax.specs.declared.pos.Positioned.{Positioned}
-use Rattle.graphql_syntax.specs.tokens.Token.{Token}
+use Rattle.graphql_tokens.specs.declared.pos.Positioned.{Positioned}
+use Rattle.graphql_tokens.specs.tokens.Token.{Token}
 use Rattle.graphql_syntax.specs.trees.Request.{Directives, TypeCondition, Selection}
 use Rattle.graphql_parser.specs.grammar.Selections.{Set, field_of, fragment_name, spread_of, condition_of, inline_of, selections_of}
 use Rattle.graphql_grammar.specs.grammar.Tests.{Test, punct, keyword, any_name}

@@ -1,7 +1,7 @@
 -- Definitions that keep the rules, sorted by what they are.
 use Rattle.std.specs.Prelude.{◌≡◌, true, is_some, Option, Some, None, option_map, Result, Ok, Err, List, [], ◌∷◌, ◌++◌, map}
-use Rattle.graphql_syntax.specs.declared.pos.Pos.{Pos}
-use Rattle.graphql_syntax.specs.declared.pos.Positioned.{Positioned}
+use Rattle.graphql_tokens.specs.declared.pos.Pos.{Pos}
+use Rattle.graphql_tokens.specs.declared.pos.Positioned.{Positioned}
 use Rattle.graphql_syntax.specs.trees.Request.{Name, placed}
 use Rattle.graphql_syntax.specs.trees.Request as request
 use Rattle.graphql_syntax.specs.trees.RequestViews.{operation_tree, fragment_tree, entry_tree}

@@ -1,6 +1,6 @@
 //! Readers of operations, fragments and requests.
 ghost use Rattle.std.specs.Prelude.{◌≡◌, true};
-ghost use Rattle.graphql_syntax.specs.tokens.Seen.{seen};
+ghost use Rattle.graphql_tokens.specs.tokens.Seen.{seen};
 ghost use Rattle.graphql_syntax.specs.trees.Request as request;
 ghost use Rattle.graphql_syntax.specs.trees.RequestViews.{directive_tree, variable_definition_tree, selection_set_tree};
 ghost use Rattle.graphql_parser.specs.grammar.Selections.{fragment_name};

@@ -1,10 +1,10 @@
 //! The parsers of requests.
 ghost use Rattle.std.specs.Prelude.{◌≡◌, ◌≢◌, ◌+◌, ℕ, List, []};
 ghost use Rattle.std.specs.Str.{chars};
-ghost use Rattle.graphql_syntax.specs.tokens.Cuts.{Cuts, HasNoFault};
-ghost use Rattle.graphql_syntax.specs.tokens.Edition.{October2021};
-ghost use Rattle.graphql_syntax.specs.tokens.Proper.{IsCutInto};
-ghost use Rattle.graphql_syntax.specs.tokens.Token.{Token as SpecToken, left};
+ghost use Rattle.graphql_tokens.specs.tokens.Cuts.{Cuts, HasNoFault};
+ghost use Rattle.graphql_tokens.specs.tokens.Edition.{October2021};
+ghost use Rattle.graphql_tokens.specs.tokens.Proper.{IsCutInto};
+ghost use Rattle.graphql_tokens.specs.tokens.Token.{Token as SpecToken, left};
 ghost use Rattle.graphql_parser.specs.grammar.Answers.{Answers, TakenFor};
 ghost use Rattle.graphql_grammar.specs.grammar.Limits.{default_limits};
 

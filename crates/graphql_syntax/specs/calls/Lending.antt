@@ -6,10 +6,10 @@ use denote.RattleType.{RattleType}
 use Rattle.std.specs.contracts.alloc.Global as global
 use Rattle.std.specs.contracts.vec.Vec as vec
 use Rattle.std.specs.contracts.impls.GlobalAllocator.TheImpl.{ghosts}
-use Rattle.graphql_syntax.specs.contracts.pos.Positioned as positioned
+use Rattle.graphql_tokens.specs.contracts.pos.Positioned as positioned
 use Rattle.graphql_syntax.specs.contracts.types.Directive as directive
 use Rattle.graphql_syntax.specs.contracts.types.executable.Selection.{the_row}
-use Rattle.graphql_syntax.specs.declared.pos.Positioned.{Positioned}
+use Rattle.graphql_tokens.specs.declared.pos.Positioned.{Positioned}
 use Rattle.graphql_syntax.specs.declared.types.Directive.{Directive}
 use Rattle.graphql_syntax.specs.declared.types.executable.Selection.{Selection, out-Selection}
 use Rattle.graphql_syntax.specs.declared.types.executable.Selection.TheOpen.{Selection-F}

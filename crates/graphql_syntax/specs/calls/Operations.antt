@@ -2,7 +2,7 @@
 use Rattle.std.specs.Prelude.{ℕ, List, [], ◌∷◌, Option, Some, None, map, option_map}
 use Rattle.std.specs.Borrow.{Bor}
 use Rattle.graphql_syntax.specs.calls.Named.{named}
-use Rattle.graphql_syntax.specs.declared.pos.Positioned.{Positioned}
+use Rattle.graphql_tokens.specs.declared.pos.Positioned.{Positioned}
 use Rattle.graphql_syntax.specs.declared.types.executable.OperationDefinition.{OperationDefinition}
 use Rattle.graphql_syntax.specs.declared.types.executable.DocumentOperations.{DocumentOperations}
 use Rattle.graphql_syntax.specs.declared.types.executable.DocumentOperations.TheVariants as document

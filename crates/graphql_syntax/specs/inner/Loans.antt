@@ -1,10 +1,10 @@
 -- What is lent of the node in a selection, on the way to what is lent of the selection.
 use Rattle.std.specs.Borrow.{Lends, MutBor, Fml}
-use Rattle.graphql_syntax.specs.contracts.pos.Positioned as positioned
+use Rattle.graphql_tokens.specs.contracts.pos.Positioned as positioned
 use Rattle.graphql_syntax.specs.contracts.types.executable.FragmentSpread as spread_row
 use Rattle.graphql_syntax.specs.contracts.types.executable.Field as field_row
 use Rattle.graphql_syntax.specs.contracts.types.executable.InlineFragment as fragment_row
-use Rattle.graphql_syntax.specs.declared.pos.Positioned.{Positioned}
+use Rattle.graphql_tokens.specs.declared.pos.Positioned.{Positioned}
 use Rattle.graphql_syntax.specs.declared.types.executable.Selection.TheViews.{roll-Field, roll-InlineFragment}
 use Rattle.graphql_syntax.specs.declared.types.executable.Field.{Field, out-Field}
 use Rattle.graphql_syntax.specs.declared.types.executable.InlineFragment.{InlineFragment, out-InlineFragment}

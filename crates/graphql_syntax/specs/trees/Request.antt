@@ -1,7 +1,7 @@
 -- Request trees: what a request stands for, as plain data with every place.
 use Rattle.std.specs.Prelude.{ℕ, List, [], ◌∷◌, Option}
-use Rattle.graphql_syntax.specs.declared.pos.Pos.{Pos}
-use Rattle.graphql_syntax.specs.declared.pos.Positioned.{Positioned}
+use Rattle.graphql_tokens.specs.declared.pos.Pos.{Pos}
+use Rattle.graphql_tokens.specs.declared.pos.Positioned.{Positioned}
 use Rattle.graphql_syntax.specs.declared.types.OperationType.{OperationType}
 use Rattle.graphql_syntax.specs.trees.TypeTree.{TypeTree}
 use Rattle.graphql_syntax.specs.trees.ValueTree.{Tree}

@@ -1,6 +1,6 @@
 -- The request trees that the types of a request stand for.
 use Rattle.std.specs.Prelude.{List, map, option_map}
-use Rattle.graphql_syntax.specs.declared.pos.Positioned.{Positioned}
+use Rattle.graphql_tokens.specs.declared.pos.Positioned.{Positioned}
 use Rattle.graphql_syntax.specs.declared.value.ConstValue.{ConstValue}
 use Rattle.graphql_syntax.specs.declared.value.Value.{Value}
 use Rattle.graphql_syntax.specs.declared.types.ConstDirective.{ConstDirective}

@@ -1,6 +1,6 @@
 -- Schema trees: what a schema file stands for, as plain data with every place.
 use Rattle.std.specs.Prelude.{ℕ, List, Bool, Option}
-use Rattle.graphql_syntax.specs.declared.pos.Positioned.{Positioned}
+use Rattle.graphql_tokens.specs.declared.pos.Positioned.{Positioned}
 use Rattle.graphql_syntax.specs.declared.types.service.DirectiveLocation.{DirectiveLocation}
 use Rattle.graphql_syntax.specs.trees.Request.{Name, Directives}
 use Rattle.graphql_syntax.specs.trees.TypeTree.{TypeTree}

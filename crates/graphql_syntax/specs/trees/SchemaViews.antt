@@ -2,7 +2,7 @@
 use Rattle.std.specs.Prelude.{List, Option, map, option_map, string_bytes}
 use Rattle.std.specs.declared.alloc.Global.{Global}
 use Rattle.std.specs.declared.string.String.{String}
-use Rattle.graphql_syntax.specs.declared.pos.Positioned.{Positioned}
+use Rattle.graphql_tokens.specs.declared.pos.Positioned.{Positioned}
 use Rattle.graphql_syntax.specs.declared.types.service.DirectiveDefinition.{DirectiveDefinition}
 use Rattle.graphql_syntax.specs.declared.types.service.EnumValueDefinition.{EnumValueDefinition}
 use Rattle.graphql_syntax.specs.declared.types.service.FieldDefinition.{FieldDefinition}

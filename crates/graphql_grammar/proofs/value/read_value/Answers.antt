@@ -1,6 +1,6 @@
 use Rattle.std.proofs.Common.{ap, sym, ◌∙◌}
-use Rattle.graphql_syntax.specs.declared.pos.Positioned.{Positioned}
-use Rattle.graphql_syntax.specs.tokens.Token.{Token}
+use Rattle.graphql_tokens.specs.declared.pos.Positioned.{Positioned}
+use Rattle.graphql_tokens.specs.tokens.Token.{Token}
 use Rattle.graphql_grammar.specs.reading.Ahead.{tokens}
 use Rattle.graphql_grammar.specs.reading.Outcome.{Read}
 use Rattle.graphql_grammar.proofs.ValueLoop.{value-stands}

@@ -2,7 +2,7 @@
 ghost use Rattle.std.specs.Prelude.{◌≡◌, ◌++◌, ◌∷◌, [], None, Some, option_map, IfOk};
 ghost use Rattle.graphql_syntax.specs.trees.Request as request;
 ghost use Rattle.graphql_syntax.specs.trees.RequestViews.{arguments_tree, directives_tree, selection_tree, selection_trees, type_condition_tree};
-ghost use Rattle.graphql_syntax.specs.tokens.Seen.{seen};
+ghost use Rattle.graphql_tokens.specs.tokens.Seen.{seen};
 ghost use Rattle.graphql_parser.specs.grammar.Selections.{fragment_name};
 ghost use Rattle.graphql_parser.specs.reading.SelectionSteps.{names_at, maybe_brace_at, bare_field, bare_inline, onto, field_head_at, spread_at, inline_head_at, maybe_condition_at, behind_dots_at, head_at};
 ghost use Rattle.graphql_grammar.specs.reading.Given.{Gives};

@@ -1,7 +1,7 @@
 use Rattle.std.proofs.Common.{List, sym, ap₂, ◌∙◌, arith}
 use Rattle.std.proofs.lemmas.Str.{encodes-chars, IsUtf8-string_bytes}
 use Rattle.std.specs.String.{string_bytes}
-use Rattle.graphql_syntax.specs.tokens.Token.{Token}
+use Rattle.graphql_tokens.specs.tokens.Token.{Token}
 use Rattle.graphql_syntax.specs.trees.ValueTree.{Tree}
 use Rattle.graphql_grammar.specs.reading.Outcome.{Read}
 use Rattle.graphql_grammar.proofs.SimpleValues.{block-here, block-means}

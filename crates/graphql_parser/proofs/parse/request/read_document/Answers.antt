@@ -1,7 +1,7 @@
 use Rattle.std.proofs.Common.{◌≡◌, ℕ, ◌≤◌, ◌+◌, ◌-◌, List, [], length, drop, ap, sym, ◌∙◌, subst, arith}
-use Rattle.graphql_syntax.specs.tokens.Cuts.{EndsOnce}
-use Rattle.graphql_syntax.specs.tokens.Proper.{AreProperButFaults}
-use Rattle.graphql_syntax.specs.tokens.Token.{Token, left}
+use Rattle.graphql_tokens.specs.tokens.Cuts.{EndsOnce}
+use Rattle.graphql_tokens.specs.tokens.Proper.{AreProperButFaults}
+use Rattle.graphql_tokens.specs.tokens.Token.{Token, left}
 use Rattle.graphql_parser.specs.grammar.Answers.{Answers, TakenFor}
 use Rattle.graphql_grammar.specs.reading.Ahead.{tokens}
 use Rattle.graphql_grammar.specs.reading.Given.{GoesOn}

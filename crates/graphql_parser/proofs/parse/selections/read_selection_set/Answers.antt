@@ -1,7 +1,7 @@
 use Rattle.std.proofs.Common.{sym, ap, ◌∙◌, arith}
 use Rattle.std.proofs.lemmas.List.{length-map}
 use Rattle.std.proofs.lemmas.Result.{err_from_is_err_and}
-use Rattle.graphql_syntax.specs.tokens.Seen.{seen}
+use Rattle.graphql_tokens.specs.tokens.Seen.{seen}
 use Rattle.graphql_syntax.specs.trees.Request.{placed}
 use Rattle.graphql_syntax.specs.trees.RequestViews.{selection_tree, selection_trees}
 use Rattle.graphql_grammar.specs.grammar.Tests.{punct}

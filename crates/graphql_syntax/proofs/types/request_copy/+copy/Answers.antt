@@ -1,6 +1,6 @@
 use Rattle.std.proofs.Common.{◌≡◌, refl, sym, ◌∙◌, ap}
 use Rattle.std.proofs.lemmas.List.{take_all}
-use Rattle.graphql_syntax.specs.declared.pos.Positioned.{Positioned}
+use Rattle.graphql_tokens.specs.declared.pos.Positioned.{Positioned}
 use Rattle.graphql_syntax.specs.declared.types.executable.Field.{Field, out-Field}
 use Rattle.graphql_syntax.specs.declared.types.executable.InlineFragment.{InlineFragment, out-InlineFragment}
 use Rattle.graphql_syntax.specs.declared.types.executable.Selection.{Selection}

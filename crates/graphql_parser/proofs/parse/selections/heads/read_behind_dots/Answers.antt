@@ -1,7 +1,7 @@
 use Rattle.std.proofs.Common.{◌≡◌, ℕ, Bool, true, List, ◌∷◌, sym, ap₂, ◌∙◌, arith}
-use Rattle.graphql_syntax.specs.declared.pos.Pos.{Pos}
-use Rattle.graphql_syntax.specs.declared.pos.Positioned.{Positioned}
-use Rattle.graphql_syntax.specs.tokens.Token.{Token}
+use Rattle.graphql_tokens.specs.declared.pos.Pos.{Pos}
+use Rattle.graphql_tokens.specs.declared.pos.Positioned.{Positioned}
+use Rattle.graphql_tokens.specs.tokens.Token.{Token}
 use Rattle.graphql_syntax.specs.trees.Request as request
 use Rattle.graphql_syntax.specs.trees.RequestViews.{selection_trees}
 use Rattle.graphql_parser.specs.grammar.Selections.{fragment_name}

@@ -1,5 +1,0 @@
-use Rattle.graphql_syntax.proofs.Numerals.{is_numeral-is}
-use Rattle.graphql_syntax.proofs.value.number.Number.as_str.Goals as goal
-
-pub returns-clause-literal : goal.returns-clause-literal
-returns-clause-literal c = rw c.as_str.ensures.value ((is_numeral-is _).0 c.self.invariant)

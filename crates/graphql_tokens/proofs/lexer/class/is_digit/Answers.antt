@@ -1,0 +1,12 @@
+use Rattle.std.proofs.Common.{◌≡◌, ℕ, ◌<◌, not, eqb, bit_and, get_or, refl, ap, ◌∙◌, arith}
+use Rattle.std.proofs.lemmas.Bool.{agree_below_at}
+use Rattle.std.specs.Char.{is_ascii_digit}
+use Rattle.graphql_tokens.specs.declared.lexer.class.TheConstants.{CLASS}
+use Rattle.graphql_tokens.proofs.lexer.class.is_digit.Goals as goal
+
+-- the whole table
+table : (b : ℕ) → b < 256 → not (eqb (bit_and (get_or CLASS b 0) 16) 0) ≡ is_ascii_digit b
+table b h = agree_below_at (λ b. not (eqb (bit_and (get_or CLASS b 0) 16) 0)) is_ascii_digit 256 b refl h
+
+pub returns : goal.returns
+returns c = ap (λ v. not (eqb (bit_and v 16) 0)) c.class.ensures ∙ table c.args.b (omega (arith, c.ranges.b))

@@ -1,0 +1,49 @@
+use Rattle.std.proofs.Common.{length, sym, ap, ◌∙◌, arith}
+use Rattle.graphql_tokens.specs.inner.Reading.{skip}
+use Rattle.graphql_tokens.specs.inner.Running.{ahead}
+use Rattle.graphql_tokens.proofs.Ahead.{skip_blank, skip_hash, hash_shorter, skip_mark, skip_wide, skip_other, skip_nothing}
+use Rattle.graphql_tokens.proofs.lexer.reading.pass_ignored.Goals as goal
+
+pub loop-b-preserved-then-is_blank : goal.loop-b-preserved-then-is_blank
+loop-b-preserved-then-is_blank c =
+    let v = c.loop-b.invariant in
+    let e = c.pass_first.ensures in
+    record {
+      runs = record { running = e.running; same = e.same ∙ v.runs.same };
+      same = skip_blank c.in-Some.b c.pass_first.result _ _ c.in-Some.ensures e.passed (sym c.is_blank.ensures ∙ c.if-is_blank.true) ∙ v.same;
+      forward = omega arith;
+    }
+
+pub loop-b-smaller-then-b-eq35 : goal.loop-b-smaller-then-b-eq35
+loop-b-smaller-then-b-eq35 c = omega (arith, ap length c.pass_line.ensures.rest, hash_shorter c.in-Some.b (ahead c.loop-b.places) c.in-Some.ensures c.if-b-eq35.true)
+
+pub loop-b-preserved-then-b-eq35 : goal.loop-b-preserved-then-b-eq35
+loop-b-preserved-then-b-eq35 c =
+    let v = c.loop-b.invariant in
+    let e = c.pass_line.ensures in
+    record {
+      runs = e.runs;
+      same = ap skip e.rest ∙ skip_hash c.in-Some.b _ c.in-Some.ensures c.if-b-eq35.true ∙ v.same;
+      forward = omega arith;
+    }
+
+pub loop-b-preserved : goal.loop-b-preserved
+loop-b-preserved c =
+    let v = c.loop-b.invariant in
+    let e = c.pass.ensures in
+    record {
+      runs = record { running = e.running; same = e.same ∙ v.runs.same };
+      same = skip_mark c.pass.result _ _ e.passed c.if-pass-ne65279.false ∙ v.same;
+      forward = omega arith;
+    }
+
+pub returns-then-b-lt128-clause-rest : goal.returns-then-b-lt128-clause-rest
+returns-then-b-lt128-clause-rest c =
+    skip_other c.in-Some.b _ c.in-Some.ensures c.if-b-lt128.true (sym c.is_blank.ensures ∙ c.if-is_blank.false) c.if-b-eq35.false ∙ c.loop-b.invariant.same
+
+pub returns-then-pass-ne65279-clause-rest : goal.returns-then-pass-ne65279-clause-rest
+returns-then-pass-ne65279-clause-rest c =
+    skip_wide c.in-Some.b c.pass.result _ _ c.in-Some.ensures c.pass.ensures.passed c.if-b-lt128.false c.if-pass-ne65279.true ∙ c.loop-b.invariant.same
+
+pub returns-in_default-clause-rest : goal.returns-in_default-clause-rest
+returns-in_default-clause-rest c = skip_nothing _ c.in_default.ensures ∙ c.loop-b.invariant.same

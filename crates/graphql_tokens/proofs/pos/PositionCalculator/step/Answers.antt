@@ -1,0 +1,9 @@
+use Rattle.std.proofs.Common.{◌<◌, length, ap, arith}
+use Rattle.graphql_tokens.proofs.FirstBytes.{ahead_some}
+use Rattle.graphql_tokens.proofs.pos.PositionCalculator.step.Goals as goal
+
+pub pass-requires-clause-more : goal.pass-requires-clause-more
+pass-requires-clause-more c =
+    let v = c.loop-running.invariant in
+    let l : c.loop-running.running.cursor.offset < length c.loop-running.running.cursor.text.now = omega (arith, ap length v.same, c.requires.boundary.0) in
+    ahead_some c.loop-running.running v.running l

@@ -1,0 +1,115 @@
+use Rattle.std.proofs.Common.{◌≡◌, ◌<◌, ◌+◌, ◌-◌, ◌++◌, [], None, take, drop, length, sym, ap, ◌∙◌, refl, arith}
+use Rattle.std.specs.Str.{chars}
+use Rattle.std.specs.Prelude.{string_bytes}
+use Rattle.std.proofs.lemmas.List.{take_all, take_rest}
+use Rattle.std.proofs.lemmas.Str.{IsUtf8-string_bytes, IsUtf8-nil, IsCharBoundary-start}
+use Rattle.graphql_tokens.specs.tokens.Edition.{Later}
+use Rattle.graphql_tokens.specs.tokens.Strings.{StringMeans}
+use Rattle.graphql_tokens.specs.inner.Escapes.{escape_at}
+use Rattle.graphql_tokens.proofs.Contents.{past_run, past_push, no_content, means_once, all_plain, nothing, escape_some}
+use Rattle.graphql_tokens.proofs.text.string_value.Goals as goal
+
+-- ---- a content without escapes
+
+plain : (c : goal.In_ok-from_str) → StringMeans Later (chars c.args.content.now) (chars (string_bytes c.in_ok-from_str.field-0))
+plain c =
+    let bs = c.as_bytes-bytes.result.now in
+    let m = all_plain bs c.past_plain-at.result c.as_bytes-bytes.ensures.utf8 (c.past_plain-at.ensures.value ∙ omega arith) (c.if-at-bytes.true) in
+    rw (c.in_ok-from_str.ensures.ok, ← c.as_bytes-bytes.ensures.value) m
+
+pub returns-then-at-bytes-clause-some : goal.returns-then-at-bytes-clause-some
+returns-then-at-bytes-clause-some c = plain c
+
+pub returns-then-at-bytes-clause-only : goal.returns-then-at-bytes-clause-only
+returns-then-at-bytes-clause-only c other m = means_once _ _ other (plain c) m
+
+-- ---- the run at the front
+
+pub range-requires-clause-end_boundary : goal.range-requires-clause-end_boundary
+range-requires-clause-end_boundary c =
+    let bs = c.as_bytes-bytes.result.now in
+    let u = c.as_bytes-bytes.ensures.utf8 in
+    let p = past_run bs [] _ 0 c.past_plain-at.result u IsUtf8-nil (IsCharBoundary-start bs u) nothing c.past_plain-at.ensures.value refl in
+    rw (← c.as_bytes-bytes.ensures.value) p.boundary
+
+pub loop-at-init : goal.loop-at-init
+loop-at-init c =
+    let bs = c.as_bytes-bytes.result.now in
+    let u = c.as_bytes-bytes.ensures.utf8 in
+    let n = c.past_plain-at.result in
+    let run : c.range.result.now ≡ take (n - 0) (drop 0 bs) = c.range.ensures.value ∙ ap (λ x. take (n - 0) (drop 0 x)) (sym c.as_bytes-bytes.ensures.value) in
+    let p = past_run bs [] c.range.result.now 0 n u IsUtf8-nil (IsCharBoundary-start bs u) nothing c.past_plain-at.ensures.value run in
+    let is : string_bytes c.push_str.new.self ≡ c.range.result.now = c.in_ok-push_str.ensures.bytes ∙ ap (λ x. x ++ c.range.result.now) c.in_ok-value.ensures.bytes in
+    record { means = rw is p.means; boundary = p.boundary; stops = p.stops }
+
+-- ---- no escape
+
+pub returns-in_default-clause-none : goal.returns-in_default-clause-none
+returns-in_default-clause-none c content =
+    let bs = c.as_bytes-bytes.result.now in
+    let i = c.loop-at.at in
+    let inv = c.loop-at.invariant in
+    let none : escape_at (drop i bs) ≡ None = ap escape_at (sym (take_rest bs i)) ∙ sym c.in_default.ensures in
+    let here : i < length bs = c.loop-at-test.true in
+    no_content bs (string_bytes c.loop-at.value) i c.as_bytes-bytes.ensures.utf8 inv.boundary here inv.means (inv.stops here) none
+    (rw c.as_bytes-bytes.ensures.value content)
+
+-- ---- an escape, and the run behind it
+
+pub overflow_add-start : goal.overflow_add-start
+overflow_add-start c =
+    let e = past_push c.as_bytes-bytes.result.now (string_bytes c.loop-at.value) (string_bytes c.push.new.self) c.loop-at.at c.in-Some.c c.in-Some.len
+    c.as_bytes-bytes.ensures.utf8 (IsUtf8-string_bytes c.loop-at.value) c.loop-at.invariant.boundary c.loop-at.invariant.means c.in-Some.ensures c.in_ok-push.ensures.bytes in
+    let h = e.boundary.0 in
+    omega (arith, c.as_bytes-bytes.ensures.len)
+
+pub past_plain-at-requires-in-loop-at : goal.past_plain-at-requires-in-loop-at
+past_plain-at-requires-in-loop-at c = let e = past_push c.as_bytes-bytes.result.now (string_bytes c.loop-at.value) (string_bytes c.push.new.self) c.loop-at.at c.in-Some.c c.in-Some.len
+    c.as_bytes-bytes.ensures.utf8 (IsUtf8-string_bytes c.loop-at.value) c.loop-at.invariant.boundary c.loop-at.invariant.means c.in-Some.ensures c.in_ok-push.ensures.bytes in e.boundary.0
+
+pub range-requires-in-loop-at-clause-start_boundary : goal.range-requires-in-loop-at-clause-start_boundary
+range-requires-in-loop-at-clause-start_boundary c =
+    let e = past_push c.as_bytes-bytes.result.now (string_bytes c.loop-at.value) (string_bytes c.push.new.self) c.loop-at.at c.in-Some.c c.in-Some.len
+    c.as_bytes-bytes.ensures.utf8 (IsUtf8-string_bytes c.loop-at.value) c.loop-at.invariant.boundary c.loop-at.invariant.means c.in-Some.ensures c.in_ok-push.ensures.bytes in
+    rw (← c.as_bytes-bytes.ensures.value) (λ _. e.boundary)
+
+pub range-requires-in-loop-at-clause-end_boundary : goal.range-requires-in-loop-at-clause-end_boundary
+range-requires-in-loop-at-clause-end_boundary c =
+    let bs = c.as_bytes-bytes.result.now in
+    let e = past_push c.as_bytes-bytes.result.now (string_bytes c.loop-at.value) (string_bytes c.push.new.self) c.loop-at.at c.in-Some.c c.in-Some.len
+    c.as_bytes-bytes.ensures.utf8 (IsUtf8-string_bytes c.loop-at.value) c.loop-at.invariant.boundary c.loop-at.invariant.means c.in-Some.ensures c.in_ok-push.ensures.bytes in
+    let p = past_run bs (string_bytes c.push.new.self) _ (c.loop-at.at + c.in-Some.len) c.past_plain-at-in-loop-at.result c.as_bytes-bytes.ensures.utf8 (IsUtf8-string_bytes c.push.new.self)
+    e.boundary e.means c.past_plain-at-in-loop-at.ensures.value refl in
+    rw (← c.as_bytes-bytes.ensures.value) p.boundary
+
+pub loop-at-smaller : goal.loop-at-smaller
+loop-at-smaller c =
+    let some = escape_some _ c.in-Some.c c.in-Some.len (sym c.in-Some.ensures) in
+    omega (arith, c.past_plain-at-in-loop-at.ensures.value, c.past_plain-at-in-loop-at.ensures.within, c.loop-at-test.true, some.0)
+
+pub loop-at-preserved : goal.loop-at-preserved
+loop-at-preserved c =
+    let bs = c.as_bytes-bytes.result.now in
+    let e = past_push c.as_bytes-bytes.result.now (string_bytes c.loop-at.value) (string_bytes c.push.new.self) c.loop-at.at c.in-Some.c c.in-Some.len
+    c.as_bytes-bytes.ensures.utf8 (IsUtf8-string_bytes c.loop-at.value) c.loop-at.invariant.boundary c.loop-at.invariant.means c.in-Some.ensures c.in_ok-push.ensures.bytes in
+    let i = c.loop-at.at + c.in-Some.len in
+    let j = c.past_plain-at-in-loop-at.result in
+    let run : c.range-in-loop-at.result.now ≡ take (j - i) (drop i bs) = c.range-in-loop-at.ensures.value ∙ ap (λ x. take (j - i) (drop i x)) (sym c.as_bytes-bytes.ensures.value) in
+    let p = past_run bs (string_bytes c.push.new.self) c.range-in-loop-at.result.now i j c.as_bytes-bytes.ensures.utf8 (IsUtf8-string_bytes c.push.new.self)
+    e.boundary e.means c.past_plain-at-in-loop-at.ensures.value run in
+    record { means = rw c.in_ok-push_str-2.ensures.bytes p.means; boundary = p.boundary; stops = p.stops }
+
+-- ---- the end
+
+whole : (c : goal.After-loop-at) → StringMeans Later (chars c.args.content.now) (chars (string_bytes c.loop-at.value))
+whole c =
+    let bs = c.as_bytes-bytes.result.now in
+    let inv = c.loop-at.invariant in
+    let is : take c.loop-at.at bs ≡ c.args.content.now = take_all c.loop-at.at bs (omega arith) ∙ c.as_bytes-bytes.ensures.value in
+    rw is at inv.means
+
+pub returns-clause-some : goal.returns-clause-some
+returns-clause-some c = whole c
+
+pub returns-clause-only : goal.returns-clause-only
+returns-clause-only c other m = means_once _ _ other (whole c) m

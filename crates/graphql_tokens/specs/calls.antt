@@ -1,0 +1,2 @@
+-- Public: what accessors give.
+pub mod Integers

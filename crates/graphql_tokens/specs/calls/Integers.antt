@@ -1,0 +1,22 @@
+-- The integer that a number literal stands for, where it has no fraction and no exponent.
+use Rattle.std.specs.Prelude.{◌≡◌, ℕ, ◌+◌, ◌-◌, ◌*◌, ◌^◌, List, [], ◌∷◌, ◌++◌, length, ℤ, pos, neg_ℤ}
+use Rattle.graphql_tokens.specs.tokens.Numbers.{IsOptional, is_minus, IsWhole}
+
+-- what decimal digits write: each digit times the power of ten of its place; 48 is `0`
+abbrev pub decimal_value : List ℕ → ℕ
+decimal_value [] = 0
+decimal_value (d ∷ ds) = (d - 48) * 10 ^ length ds + decimal_value ds
+
+-- a number under no sign, or under a minus
+abbrev pub signed : List ℕ → ℕ → ℤ
+signed [] n = pos n
+signed (minus ∷ rest) n = neg_ℤ (pos n)
+
+-- the literal is whole digits behind an optional minus, and the value is theirs under that sign
+pub record IsIntegerOf (literal : List ℕ) (value : ℤ) : Type 0 where
+  pub sign : List ℕ
+  pub whole : List ℕ
+  pub spelled : literal ≡ sign ++ whole
+  pub sign_is : IsOptional is_minus sign
+  pub whole_is : IsWhole whole
+  pub value_is : value ≡ signed sign (decimal_value whole)

@@ -1,0 +1,24 @@
+-- What the lexer's parts find in what is ahead.
+use Rattle.std.specs.Prelude.{◌≡◌, ◌≤◌, ◌<◌, ℕ, ◌⊎◌, List, [], ◌∷◌, Bool, Option, Some, None, if◌then◌else◌}
+use Rattle.graphql_tokens.specs.inner.Running.{IsRunning}
+use Rattle.graphql_tokens.specs.declared.pos.running.RunningPlace.{RunningPlace}
+
+-- the place runs over this text
+pub record RunsOver (bytes : List ℕ) (a : RunningPlace) : Type 0 where
+  pub running : IsRunning a
+  pub same : a.cursor.text.now ≡ bytes
+
+-- the byte b is the first of these characters
+abbrev pub IsFirstByte : ℕ → List ℕ → Type 0
+IsFirstByte b [] = ⊥
+IsFirstByte b (c ∷ cs) = ((b < 128) × (c ≡ b)) ⊎ ((128 ≤ b) × (b < 256) × (128 ≤ c))
+
+-- from the one place to the other, in the same text
+pub record Goes (old new : RunningPlace) : Type 0 where
+  pub running : IsRunning new
+  pub same : new.cursor.text.now ≡ old.cursor.text.now
+  pub forward : old.cursor.offset ≤ new.cursor.offset
+
+-- The new place is where the reader leaves off, and the result tells whether it does.
+abbrev pub rest_if : Bool → List ℕ → Option (List ℕ)
+rest_if b rest = if b then Some rest else None

@@ -1,0 +1,99 @@
+-- What the content of a string is made of, and what it means.
+use Rattle.std.specs.Prelude.{◌≡◌, ◌≤◌, ℕ, ◌+◌, ◌-◌, ◌*◌, Bool, true, not, ◌||◌, ◌==◌, ◌⊎◌, List, [], ◌∷◌, ◌++◌, length, codes}
+use Rattle.std.specs.Char.{IsScalar, is_ascii_hexdigit, digit_value}
+use Rattle.std.specs.List.{AllByRecursion, concat}
+use Rattle.graphql_tokens.specs.tokens.Edition.{Edition, October2021, Later}
+
+-- ---- plain characters
+
+-- a character that stands for itself: none of `"`, `\`, line feed and carriage return
+abbrev pub is_plain : ℕ → Bool
+is_plain c = not (c == 34 || c == 92 || c == 10 || c == 13)
+
+abbrev pub IsPlain : List ℕ → ℕ → Type 0
+IsPlain unit c = (unit ≡ c ∷ []) × (is_plain c ≡ true)
+
+-- ---- a backslash and a letter
+
+-- the letter behind the backslash, and the character for which the two stand
+pub data Escape : ℕ → ℕ → Type 0 where
+  quote : Escape 34 34
+  backslash : Escape 92 92
+  slash : Escape 47 47
+  backspace : Escape 98 8
+  form_feed : Escape 102 12
+  line_feed : Escape 110 10
+  carriage_return : Escape 114 13
+  tab : Escape 116 9
+
+abbrev pub IsEscape : List ℕ → ℕ → Type 0
+IsEscape unit c = (letter : ℕ) × (unit ≡ 92 ∷ letter ∷ []) × Escape letter c
+
+-- ---- numbers in hexadecimal digits of either case
+
+abbrev pub AreHexDigits : List ℕ → Type 0
+AreHexDigits digits = AllByRecursion (λ d. is_ascii_hexdigit d ≡ true) digits
+
+abbrev pub hex_from : ℕ → List ℕ → ℕ
+hex_from high [] = high
+hex_from high (d ∷ ds) = hex_from (high * 16 + digit_value d) ds
+
+abbrev pub hex_value : List ℕ → ℕ
+hex_value digits = hex_from 0 digits
+
+-- `\u` and four digits, whose number is n
+abbrev pub IsFourDigits : List ℕ → ℕ → Type 0
+IsFourDigits unit n = (digits : List ℕ) × (unit ≡ codes "\\u" ++ digits) × (length digits ≡ 4) × AreHexDigits digits × (hex_value digits ≡ n)
+
+-- the number of a character; D800 to DFFF, the surrogates, are numbers of none
+abbrev pub IsFourDigitEscape : List ℕ → ℕ → Type 0
+IsFourDigitEscape unit c = IsFourDigits unit c × IsScalar c
+
+-- `\u{`, one digit or more, and `}`
+abbrev pub IsBracedEscape : List ℕ → ℕ → Type 0
+IsBracedEscape unit c = (digits : List ℕ) × (unit ≡ codes "\\u{" ++ (digits ++ codes "}")) × (1 ≤ length digits) × AreHexDigits digits × (hex_value digits ≡ c) × IsScalar c
+
+-- ---- surrogate pairs
+
+abbrev pub IsHighHalf : ℕ → Type 0
+IsHighHalf n = (0xD800 ≤ n) × (n ≤ 0xDBFF)
+
+abbrev pub IsLowHalf : ℕ → Type 0
+IsLowHalf n = (0xDC00 ≤ n) × (n ≤ 0xDFFF)
+
+-- two escapes of four digits, the first a high half and the second a low one
+abbrev pub IsPair : List ℕ → ℕ → Type 0
+IsPair unit c =
+    (first : List ℕ) × (second : List ℕ) × (high : ℕ) × (low : ℕ)
+    × (unit ≡ first ++ second) × IsFourDigits first high × IsFourDigits second low
+    × IsHighHalf high × IsLowHalf low × (c ≡ 0x10000 + (high - 0xD800) * 0x400 + (low - 0xDC00))
+
+-- ---- units and contents
+
+-- what the later edition adds
+abbrev pub IsLaterEscape : Edition → List ℕ → ℕ → Type 0
+IsLaterEscape October2021 unit c = ⊥
+IsLaterEscape Later unit c = IsBracedEscape unit c ⊎ IsPair unit c
+
+-- in this edition the unit stands for the character
+abbrev pub UnitMeans : Edition → List ℕ → ℕ → Type 0
+UnitMeans edition unit c = IsPlain unit c ⊎ IsEscape unit c ⊎ IsFourDigitEscape unit c ⊎ IsLaterEscape edition unit c
+
+-- the units stand for the characters, one for one
+abbrev pub UnitsMean : Edition → List (List ℕ) → List ℕ → Type 0
+UnitsMean edition [] [] = Unit {0}
+UnitsMean edition [] (c ∷ cs) = ⊥
+UnitsMean edition (u ∷ us) [] = ⊥
+UnitsMean edition (u ∷ us) (c ∷ cs) = UnitMeans edition u c × UnitsMean edition us cs
+
+-- the content is units joined, and the value is what they stand for
+abbrev pub StringMeans : Edition → List ℕ → List ℕ → Type 0
+StringMeans edition content value = (units : List (List ℕ)) × (content ≡ concat units) × UnitsMean edition units value
+
+-- the content of a string: it has a meaning
+abbrev pub IsContent : Edition → List ℕ → Type 0
+IsContent edition content = (value : List ℕ) × StringMeans edition content value
+
+-- a quote, a content, a quote
+abbrev pub IsString : Edition → List ℕ → Type 0
+IsString edition w = (content : List ℕ) × (w ≡ 34 ∷ (content ++ 34 ∷ [])) × IsContent edition content

@@ -1,0 +1,283 @@
+//! The tokens of a text, by GraphQL October 2021, section 2.1.
+
+ghost use Rattle.std.specs.Prelude.{◌≡◌, ◌≤◌, false, if◌then◌else◌};
+ghost use Rattle.graphql_tokens.specs.tokens.Cuts.{is_last};
+ghost use Rattle.graphql_tokens.specs.tokens.Classes as classes;
+ghost use Rattle.graphql_tokens.specs.inner.Reading.{next, quoted};
+ghost use Rattle.graphql_tokens.specs.inner.Running.{ahead};
+ghost use Rattle.graphql_tokens.specs.inner.Lexing.{RunsOver, IsFirstByte};
+
+mod class;
+mod number;
+mod quoted;
+mod reading;
+
+use crate::pos::Pos;
+use crate::pos::running::RunningPlace;
+use class::{is_name_start, is_number_start, is_punct};
+use number::pass_number;
+use quoted::{pass_block, pass_string};
+use reading::{pass_char, pass_ignored, pass_points, pass_word, peek};
+use std::iter::FusedIterator;
+use std::marker::Model;
+
+/// What a token is.
+#[derive(Clone, Copy, Debug, PartialEq, Eq)]
+pub enum TokenKind {
+    /// A punctuator: one of `! $ & ( ) ... : = @ [ ] { }` and the vertical bar.
+    Punct,
+    /// A name.
+    Name,
+    /// A number: an integer or a float.
+    Number,
+    /// A string in single quotes, with its quotes.
+    String,
+    /// A block string, with its quotes.
+    Block,
+    /// The place where no token begins. Nothing is read behind it.
+    Fault,
+    /// The end of the text.
+    End,
+}
+
+impl TokenKind {
+    #[inline(always)]
+    fn is_last(self) -> bool
+        ensures { result ≡ is_last self }
+    {
+        matches!(self, TokenKind::Fault | TokenKind::End)
+    }
+}
+
+/// A token: its spelling as it stands in the text, its byte offset and its place. The spelling of a
+/// `Fault` and of an `End` is empty.
+#[derive(Clone, Copy, Debug)]
+pub struct Token<'a> {
+    /// What it is.
+    pub kind: TokenKind,
+    /// Its spelling, quotes included.
+    pub text: &'a str,
+    /// The byte offset of its first character.
+    pub start: usize,
+    /// The place of its first character.
+    pub pos: Pos,
+}
+
+// The kind, where its spelling was found, and otherwise a fault.
+#[inline(always)]
+fn found(kind: TokenKind, is_found: bool) -> TokenKind
+    ensures { result ≡ (if is_found then kind else TokenKind.Fault) }
+{
+    if is_found { kind } else { TokenKind::Fault }
+}
+
+// The kind of the string or block string of which the first quote is passed, and which is passed too,
+// unless it is a fault.
+#[inline(always)]
+fn pass_quoted(bytes: &[u8], places: &mut RunningPlace) -> TokenKind
+    requires { RunsOver bytes.now places.old }
+    ensures runs { RunsOver bytes.now places.new }
+    ensures kind { (quoted (ahead places.old)).0 ≡ result }
+    ensures rest { is_last result ≡ false → (quoted (ahead places.old)).1 ≡ ahead places.new }
+    ensures forward { places.old.cursor.offset ≤ places.new.cursor.offset }
+{
+    if !pass_char(bytes, places, b'"') {
+        return found(TokenKind::String, pass_string(bytes, places));
+    }
+    if !pass_char(bytes, places, b'"') {
+        return TokenKind::String;
+    }
+    found(TokenKind::Block, pass_block(bytes, places))
+}
+
+// The kind of the token that is next, where it is neither a name nor a punctuator of one character, and the
+// place behind it. It takes and gives a place by value and is never inlined: so the caller's own place has no
+// address, and stays in registers.
+#[inline(never)]
+fn rare_token<'a>(bytes: &[u8], start: RunningPlace<'a>, b: u8) -> (TokenKind, RunningPlace<'a>)
+    requires runs { RunsOver bytes.now start }
+    requires first { IsFirstByte b (ahead start) }
+    requires no_name { classes.is_name_start b ≡ false }
+    requires no_punct { classes.is_punct b ≡ false }
+    ensures runs { RunsOver bytes.now result.1 }
+    ensures kind { (next (ahead start.entry)).0 ≡ result.0 }
+    ensures rest { is_last result.0 ≡ false → (next (ahead start.entry)).1 ≡ ahead result.1 }
+    ensures forward { start.entry.cursor.offset ≤ result.1.cursor.offset }
+{
+    let mut places = start;
+    if b == b'"' {
+        places.pass_ascii();
+        let kind = pass_quoted(bytes, &mut places);
+        return (kind, places);
+    }
+    if is_number_start(b) {
+        let is_number = pass_number(bytes, &mut places);
+        let kind = found(TokenKind::Number, is_number);
+        return (kind, places);
+    }
+    if b == b'.' {
+        places.pass_ascii();
+        let is_three = pass_points(bytes, &mut places);
+        let kind = found(TokenKind::Punct, is_three);
+        return (kind, places);
+    }
+    (TokenKind::Fault, places)
+}
+
+// The kind of the token that is next, which is passed, unless it is a fault.
+#[inline(always)]
+fn pass_token(bytes: &[u8], places: &mut RunningPlace) -> TokenKind
+    requires { RunsOver bytes.now places.old }
+    ensures runs { RunsOver bytes.now places.new }
+    ensures kind { (next (ahead places.old)).0 ≡ result }
+    ensures rest { is_last result ≡ false → (next (ahead places.old)).1 ≡ ahead places.new }
+    ensures forward { places.old.cursor.offset ≤ places.new.cursor.offset }
+{
+    let Some(b) = peek(bytes, places) else {
+        return TokenKind::End;
+    };
+    if is_name_start(b) {
+        places.pass_ascii();
+        pass_word(bytes, places);
+        return TokenKind::Name;
+    }
+    if is_punct(b) {
+        places.pass_ascii();
+        return TokenKind::Punct;
+    }
+    let (kind, behind) = rare_token(bytes, *places, b);
+    *places = behind;
+    kind
+}
+
+/// The tokens of a text, one after another, up to an `End` or a `Fault`, and then None for good.
+#[derive(Debug, Drop)]
+pub struct Tokens<'a> {
+    text: &'a str,
+    places: RunningPlace<'a>,
+    taken: usize,
+    is_ended: bool,
+}
+
+impl<'a> Model for Tokens<'a> {
+    ghost use Rattle.graphql_tokens.specs.tokens.Token.{Lexing};
+
+    ghost Value = { Lexing };
+
+    ghost use Rattle.graphql_tokens.specs.inner.Lexer.{shown, IsLexing};
+
+    ghost view = { shown };
+
+    ghost invariant = { IsLexing };
+}
+
+impl<'a> Tokens<'a> {
+    ghost use Rattle.std.specs.Prelude.{◌≡◌, ◌≢◌, ◌≤◌, ◌+◌, length, IsTrue, ◌↔◌, List, [], ◌∷◌};
+    ghost use Rattle.std.specs.Str.{chars};
+    ghost use Rattle.graphql_tokens.specs.tokens.Token.{Token as SpecToken, left};
+    ghost use Rattle.graphql_tokens.specs.tokens.Edition.{October2021};
+    ghost use Rattle.graphql_tokens.specs.tokens.Cuts.{Cuts, EndsOnce, HasNoFault};
+    ghost use Rattle.graphql_tokens.specs.tokens.Proper.{IsCutInto, AreProperButFaults};
+    ghost use Rattle.graphql_tokens.specs.tokens.Seen.{seen};
+
+    /// The tokens of `text`. Characters between tokens that are ignored are tabs, spaces, commas, line
+    /// feeds, carriage returns, U+FEFF and comments. Control characters and those past U+FFFF may
+    /// stand in comments and strings (this project's choice).
+    pub fn new(text: &'a str) -> Tokens<'a>
+        // The tokens to come are those into which the text is cut,
+        ensures cut { IsCutInto text.entry.now (left result) }
+        // and no others.
+        ensures only { (ts : List SpecToken) → IsCutInto text.entry.now ts → ts ≡ left result }
+        // A text that the former edition cuts without a fault is cut into the same tokens now.
+        ensures former { (ts : List SpecToken) → HasNoFault ts → Cuts October2021 [] (chars text.entry.now) ts → ts ≡ left result }
+        // One of them is an end or a fault, and it is the last.
+        ensures ends { EndsOnce (left result) }
+        // Each but a fault has a spelling of its kind.
+        ensures proper { AreProperButFaults (left result) }
+        ensures short { length (left result) ≤ length (chars text.entry.now) + 1 }
+        ensures none { result.taken ≡ 0 }
+    {
+        Tokens {
+            text,
+            places: RunningPlace::new(text),
+            taken: 0,
+            is_ended: false,
+        }
+    }
+
+    /// The next token, where the last was not given yet: as `next`, without the `Option`.
+    #[inline(always)]
+    pub fn next_token(&mut self) -> Token<'a>
+        requires { left self.old ≢ [] }
+        ensures token { left self.old ≡ seen result ∷ left self.new }
+        ensures taken { self.new.taken ≡ self.old.taken + 1 }
+        ensures whole { self.new.whole ≡ self.old.whole }
+        // It has given no more tokens than there are.
+        ensures within { self.new.taken ≤ length self.new.whole }
+        // Of those that were left, one is an end or a fault, and it is the last.
+        ensures ends { EndsOnce (left self.old) }
+        // Each of them, but a fault, has a spelling of its kind.
+        ensures proper { AreProperButFaults (left self.old) }
+    {
+        let bytes = self.text.as_bytes();
+        let mut places = self.places;
+        pass_ignored(bytes, &mut places);
+        let start = places.offset();
+        let pos = places.pos();
+        let kind = pass_token(bytes, &mut places);
+        let is_last = kind.is_last();
+        let end = if is_last { start } else { places.offset() };
+        self.places = places;
+        self.taken += 1;
+        self.is_ended = is_last;
+        Token {
+            kind,
+            text: &self.text[start..end],
+            start,
+            pos,
+        }
+    }
+
+    /// How many tokens it has given.
+    pub fn taken(&self) -> usize
+        ensures { result ≡ self.now.taken }
+    {
+        self.taken
+    }
+
+    /// Whether it has given the last token, `End` or `Fault`.
+    #[inline(always)]
+    pub fn is_ended(&self) -> bool
+        ensures ended { IsTrue result ↔ (left self.now ≡ []) }
+        // Wherever it is, where tokens are left, one of them is an end or a fault, and it is the last.
+        ensures ends { left self.now ≢ [] → EndsOnce (left self.now) }
+        // Each that is left, but a fault, has a spelling of its kind.
+        ensures proper { AreProperButFaults (left self.now) }
+        // It has given no more tokens than there are.
+        ensures within { self.now.taken ≤ length self.now.whole }
+    {
+        self.is_ended
+    }
+}
+
+impl<'a> Iterator for Tokens<'a> {
+    ghost use Rattle.std.specs.Iterator.{item_count};
+    ghost use Rattle.graphql_tokens.specs.tokens.Seen.{GivesToken};
+    ghost use Rattle.graphql_tokens.specs.tokens.Token.{left};
+
+    type Item = Token<'a>;
+
+    ghost next_gives = { GivesToken };
+
+    ghost remaining = { item_count left };
+
+    #[inline(always)]
+    fn next(&mut self) -> Option<Token<'a>> {
+        if self.is_ended() {
+            return None;
+        }
+        Some(self.next_token())
+    }
+}
+
+impl FusedIterator for Tokens<'_> {}

@@ -1,0 +1,93 @@
+//! Classes of bytes, by a table.
+
+ghost use Rattle.std.specs.Prelude.{◌≡◌, ◌||◌, ◌==◌, slice_index};
+ghost use Rattle.std.specs.Char.{is_ascii_digit};
+ghost use Rattle.graphql_tokens.specs.tokens.Classes as classes;
+ghost use Rattle.graphql_tokens.specs.tokens.Strings as strings;
+
+const BLANK: u8 = 1;
+
+const NAME_START: u8 = 2;
+
+const NAME_CHAR: u8 = 4;
+
+const PUNCT: u8 = 8;
+
+const DIGIT: u8 = 16;
+
+const PLAIN: u8 = 32;
+
+const NUMBER_START: u8 = 64;
+
+// The classes of each byte, in order.
+static CLASS: [u8; 256] = [
+    32, 32, 32, 32, 32, 32, 32, 32, 32, 33, 1, 32, 32, 1, 32, 32, 32, 32, 32, 32, 32, 32, 32, 32,
+    32, 32, 32, 32, 32, 32, 32, 32, 33, 40, 0, 32, 40, 32, 40, 32, 40, 40, 32, 32, 33, 96, 32, 32,
+    116, 116, 116, 116, 116, 116, 116, 116, 116, 116, 40, 32, 32, 40, 32, 32, 40, 38, 38, 38, 38,
+    38, 38, 38, 38, 38, 38, 38, 38, 38, 38, 38, 38, 38, 38, 38, 38, 38, 38, 38, 38, 38, 38, 40, 0,
+    40, 32, 38, 32, 38, 38, 38, 38, 38, 38, 38, 38, 38, 38, 38, 38, 38, 38, 38, 38, 38, 38, 38, 38,
+    38, 38, 38, 38, 38, 38, 40, 40, 40, 32, 32, 32, 32, 32, 32, 32, 32, 32, 32, 32, 32, 32, 32, 32,
+    32, 32, 32, 32, 32, 32, 32, 32, 32, 32, 32, 32, 32, 32, 32, 32, 32, 32, 32, 32, 32, 32, 32, 32,
+    32, 32, 32, 32, 32, 32, 32, 32, 32, 32, 32, 32, 32, 32, 32, 32, 32, 32, 32, 32, 32, 32, 32, 32,
+    32, 32, 32, 32, 32, 32, 32, 32, 32, 32, 32, 32, 32, 32, 32, 32, 32, 32, 32, 32, 32, 32, 32, 32,
+    32, 32, 32, 32, 32, 32, 32, 32, 32, 32, 32, 32, 32, 32, 32, 32, 32, 32, 32, 32, 32, 32, 32, 32,
+    32, 32, 32, 32, 32, 32, 32, 32, 32, 32, 32, 32, 32, 32, 32, 32, 32, 32, 32,
+];
+
+#[inline(always)]
+fn class(b: u8) -> u8
+    ensures { result ≡ slice_index CLASS b }
+{
+    CLASS[b as usize]
+}
+
+// Whether an ASCII character is ignored between tokens.
+#[inline(always)]
+pub fn is_blank(b: u8) -> bool
+    ensures { result ≡ classes.is_ignored b }
+{
+    class(b) & BLANK != 0
+}
+
+#[inline(always)]
+pub fn is_name_start(b: u8) -> bool
+    ensures { result ≡ classes.is_name_start b }
+{
+    class(b) & NAME_START != 0
+}
+
+#[inline(always)]
+pub fn is_name_char(b: u8) -> bool
+    ensures { result ≡ classes.is_name_char b }
+{
+    class(b) & NAME_CHAR != 0
+}
+
+#[inline(always)]
+pub fn is_punct(b: u8) -> bool
+    ensures { result ≡ classes.is_punct b }
+{
+    class(b) & PUNCT != 0
+}
+
+#[inline(always)]
+pub fn is_number_start(b: u8) -> bool
+    ensures { result ≡ (is_ascii_digit b || b == 45) }
+{
+    class(b) & NUMBER_START != 0
+}
+
+#[inline(always)]
+pub fn is_digit(b: u8) -> bool
+    ensures { result ≡ is_ascii_digit b }
+{
+    class(b) & DIGIT != 0
+}
+
+// Whether a character stands for itself in a string.
+#[inline(always)]
+pub fn is_plain(b: u8) -> bool
+    ensures { result ≡ strings.is_plain b }
+{
+    class(b) & PLAIN != 0
+}

@@ -1,0 +1,136 @@
+//! Numbers.
+
+ghost use Rattle.std.specs.Prelude.{◌≡◌, ◌≤◌};
+ghost use Rattle.graphql_tokens.specs.tokens.Numbers.{is_sign};
+ghost use Rattle.graphql_tokens.specs.inner.Numerals.{past_optional, past_all, past_digits, past_whole, past_fraction, past_exponent};
+ghost use Rattle.graphql_tokens.specs.inner.Numbers.{past_number, unless_forbidden};
+ghost use Rattle.graphql_tokens.specs.inner.Running.{ahead};
+ghost use Rattle.graphql_tokens.specs.inner.Lexing.{RunsOver, rest_if};
+
+use super::class::{is_digit, is_name_char};
+use super::reading::{pass_char, peek};
+use crate::pos::running::RunningPlace;
+
+// All digits that follow.
+#[inline(always)]
+fn pass_all(bytes: &[u8], places: &mut RunningPlace)
+    requires { RunsOver bytes.now places.old }
+    ensures runs { RunsOver bytes.now places.new }
+    ensures rest { ahead places.new ≡ past_all (ahead places.old) }
+    ensures forward { places.old.cursor.offset ≤ places.new.cursor.offset }
+{
+    while let Some(b) = peek(bytes, places) {
+        if !is_digit(b) {
+            break;
+        }
+        places.pass_ascii();
+    }
+}
+
+// One digit or more.
+#[inline(always)]
+fn pass_digits(bytes: &[u8], places: &mut RunningPlace) -> bool
+    requires { RunsOver bytes.now places.old }
+    ensures runs { RunsOver bytes.now places.new }
+    ensures rest { past_digits (ahead places.old) ≡ rest_if result (ahead places.new) }
+    ensures forward { places.old.cursor.offset ≤ places.new.cursor.offset }
+{
+    let Some(b) = peek(bytes, places) else {
+        return false;
+    };
+    if !is_digit(b) {
+        return false;
+    }
+    places.pass_ascii();
+    pass_all(bytes, places);
+    true
+}
+
+// A sign, if there is one.
+#[inline(always)]
+fn pass_sign(bytes: &[u8], places: &mut RunningPlace)
+    requires { RunsOver bytes.now places.old }
+    ensures runs { RunsOver bytes.now places.new }
+    ensures rest { ahead places.new ≡ past_optional is_sign (ahead places.old) }
+    ensures forward { places.old.cursor.offset ≤ places.new.cursor.offset }
+{
+    if !pass_char(bytes, places, b'+') {
+        pass_char(bytes, places, b'-');
+    }
+}
+
+// `0`, or digits that begin with another.
+#[inline(always)]
+fn pass_whole(bytes: &[u8], places: &mut RunningPlace) -> bool
+    requires { RunsOver bytes.now places.old }
+    ensures runs { RunsOver bytes.now places.new }
+    ensures rest { past_whole (ahead places.old) ≡ rest_if result (ahead places.new) }
+    ensures forward { places.old.cursor.offset ≤ places.new.cursor.offset }
+{
+    if pass_char(bytes, places, b'0') {
+        return true;
+    }
+    pass_digits(bytes, places)
+}
+
+#[inline(always)]
+fn pass_fraction(bytes: &[u8], places: &mut RunningPlace) -> bool
+    requires { RunsOver bytes.now places.old }
+    ensures runs { RunsOver bytes.now places.new }
+    ensures rest { past_fraction (ahead places.old) ≡ rest_if result (ahead places.new) }
+    ensures forward { places.old.cursor.offset ≤ places.new.cursor.offset }
+{
+    if !pass_char(bytes, places, b'.') {
+        return true;
+    }
+    pass_digits(bytes, places)
+}
+
+#[inline(always)]
+fn pass_exponent(bytes: &[u8], places: &mut RunningPlace) -> bool
+    requires { RunsOver bytes.now places.old }
+    ensures runs { RunsOver bytes.now places.new }
+    ensures rest { past_exponent (ahead places.old) ≡ rest_if result (ahead places.new) }
+    ensures forward { places.old.cursor.offset ≤ places.new.cursor.offset }
+{
+    if !pass_char(bytes, places, b'e') {
+        if !pass_char(bytes, places, b'E') {
+            return true;
+        }
+    }
+    pass_sign(bytes, places);
+    pass_digits(bytes, places)
+}
+
+// Whether a number may end here.
+#[inline(always)]
+fn may_end(bytes: &[u8], places: &RunningPlace) -> bool
+    requires { RunsOver bytes.now places.now }
+    ensures { unless_forbidden (ahead places.now) ≡ rest_if result (ahead places.now) }
+{
+    let Some(b) = peek(bytes, places) else {
+        return true;
+    };
+    !(is_name_char(b) || b == b'.')
+}
+
+// A number that may end where it does.
+#[inline(always)]
+pub fn pass_number(bytes: &[u8], places: &mut RunningPlace) -> bool
+    requires { RunsOver bytes.now places.old }
+    ensures runs { RunsOver bytes.now places.new }
+    ensures rest { past_number (ahead places.old) ≡ rest_if result (ahead places.new) }
+    ensures forward { places.old.cursor.offset ≤ places.new.cursor.offset }
+{
+    pass_char(bytes, places, b'-');
+    if !pass_whole(bytes, places) {
+        return false;
+    }
+    if !pass_fraction(bytes, places) {
+        return false;
+    }
+    if !pass_exponent(bytes, places) {
+        return false;
+    }
+    may_end(bytes, places)
+}

@@ -1,0 +1,79 @@
+//! Strings and block strings, behind their opening quotes.
+
+ghost use Rattle.std.specs.Prelude.{◌≡◌, ◌≤◌};
+ghost use Rattle.graphql_tokens.specs.inner.Quoted.{past_string, past_block, IsRunOfQuotes};
+ghost use Rattle.graphql_tokens.specs.inner.Running.{ahead};
+ghost use Rattle.graphql_tokens.specs.inner.Lexing.{RunsOver, rest_if};
+
+use super::class::is_plain;
+use super::reading::{pass_char, pass_many, peek};
+use crate::pos::running::RunningPlace;
+use crate::text::escape::escape_at;
+
+// The content of a string and its closing quote. No line end stands in it.
+#[inline(always)]
+pub fn pass_string(bytes: &[u8], places: &mut RunningPlace) -> bool
+    requires { RunsOver bytes.now places.old }
+    ensures runs { RunsOver bytes.now places.new }
+    ensures rest { past_string (ahead places.old) ≡ rest_if result (ahead places.new) }
+    ensures forward { places.old.cursor.offset ≤ places.new.cursor.offset }
+{
+    while let Some(b) = peek(bytes, places) {
+        if is_plain(b) {
+            places.pass_first(b);
+        } else if b == b'"' {
+            places.pass_ascii();
+            return true;
+        } else {
+            let Some((_, len)) = escape_at(&bytes[places.offset()..]) else {
+                return false;
+            };
+            pass_many(places, len);
+        }
+    }
+    false
+}
+
+// Up to three quotes, and how many there were.
+#[inline(always)]
+fn pass_quotes(bytes: &[u8], places: &mut RunningPlace) -> usize
+    requires { RunsOver bytes.now places.old }
+    ensures runs { RunsOver bytes.now places.new }
+    ensures quotes { IsRunOfQuotes result (ahead places.old) (ahead places.new) }
+    ensures forward { places.old.cursor.offset ≤ places.new.cursor.offset }
+{
+    if !pass_char(bytes, places, b'"') {
+        return 0;
+    }
+    if !pass_char(bytes, places, b'"') {
+        return 1;
+    }
+    if !pass_char(bytes, places, b'"') {
+        return 2;
+    }
+    3
+}
+
+// The raw text of a block string and its closing quotes. Quotes behind a backslash are text, whether
+// they are three, as in `\"""`, or fewer.
+#[inline(always)]
+pub fn pass_block(bytes: &[u8], places: &mut RunningPlace) -> bool
+    requires { RunsOver bytes.now places.old }
+    ensures runs { RunsOver bytes.now places.new }
+    ensures rest { past_block (ahead places.old) ≡ rest_if result (ahead places.new) }
+    ensures forward { places.old.cursor.offset ≤ places.new.cursor.offset }
+{
+    while let Some(b) = peek(bytes, places) {
+        if b == b'"' {
+            if pass_quotes(bytes, places) == 3 {
+                return true;
+            }
+        } else {
+            places.pass_first(b);
+            if b == b'\\' {
+                pass_quotes(bytes, places);
+            }
+        }
+    }
+    false
+}

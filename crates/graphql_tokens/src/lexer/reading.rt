@@ -1,0 +1,141 @@
+//! Parts of tokens, and what stands between tokens. Each function goes on from a place as far as its part
+//! does; one that gives a `bool` tells whether the part was there.
+
+ghost use Rattle.std.specs.Prelude.{◌≡◌, ◌≢◌, ◌≤◌, ◌<◌, ◌+◌, true, false, [], MatchOption, drop, length};
+ghost use Rattle.graphql_tokens.specs.inner.Reading.{skip, past_line, past_word, past_char, past_points};
+ghost use Rattle.graphql_tokens.specs.inner.Running.{ahead, IsRunning};
+ghost use Rattle.graphql_tokens.specs.inner.Lexing.{RunsOver, IsFirstByte, rest_if};
+
+use super::class::{is_blank, is_name_char};
+use crate::pos::running::RunningPlace;
+
+// The first byte of what is ahead.
+#[inline(always)]
+pub fn peek(bytes: &[u8], places: &RunningPlace) -> Option<u8>
+    requires { RunsOver bytes.now places.now }
+    ensures { MatchOption result (ahead places.now ≡ []) (λ b. IsFirstByte b (ahead places.now)) }
+{
+    let at = places.offset();
+    if at < bytes.len() {
+        Some(bytes[at])
+    } else {
+        None
+    }
+}
+
+#[inline(always)]
+fn has_more(bytes: &[u8], places: &RunningPlace) -> bool
+    requires { RunsOver bytes.now places.now }
+    ensures more { result ≡ true → ahead places.now ≢ [] }
+    ensures end { result ≡ false → ahead places.now ≡ [] }
+{
+    places.offset() < bytes.len()
+}
+
+// Goes past the rest of the line and the character that ends it.
+#[inline(always)]
+fn pass_line(bytes: &[u8], places: &mut RunningPlace)
+    requires { RunsOver bytes.now places.old }
+    ensures runs { RunsOver bytes.now places.new }
+    ensures rest { ahead places.new ≡ past_line (ahead places.old) }
+    ensures forward { places.old.cursor.offset ≤ places.new.cursor.offset }
+{
+    while has_more(bytes, places) {
+        let c = places.pass();
+        if c == '\n' || c == '\r' {
+            break;
+        }
+    }
+}
+
+// Goes past the ignored text.
+#[inline(always)]
+pub fn pass_ignored(bytes: &[u8], places: &mut RunningPlace)
+    requires { RunsOver bytes.now places.old }
+    ensures runs { RunsOver bytes.now places.new }
+    ensures rest { ahead places.new ≡ skip (ahead places.old) }
+    ensures forward { places.old.cursor.offset ≤ places.new.cursor.offset }
+{
+    while let Some(b) = peek(bytes, places) {
+        if is_blank(b) {
+            places.pass_first(b);
+        } else if b == b'#' {
+            pass_line(bytes, places);
+        } else if b < 0x80 {
+            break;
+        } else {
+            let mut behind = *places;
+            if behind.pass() != '\u{feff}' {
+                break;
+            }
+            *places = behind;
+        }
+    }
+}
+
+// Goes past the name characters.
+#[inline(always)]
+pub fn pass_word(bytes: &[u8], places: &mut RunningPlace)
+    requires { RunsOver bytes.now places.old }
+    ensures runs { RunsOver bytes.now places.new }
+    ensures rest { ahead places.new ≡ past_word (ahead places.old) }
+    ensures forward { places.old.cursor.offset ≤ places.new.cursor.offset }
+{
+    while let Some(b) = peek(bytes, places) {
+        if !is_name_char(b) {
+            break;
+        }
+        places.pass_ascii();
+    }
+}
+
+// Goes past this character, an ASCII one that ends no line, where it is next, and tells whether it was.
+#[inline(always)]
+pub fn pass_char(bytes: &[u8], places: &mut RunningPlace, c: u8) -> bool
+    requires runs { RunsOver bytes.now places.old }
+    requires ascii { c < 128 }
+    requires in_line { 13 < c }
+    ensures runs { RunsOver bytes.now places.new }
+    ensures rest { past_char c (ahead places.old) ≡ rest_if result (ahead places.new) }
+    ensures stays { result ≡ false → ahead places.new ≡ ahead places.old }
+    ensures forward { places.old.cursor.offset ≤ places.new.cursor.offset }
+{
+    let Some(b) = peek(bytes, places) else {
+        return false;
+    };
+    if b != c {
+        return false;
+    }
+    places.pass_ascii();
+    true
+}
+
+// Goes past two points.
+#[inline(always)]
+pub fn pass_points(bytes: &[u8], places: &mut RunningPlace) -> bool
+    requires { RunsOver bytes.now places.old }
+    ensures runs { RunsOver bytes.now places.new }
+    ensures rest { past_points (ahead places.old) ≡ rest_if result (ahead places.new) }
+    ensures forward { places.old.cursor.offset ≤ places.new.cursor.offset }
+{
+    if !pass_char(bytes, places, b'.') {
+        return false;
+    }
+    pass_char(bytes, places, b'.')
+}
+
+// Goes past so many characters.
+pub fn pass_many(places: &mut RunningPlace, count: usize)
+    requires running { IsRunning places.old }
+    requires more { count ≤ length (ahead places.old) }
+    ensures running { IsRunning places.new }
+    ensures same { places.new.cursor.text.now ≡ places.old.cursor.text.now }
+    ensures rest { ahead places.new ≡ drop count (ahead places.old) }
+    ensures forward { places.old.cursor.offset ≤ places.new.cursor.offset }
+{
+    let mut left = count;
+    while left > 0 {
+        places.pass();
+        left -= 1;
+    }
+}

@@ -1,0 +1,113 @@
+//! Numbers, as the literal that was written.
+ghost use Rattle.std.specs.Prelude.{◌≡◌, ◌↔◌, ◌≤◌, ◌^◌, ℕ, ℤ, pos, Ok, Some, None, IfOk, IfSome, IfNone, IsTrue, FitsSigned, nat_eq};
+ghost use Rattle.std.specs.Int.{w64};
+ghost use Rattle.std.specs.Fmt.{styled_text};
+ghost use Rattle.std.specs.Option.{SomeIff};
+ghost use Rattle.std.specs.Cmp.Lexicographic.{pointwise, nat_list_eq_equiv};
+ghost use Rattle.std.specs.Cmp.{partial_equiv_from_equiv};
+ghost use Rattle.graphql_tokens.specs.tokens.Numbers.{IsNumber};
+ghost use Rattle.graphql_tokens.specs.calls.Integers.{IsIntegerOf};
+
+mod numeral;
+
+use std::alloc::{AllocError, Global};
+use std::fmt;
+use std::marker::Model;
+
+/// A number, as the literal that was written: nothing is rounded and nothing rewritten.
+///
+/// A contract sees it as the bytes of its literal. Numbers are equal where their literals are, so
+/// `1.0` and `1.00` differ.
+#[derive(Debug, Drop)]
+pub struct Number(String);
+
+impl Model for Number {
+    ghost use Rattle.std.specs.Prelude.{ℕ, List, string_bytes, IsTrue};
+    ghost use Rattle.graphql_tokens.specs.inner.Numerals.{is_numeral};
+
+    ghost Value = { List ℕ };
+
+    ghost view = { λ n. string_bytes n.0 };
+
+    ghost invariant = { λ n. IsTrue (is_numeral (string_bytes n.0)) };
+}
+
+impl Number {
+    /// The number of this literal, or None exactly where the text is no number literal of the
+    /// grammar (GraphQL October 2021, sections 2.9.1 and 2.9.2).
+    ///
+    /// Fails only where no memory is left for the text of a literal; a refusal takes none.
+    pub fn new(alloc: Global, text: &str) -> Result<Option<Number>, AllocError>
+        ensures number { IfOk result (λ number. SomeIff number (IsNumber text.now) text.now) }
+        ensures refused { ¬ IsNumber text.now → result ≡ Ok None }
+    {
+        if !numeral::is_number(text) {
+            return Ok(None);
+        }
+        Ok(Some(Number(String::from_str(alloc, text)?)))
+    }
+
+    /// The literal, borrowed.
+    pub fn as_str(&self) -> &str
+        ensures text { result.now ≡ self.now }
+        ensures literal { IsNumber result.now }
+    {
+        self.0.as_str()
+    }
+
+    /// The value of a literal that has no fraction and no exponent, where it fits an `i64`; else
+    /// None. It goes by the literal alone: `1.0` and `1e3` have none, and `-0` is 0.
+    pub fn as_i64(&self) -> Option<i64>
+        ensures some { IfSome result (IsIntegerOf self.now) }
+        ensures none { IfNone result ((z : ℤ) → IsIntegerOf self.now z → ¬ (FitsSigned w64 z)) }
+    {
+        self.as_str().parse::<i64>().ok()
+    }
+
+    /// The value of a literal that has no fraction and no exponent, where it fits a `u64`; else
+    /// None. It goes by the literal alone: `1.0` and `1e3` have none, and `-0` is 0.
+    pub fn as_u64(&self) -> Option<u64>
+        ensures some { IfSome result (λ n. IsIntegerOf self.now (pos n)) }
+        ensures none { IfNone result ((n : ℕ) → IsIntegerOf self.now (pos n) → 2 ^ 64 ≤ n) }
+    {
+        match self.as_str() {
+            "-0" => Some(0),
+            text => text.parse::<u64>().ok(),
+        }
+    }
+}
+
+impl Clone for Number {
+    ghost is_clone = { λ number copy. copy ≡ number };
+
+    fn clone(&self) -> Result<Number, AllocError> {
+        Ok(Number(self.0.clone()?))
+    }
+}
+
+impl PartialEq for Number {
+    ghost eq = { pointwise nat_eq };
+
+    ghost laws = { partial_equiv_from_equiv nat_list_eq_equiv };
+
+    fn eq(&self, other: &Number) -> bool
+        ensures value { result ≡ pointwise nat_eq self.now other.now }
+        ensures same { IsTrue result ↔ (self.now ≡ other.now) }
+    {
+        self.as_str() == other.as_str()
+    }
+}
+
+impl Eq for Number {
+    ghost laws = { nat_list_eq_equiv };
+}
+
+impl fmt::Display for Number {
+    ghost output = { λ number. Some number };
+
+    ghost styled_output = { λ number style. Some (styled_text style number) };
+
+    fn fmt<W: fmt::Write>(&self, f: &mut fmt::Formatter<W>) -> fmt::Result {
+        f.pad(self.as_str())
+    }
+}

@@ -1,0 +1,93 @@
+//! A text that is gone over once, a character at a time.
+
+ghost use Rattle.std.specs.Prelude.{◌≡◌, ◌<◌, ◌++◌, ℕ, List, length, drop, get_or};
+ghost use Rattle.std.specs.Char.{encode_utf8};
+ghost use Rattle.std.specs.Str.{IsCharBoundary};
+ghost use Rattle.graphql_tokens.specs.inner.Cursor.{IsReading, Passes};
+
+// The text, how many of its bytes were passed, and how many characters. It hands the text out
+// nowhere, so whoever holds a cursor alone can't go back in the text, nor over it without a count.
+#[derive(Clone, Copy, Debug)]
+pub struct Cursor<'a> {
+    text: &'a str,
+    offset: usize,
+    count: usize,
+}
+
+impl<'a> Cursor<'a> {
+    pub fn new(text: &'a str) -> Cursor<'a>
+        ensures text { result.text.now ≡ text.entry.now }
+        ensures start { result.offset ≡ 0 }
+        ensures reading { IsReading result }
+    {
+        Cursor {
+            text,
+            offset: 0,
+            count: 0,
+        }
+    }
+
+    // The character at the offset, which is passed.
+    #[inline(always)]
+    pub fn next(&mut self) -> char
+        requires reading { IsReading self.old }
+        requires more { self.old.offset < length self.old.text.now }
+        ensures same { self.new.text.now ≡ self.old.text.now }
+        ensures reading { IsReading self.new }
+        ensures passes { Passes result self.old self.new }
+    {
+        let first = self.text.as_bytes()[self.offset];
+        if first < 0x80 {
+            self.offset += 1;
+            self.count += 1;
+            return first as char;
+        }
+        let c = char_at(self.text, self.offset);
+        self.offset += c.len_utf8();
+        self.count += 1;
+        c
+    }
+
+    // Goes past an ASCII character, without a look at it.
+    #[inline(always)]
+    pub fn pass_ascii(&mut self)
+        requires reading { IsReading self.old }
+        requires more { self.old.offset < length self.old.text.now }
+        requires ascii { get_or self.old.text.now self.old.offset 0 < 128 }
+        ensures same { self.new.text.now ≡ self.old.text.now }
+        ensures reading { IsReading self.new }
+        ensures passes { Passes (get_or self.old.text.now self.old.offset 0) self.old self.new }
+    {
+        self.offset += 1;
+        self.count += 1;
+    }
+
+    #[inline(always)]
+    pub fn offset(&self) -> usize
+        ensures { result ≡ self.now.offset }
+    {
+        self.offset
+    }
+
+    // How many characters were passed.
+    #[inline(always)]
+    pub fn count(&self) -> usize
+        ensures { result ≡ self.now.count }
+    {
+        self.count
+    }
+}
+
+// The character at `offset`. It takes no cursor's address, so that cursors can stay in registers.
+#[cold]
+#[inline(never)]
+fn char_at(text: &str, offset: usize) -> char
+    requires boundary { IsCharBoundary text.now offset }
+    requires more { offset < length text.now }
+    ensures { (rest : List ℕ) × (drop offset text.now ≡ encode_utf8 result ++ rest) }
+{
+    match text[offset..].chars().next() {
+        Some(c) => c,
+        None => unreachable!(),
+    }
+}

@@ -1,0 +1,126 @@
+//! A place that moves through a text with the characters passed.
+
+ghost use Rattle.std.specs.Prelude.{◌≡◌, ◌≢◌, ◌<◌, ◌≤◌, ℕ, ◌∷◌, []};
+ghost use Rattle.std.specs.Str.{IsCharBoundary};
+ghost use Rattle.graphql_tokens.specs.tokens.Place.{place};
+ghost use Rattle.graphql_tokens.specs.inner.Running.{ahead, IsRunning, BeginsInLine, BeginsInAscii};
+ghost use Rattle.graphql_tokens.specs.inner.Lexing.{IsFirstByte};
+
+use super::Pos;
+use super::cursor::Cursor;
+
+// A cursor, with its line and the number of characters before that line: the column needs no number
+// of its own, so passing a character within a line costs no more than passing it.
+#[derive(Clone, Copy, Debug)]
+pub struct RunningPlace<'a> {
+    cursor: Cursor<'a>,
+    line: usize,
+    before: usize,
+}
+
+impl<'a> RunningPlace<'a> {
+    pub fn new(text: &'a str) -> RunningPlace<'a>
+        ensures text { result.cursor.text.now ≡ text.entry.now }
+        ensures start { result.cursor.offset ≡ 0 }
+        ensures running { IsRunning result }
+    {
+        RunningPlace {
+            cursor: Cursor::new(text),
+            line: 1,
+            before: 0,
+        }
+    }
+
+    #[inline(always)]
+    pub fn offset(&self) -> usize
+        ensures { result ≡ self.now.cursor.offset }
+    {
+        self.cursor.offset()
+    }
+
+    #[inline(always)]
+    pub fn count(&self) -> usize
+        ensures { result ≡ self.now.cursor.count }
+    {
+        self.cursor.count()
+    }
+
+    #[inline(always)]
+    pub fn pos(&self) -> Pos
+        requires { IsRunning self.now }
+        ensures { result ≡ place self.now.cursor.text.now self.now.cursor.offset }
+    {
+        Pos {
+            line: self.line,
+            column: self.cursor.count() - self.before + 1,
+        }
+    }
+
+    // The next character, which is passed.
+    #[inline(always)]
+    pub fn pass(&mut self) -> char
+        requires running { IsRunning self.old }
+        requires more { ahead self.old ≢ [] }
+        ensures running { IsRunning self.new }
+        ensures same { self.new.cursor.text.now ≡ self.old.cursor.text.now }
+        ensures passed { ahead self.old ≡ result ∷ ahead self.new }
+        // No place where a character begins is gone over.
+        ensures one { (at : ℕ) → IsCharBoundary self.old.cursor.text.now at → self.old.cursor.offset < at → self.new.cursor.offset ≤ at }
+        ensures forward { self.old.cursor.offset < self.new.cursor.offset }
+    {
+        let c = self.cursor.next();
+        if c <= '\r' {
+            if c == '\n' {
+                self.line += 1;
+                self.before = self.cursor.count();
+            } else if c == '\r' {
+                self.before = self.cursor.count();
+            }
+        }
+        c
+    }
+
+    // The same where the next character ends no line.
+    #[inline(always)]
+    pub fn pass_in_line(&mut self)
+        requires running { IsRunning self.old }
+        requires in_line { BeginsInLine (ahead self.old) }
+        ensures running { IsRunning self.new }
+        ensures same { self.new.cursor.text.now ≡ self.old.cursor.text.now }
+        ensures passed { (c : ℕ) × (ahead self.old ≡ c ∷ ahead self.new) }
+        ensures forward { self.old.cursor.offset < self.new.cursor.offset }
+    {
+        self.cursor.next();
+    }
+
+    // The same where that character is an ASCII one, without a look at it.
+    #[inline(always)]
+    pub fn pass_ascii(&mut self)
+        requires running { IsRunning self.old }
+        requires ascii { BeginsInAscii (ahead self.old) }
+        ensures running { IsRunning self.new }
+        ensures same { self.new.cursor.text.now ≡ self.old.cursor.text.now }
+        ensures passed { (c : ℕ) × (ahead self.old ≡ c ∷ ahead self.new) }
+        ensures forward { self.old.cursor.offset < self.new.cursor.offset }
+    {
+        self.cursor.pass_ascii();
+    }
+
+    // The next character, of which the caller has the first byte: as `pass`, without a second look at a
+    // common one.
+    #[inline(always)]
+    pub fn pass_first(&mut self, b: u8) -> char
+        requires running { IsRunning self.old }
+        requires first { IsFirstByte b (ahead self.old) }
+        ensures running { IsRunning self.new }
+        ensures same { self.new.cursor.text.now ≡ self.old.cursor.text.now }
+        ensures passed { ahead self.old ≡ result ∷ ahead self.new }
+        ensures forward { self.old.cursor.offset < self.new.cursor.offset }
+    {
+        if b > b'\r' && b < 0x80 {
+            self.pass_ascii();
+            return b as char;
+        }
+        self.pass()
+    }
+}

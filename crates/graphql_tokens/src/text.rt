@@ -1,0 +1,108 @@
+//! What strings and block strings mean.
+
+ghost use Rattle.std.specs.Prelude.{◌≡◌, ◌≤◌, ◌+◌, drop, length, slice_index, IfOk, IfSome, IfNone, List, ℕ, string_bytes};
+ghost use Rattle.std.specs.List.{prefix_len};
+ghost use Rattle.std.specs.Str.{chars};
+ghost use Rattle.graphql_tokens.specs.tokens.BlockText.{block_value};
+ghost use Rattle.graphql_tokens.specs.tokens.Edition.{October2021, Later};
+ghost use Rattle.graphql_tokens.specs.tokens.Strings.{is_plain as is_plain_char, StringMeans, IsContent};
+
+mod block;
+pub(crate) mod escape;
+
+use block::{first_text, last_text, layout_of, push_lines};
+use escape::escape_at;
+use std::alloc::{AllocError, Global};
+
+// The byte at `at`, or 0 past the end.
+#[inline(always)]
+fn byte(bytes: &[u8], at: usize) -> u8
+    ensures { result ≡ slice_index bytes.now at }
+{
+    if at < bytes.len() { bytes[at] } else { 0 }
+}
+
+#[inline(always)]
+fn is_plain(b: u8) -> bool
+    ensures { result ≡ is_plain_char b }
+{
+    !matches!(b, b'"' | b'\\' | b'\n' | b'\r')
+}
+
+// Where the first byte from `start` on stands that isn't plain.
+fn past_plain(bytes: &[u8], start: usize) -> usize
+    requires { start ≤ length bytes.now }
+    ensures value { result ≡ start + prefix_len is_plain_char (drop start bytes.now) }
+    ensures within { result ≤ length bytes.now }
+{
+    let mut at = start;
+    while at < bytes.len() && is_plain(bytes[at]) {
+        at += 1;
+    }
+    at
+}
+
+/// The value of a string whose text between the quotes is `content`: each character but `"`, `\`, line
+/// feed and carriage return stands for itself, and each escape for the character that it names.
+///
+/// `None` exactly where the content is no content of a string. An error comes from want of memory alone.
+///
+/// The escapes with one letter and those with four digits are from GraphQL October 2021, section 2.9.4;
+/// that `\u{..}` and surrogate pairs are escapes too is this project's choice, in the manner of later
+/// editions.
+#[tactic(auto, using(crate::proofs::Contents::former_means))]
+pub fn string_value(alloc: Global, content: &str) -> Result<Option<String>, AllocError>
+    // What it gives is the value of the content,
+    ensures some { IfOk result (λ value. IfSome value (λ s. StringMeans Later (chars content.now) (chars (string_bytes s)))) }
+    // and the content has no other.
+    ensures only { IfOk result (λ value. IfSome value (λ s. (other : List ℕ) → StringMeans Later (chars content.now) other → other ≡ chars (string_bytes s))) }
+    ensures none { IfOk result (λ value. IfNone value (¬ IsContent Later (chars content.now))) }
+    // What a content meant in the former edition, it means now.
+    ensures former { (value : List ℕ) → StringMeans October2021 (chars content.now) value → StringMeans Later (chars content.now) value }
+{
+    let bytes = content.as_bytes();
+    let mut at = past_plain(bytes, 0);
+    if at == bytes.len() {
+        return Ok(Some(String::from_str(alloc, content)?));
+    }
+    let mut value = String::with_capacity(alloc, bytes.len())?;
+    value.push_str(&content[..at])?;
+    while at < bytes.len() {
+        let Some((c, len)) = escape_at(&bytes[at..]) else {
+            return Ok(None);
+        };
+        value.push(c)?;
+        let start = at + len;
+        at = past_plain(bytes, start);
+        value.push_str(&content[start..at])?;
+    }
+    Ok(Some(value))
+}
+
+/// The value of a block string whose text between the quotes is `raw`: each `\"""` stands for `"""`; the
+/// lines, which end at CR LF, LF or CR, lose their common indent, but for the first; blank lines at the
+/// front and at the end go; the others are joined by line feeds. A line is blank that holds tabs and
+/// spaces alone, or nothing, and the indent is of the lines that aren't.
+///
+/// Every text has a value. An error comes from want of memory alone.
+///
+/// GraphQL October 2021, section 2.9.4, but for a blank line that is shorter than the indent: it stays as
+/// it is, which is this project's choice.
+pub fn block_string_value(alloc: Global, raw: &str) -> Result<String, AllocError>
+    ensures { IfOk result (λ value. chars (string_bytes value) ≡ block_value (chars raw.now)) }
+{
+    let Some(first) = first_text(raw.as_bytes()) else {
+        return Ok(String::new(alloc));
+    };
+    let text = &raw[first..];
+    let text = &text[..last_text(text.as_bytes())];
+    let is_later = first > 0;
+    let found = layout_of(text.as_bytes(), is_later);
+    if found.indent == 0 && found.is_plain {
+        return String::from_str(alloc, text);
+    }
+    let first_indent = if is_later { found.indent } else { 0 };
+    let mut value = String::with_capacity(alloc, text.len())?;
+    push_lines(&mut value, text, first_indent, found.indent)?;
+    Ok(value)
+}

@@ -1,0 +1,248 @@
+//! The lines of a block string.
+
+ghost use Rattle.std.specs.Prelude.{◌≡◌, ◌≤◌, ◌<◌, ◌+◌, ◌++◌, [], false, true, drop, length, MatchOption, OnOk, string_bytes};
+ghost use Rattle.std.specs.List.{prefix_len};
+ghost use Rattle.std.specs.Str.{IsUtf8};
+ghost use Rattle.graphql_tokens.specs.tokens.Place as place;
+ghost use Rattle.graphql_tokens.specs.tokens.BlockText as spec;
+ghost use Rattle.graphql_tokens.specs.inner.Blocks.{is_space as is_space_char, end_len, counted, indent_with, trimmed, written, first_line, StartsText, EndsText, IsPlainBetween, IsUnquotedBetween};
+
+use super::byte;
+use std::alloc::AllocError;
+
+#[inline(always)]
+fn is_blank(b: u8) -> bool
+    ensures { result ≡ spec.is_blank_char b }
+{
+    b == b'\t' || b == b' '
+}
+
+#[inline(always)]
+fn is_in_line(b: u8) -> bool
+    ensures { result ≡ place.is_in_line b }
+{
+    b != b'\n' && b != b'\r'
+}
+
+#[inline(always)]
+fn is_space(b: u8) -> bool
+    ensures { result ≡ is_space_char b }
+{
+    is_blank(b) || !is_in_line(b)
+}
+
+// Whether `\"""` begins at `at`.
+#[inline(always)]
+fn begins_quotes(bytes: &[u8], at: usize) -> bool
+    requires { at < length bytes.now }
+    ensures { result ≡ spec.begins_quotes (drop at bytes.now) }
+{
+    bytes[at] == b'\\'
+        && byte(bytes, at + 1) == b'"'
+        && byte(bytes, at + 2) == b'"'
+        && byte(bytes, at + 3) == b'"'
+}
+
+// Where the line ends, and whether neither `\"""` is in it nor a carriage return behind it.
+fn line_at(bytes: &[u8], start: usize) -> (usize, bool)
+    requires { start ≤ length bytes.now }
+    ensures end { result.0 ≡ start + prefix_len place.is_in_line (drop start bytes.now) }
+    ensures within { result.0 ≤ length bytes.now }
+    ensures plain { result.1 ≡ true → IsPlainBetween bytes.now start (result.0 + 1) }
+{
+    let mut at = start;
+    let mut is_plain = true;
+    while at < bytes.len() && is_in_line(bytes[at]) {
+        if begins_quotes(bytes, at) {
+            is_plain = false;
+        }
+        at += 1;
+    }
+    if byte(bytes, at) == b'\r' {
+        is_plain = false;
+    }
+    (at, is_plain)
+}
+
+// Where the line ends.
+fn past_line(bytes: &[u8], start: usize) -> usize
+    requires { start ≤ length bytes.now }
+    ensures value { result ≡ start + prefix_len place.is_in_line (drop start bytes.now) }
+    ensures within { result ≤ length bytes.now }
+{
+    let mut at = start;
+    while at < bytes.len() && is_in_line(bytes[at]) {
+        at += 1;
+    }
+    at
+}
+
+// Where the tabs and spaces end.
+fn past_blanks(bytes: &[u8], start: usize) -> usize
+    requires { start ≤ length bytes.now }
+    ensures value { result ≡ start + prefix_len spec.is_blank_char (drop start bytes.now) }
+    ensures within { result ≤ length bytes.now }
+{
+    let mut at = start;
+    while at < bytes.len() && is_blank(bytes[at]) {
+        at += 1;
+    }
+    at
+}
+
+// Where the next line begins, if a line ends at `end`.
+fn next_line(bytes: &[u8], end: usize) -> usize
+    requires { end < length bytes.now }
+    ensures value { result ≡ end + end_len (drop end bytes.now) }
+    ensures within { result ≤ length bytes.now }
+{
+    if bytes[end] == b'\r' && byte(bytes, end + 1) == b'\n' {
+        end + 2
+    } else {
+        end + 1
+    }
+}
+
+// Where the first line begins that isn't blank.
+pub fn first_text(bytes: &[u8]) -> Option<usize>
+    requires { IsUtf8 bytes.now }
+    ensures { MatchOption result (spec.from_text (spec.lines_of bytes.now) ≡ []) (λ at. StartsText bytes.now at) }
+{
+    let mut start = 0;
+    loop {
+        let text = past_blanks(bytes, start);
+        if text == bytes.len() {
+            return None;
+        }
+        if is_in_line(bytes[text]) {
+            return Some(start);
+        }
+        start = next_line(bytes, text);
+    }
+}
+
+// Where the last line ends that isn't blank. The first is none of these.
+pub fn last_text(bytes: &[u8]) -> usize
+    requires utf8 { IsUtf8 bytes.now }
+    requires text { spec.is_blank (first_line (spec.lines_of bytes.now)) ≡ false }
+    ensures { EndsText bytes.now result }
+{
+    let mut end = bytes.len();
+    while end > 0 && is_space(bytes[end - 1]) {
+        end -= 1;
+    }
+    past_line(bytes, end)
+}
+
+// What one pass over the lines finds.
+#[derive(Drop)]
+pub struct Layout {
+    // The common indent of the lines that count.
+    pub indent: usize,
+    // No carriage return and no `\"""` is there.
+    pub is_plain: bool,
+}
+
+// The least indent, with one line more: it counts where it isn't blank, and `counts` says so.
+fn next_indent(found: Option<usize>, counts: bool, blanks: usize, len: usize) -> Option<usize>
+    ensures { result ≡ indent_with found counts blanks len }
+{
+    if !counts || blanks == len {
+        return found;
+    }
+    match found {
+        None => Some(blanks),
+        Some(least) => Some(least.min(blanks)),
+    }
+}
+
+// The first line counts for the indent only where `counts_first` says so.
+pub fn layout_of(bytes: &[u8], counts_first: bool) -> Layout
+    ensures indent { result.indent ≡ spec.common_indent (counted counts_first (spec.lines_of bytes.now)) }
+    ensures plain { result.is_plain ≡ true → IsPlainBetween bytes.now 0 (length bytes.now) }
+{
+    let mut indent = None;
+    let mut is_plain = true;
+    let mut counts = counts_first;
+    let mut start = 0;
+    'lines: loop {
+        let text = past_blanks(bytes, start);
+        let (end, is_plain_line) = line_at(bytes, text);
+        indent = next_indent(indent, counts, text - start, end - start);
+        if !is_plain_line {
+            is_plain = false;
+        }
+        if end == bytes.len() {
+            let indent = indent.unwrap_or(0);
+            return Layout { indent, is_plain };
+        }
+        start = next_line(bytes, end);
+        counts = true;
+    }
+}
+
+// Where the next `\"""` begins, or the end.
+fn next_quotes(bytes: &[u8], start: usize) -> usize
+    requires { start ≤ length bytes.now }
+    ensures from { start ≤ result }
+    ensures within { result ≤ length bytes.now }
+    ensures none { IsUnquotedBetween bytes.now start result }
+    ensures here { result < length bytes.now → spec.begins_quotes (drop result bytes.now) ≡ true }
+{
+    let mut at = start;
+    while at < bytes.len() && !begins_quotes(bytes, at) {
+        at += 1;
+    }
+    at
+}
+
+// Adds the text, with each `\"""` as `"""`.
+fn push_unquoted(value: &mut String, text: &str) -> Result<(), AllocError>
+    ensures { OnOk result (string_bytes value.new ≡ string_bytes value.old ++ spec.unquoted text.now) }
+{
+    let bytes = text.as_bytes();
+    let mut at = 0;
+    loop {
+        let end = next_quotes(bytes, at);
+        value.push_str(&text[at..end])?;
+        if end == bytes.len() {
+            return Ok(());
+        }
+        at = end + 1;
+    }
+}
+
+// The line without its indent: at most so many tabs and spaces. A shorter line stays as it is.
+fn dedented(line: &str, indent: usize) -> &str
+    ensures { result.now ≡ trimmed indent line.now }
+{
+    if line.len() < indent {
+        return line;
+    }
+    &line[past_blanks(line.as_bytes(), 0).min(indent)..]
+}
+
+// Adds the lines of the text, joined by line feeds and without their indent, which is `first_indent` for
+// the first of them.
+pub fn push_lines(
+    value: &mut String,
+    text: &str,
+    first_indent: usize,
+    indent: usize,
+) -> Result<(), AllocError>
+    ensures { OnOk result (string_bytes value.new ≡ string_bytes value.old ++ written first_indent indent (spec.lines_of text.now)) }
+{
+    let bytes = text.as_bytes();
+    let mut at = 0;
+    let mut here = first_indent;
+    'lines: loop {
+        let end = past_line(bytes, at);
+        push_unquoted(value, dedented(&text[at..end], here))?;
+        if end == bytes.len() {
+            return Ok(());
+        }
+        value.push('\n')?;
+        at = next_line(bytes, end);
+        here = indent;
+    }
+}

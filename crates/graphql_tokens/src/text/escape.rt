@@ -1,0 +1,133 @@
+//! Escapes in the content of a string.
+
+ghost use Rattle.std.specs.Prelude.{◌≡◌, ◌<◌};
+ghost use Rattle.std.specs.Char.{is_ascii_hexdigit};
+ghost use Rattle.std.specs.List.{prefix_len};
+ghost use Rattle.graphql_tokens.specs.inner.Escapes as escapes;
+
+use super::byte;
+
+// The first number past all characters.
+const PAST_CHARS: u32 = 0x11_0000;
+
+// What a backslash and this letter stand for.
+fn letter_value(letter: u8) -> Option<char>
+    ensures { result ≡ escapes.letter_value letter }
+{
+    match letter {
+        b'"' | b'\\' | b'/' => Some(letter as char),
+        b'b' => Some('\u{8}'),
+        b'f' => Some('\u{c}'),
+        b'n' => Some('\n'),
+        b'r' => Some('\r'),
+        b't' => Some('\t'),
+        _ => None,
+    }
+}
+
+// The number of hexadecimal digits, where all numbers past the characters are one.
+fn hex_number(digits: &[u8]) -> Option<u32>
+    ensures { result ≡ escapes.hex_number digits.now }
+{
+    let mut number = 0;
+    for digit in digits {
+        let value = char::from(*digit).to_digit(16)?;
+        number = (number * 16 + value).min(PAST_CHARS);
+    }
+    Some(number)
+}
+
+fn four_digits(text: &[u8]) -> Option<u32>
+    ensures { result ≡ escapes.four_digits text.now }
+{
+    if text.len() < 4 {
+        return None;
+    }
+    hex_number(&text[..4])
+}
+
+fn scalar_of(number: u32) -> Option<char>
+    ensures { result ≡ escapes.scalar_of number }
+{
+    char::from_u32(number)
+}
+
+// The character of a surrogate pair.
+fn pair_value(high: u32, low: u32) -> Option<char>
+    ensures { result ≡ escapes.pair_value high low }
+{
+    if high >= 0xD800 && high <= 0xDBFF && low >= 0xDC00 && low <= 0xDFFF {
+        char::from_u32(0x1_0000 + (high - 0xD800) * 0x400 + (low - 0xDC00))
+    } else {
+        None
+    }
+}
+
+fn past_digits(text: &[u8]) -> usize
+    ensures { result ≡ prefix_len is_ascii_hexdigit text.now }
+{
+    let mut at = 0;
+    while at < text.len() && text[at].is_ascii_hexdigit() {
+        at += 1;
+    }
+    at
+}
+
+// The escape whose text stands behind `\u{`.
+fn braced_at(text: &[u8]) -> Option<(char, usize)>
+    ensures { result ≡ escapes.braced_at text.now }
+{
+    let end = past_digits(text);
+    if end == 0 || byte(text, end) != b'}' {
+        return None;
+    }
+    let value = scalar_of(hex_number(&text[..end])?)?;
+    Some((value, end + 4))
+}
+
+// The number of the four digits of an escape.
+fn low_half_at(text: &[u8]) -> Option<u32>
+    ensures { result ≡ escapes.low_half_at text.now }
+{
+    if byte(text, 0) == b'\\' && byte(text, 1) == b'u' {
+        four_digits(&text[2..])
+    } else {
+        None
+    }
+}
+
+// The escape of a surrogate pair, behind the number of its first half.
+fn pair_at(high: u32, behind: &[u8]) -> Option<(char, usize)>
+    ensures { result ≡ escapes.pair_at high behind.now }
+{
+    let low = low_half_at(behind)?;
+    Some((pair_value(high, low)?, 12))
+}
+
+// The escape whose text stands behind `\u`.
+fn number_at(text: &[u8]) -> Option<(char, usize)>
+    ensures { result ≡ escapes.number_at text.now }
+{
+    if byte(text, 0) == b'{' {
+        return braced_at(&text[1..]);
+    }
+    let number = four_digits(text)?;
+    match scalar_of(number) {
+        Some(value) => Some((value, 6)),
+        None => pair_at(number, &text[4..]),
+    }
+}
+
+// The escape at the text's front: the character for which it stands, and how many bytes it has.
+#[tactic(auto, unfolding(crate::specs::inner::Escapes::escape_at))]
+pub fn escape_at(text: &[u8]) -> Option<(char, usize)>
+    ensures { result ≡ escapes.escape_at text.now }
+{
+    if byte(text, 0) != b'\\' {
+        return None;
+    }
+    if byte(text, 1) == b'u' {
+        return number_at(&text[2..]);
+    }
+    Some((letter_value(byte(text, 1))?, 2))
+}
