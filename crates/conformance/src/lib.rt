@@ -15,6 +15,8 @@ mod literals;
 #[cfg(test)]
 mod literals_made;
 #[cfg(test)]
+mod literals_read;
+#[cfg(test)]
 mod meanings;
 #[cfg(test)]
 mod names;
@@ -24,6 +26,8 @@ mod nodes;
 mod numbers;
 #[cfg(test)]
 mod places;
+#[cfg(test)]
+mod plain;
 #[cfg(test)]
 mod readme;
 #[cfg(test)]

@@ -1,71 +1,13 @@
-//! A third type of values, callers of the contracts, and what no clause says.
-ghost use Rattle.std.specs.Prelude.{◌≡◌, ◌∷◌, [], IsTrue, IfOk, map, string_bytes, true, false};
-ghost use Rattle.graphql_syntax.specs.trees.ValueTree.{Tree, null, number, string, boolean, enumeration, list, object, trees_of, fields_of};
-ghost use Rattle.conformance.specs.declared.literals_made.Plain.{fold-Plain};
-ghost use Rattle.conformance.specs.declared.literals_made.Plain.TheOpen.{Plain-F};
+//! Values of each type that are made by callers of the contracts, and what no clause says.
+ghost use Rattle.std.specs.Prelude.{◌≡◌, ◌∷◌, [], IsTrue, IfOk};
+ghost use Rattle.graphql_syntax.specs.trees.ValueTree.{null, boolean, list, object, trees_of, fields_of};
 
+use crate::plain::{Plain, write_plain};
 use crate::rows::{Subject, hold};
 use crate::shown::Shown;
-use graphql_parser::value::{ConstValue, Literal, Name, Number, Value};
+use graphql_parser::value::{ConstValue, Literal, Name, Value};
 use std::alloc::{AllocError, Global};
 use std::test::Fail;
-
-// A third type of values: its booleans are two cases.
-#[derive(Drop)]
-enum Plain {
-    Null,
-    Number(Number),
-    Text(String),
-    Yes,
-    No,
-    Enum(Name),
-    List(Vec<Plain>),
-    Object(Vec<(Name, Plain)>),
-}
-
-impl Literal for Plain {
-    ghost tree = { fold-Plain Tree (λ l. elim l [ Plain-F.Null ↦ null | Plain-F.Number n ↦ number n | Plain-F.Text s ↦ string (string_bytes s) | Plain-F.Yes ↦ boolean true | Plain-F.No ↦ boolean false | Plain-F.Enum n ↦ enumeration n | Plain-F.List v ↦ list (trees_of v.items) | Plain-F.Object v ↦ object (fields_of v.items) ]) };
-
-    ghost VARIABLES = { false };
-
-    const VARIABLES: bool = false;
-
-    fn null() -> Self {
-        Plain::Null
-    }
-
-    fn number(n: Number) -> Self {
-        Plain::Number(n)
-    }
-
-    fn string(s: String) -> Self {
-        Plain::Text(s)
-    }
-
-    fn boolean(b: bool) -> Self {
-        if b { Plain::Yes } else { Plain::No }
-    }
-
-    fn enumeration(n: Name) -> Self {
-        Plain::Enum(n)
-    }
-
-    fn list(items: Vec<Self>) -> Self
-        ensures { ⟦<Plain as Literal>⟧.tree result ≡ list (trees_of (map ⟦<Plain as Literal>⟧.tree items.items)) }
-    {
-        Plain::List(items)
-    }
-
-    fn object(fields: Vec<(Name, Self)>) -> Self
-        ensures { ⟦<Plain as Literal>⟧.tree result ≡ object (fields_of (map (λ f. (f.0, ⟦<Plain as Literal>⟧.tree f.1)) fields.items)) }
-    {
-        Plain::Object(fields)
-    }
-
-    fn variable(_n: Name) -> Option<Self> {
-        None
-    }
-}
 
 // `{name: [boolean, null]}`, at any type of values.
 fn example<V: Literal>(alloc: Global, name: Name, b: bool) -> Result<V, AllocError>
@@ -137,33 +79,8 @@ fn of_constant(alloc: Global, value: &ConstValue) -> Result<String, AllocError> 
 
 fn of_plain(alloc: Global, value: &Plain) -> Result<String, AllocError> {
     let mut shown = Shown::new(alloc);
-    write_cases(&mut shown, value);
+    write_plain(&mut shown, value);
     shown.finish()
-}
-
-// The cases of a value, from the outside in.
-#[cycle(cases)]
-fn write_cases(shown: &mut Shown, value: &Plain) {
-    match value {
-        Plain::Null => shown.word("Null"),
-        Plain::Number(number) => shown.word(number.as_str()),
-        Plain::Text(text) => shown.word(text.as_str()),
-        Plain::Yes => shown.word("Yes"),
-        Plain::No => shown.word("No"),
-        Plain::Enum(name) => shown.word(name.as_str()),
-        Plain::List(items) => {
-            for item in items {
-                shown.word(" [");
-                write_cases(shown, item);
-            }
-        }
-        Plain::Object(fields) => {
-            for field in fields {
-                shown.word(field.0.as_str());
-                write_cases(shown, &field.1);
-            }
-        }
-    }
 }
 
 #[test]
@@ -174,10 +91,10 @@ fn one_reader_makes_each_type(rt: HostRuntime) -> Result<(), Fail> {
 const MADE: &str = r"
 example of Value ⇒ { a=[ true null ] }
 example of ConstValue ⇒ { a=[ true null ] }
-example of Plain ⇒ a [Yes [Null
+example of Plain ⇒ { a=[ Yes Null ] }
 variable of Value ⇒ $a
 variable of ConstValue ⇒ .b
-variable of Plain ⇒ b
+variable of Plain ⇒ .b
 ";
 
 #[test]

@@ -59,7 +59,8 @@ fn read_argument_list<V: Literal>(
     }
 }
 
-/// Reads arguments with their brackets.
+/// Reads arguments with their brackets, in source order (GraphQL October 2021, section 2.6). Lists and objects
+/// in them nest at most `values` deep.
 #[inline(never)]
 pub fn read_arguments<V: Literal>(
     alloc: Global,
@@ -74,7 +75,7 @@ pub fn read_arguments<V: Literal>(
     Ok(arguments)
 }
 
-/// Reads arguments, where there are any.
+/// Reads arguments with their brackets, where a `(` is in hand; else there are none.
 #[tactic(auto, unfolding(crate::specs::reading::Outcome::opt_at))]
 #[inline(always)]
 pub fn read_maybe_arguments<V: Literal>(
@@ -124,7 +125,8 @@ fn read_directive(
     Ok(Positioned::new(Directive { name, arguments }, pos))
 }
 
-/// Reads directives, as many as there are.
+/// Reads directives, as long as an `@` is in hand, in source order (GraphQL October 2021, section 2.12). Lists and
+/// objects in their arguments nest at most `values` deep.
 #[inline(always)]
 pub fn read_directives(
     alloc: Global,
@@ -161,7 +163,7 @@ fn read_const_directive(
     Ok(Positioned::new(ConstDirective { name, arguments }, pos))
 }
 
-/// Reads directives without variables, as many as there are.
+/// As [`read_directives`], without variables.
 pub fn read_const_directives(
     alloc: Global,
     cursor: &mut Cursor,

@@ -19,7 +19,7 @@ use std::marker::Model;
 /// Why a reader stopped.
 #[derive(Clone, Copy, Debug, PartialEq, Eq)]
 pub enum Refusal {
-    /// Memory ran out.
+    /// Memory was refused.
     Memory,
     /// No document goes on with the token in hand.
     Syntax,
@@ -27,7 +27,8 @@ pub enum Refusal {
     Limit,
 }
 
-/// What a reader gives.
+/// What a reader gives: what stands at the cursor, which then is behind it; or why there is no such thing,
+/// with the refused token in hand. Where memory ran out, the cursor is somewhere in between.
 pub type Reading<T> = Result<T, Refusal>;
 
 impl From<AllocError> for Refusal {
@@ -109,7 +110,7 @@ impl<'a> Model for Cursor<'a> {
 }
 
 impl<'a> Cursor<'a> {
-    /// Takes the first token in hand.
+    /// Takes the first token in hand. The caller owes that one is left: `tokens.is_ended()` is false.
     pub fn new(mut tokens: Tokens<'a>) -> Cursor<'a>
         requires { left tokens ≢ [] }
         ensures left { ahead result ≡ left tokens.entry }
@@ -132,7 +133,7 @@ impl<'a> Cursor<'a> {
         self.tokens
     }
 
-    /// Takes the next token in hand; the one in hand is used up.
+    /// Uses up the token in hand and takes the next. The caller owes that it isn't the last one.
     // Field by field: a copy of the whole would carry the padding along.
     #[inline(never)]
     pub fn advance(&mut self)
@@ -157,7 +158,7 @@ impl<'a> Cursor<'a> {
         self.hand
     }
 
-    /// Takes the token in hand.
+    /// Gives the token in hand and takes the next. The caller owes that it isn't the last one.
     #[inline(always)]
     pub fn take(&mut self) -> Token<'a>
         requires { is_last self.old.hand.bare.kind ≡ false }
@@ -195,7 +196,7 @@ impl<'a> Cursor<'a> {
         is_name(self.hand.kind) && self.hand.text == word
     }
 
-    /// Takes the punctuator, where it is in hand.
+    /// Uses up this punctuator, where it is in hand, and tells whether it was.
     pub fn take_punct(&mut self, text: &str) -> bool
         ensures { Gives (λ taken. taken) (Ok result) self.old self.new (take_at (punct_of text.now)) }
     {
@@ -206,7 +207,7 @@ impl<'a> Cursor<'a> {
         is_there
     }
 
-    /// Takes this punctuator; anything else in hand is refused.
+    /// Uses up this punctuator and gives it; anything else in hand is refused with `Syntax`.
     #[inline(always)]
     pub fn expect_punct(&mut self, text: &str) -> Reading<Token<'a>>
         ensures { Gives seen result self.old self.new (one_at (punct_of text.now)) }
@@ -219,7 +220,7 @@ impl<'a> Cursor<'a> {
         Ok(token)
     }
 
-    /// Takes a name; anything else in hand is refused.
+    /// Uses up a name and gives it; anything else in hand is refused with `Syntax`.
     #[inline(always)]
     pub fn expect_name(&mut self) -> Reading<Token<'a>>
         ensures { Gives seen result self.old self.new (one_at tests.any_name) }
@@ -232,7 +233,7 @@ impl<'a> Cursor<'a> {
         Ok(token)
     }
 
-    /// Takes this keyword; anything else in hand is refused.
+    /// Uses up this keyword and gives it; anything else in hand is refused with `Syntax`.
     #[inline(always)]
     pub fn expect_keyword(&mut self, word: &str) -> Reading<Token<'a>>
         ensures { Gives seen result self.old self.new (one_at (keyword_of word.now)) }
@@ -243,7 +244,7 @@ impl<'a> Cursor<'a> {
         Ok(self.take())
     }
 
-    /// The end of the text has to be in hand. It stays there.
+    /// The end of the text has to be in hand, and stays there; anything else is refused with `Syntax`.
     pub fn expect_end(&self) -> Reading<()>
         ensures { GivesWhole (λ _. self.now.hand) result self.now self.now (one_at tests.the_end) }
     {

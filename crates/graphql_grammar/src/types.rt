@@ -102,7 +102,7 @@ fn close_lists(alloc: Global, cursor: &mut Cursor, item: Type, depth: Depth) -> 
     Ok(ty)
 }
 
-/// Reads a type reference whose lists nest at most `limit` deep.
+/// Reads a type reference (GraphQL October 2021, section 2.11) whose lists nest at most `limit` deep.
 pub fn read_type(alloc: Global, cursor: &mut Cursor, limit: usize) -> Reading<Positioned<Type>>
     ensures { Gives (request.placed type_tree) result cursor.old cursor.new (type_at limit) }
 {

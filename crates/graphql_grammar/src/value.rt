@@ -9,8 +9,6 @@ mod fields;
 mod fill;
 mod frames;
 mod simple;
-#[cfg(test)]
-mod tests;
 
 use crate::cursor::{Cursor, Reading};
 use fields::merge;
@@ -84,7 +82,8 @@ fn read_node<V: Literal>(alloc: Global, cursor: &mut Cursor, limit: usize) -> Re
     }
 }
 
-/// A value whose lists and objects nest at most `limit` deep. It stands at its first token.
+/// Reads a value (GraphQL October 2021, section 2.9) whose lists and objects nest at most `limit` deep, with
+/// variables where the type has them. It stands at its first token.
 pub fn read_value<V: Literal>(
     alloc: Global,
     cursor: &mut Cursor,

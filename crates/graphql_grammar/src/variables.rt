@@ -21,7 +21,7 @@ use graphql_syntax::types::{Directive, VariableDefinition};
 use graphql_syntax::value::ConstValue;
 use std::alloc::Global;
 
-/// Reads a default value with its `=`, where there is one.
+/// Reads a default value behind its `=` (GraphQL October 2021, section 2.10), where a `=` is in hand.
 #[tactic(auto, unfolding(crate::specs::reading::Outcome::opt_at))]
 pub fn read_maybe_default(
     alloc: Global,
@@ -98,7 +98,8 @@ fn read_variable_definition_list(
     }
 }
 
-/// Reads variable definitions with their brackets.
+/// Reads variable definitions with their brackets (GraphQL October 2021, section 2.10). Lists and objects in
+/// them nest at most `values` deep, and lists in their types `types`.
 pub fn read_variable_definitions(
     alloc: Global,
     cursor: &mut Cursor,
@@ -113,7 +114,7 @@ pub fn read_variable_definitions(
     Ok(definitions)
 }
 
-/// Reads variable definitions, where there are any.
+/// Reads variable definitions with their brackets, where a `(` is in hand; else there are none.
 #[tactic(auto, unfolding(crate::specs::reading::Outcome::opt_at))]
 pub fn read_maybe_variable_definitions(
     alloc: Global,

@@ -12,7 +12,7 @@ use graphql_syntax::pos::Positioned;
 use graphql_syntax::value::Name;
 use std::alloc::{AllocError, Global};
 
-/// The name that a token is.
+/// The name that a token spells, at its place. Fails only where memory was refused.
 #[inline(always)]
 pub fn name_in(alloc: Global, token: Token) -> Result<Positioned<Name>, AllocError>
     ensures { IfOk result (λ name. name ≡ name_of (seen token.entry)) }
@@ -20,7 +20,7 @@ pub fn name_in(alloc: Global, token: Token) -> Result<Positioned<Name>, AllocErr
     Ok(Positioned::new(Name::new(alloc, token.text)?, token.pos))
 }
 
-/// Reads a name.
+/// Reads a name (GraphQL October 2021, section 2.1.9).
 #[inline(always)]
 pub fn read_name(alloc: Global, cursor: &mut Cursor) -> Reading<Positioned<Name>>
     ensures { Gives (λ name. name) result cursor.old cursor.new (mapped_at name_of (one_at any_name)) }
