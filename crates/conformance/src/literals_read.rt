@@ -5,9 +5,9 @@ use crate::shown::Shown;
 use graphql_grammar::arguments::read_arguments;
 use graphql_grammar::cursor::{Cursor, Refusal};
 use graphql_grammar::value::read_value;
+use graphql_parser::Positioned;
 use graphql_parser::lexer::Tokens;
 use graphql_parser::value::Name;
-use graphql_parser::Positioned;
 use std::alloc::{AllocError, Global};
 use std::test::Fail;
 
