@@ -4,7 +4,7 @@ use Rattle.std.specs.Str.{chars, encode_utf8_all}
 use Rattle.graphql_tokens.specs.inner.Contents.{content_value}
 use Rattle.graphql_tokens.specs.tokens.BlockText.{block_value}
 use Rattle.graphql_tokens.specs.tokens.Cuts.{is_last}
-use Rattle.graphql_tokens.specs.tokens.Edition.{Later}
+use Rattle.graphql_tokens.specs.tokens.Edition.{Current}
 use Rattle.graphql_tokens.specs.tokens.Numbers.{IsNumber}
 use Rattle.graphql_tokens.specs.tokens.Proper.{IsProper}
 use Rattle.graphql_tokens.specs.tokens.Seen.{seen}
@@ -58,7 +58,7 @@ read-string t ts value k e = rw (k, e) refl
 refused-string : (t : Token) (ts : List Token) → is_string t.bare.kind ≡ true → content_value (chars (inside 1 t.bare.spelling)) ≡ None → node_at string_at (t ∷ ts) ≡ Refused syntax (t ∷ ts)
 refused-string t ts k e = rw (k, e) refl
 
-no-content : (content : List ℕ) → (IsContent Later content → ⊥) → content_value content ≡ None
+no-content : (content : List ℕ) → (IsContent Current content → ⊥) → content_value content ≡ None
 no-content content none = go (content_value content) refl
   where
     go : (o : Option (List ℕ)) → content_value content ≡ o → o ≡ None
@@ -66,7 +66,7 @@ no-content content none = go (content_value content) refl
     go (Some value) e = absurd (none (value, content_means content value e))
 
 -- the token in hand is a string, and means the bytes
-pub string-means : (token : LentToken) (hand : Token) (ts : List Token) (content bytes : List ℕ) → seen token ≡ hand → is_string token.kind ≡ true → content ≡ inside 1 token.text.now → StringMeans Later (chars content) (chars bytes) → encode_utf8_all (chars bytes) ≡ bytes → node_at string_at (hand ∷ ts) ≡ Read (string bytes) ts
+pub string-means : (token : LentToken) (hand : Token) (ts : List Token) (content bytes : List ℕ) → seen token ≡ hand → is_string token.kind ≡ true → content ≡ inside 1 token.text.now → StringMeans Current (chars content) (chars bytes) → encode_utf8_all (chars bytes) ≡ bytes → node_at string_at (hand ∷ ts) ≡ Read (string bytes) ts
 string-means token hand ts content bytes e k is means back =
     let found : content_value (chars (inside 1 token.text.now)) ≡ Some (chars bytes) = ap (λ (l : List ℕ). content_value (chars l)) (sym is) ∙ means_content (chars content) (chars bytes) means in
     ap (λ (t : Token). node_at string_at (t ∷ ts)) (sym e)
@@ -74,7 +74,7 @@ string-means token hand ts content bytes e k is means back =
     ∙ ap (λ (l : List ℕ). Read (string l) ts) back
 
 -- the token in hand is a string, and means nothing
-pub string-none : (token : LentToken) (hand : Token) (ts : List Token) (content : List ℕ) → seen token ≡ hand → is_string token.kind ≡ true → content ≡ inside 1 token.text.now → (IsContent Later (chars content) → ⊥) → node_at string_at (hand ∷ ts) ≡ Refused syntax (hand ∷ ts)
+pub string-none : (token : LentToken) (hand : Token) (ts : List Token) (content : List ℕ) → seen token ≡ hand → is_string token.kind ≡ true → content ≡ inside 1 token.text.now → (IsContent Current (chars content) → ⊥) → node_at string_at (hand ∷ ts) ≡ Refused syntax (hand ∷ ts)
 string-none token hand ts content e k is none =
     let found : content_value (chars (inside 1 token.text.now)) ≡ None = ap (λ (l : List ℕ). content_value (chars l)) (sym is) ∙ no-content (chars content) none in
     subst (λ (t : Token). node_at string_at (t ∷ ts) ≡ Refused syntax (t ∷ ts)) e (refused-string (seen token) ts k found)

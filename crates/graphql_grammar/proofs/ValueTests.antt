@@ -2,7 +2,7 @@
 use Rattle.std.proofs.Common.{◌≡◌, ℕ, Bool, true, false, ◌&&◌, IsTrue, List, [], codes, inl, refl, sym, ap, subst}
 use Rattle.graphql_tokens.specs.tokens.Token.{Bare}
 use Rattle.graphql_tokens.specs.tokens.Cuts.{is_last}
-use Rattle.graphql_tokens.specs.tokens.Edition.{Later}
+use Rattle.graphql_tokens.specs.tokens.Edition.{Current}
 use Rattle.graphql_tokens.specs.tokens.Proper.{Spells}
 use Rattle.graphql_tokens.specs.tokens.Spelling.{IsSpelling}
 use Rattle.graphql_tokens.specs.declared.lexer.TokenKind.{TokenKind}
@@ -87,7 +87,7 @@ dollar-inner vars t e = ap (λ (t : Bare). is_last t.kind) (dollar-is vars t e).
 -- ---- samples
 
 -- characters below 128 are their own bytes
-spells : (kind : TokenKind) (w : List ℕ) → are-ascii w ≡ true → IsSpelling Later kind w → Spells kind w
+spells : (kind : TokenKind) (w : List ℕ) → are-ascii w ≡ true → IsSpelling Current kind w → Spells kind w
 spells kind w e spelled = (w, ascii-scalars w e, sym (ascii-bytes w e), spelled)
 
 pub number-sample : HasSample any_number

@@ -10,7 +10,7 @@ use Rattle.std.proofs.lemmas.Str.Ascii.{IsAscii-nil, IsAscii-cons}
 use Rattle.std.specs.Char.{IsScalar, encode_utf8, is_ascii_hexdigit}
 use Rattle.std.specs.List.{AllByRecursion, concat, prefix_len}
 use Rattle.std.specs.Str.{chars, IsUtf8, IsAscii, IsCharBoundary, encode_utf8_all}
-use Rattle.graphql_tokens.specs.tokens.Edition.{October2021, Later}
+use Rattle.graphql_tokens.specs.tokens.Edition.{Former, Current}
 use Rattle.graphql_tokens.specs.tokens.Strings.{is_plain, Escape, quote, backslash, slash, backspace, form_feed, line_feed, carriage_return, tab, AreHexDigits, IsFourDigits, UnitMeans, UnitsMean, StringMeans, IsContent}
 use Rattle.graphql_tokens.specs.inner.Escapes.{escape_at}
 use Rattle.graphql_tokens.proofs.Chars.{chars_split}
@@ -19,20 +19,20 @@ use Rattle.graphql_tokens.proofs.EscapeUnits.{EscapeMeans, escape_reads, escape_
 
 -- ---- editions
 
-later_unit : (u : List ℕ) (c : ℕ) → UnitMeans October2021 u c → UnitMeans Later u c
+later_unit : (u : List ℕ) (c : ℕ) → UnitMeans Former u c → UnitMeans Current u c
 later_unit u c (inl w) = inl w
 later_unit u c (inr (inl w)) = inr (inl w)
 later_unit u c (inr (inr (inl w))) = inr (inr (inl w))
 later_unit u c (inr (inr (inr w))) = absurd w
 
-later_units : (us : List (List ℕ)) (v : List ℕ) → UnitsMean October2021 us v → UnitsMean Later us v
+later_units : (us : List (List ℕ)) (v : List ℕ) → UnitsMean Former us v → UnitsMean Current us v
 later_units [] [] h = tt
 later_units [] (c ∷ cs) h = absurd h
 later_units (u ∷ us) [] h = absurd h
 later_units (u ∷ us) (c ∷ cs) h = (later_unit u c h.0, later_units us cs h.1)
 
 -- what a content meant in the former edition, it means now
-pub former_means : (content value : List ℕ) → StringMeans October2021 content value → StringMeans Later content value
+pub former_means : (content value : List ℕ) → StringMeans Former content value → StringMeans Current content value
 former_means content value m = (m.0, m.1, later_units m.0 value m.2)
 
 -- ---- contents joined
@@ -41,23 +41,23 @@ concat_append : (us vs : List (List ℕ)) → concat (us ++ vs) ≡ concat us ++
 concat_append [] vs = refl
 concat_append (u ∷ us) vs = ap (λ x. u ++ x) (concat_append us vs) ∙ sym (append_assoc u (concat us) (concat vs))
 
-units_append : (us vs : List (List ℕ)) (a b : List ℕ) → UnitsMean Later us a → UnitsMean Later vs b → UnitsMean Later (us ++ vs) (a ++ b)
+units_append : (us vs : List (List ℕ)) (a b : List ℕ) → UnitsMean Current us a → UnitsMean Current vs b → UnitsMean Current (us ++ vs) (a ++ b)
 units_append [] vs [] b h k = k
 units_append [] vs (x ∷ a) b h k = absurd h
 units_append (u ∷ us) vs [] b h k = absurd h
 units_append (u ∷ us) vs (x ∷ a) b h k = (h.0, units_append us vs a b h.1 k)
 
-means_append : (s t a b : List ℕ) → StringMeans Later s a → StringMeans Later t b → StringMeans Later (s ++ t) (a ++ b)
+means_append : (s t a b : List ℕ) → StringMeans Current s a → StringMeans Current t b → StringMeans Current (s ++ t) (a ++ b)
 means_append s t a b m n =
     (m.0 ++ n.0, ap (λ x. x ++ t) m.1 ∙ ap (λ x. concat m.0 ++ x) n.1 ∙ sym (concat_append m.0 n.0), units_append m.0 n.0 a b m.2 n.2)
 
-means_unit : (u : List ℕ) (c : ℕ) → EscapeMeans u c → StringMeans Later u (c ∷ [])
+means_unit : (u : List ℕ) (c : ℕ) → EscapeMeans u c → StringMeans Current u (c ∷ [])
 means_unit u c m = (u ∷ [], sym (append-nil u), (inr m, tt))
 
 abbrev ArePlain : List ℕ → Type 0
 ArePlain cs = AllByRecursion (λ c. is_plain c ≡ true) cs
 
-means_plain : (cs : List ℕ) → ArePlain cs → StringMeans Later cs cs
+means_plain : (cs : List ℕ) → ArePlain cs → StringMeans Current cs cs
 means_plain [] h = ([], refl, tt)
 means_plain (c ∷ cs) h = let m = means_plain cs h.1 in ((c ∷ []) ∷ m.0, ap (λ x. c ∷ x) m.1, (inl (refl, h.0), m.2))
 
@@ -75,7 +75,7 @@ escape_front u c (inr (inl w)) = (117 ∷ w.0.0, w.0.1)
 escape_front u c (inr (inr (inl w))) = (117 ∷ 123 ∷ (w.0 ++ 125 ∷ []), w.1)
 escape_front u c (inr (inr (inr w))) = (117 ∷ (w.5.0 ++ w.1), w.4 ∙ ap (λ x. x ++ w.1) w.5.1)
 
-unit_reads : (u rest : List ℕ) (c : ℕ) → UnitMeans Later u c → unit_at (u ++ rest) ≡ Some (c, length u)
+unit_reads : (u rest : List ℕ) (c : ℕ) → UnitMeans Current u c → unit_at (u ++ rest) ≡ Some (c, length u)
 unit_reads u rest c (inl w) =
     ap (λ x. unit_at (x ++ rest)) w.0 ∙ ap (λ b. cond b (Some (c, 1)) (escape_at (c ∷ rest))) w.1 ∙ ap (λ x. Some (c, length x)) (sym w.0)
 unit_reads u rest c (inr m) =
@@ -92,7 +92,7 @@ record SameFront (c d : ℕ) (r s : List ℕ) : Type 0 where
   value : c ≡ d
   rest : r ≡ s
 
-same_front : (u r w s : List ℕ) (c d : ℕ) → UnitMeans Later u c → UnitMeans Later w d → u ++ r ≡ w ++ s → SameFront c d r s
+same_front : (u r w s : List ℕ) (c d : ℕ) → UnitMeans Current u c → UnitMeans Current w d → u ++ r ≡ w ++ s → SameFront c d r s
 same_front u r w s c d m n e =
     let p = pair_same c (length u) d (length w) (sym (unit_reads u r c m) ∙ ap unit_at e ∙ unit_reads w s d n) in
     record {
@@ -100,7 +100,7 @@ same_front u r w s c d m n e =
       rest = sym (drop-append_seam u r) ∙ ap (drop (length u)) e ∙ ap (λ k. drop k (w ++ s)) p.1 ∙ drop-append_seam w s;
     }
 
-unit_some : (u : List ℕ) (c : ℕ) → UnitMeans Later u c → (x : ℕ) × (xs : List ℕ) × (u ≡ x ∷ xs)
+unit_some : (u : List ℕ) (c : ℕ) → UnitMeans Current u c → (x : ℕ) × (xs : List ℕ) × (u ≡ x ∷ xs)
 unit_some u c (inl w) = (c, [], w.0)
 unit_some u c (inr m) = let f = escape_front u c m in (92, f.0, f.1)
 
@@ -114,9 +114,9 @@ not_nil x xs e = cc
 record Left (rest front value : List ℕ) : Type 0 where
   after : List ℕ
   is : value ≡ front ++ after
-  means : StringMeans Later rest after
+  means : StringMeans Current rest after
 
-left_of : (us ws : List (List ℕ)) (front value rest : List ℕ) → UnitsMean Later us front → UnitsMean Later ws value → concat us ++ rest ≡ concat ws → Left rest front value
+left_of : (us ws : List (List ℕ)) (front value rest : List ℕ) → UnitsMean Current us front → UnitsMean Current ws value → concat us ++ rest ≡ concat ws → Left rest front value
 left_of [] ws [] value rest m n e = record { after = value; is = refl; means = (ws, e, n) }
 left_of [] ws (c ∷ cs) value rest m n e = absurd m
 left_of (u ∷ us) ws [] value rest m n e = absurd m
@@ -129,14 +129,14 @@ left_of (u ∷ us) (w ∷ ws) (c ∷ cs) (d ∷ ds) rest m n e =
     let l = left_of us ws cs ds rest m.1 n.1 f.rest in
     record { after = l.after; is = ap (λ x. x ∷ ds) (sym f.value) ∙ ap (λ x. c ∷ x) l.is; means = l.means }
 
-nil_means : (us : List (List ℕ)) (value : List ℕ) → UnitsMean Later us value → [] ≡ concat us → value ≡ []
+nil_means : (us : List (List ℕ)) (value : List ℕ) → UnitsMean Current us value → [] ≡ concat us → value ≡ []
 nil_means [] [] m e = refl
 nil_means [] (c ∷ cs) m e = absurd m
 nil_means (u ∷ us) [] m e = absurd m
 nil_means (u ∷ us) (c ∷ cs) m e = let s = unit_some u c m.0 in absurd (not_nil s.0 _ (e ∙ ap (λ x. x ++ concat us) s.2))
 
 -- a content means one thing
-pub means_once : (content value other : List ℕ) → StringMeans Later content value → StringMeans Later content other → other ≡ value
+pub means_once : (content value other : List ℕ) → StringMeans Current content value → StringMeans Current content other → other ≡ value
 means_once content value other m n =
     let l = left_of m.0 n.0 value other [] m.2 n.2 (append-nil (concat m.0) ∙ sym m.1 ∙ n.1) in
     l.is ∙ ap (λ x. value ++ x) (nil_means l.means.0 l.after l.means.2 l.means.1) ∙ append-nil value
@@ -211,12 +211,12 @@ plain_run (x ∷ xs) = by (is_plain x) refl (plain_run xs)
 
 -- the text up to the offset means the value, and what stands there isn't plain
 pub record Passed (bs : List ℕ) (at : ℕ) (value : List ℕ) : Type 0 where
-  pub means : StringMeans Later (chars (take at bs)) (chars value)
+  pub means : StringMeans Current (chars (take at bs)) (chars value)
   pub boundary : IsCharBoundary bs at
   pub stops : at < length bs → is_plain (get_or bs at 0) ≡ false
 
 -- a run of plain characters
-pub past_run : (bs value run : List ℕ) (i j : ℕ) → IsUtf8 bs → IsUtf8 value → IsCharBoundary bs i → StringMeans Later (chars (take i bs)) (chars value)
+pub past_run : (bs value run : List ℕ) (i j : ℕ) → IsUtf8 bs → IsUtf8 value → IsCharBoundary bs i → StringMeans Current (chars (take i bs)) (chars value)
     → j ≡ i + prefix_len is_plain (drop i bs) → run ≡ take (j - i) (drop i bs) → Passed bs j (value ++ run)
 past_run bs value run i j u v b m e r =
     let n = prefix_len is_plain (drop i bs) in
@@ -248,11 +248,11 @@ past_run bs value run i j u v b m e r =
 
 -- the text up to the offset means the value
 pub record Escaped (bs : List ℕ) (at : ℕ) (value : List ℕ) : Type 0 where
-  pub means : StringMeans Later (chars (take at bs)) (chars value)
+  pub means : StringMeans Current (chars (take at bs)) (chars value)
   pub boundary : IsCharBoundary bs at
 
 -- an escape
-past_escape : (bs value : List ℕ) (i c n : ℕ) → IsUtf8 bs → IsUtf8 value → IsCharBoundary bs i → StringMeans Later (chars (take i bs)) (chars value)
+past_escape : (bs value : List ℕ) (i c n : ℕ) → IsUtf8 bs → IsUtf8 value → IsCharBoundary bs i → StringMeans Current (chars (take i bs)) (chars value)
     → escape_at (drop i bs) ≡ Some (c, n) → Escaped bs (i + n) (value ++ encode_utf8 c)
 past_escape bs value i c n u v b m e =
     let f = escape_found (drop i bs) c n e in
@@ -271,8 +271,8 @@ past_escape bs value i c n u v b m e =
     }
 
 -- neither
-pub no_content : (bs value : List ℕ) (i : ℕ) → IsUtf8 bs → IsCharBoundary bs i → i < length bs → StringMeans Later (chars (take i bs)) (chars value)
-    → is_plain (get_or bs i 0) ≡ false → escape_at (drop i bs) ≡ None → IsContent Later (chars bs) → ⊥
+pub no_content : (bs value : List ℕ) (i : ℕ) → IsUtf8 bs → IsCharBoundary bs i → i < length bs → StringMeans Current (chars (take i bs)) (chars value)
+    → is_plain (get_or bs i 0) ≡ false → escape_at (drop i bs) ≡ None → IsContent Current (chars bs) → ⊥
 no_content bs value i u b l m p e content =
     let w = content.1 in
     let whole : concat m.0 ++ chars (drop i bs) ≡ concat w.0 = ap (λ x. x ++ chars (drop i bs)) (sym m.1) ∙ sym (chars_split bs i u b) ∙ w.1 in
@@ -282,7 +282,7 @@ no_content bs value i u b l m p e content =
     read : chars (drop i bs) ≡ get_or bs i 0 ∷ chars (drop (i + 1) bs)
     read = ascii_char bs i u b l (not_plain_low (get_or bs i 0) p)
 
-    no_unit : (unit more : List ℕ) (c : ℕ) → UnitMeans Later unit c → chars (drop i bs) ≡ unit ++ more → ⊥
+    no_unit : (unit more : List ℕ) (c : ℕ) → UnitMeans Current unit c → chars (drop i bs) ≡ unit ++ more → ⊥
     no_unit unit more c (inl w) is =
         let same : get_or bs i 0 ≡ c = cons_same (get_or bs i 0) c _ _ (sym read ∙ is ∙ ap (λ y. y ++ more) w.0) in
         let q : is_plain (get_or bs i 0) ≡ true = ap is_plain same ∙ w.1 in
@@ -294,18 +294,18 @@ no_content bs value i u b l m p e content =
         let some = sym e ∙ ap escape_at bytes ∙ escape_reads unit (encode_utf8_all more) c w in
         absurd (cc)
 
-    by : (us : List (List ℕ)) (v : List ℕ) → UnitsMean Later us v → chars (drop i bs) ≡ concat us → ⊥
+    by : (us : List (List ℕ)) (v : List ℕ) → UnitsMean Current us v → chars (drop i bs) ≡ concat us → ⊥
     by [] v k is = not_nil (get_or bs i 0) _ (sym is ∙ read)
     by (unit ∷ us) [] k is = k
     by (unit ∷ us) (c ∷ cs) k is = no_unit unit (concat us) c k.0 is
 
 -- a text that is plain to its end means itself
-pub all_plain : (bs : List ℕ) (n : ℕ) → IsUtf8 bs → n ≡ prefix_len is_plain bs → n ≡ length bs → StringMeans Later (chars bs) (chars bs)
+pub all_plain : (bs : List ℕ) (n : ℕ) → IsUtf8 bs → n ≡ prefix_len is_plain bs → n ≡ length bs → StringMeans Current (chars bs) (chars bs)
 all_plain bs n u e l =
     let is : take (prefix_len is_plain bs) bs ≡ bs = ap (λ k. take k bs) (sym e ∙ l) ∙ take-length bs in
     means_plain (chars bs) (plain_chars (chars bs) (subst ArePlain (sym (encodes-chars bs u)) (subst ArePlain is (plain_run bs))))
 
-pub nothing : StringMeans Later (chars []) (chars [])
+pub nothing : StringMeans Current (chars []) (chars [])
 nothing = rw chars-nil ([], refl, tt)
 
 -- an escape has a character at least
@@ -316,7 +316,7 @@ escape_some text c n e =
     (omega (arith, ap length u.1, f.long), omega (arith, ap length f.whole, length-append f.unit f.rest, f.long))
 
 -- what the code reads and adds
-pub past_push : (bs old new : List ℕ) (i c n : ℕ) → IsUtf8 bs → IsUtf8 old → IsCharBoundary bs i → StringMeans Later (chars (take i bs)) (chars old)
+pub past_push : (bs old new : List ℕ) (i c n : ℕ) → IsUtf8 bs → IsUtf8 old → IsCharBoundary bs i → StringMeans Current (chars (take i bs)) (chars old)
     → Some (c, n) ≡ escape_at (take (length bs - i) (drop i bs)) → new ≡ old ++ encode_utf8 c → Escaped bs (i + n) new
 past_push bs old new i c n u v b m e is =
     rw is (past_escape bs old i c n u v b m (ap escape_at (sym (take_rest bs i)) ∙ sym e))

@@ -5,7 +5,7 @@ use Rattle.std.proofs.lemmas.List.{append_cancel_right, take-append-drop, drop-d
 use Rattle.std.specs.List.{slice_range}
 use Rattle.std.specs.Str.{chars, IsUtf8, IsCharBoundary, encode_utf8_all}
 use Rattle.std.proofs.lemmas.Str.{chars-append, chars-nil, encodes-chars, IsUtf8-take, IsUtf8-between}
-use Rattle.graphql_tokens.specs.tokens.Edition.{Later}
+use Rattle.graphql_tokens.specs.tokens.Edition.{Current}
 use Rattle.graphql_tokens.specs.tokens.Place.{place}
 use Rattle.graphql_tokens.specs.tokens.Token.{Token}
 use Rattle.graphql_tokens.specs.tokens.Cuts.{token, is_last}
@@ -88,10 +88,10 @@ record Taken (after rest : List ℕ) (kind : TokenKind) : Type 0 where
 
 taken_by : (after rest : List ℕ) (kind : TokenKind) → IsNext after kind rest → Taken after rest kind
 taken_by after rest kind (inl f) =
-    let g = begins_goes_on Later kind f.word rest f.begins in
+    let g = begins_goes_on Current kind f.word rest f.begins in
     record {
       last = λ l. absurd cc;
-      other = λ l. omega (arith, ap length f.whole, length-append f.word rest, begins_some Later kind f.word rest f.begins);
+      other = λ l. omega (arith, ap length f.whole, length-append f.word rest, begins_some Current kind f.word rest f.begins);
     }
 taken_by after rest kind (inr (inl e)) = record { last = λ l. e.2 ∙ sym e.0; other = λ l. let g = ap is_last e.1 in absurd cc }
 taken_by after rest kind (inr (inr e)) = record { last = λ l. e.2; other = λ l. let g = ap is_last e.1 in absurd cc }

@@ -2,7 +2,7 @@
 use Rattle.std.proofs.Common.{◌≡◌, ◌≢◌, ℕ, zero, suc, ◌+◌, ◌≤◌, ◌<◌, Bool, true, false, cond, ◌⊎◌, List, [], ◌∷◌, ◌++◌, length, drop, refl, sym, ap, ◌∙◌, arith, inl, inr, subst, length-append}
 use Rattle.std.proofs.Math.Seq.{drop-nil}
 use Rattle.std.specs.List.{concat}
-use Rattle.graphql_tokens.specs.tokens.Edition.{Edition, October2021, Later}
+use Rattle.graphql_tokens.specs.tokens.Edition.{Edition, Former, Current}
 use Rattle.graphql_tokens.specs.tokens.Spelling.{Begins}
 use Rattle.graphql_tokens.specs.tokens.Token.{Token}
 use Rattle.graphql_tokens.specs.tokens.Cuts.{token, is_last, Cuts, GoesOn, HasNoToken, EndsOnce, HasNoFault}
@@ -18,11 +18,11 @@ goes_on : (after : List ℕ) → after ≢ [] → IsRest after → GoesOn after
 goes_on [] some r = absurd (some refl)
 goes_on (c ∷ cs) some r = r
 
-no_token : (after : List ℕ) → (next after).0 ≡ Fault → HasNoToken Later after
+no_token : (after : List ℕ) → (next after).0 ≡ Fault → HasNoToken Current after
 no_token after f kind w rest is b =
     let only = next_only kind w rest b in
     let same : kind ≡ Fault = ap (λ t. t.0) (sym only) ∙ ap (λ a. (next a).0) (sym is) ∙ f in
-    let last = begins_goes_on Later kind w rest b in
+    let last = begins_goes_on Current kind w rest b in
     let other : is_last kind ≡ true = ap is_last same in
     absurd cc
 
@@ -36,15 +36,15 @@ before_all : (text : List ℕ) → before text text ≡ []
 before_all text = before_is text [] text refl
 
 -- what is behind a token is shorter
-shorter : (after w rest : List ℕ) (kind : TokenKind) → after ≡ w ++ rest → Begins Later kind w rest → length rest < length after
-shorter after w rest kind whole b = omega (arith, ap length whole, length-append w rest, begins_some Later kind w rest b)
+shorter : (after w rest : List ℕ) (kind : TokenKind) → after ≡ w ++ rest → Begins Current kind w rest → length rest < length after
+shorter after w rest kind whole b = omega (arith, ap length whole, length-append w rest, begins_some Current kind w rest b)
 
-behind : (n : ℕ) (here after rest : List ℕ) (kind : TokenKind) → IsNext after kind rest → IsRest after → (kind ≡ Fault → HasNoToken Later after)
-    → ((h r : List ℕ) → length r < length after → Cuts Later h r (tokens_from n h r))
-    → Behind Later here after (token kind here (before after rest)) (cond (is_last kind) [] (tokens_from n (here ++ before after rest) rest))
+behind : (n : ℕ) (here after rest : List ℕ) (kind : TokenKind) → IsNext after kind rest → IsRest after → (kind ≡ Fault → HasNoToken Current after)
+    → ((h r : List ℕ) → length r < length after → Cuts Current h r (tokens_from n h r))
+    → Behind Current here after (token kind here (before after rest)) (cond (is_last kind) [] (tokens_from n (here ++ before after rest) rest))
 behind n here after rest kind (inl f) r lacks ih =
     let w : before after rest ≡ f.word = before_is after f.word rest f.whole in
-    let l : is_last kind ≡ false = begins_goes_on Later kind f.word rest f.begins in
+    let l : is_last kind ≡ false = begins_goes_on Current kind f.word rest f.begins in
     rw (w, l) (inl (kind, f.word, rest, f.whole, f.begins, refl, ih (here ++ f.word) rest (shorter after f.word rest kind f.whole f.begins)))
 behind n here after rest kind (inr (inl e)) r lacks ih =
     let w : before after rest ≡ [] = ap (λ x. before x rest) (e.0 ∙ sym e.2) ∙ before_all rest in
@@ -54,7 +54,7 @@ behind n here after rest kind (inr (inr e)) r lacks ih =
     let no = lacks e.1 in
     rw (w, e.1) (inr (inr (goes_on after e.0 r, no, refl, refl)))
 
-pub cuts_from : (n : ℕ) (front text : List ℕ) → length text < n → Cuts Later front text (tokens_from n front text)
+pub cuts_from : (n : ℕ) (front text : List ℕ) → length text < n → Cuts Current front text (tokens_from n front text)
 unfolding tokens_from
 cuts_from zero front text h = absurd (omega arith)
 cuts_from (suc n) front text h =
@@ -64,7 +64,7 @@ cuts_from (suc n) front text h =
     let here : before text after ≡ concat s.pieces = before_is text (concat s.pieces) after s.whole in
     let long : length after ≤ length text = omega (arith, ap length s.whole, length-append (concat s.pieces) after) in
     let b = behind n (front ++ before text after) after t.1 t.0 (next_is after) (skip_rests text) (no_token after) (λ f r l. cuts_from n f r (omega arith)) in
-    let P : List ℕ → Type 0 = λ w. Behind Later (front ++ w) after (token t.0 (front ++ before text after) (before after t.1)) (cond (is_last t.0) [] (tokens_from n ((front ++ before text after) ++ before after t.1) t.1)) in
+    let P : List ℕ → Type 0 = λ w. Behind Current (front ++ w) after (token t.0 (front ++ before text after) (before after t.1)) (cond (is_last t.0) [] (tokens_from n ((front ++ before text after) ++ before after t.1) t.1)) in
     (s.pieces, after, s.whole, s.ignored, subst P here b)
 
 -- ---- and no other list is
@@ -92,7 +92,7 @@ next_nil : next [] ≡ (End, [])
 unfolding next
 next_nil = refl
 
-next_fault : (after : List ℕ) → GoesOn after → HasNoToken Later after → next after ≡ (Fault, after)
+next_fault : (after : List ℕ) → GoesOn after → HasNoToken Current after → next after ≡ (Fault, after)
 next_fault after g lacks = by (next after).0 (next after).1 refl (next_is after)
   where
     by : (kind : TokenKind) (rest : List ℕ) → (kind, rest) ≡ next after → IsNext after kind rest → next after ≡ (Fault, after)
@@ -104,37 +104,37 @@ list_same : (t u : Token) (ts us : List Token) → t ≡ u → ts ≡ us → t �
 list_same t u ts us e f = cc
 
 only_step : (n : ℕ) (front text front_part after : List ℕ) (t : Token) (ts : List Token) → text ≡ front_part ++ after → skip text ≡ after
-    → ((f r : List ℕ) → length r < length after → Cuts Later f r ts → ts ≡ tokens_from n f r)
-    → Behind Later (front ++ front_part) after t ts → t ∷ ts ≡ tokens_from (suc n) front text
+    → ((f r : List ℕ) → length r < length after → Cuts Current f r ts → ts ≡ tokens_from n f r)
+    → Behind Current (front ++ front_part) after t ts → t ∷ ts ≡ tokens_from (suc n) front text
 only_step n front text front_part after t ts whole s ih (inl b) =
     let kind = b.0 in
     let w = b.1 in
     let rest = b.2 in
     let more : ts ≡ tokens_from n ((front ++ front_part) ++ w) rest = ih ((front ++ front_part) ++ w) rest (shorter after w rest kind b.3 b.4) b.6 in
     let all = step_is n front text front_part after w rest kind whole s b.3 (ap next b.3 ∙ next_only kind w rest b.4) in
-    let on = ap (λ l. cond l [] (tokens_from n ((front ++ front_part) ++ w) rest)) (begins_goes_on Later kind w rest b.4) in
+    let on = ap (λ l. cond l [] (tokens_from n ((front ++ front_part) ++ w) rest)) (begins_goes_on Current kind w rest b.4) in
     list_same _ _ _ _ b.5 (more ∙ sym on) ∙ sym all
 only_step n front text front_part after t ts whole s ih (inr (inl b)) =
     list_same _ _ _ _ b.1 b.2 ∙ sym (step_is n front text front_part after [] [] End whole s b.0 (ap next b.0 ∙ next_nil))
 only_step n front text front_part after t ts whole s ih (inr (inr b)) =
     list_same _ _ _ _ b.2 b.3 ∙ sym (step_is n front text front_part after [] after Fault whole s refl (next_fault after b.0 b.1))
 
-pub only_from : (n : ℕ) (front text : List ℕ) (ts : List Token) → length text < n → Cuts Later front text ts → ts ≡ tokens_from n front text
+pub only_from : (n : ℕ) (front text : List ℕ) (ts : List Token) → length text < n → Cuts Current front text ts → ts ≡ tokens_from n front text
 only_from n front text [] h c = absurd c
 only_from zero front text (t ∷ ts) h c = absurd (omega arith)
 only_from (suc n) front text (t ∷ ts) h c =
     let after = c.1 in
-    let s : skip text ≡ after = ap skip c.2 ∙ skip_pieces c.0 after c.3 ∙ skip_rest after (behind_rest Later (front ++ concat c.0) after t ts c.4) in
+    let s : skip text ≡ after = ap skip c.2 ∙ skip_pieces c.0 after c.3 ∙ skip_rest after (behind_rest Current (front ++ concat c.0) after t ts c.4) in
     let long : length after ≤ length text = omega (arith, ap length c.2, length-append (concat c.0) after) in
     only_step n front text (concat c.0) after t ts c.2 s (λ f r l d. only_from n f r ts (omega arith) d) c.4
 
 -- ---- the whole list
 
-pub tokens_cuts : (front text : List ℕ) → Cuts Later front text (tokens front text)
+pub tokens_cuts : (front text : List ℕ) → Cuts Current front text (tokens front text)
 unfolding tokens
 tokens_cuts front text = cuts_from (suc (length text)) front text (omega arith)
 
-pub tokens_only : (front text : List ℕ) (ts : List Token) → Cuts Later front text ts → ts ≡ tokens front text
+pub tokens_only : (front text : List ℕ) (ts : List Token) → Cuts Current front text ts → ts ≡ tokens front text
 unfolding tokens
 tokens_only front text ts c = only_from (suc (length text)) front text ts (omega arith) c
 
@@ -175,12 +175,12 @@ one_ends : (t : Token) (ts : List Token) → is_last t.bare.kind ≡ true → ts
 one_ends t [] l e = l
 one_ends t (u ∷ us) l e = absurd (cc)
 
-ends_step : (here after : List ℕ) (t : Token) (ts : List Token) → ((f r : List ℕ) → Cuts Later f r ts → EndsOnce ts) → Behind Later here after t ts → EndsOnce (t ∷ ts)
-ends_step here after t ts ih (inl b) = cons_ends t ts (ap (λ x. is_last x.bare.kind) b.5 ∙ begins_goes_on Later b.0 b.1 b.2 b.4) (ih (here ++ b.1) b.2 b.6)
+ends_step : (here after : List ℕ) (t : Token) (ts : List Token) → ((f r : List ℕ) → Cuts Current f r ts → EndsOnce ts) → Behind Current here after t ts → EndsOnce (t ∷ ts)
+ends_step here after t ts ih (inl b) = cons_ends t ts (ap (λ x. is_last x.bare.kind) b.5 ∙ begins_goes_on Current b.0 b.1 b.2 b.4) (ih (here ++ b.1) b.2 b.6)
 ends_step here after t ts ih (inr (inl b)) = one_ends t ts (ap (λ x. is_last x.bare.kind) b.1) b.2
 ends_step here after t ts ih (inr (inr b)) = one_ends t ts (ap (λ x. is_last x.bare.kind) b.2) b.3
 
-pub cuts_ends : (front text : List ℕ) (ts : List Token) → Cuts Later front text ts → EndsOnce ts
+pub cuts_ends : (front text : List ℕ) (ts : List Token) → Cuts Current front text ts → EndsOnce ts
 cuts_ends front text [] c = absurd c
 cuts_ends front text (t ∷ ts) c = ends_step (front ++ concat c.0) c.1 t ts (λ f r d. cuts_ends f r ts d) c.4
 
@@ -211,14 +211,14 @@ tokens_short front text = omega (arith, short_from (suc (length text)) front tex
 
 -- ---- editions
 
-later_step : (here after : List ℕ) (t : Token) (ts : List Token) → t.bare.kind ≢ Fault → ((f r : List ℕ) → Cuts October2021 f r ts → Cuts Later f r ts)
-    → Behind October2021 here after t ts → Behind Later here after t ts
+later_step : (here after : List ℕ) (t : Token) (ts : List Token) → t.bare.kind ≢ Fault → ((f r : List ℕ) → Cuts Former f r ts → Cuts Current f r ts)
+    → Behind Former here after t ts → Behind Current here after t ts
 later_step here after t ts proper ih (inl b) = inl (b.0, b.1, b.2, b.3, begins_later b.0 b.1 b.2 b.4, b.5, ih (here ++ b.1) b.2 b.6)
 later_step here after t ts proper ih (inr (inl b)) = inr (inl b)
 later_step here after t ts proper ih (inr (inr b)) = absurd (proper (ap (λ x. x.bare.kind) b.2))
 
 -- a text that was cut without a fault in the former edition is cut into the same tokens now
-pub cuts_later : (front text : List ℕ) (ts : List Token) → HasNoFault ts → Cuts October2021 front text ts → Cuts Later front text ts
+pub cuts_later : (front text : List ℕ) (ts : List Token) → HasNoFault ts → Cuts Former front text ts → Cuts Current front text ts
 cuts_later front text [] n c = absurd c
 cuts_later front text (t ∷ ts) n c =
     (c.0, c.1, c.2, c.3, later_step (front ++ concat c.0) c.1 t ts n.0 (λ f r d. cuts_later f r ts n.1 d) c.4)

@@ -2,7 +2,7 @@
 use Rattle.std.proofs.Common.{◌≡◌, ◌≢◌, ℕ, ◌≤◌, ◌<◌, Bool, true, false, cond, ◌&&◌, eqb, ◌⊎◌, List, [], ◌∷◌, ◌++◌, Option, Some, None, length, refl, sym, ap, ◌∙◌, append_assoc, arith, inl, inr, subst, length-append}
 use Rattle.std.proofs.lemmas.Bool.Decides.{nat_tests}
 use Rattle.std.specs.List.{AllByRecursion, concat}
-use Rattle.graphql_tokens.specs.tokens.Edition.{Edition, October2021, Later}
+use Rattle.graphql_tokens.specs.tokens.Edition.{Edition, Former, Current}
 use Rattle.graphql_tokens.specs.tokens.Classes.{is_ignored, is_punct, is_name_start, is_name_char}
 use Rattle.graphql_tokens.specs.tokens.Spelling.{Begins, IsSpelling, IsPunct, IsName, MayFollow}
 use Rattle.graphql_tokens.specs.tokens.Cuts.{is_last}
@@ -27,7 +27,7 @@ use Rattle.graphql_tokens.proofs.Contents.{former_means}
 pub record Found (kind : TokenKind) (text rest : List ℕ) : Type 0 where
   pub word : List ℕ
   pub whole : text ≡ word ++ rest
-  pub begins : Begins Later kind word rest
+  pub begins : Begins Current kind word rest
 
 -- a token, the end, or no token
 abbrev pub IsNext : List ℕ → TokenKind → List ℕ → Type 0
@@ -138,7 +138,7 @@ string_found c cs rest is other e =
         absurd (cc)
     by (d ∷ ds) f = long_follows (34 ∷ ((string_is cs rest e).content ++ 34 ∷ [])) rest (omega (arith, length-append (string_is cs rest e).content (34 ∷ []), ap length f))
 
-empty_content : IsContent Later []
+empty_content : IsContent Current []
 empty_content = ([], ([], refl, tt))
 
 empty_found : (c : ℕ) (cs one : List ℕ) → c ≡ 34 → past_char 34 cs ≡ Some one → past_char 34 one ≡ None → Found String (c ∷ cs) one
@@ -243,7 +243,7 @@ unfolding next
 at_quote cs = refl
 
 -- behind the quote of a string that isn't empty
-no_second : (content rest : List ℕ) → IsContent Later content → content ≢ [] → past_char 34 (content ++ (34 ∷ rest)) ≡ None
+no_second : (content rest : List ℕ) → IsContent Current content → content ≢ [] → past_char 34 (content ++ (34 ∷ rest)) ≡ None
 no_second [] rest m some = absurd (some refl)
 no_second (c ∷ cs) rest m some = let h = content_head c cs m in ap (λ b. cond b (Some (cs ++ (34 ∷ rest))) None) h
 
@@ -251,13 +251,13 @@ no_third : (rest : List ℕ) → MayFollow String (34 ∷ 34 ∷ []) rest → pa
 no_third [] h = refl
 no_third (c ∷ cs) h = let n : eqb c 34 ≡ false = h in ap (λ b. cond b (Some cs) None) n
 
-next_string : (content rest : List ℕ) → IsContent Later content → (content ≡ [] → past_char 34 rest ≡ None) → next (34 ∷ (content ++ (34 ∷ rest))) ≡ (String, rest)
+next_string : (content rest : List ℕ) → IsContent Current content → (content ≡ [] → past_char 34 rest ≡ None) → next (34 ∷ (content ++ (34 ∷ rest))) ≡ (String, rest)
 next_string [] rest m empty = at_quote (34 ∷ rest) ∙ ap (triple rest) (empty refl)
 next_string (c ∷ cs) rest m empty =
     let text = (c ∷ cs) ++ (34 ∷ rest) in
     at_quote text ∙ ap (double text) (no_second (c ∷ cs) rest m (λ e. cc)) ∙ ap (found String (34 ∷ text)) (string_only (c ∷ cs) rest m)
 
-next_string_word : (w rest : List ℕ) → IsString Later w → MayFollow String w rest → next (w ++ rest) ≡ (String, rest)
+next_string_word : (w rest : List ℕ) → IsString Current w → MayFollow String w rest → next (w ++ rest) ≡ (String, rest)
 next_string_word w rest s f =
     let content = s.0 in
     let whole : w ++ rest ≡ 34 ∷ (content ++ (34 ∷ rest)) = ap (λ x. x ++ rest) s.1 ∙ ap (λ x. 34 ∷ x) (append_assoc content (34 ∷ []) rest) in
@@ -269,7 +269,7 @@ next_block w rest b =
     let whole : w ++ rest ≡ 34 ∷ 34 ∷ 34 ∷ raw = ap (λ x. x ++ rest) b.1 in
     ap next whole ∙ at_quote (34 ∷ 34 ∷ raw) ∙ ap (found Block (34 ∷ 34 ∷ 34 ∷ raw)) (block_only b.0 rest b.2)
 
-pub next_only : (kind : TokenKind) (w rest : List ℕ) → Begins Later kind w rest → next (w ++ rest) ≡ (kind, rest)
+pub next_only : (kind : TokenKind) (w rest : List ℕ) → Begins Current kind w rest → next (w ++ rest) ≡ (kind, rest)
 next_only Punct w rest b = next_punct w rest b.spelled
 next_only Name w rest b = next_name w rest b.spelled (name_follows w rest b.follows)
 next_only Number w rest b = next_number w rest b.spelled (allows_of w rest b.follows)
@@ -331,10 +331,10 @@ begins_some edition kind [] rest b = absurd (by kind b)
 -- ---- editions
 
 -- what the former edition has, the later one has too
-pub begins_later : (kind : TokenKind) (w rest : List ℕ) → Begins October2021 kind w rest → Begins Later kind w rest
+pub begins_later : (kind : TokenKind) (w rest : List ℕ) → Begins Former kind w rest → Begins Current kind w rest
 begins_later kind w rest b = record { spelled = by kind b.spelled; follows = b.follows }
   where
-    by : (k : TokenKind) → IsSpelling October2021 k w → IsSpelling Later k w
+    by : (k : TokenKind) → IsSpelling Former k w → IsSpelling Current k w
     by Punct s = s
     by Name s = s
     by Number s = s

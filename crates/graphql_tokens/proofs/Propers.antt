@@ -5,7 +5,7 @@ use Rattle.std.specs.Char.{IsScalar}
 use Rattle.std.specs.Str.{chars, IsUtf8, all_scalars}
 use Rattle.std.proofs.lemmas.Str.{scalars-chars}
 use lib.Utf8.{scalar}
-use Rattle.graphql_tokens.specs.tokens.Edition.{Later}
+use Rattle.graphql_tokens.specs.tokens.Edition.{Current}
 use Rattle.graphql_tokens.specs.tokens.Spelling.{Begins}
 use Rattle.graphql_tokens.specs.tokens.Token.{Token}
 use Rattle.graphql_tokens.specs.tokens.Cuts.{token, Cuts}
@@ -33,7 +33,7 @@ scalars_split : (xs ys : List ℕ) → AreScalars (xs ++ ys) → AreScalars xs �
 scalars_split [] ys h = (tt, h)
 scalars_split (x ∷ xs) ys h = let r = scalars_split xs ys h.1 in ((h.0, r.0), r.1)
 
-token_proper : (kind : TokenKind) (here w rest : List ℕ) → AreScalars w → Begins Later kind w rest → IsProper (token kind here w)
+token_proper : (kind : TokenKind) (here w rest : List ℕ) → AreScalars w → Begins Current kind w rest → IsProper (token kind here w)
 token_proper Punct here w rest h b = (w, h, refl, b.spelled)
 token_proper Name here w rest h b = (w, h, refl, b.spelled)
 token_proper Number here w rest h b = (w, h, refl, b.spelled)
@@ -42,8 +42,8 @@ token_proper Block here w rest h b = (w, h, refl, b.spelled)
 token_proper Fault here w rest h b = absurd b.spelled
 token_proper End here w rest h b = absurd b.spelled
 
-proper_step : (here after : List ℕ) (t : Token) (ts : List Token) → AreScalars after → ((f r : List ℕ) → AreScalars r → Cuts Later f r ts → AreProperButFaults ts)
-    → Behind Later here after t ts → AreProperButFaults (t ∷ ts)
+proper_step : (here after : List ℕ) (t : Token) (ts : List Token) → AreScalars after → ((f r : List ℕ) → AreScalars r → Cuts Current f r ts → AreProperButFaults ts)
+    → Behind Current here after t ts → AreProperButFaults (t ∷ ts)
 proper_step here after t ts h ih (inl b) =
     let s = scalars_split b.1 b.2 (subst AreScalars b.3 h) in
     (inr (subst IsProper (sym b.5) (token_proper b.0 here b.1 b.2 s.0 b.4)), ih (here ++ b.1) b.2 s.1 b.6)
@@ -52,7 +52,7 @@ proper_step here after t ts h ih (inr (inl b)) =
 proper_step here after t ts h ih (inr (inr b)) =
     (inl (ap (λ x. x.bare.kind) b.2), subst AreProperButFaults (sym b.3) tt)
 
-pub cuts_proper : (front text : List ℕ) (ts : List Token) → AllByRecursion IsScalar text → Cuts Later front text ts → AreProperButFaults ts
+pub cuts_proper : (front text : List ℕ) (ts : List Token) → AllByRecursion IsScalar text → Cuts Current front text ts → AreProperButFaults ts
 cuts_proper front text [] h c = absurd c
 cuts_proper front text (t ∷ ts) h c =
     let s = scalars_split (concat c.0) c.1 (subst AreScalars c.2 h) in

@@ -5,7 +5,7 @@ use Rattle.std.proofs.lemmas.Bool.Decides.{nat_tests}
 use Rattle.std.proofs.lemmas.Str.{chars-append, chars-IsAscii, encodes-chars, encodes-append, encodes-IsAscii, IsUtf8-from_ascii}
 use Rattle.std.specs.List.{concat}
 use Rattle.std.specs.Str.{chars, IsUtf8, encode_utf8_all}
-use Rattle.graphql_tokens.specs.tokens.Edition.{Later}
+use Rattle.graphql_tokens.specs.tokens.Edition.{Current}
 use Rattle.graphql_tokens.specs.tokens.Strings.{is_plain, UnitMeans, UnitsMean, IsContent}
 use Rattle.graphql_tokens.specs.inner.Escapes.{escape_at}
 use Rattle.graphql_tokens.specs.inner.Quoted.{past_unit, past_string_from, past_string}
@@ -84,9 +84,9 @@ escape_chars bs u = by (escape_at bs) refl (escape_at (chars bs)) refl
 pub record Closed (text rest : List ℕ) : Type 0 where
   pub content : List ℕ
   pub whole : text ≡ content ++ (34 ∷ rest)
-  pub means : IsContent Later content
+  pub means : IsContent Current content
 
-closed_unit : (unit text rest : List ℕ) (v : ℕ) → UnitMeans Later unit v → Closed text rest → Closed (unit ++ text) rest
+closed_unit : (unit text rest : List ℕ) (v : ℕ) → UnitMeans Current unit v → Closed text rest → Closed (unit ++ text) rest
 closed_unit unit text rest v m k =
     let s = k.means.1 in
     record {
@@ -135,27 +135,27 @@ escape_step u rest c m =
     ap past_string whole ∙ string_escape 92 t c (length u) refl refl r
     ∙ ap (λ x. past_string (drop (length u) x)) (sym whole) ∙ ap past_string (drop-append_seam u rest)
 
-unit_step : (u rest : List ℕ) (c : ℕ) → UnitMeans Later u c → past_string (u ++ rest) ≡ past_string rest
+unit_step : (u rest : List ℕ) (c : ℕ) → UnitMeans Current u c → past_string (u ++ rest) ≡ past_string rest
 unit_step u rest c (inl w) = plain_step u rest c w.0 w.1
 unit_step u rest c (inr w) = escape_step u rest c w
 
-units_step : (units : List (List ℕ)) (value rest : List ℕ) → UnitsMean Later units value → past_string (concat units ++ (34 ∷ rest)) ≡ Some rest
+units_step : (units : List (List ℕ)) (value rest : List ℕ) → UnitsMean Current units value → past_string (concat units ++ (34 ∷ rest)) ≡ Some rest
 units_step [] [] rest h = string_quote 34 rest refl
 units_step [] (c ∷ cs) rest h = absurd h
 units_step (u ∷ us) [] rest h = absurd h
 units_step (u ∷ us) (c ∷ cs) rest h =
     ap past_string (append_assoc u (concat us) (34 ∷ rest)) ∙ unit_step u (concat us ++ (34 ∷ rest)) c h.0 ∙ units_step us cs rest h.1
 
-pub string_only : (content rest : List ℕ) → IsContent Later content → past_string (content ++ (34 ∷ rest)) ≡ Some rest
+pub string_only : (content rest : List ℕ) → IsContent Current content → past_string (content ++ (34 ∷ rest)) ≡ Some rest
 string_only content rest m =
     let s = m.1 in
     ap (λ x. past_string (x ++ (34 ∷ rest))) s.1 ∙ units_step s.0 m.0 rest s.2
 
 -- a content doesn't begin with a quote
-pub content_head : (c : ℕ) (cs : List ℕ) → IsContent Later (c ∷ cs) → eqb c 34 ≡ false
+pub content_head : (c : ℕ) (cs : List ℕ) → IsContent Current (c ∷ cs) → eqb c 34 ≡ false
 content_head c cs m = by m.1.0 m.0 m.1.1 m.1.2
   where
-    unit : (u us : List ℕ) (v : ℕ) → (c ∷ cs) ≡ u ++ us → UnitMeans Later u v → eqb c 34 ≡ false
+    unit : (u us : List ℕ) (v : ℕ) → (c ∷ cs) ≡ u ++ us → UnitMeans Current u v → eqb c 34 ≡ false
     unit u us v e (inl w) =
         let same : (c ∷ cs) ≡ v ∷ us = e ∙ ap (λ x. x ++ us) w.0 in
         let is : c ≡ v = cc in
@@ -167,7 +167,7 @@ content_head c cs m = by m.1.0 m.0 m.1.1 m.1.2
         let is : c ≡ 92 = cc in
         ap (λ d. eqb d 34) is
 
-    by : (units : List (List ℕ)) (value : List ℕ) → (c ∷ cs) ≡ concat units → UnitsMean Later units value → eqb c 34 ≡ false
+    by : (units : List (List ℕ)) (value : List ℕ) → (c ∷ cs) ≡ concat units → UnitsMean Current units value → eqb c 34 ≡ false
     by [] value e h = absurd (cc)
     by (u ∷ us) [] e h = absurd h
     by (u ∷ us) (v ∷ vs) e h = unit u (concat us) v e h.0

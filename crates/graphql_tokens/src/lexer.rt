@@ -175,7 +175,7 @@ impl<'a> Tokens<'a> {
     ghost use Rattle.std.specs.Prelude.{◌≡◌, ◌≢◌, ◌≤◌, ◌+◌, length, IsTrue, ◌↔◌, List, [], ◌∷◌};
     ghost use Rattle.std.specs.Str.{chars};
     ghost use Rattle.graphql_tokens.specs.tokens.Token.{Token as SpecToken, left};
-    ghost use Rattle.graphql_tokens.specs.tokens.Edition.{October2021};
+    ghost use Rattle.graphql_tokens.specs.tokens.Edition.{Former};
     ghost use Rattle.graphql_tokens.specs.tokens.Cuts.{Cuts, EndsOnce, HasNoFault};
     ghost use Rattle.graphql_tokens.specs.tokens.Proper.{IsCutInto, AreProperButFaults};
     ghost use Rattle.graphql_tokens.specs.tokens.Seen.{seen};
@@ -189,7 +189,7 @@ impl<'a> Tokens<'a> {
         // and no others.
         ensures only { (ts : List SpecToken) → IsCutInto text.entry.now ts → ts ≡ left result }
         // A text that the former edition cuts without a fault is cut into the same tokens now.
-        ensures former { (ts : List SpecToken) → HasNoFault ts → Cuts October2021 [] (chars text.entry.now) ts → ts ≡ left result }
+        ensures former { (ts : List SpecToken) → HasNoFault ts → Cuts Former [] (chars text.entry.now) ts → ts ≡ left result }
         // One of them is an end or a fault, and it is the last.
         ensures ends { EndsOnce (left result) }
         // Each but a fault has a spelling of its kind.

@@ -4,7 +4,7 @@ ghost use Rattle.std.specs.Prelude.{◌≡◌, ◌≤◌, ◌+◌, drop, length,
 ghost use Rattle.std.specs.List.{prefix_len};
 ghost use Rattle.std.specs.Str.{chars};
 ghost use Rattle.graphql_tokens.specs.tokens.BlockText.{block_value};
-ghost use Rattle.graphql_tokens.specs.tokens.Edition.{October2021, Later};
+ghost use Rattle.graphql_tokens.specs.tokens.Edition.{Former, Current};
 ghost use Rattle.graphql_tokens.specs.tokens.Strings.{is_plain as is_plain_char, StringMeans, IsContent};
 
 mod block;
@@ -53,12 +53,12 @@ fn past_plain(bytes: &[u8], start: usize) -> usize
 #[tactic(auto, using(crate::proofs::Contents::former_means))]
 pub fn string_value(alloc: Global, content: &str) -> Result<Option<String>, AllocError>
     // What it gives is the value of the content,
-    ensures some { IfOk result (λ value. IfSome value (λ s. StringMeans Later (chars content.now) (chars (string_bytes s)))) }
+    ensures some { IfOk result (λ value. IfSome value (λ s. StringMeans Current (chars content.now) (chars (string_bytes s)))) }
     // and the content has no other.
-    ensures only { IfOk result (λ value. IfSome value (λ s. (other : List ℕ) → StringMeans Later (chars content.now) other → other ≡ chars (string_bytes s))) }
-    ensures none { IfOk result (λ value. IfNone value (¬ IsContent Later (chars content.now))) }
+    ensures only { IfOk result (λ value. IfSome value (λ s. (other : List ℕ) → StringMeans Current (chars content.now) other → other ≡ chars (string_bytes s))) }
+    ensures none { IfOk result (λ value. IfNone value (¬ IsContent Current (chars content.now))) }
     // What a content meant in the former edition, it means now.
-    ensures former { (value : List ℕ) → StringMeans October2021 (chars content.now) value → StringMeans Later (chars content.now) value }
+    ensures former { (value : List ℕ) → StringMeans Former (chars content.now) value → StringMeans Current (chars content.now) value }
 {
     let bytes = content.as_bytes();
     let mut at = past_plain(bytes, 0);

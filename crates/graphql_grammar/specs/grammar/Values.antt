@@ -3,7 +3,7 @@ use Rattle.std.specs.Prelude.{◌≡◌, ℕ, zero, suc, Bool, true, false, ◌-
 use Rattle.std.specs.Str.{chars, encode_utf8_all}
 use Rattle.graphql_tokens.specs.declared.pos.Positioned.{Positioned}
 use Rattle.graphql_tokens.specs.tokens.BlockText.{block_value}
-use Rattle.graphql_tokens.specs.tokens.Edition.{Later}
+use Rattle.graphql_tokens.specs.tokens.Edition.{Current}
 use Rattle.graphql_tokens.specs.tokens.Strings.{StringMeans}
 use Rattle.graphql_tokens.specs.tokens.Token.{Bare, Token}
 use Rattle.graphql_syntax.specs.trees.ValueTree.{Tree, variable, null, number, string, boolean, enumeration, list, object, trees_of, fields_of}
@@ -53,7 +53,7 @@ inside quotes spelling = drop quotes (take (length spelling - quotes) spelling)
 
 -- the bytes of the one value of a string's content
 abbrev pub StringStands : Bare → List ℕ → Type 0
-StringStands t bytes = (value : List ℕ) × StringMeans Later (chars (inside 1 t.spelling)) value × (bytes ≡ encode_utf8_all value)
+StringStands t bytes = (value : List ℕ) × StringMeans Current (chars (inside 1 t.spelling)) value × (bytes ≡ encode_utf8_all value)
 
 -- the bytes of the value of a block string's raw text
 abbrev pub BlockStands : Bare → List ℕ → Type 0

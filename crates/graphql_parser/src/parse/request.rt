@@ -2,7 +2,7 @@
 ghost use Rattle.std.specs.Prelude.{◌≡◌, ◌≢◌, ◌+◌, ℕ, List, []};
 ghost use Rattle.std.specs.Str.{chars};
 ghost use Rattle.graphql_tokens.specs.tokens.Cuts.{Cuts, HasNoFault};
-ghost use Rattle.graphql_tokens.specs.tokens.Edition.{October2021};
+ghost use Rattle.graphql_tokens.specs.tokens.Edition.{Former};
 ghost use Rattle.graphql_tokens.specs.tokens.Proper.{IsCutInto};
 ghost use Rattle.graphql_tokens.specs.tokens.Token.{Token as SpecToken, left};
 ghost use Rattle.graphql_parser.specs.grammar.Answers.{Answers, TakenFor};
@@ -54,7 +54,7 @@ fn read_document(
 pub fn parse_query(alloc: Global, text: &str) -> Result<ExecutableDocument>
     ensures answer { (tokens : List SpecToken) → IsCutInto text.now tokens → Answers default_limits tokens result }
     // The tokens of a text that the former edition cuts without a fault are those of now.
-    ensures former { (tokens : List SpecToken) → HasNoFault tokens → Cuts October2021 [] (chars text.now) tokens → Answers default_limits tokens result }
+    ensures former { (tokens : List SpecToken) → HasNoFault tokens → Cuts Former [] (chars text.now) tokens → Answers default_limits tokens result }
 {
     parse_query_limited(alloc, text, Limits::default())
 }
@@ -62,7 +62,7 @@ pub fn parse_query(alloc: Global, text: &str) -> Result<ExecutableDocument>
 /// As [`parse_query`], with limits that the caller chooses (this project's own call).
 pub fn parse_query_limited(alloc: Global, text: &str, limits: Limits) -> Result<ExecutableDocument>
     ensures answer { (tokens : List SpecToken) → IsCutInto text.now tokens → Answers limits tokens result }
-    ensures former { (tokens : List SpecToken) → HasNoFault tokens → Cuts October2021 [] (chars text.now) tokens → Answers limits tokens result }
+    ensures former { (tokens : List SpecToken) → HasNoFault tokens → Cuts Former [] (chars text.now) tokens → Answers limits tokens result }
 {
     let mut tokens = Tokens::new(text);
     read_document(alloc, &mut tokens, limits)

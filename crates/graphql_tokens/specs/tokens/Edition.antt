@@ -1,7 +1,9 @@
--- The two editions of GraphQL texts that are defined here. The code is the later one.
+-- The two editions of GraphQL texts that are defined here. The code reads the current one.
 
--- `October2021` is the specification of that name. `Later` has two kinds of string units more:
--- `\u{..}`, and two `\u` escapes that name the halves of a surrogate pair.
+-- `Former` is what GraphQL October 2021 has, but for two things: there a `\u` escape may name a surrogate, and
+-- no character past U+FFFF stands in strings and comments. Here an escape that names a surrogate is none, and
+-- strings and comments may hold any character. `Current` has two kinds of string units more, `\u{..}` and two
+-- `\u` escapes that name the halves of a surrogate pair, and a description before `schema`.
 pub data Edition : Type 0 where
-  October2021 : Edition
-  Later : Edition
+  Former : Edition
+  Current : Edition

@@ -3,7 +3,7 @@ use Rattle.std.specs.Prelude.{◌≡◌, ℕ, ◌⊎◌, List, [], ◌∷◌}
 use Rattle.std.specs.Str.{chars, encode_utf8_all}
 use Rattle.std.specs.Char.{IsScalar}
 use Rattle.std.specs.List.{AllByRecursion}
-use Rattle.graphql_tokens.specs.tokens.Edition.{Later}
+use Rattle.graphql_tokens.specs.tokens.Edition.{Current}
 use Rattle.graphql_tokens.specs.tokens.Cuts.{Cuts}
 use Rattle.graphql_tokens.specs.tokens.Spelling.{IsSpelling}
 use Rattle.graphql_tokens.specs.tokens.Token.{Token}
@@ -12,11 +12,11 @@ use Rattle.graphql_tokens.specs.declared.lexer.TokenKind.TheVariants.{Fault, End
 
 -- the text, in UTF-8, is cut into these tokens
 abbrev pub IsCutInto : List ℕ → List Token → Type 0
-IsCutInto text tokens = Cuts Later [] (chars text) tokens
+IsCutInto text tokens = Cuts Current [] (chars text) tokens
 
 -- these bytes are the UTF-8 of characters that spell the kind
 abbrev pub Spells : TokenKind → List ℕ → Type 0
-Spells kind bytes = (w : List ℕ) × AllByRecursion IsScalar w × (bytes ≡ encode_utf8_all w) × IsSpelling Later kind w
+Spells kind bytes = (w : List ℕ) × AllByRecursion IsScalar w × (bytes ≡ encode_utf8_all w) × IsSpelling Current kind w
 
 -- a bare token with a spelling of its kind; an end has the empty one, and a fault has none
 abbrev pub IsProperBare : TokenKind → List ℕ → Type 0

@@ -2,7 +2,7 @@
 use Rattle.std.specs.Prelude.{◌≡◌, ◌≤◌, ℕ, ◌+◌, ◌-◌, ◌*◌, Bool, true, not, ◌||◌, ◌==◌, ◌⊎◌, List, [], ◌∷◌, ◌++◌, length, codes}
 use Rattle.std.specs.Char.{IsScalar, is_ascii_hexdigit, digit_value}
 use Rattle.std.specs.List.{AllByRecursion, concat}
-use Rattle.graphql_tokens.specs.tokens.Edition.{Edition, October2021, Later}
+use Rattle.graphql_tokens.specs.tokens.Edition.{Edition, Former, Current}
 
 -- ---- plain characters
 
@@ -71,13 +71,13 @@ IsPair unit c =
 -- ---- units and contents
 
 -- what the later edition adds
-abbrev pub IsLaterEscape : Edition → List ℕ → ℕ → Type 0
-IsLaterEscape October2021 unit c = ⊥
-IsLaterEscape Later unit c = IsBracedEscape unit c ⊎ IsPair unit c
+abbrev pub IsCurrentEscape : Edition → List ℕ → ℕ → Type 0
+IsCurrentEscape Former unit c = ⊥
+IsCurrentEscape Current unit c = IsBracedEscape unit c ⊎ IsPair unit c
 
 -- in this edition the unit stands for the character
 abbrev pub UnitMeans : Edition → List ℕ → ℕ → Type 0
-UnitMeans edition unit c = IsPlain unit c ⊎ IsEscape unit c ⊎ IsFourDigitEscape unit c ⊎ IsLaterEscape edition unit c
+UnitMeans edition unit c = IsPlain unit c ⊎ IsEscape unit c ⊎ IsFourDigitEscape unit c ⊎ IsCurrentEscape edition unit c
 
 -- the units stand for the characters, one for one
 abbrev pub UnitsMean : Edition → List (List ℕ) → List ℕ → Type 0

@@ -3,7 +3,7 @@ use Rattle.std.specs.Str.{chars}
 use Rattle.std.specs.Prelude.{string_bytes}
 use Rattle.std.proofs.lemmas.List.{take_all, take_rest}
 use Rattle.std.proofs.lemmas.Str.{IsUtf8-string_bytes, IsUtf8-nil, IsCharBoundary-start}
-use Rattle.graphql_tokens.specs.tokens.Edition.{Later}
+use Rattle.graphql_tokens.specs.tokens.Edition.{Current}
 use Rattle.graphql_tokens.specs.tokens.Strings.{StringMeans}
 use Rattle.graphql_tokens.specs.inner.Escapes.{escape_at}
 use Rattle.graphql_tokens.proofs.Contents.{past_run, past_push, no_content, means_once, all_plain, nothing, escape_some}
@@ -11,7 +11,7 @@ use Rattle.graphql_tokens.proofs.text.string_value.Goals as goal
 
 -- ---- a content without escapes
 
-plain : (c : goal.In_ok-from_str) → StringMeans Later (chars c.args.content.now) (chars (string_bytes c.in_ok-from_str.field-0))
+plain : (c : goal.In_ok-from_str) → StringMeans Current (chars c.args.content.now) (chars (string_bytes c.in_ok-from_str.field-0))
 plain c =
     let bs = c.as_bytes-bytes.result.now in
     let m = all_plain bs c.past_plain-at.result c.as_bytes-bytes.ensures.utf8 (c.past_plain-at.ensures.value ∙ omega arith) (c.if-at-bytes.true) in
@@ -101,7 +101,7 @@ loop-at-preserved c =
 
 -- ---- the end
 
-whole : (c : goal.After-loop-at) → StringMeans Later (chars c.args.content.now) (chars (string_bytes c.loop-at.value))
+whole : (c : goal.After-loop-at) → StringMeans Current (chars c.args.content.now) (chars (string_bytes c.loop-at.value))
 whole c =
     let bs = c.as_bytes-bytes.result.now in
     let inv = c.loop-at.invariant in

@@ -1,13 +1,13 @@
 use Rattle.std.proofs.Common.{◌≡◌, ◌-◌, ◌<◌, false, length, take, get_or}
 use Rattle.std.specs.Prelude.{string_bytes}
 use Rattle.std.specs.Str.{chars, IsCharBoundary}
-use Rattle.graphql_tokens.specs.tokens.Edition.{Later}
+use Rattle.graphql_tokens.specs.tokens.Edition.{Current}
 use Rattle.graphql_tokens.specs.tokens.Strings.{is_plain, StringMeans}
 use Rattle.graphql_tokens.proofs.text.string_value.Given as goal
 
 abbrev pub invariant-loop-at : goal.invariant-loop-at
 invariant-loop-at l = record {
-  means : StringMeans Later (chars (take l.at l.bytes)) (chars (string_bytes l.value));
+  means : StringMeans Current (chars (take l.at l.bytes)) (chars (string_bytes l.value));
   boundary : IsCharBoundary l.bytes l.at;
   stops : l.at < length l.bytes → is_plain (get_or l.bytes l.at 0) ≡ false;
 }
