@@ -1,123 +1,124 @@
--- Arguments, directives and variable definitions are read exactly, at every budget; and their places don't matter.
+-- Arguments, directives and default values are read exactly, at every budget; and their places don't matter.
 use Rattle.std.proofs.Common.{◌≡◌, ℕ, Bool, true, false, cond, ◌&&◌, ◌||◌, IsTrue, Option, Some, None, List, [], ◌∷◌, ◌++◌, map, option_map, ◌↔◌, inl, inr, refl, sym, ap, ◌∙◌, subst, append-nil}
+use Rattle.graphql_tokens.specs.tokens.Edition.{Current}
 use Rattle.graphql_tokens.specs.tokens.Token.{Token}
-use Rattle.graphql_syntax.specs.trees.Request.{Argument, Directive, Directives, VariableDefinition}
+use Rattle.graphql_syntax.specs.trees.Request.{Argument, Directive, Directives}
 use Rattle.graphql_syntax.specs.trees.Request as trees
-use Rattle.graphql_grammar.specs.grammar.Arguments.{an_argument, arguments, given, a_directive, directives, a_default, default_and_directives, a_variable_definition, variable_definitions}
-use Rattle.graphql_grammar.specs.grammar.Fronts.{without_place}
-use Rattle.graphql_grammar.specs.grammar.Limits.{Limits}
-use Rattle.graphql_grammar.specs.grammar.Placeless.{unplaced, bare_node, placeless_argument, placeless_directive, placeless_directives, placeless_variable}
-use Rattle.graphql_grammar.specs.grammar.Places.{at, name_of}
-use Rattle.graphql_grammar.specs.grammar.Relations.{Rel, ◌⨾◌, ◌∪◌, mapped, star, plus, opt}
-use Rattle.graphql_grammar.specs.grammar.Tests.{Test, punct, any_name}
+use Rattle.graphql_grammar.specs.grammar.Arguments.{an_argument, arguments, given, a_directive, directives, a_default}
+use Rattle.graphql_reading.specs.grammar.Fronts.{without_place}
+use Rattle.graphql_reading.specs.grammar.Limits.{Limits}
+use Rattle.graphql_grammar.specs.grammar.Placeless.{unplaced, bare_node, placeless_argument, placeless_directive, placeless_directives}
+use Rattle.graphql_reading.specs.grammar.Places.{at, name_of}
+use Rattle.graphql_reading.specs.grammar.Relations.{Rel, ◌⨾◌, ◌∪◌, mapped, star, plus, opt}
+use Rattle.graphql_reading.specs.grammar.Tests.{Test, punct, any_name}
 use Rattle.graphql_grammar.specs.grammar.Types.{type_reference}
 use Rattle.graphql_grammar.specs.grammar.Values.{Value}
-use Rattle.graphql_grammar.specs.reading.Arguments.{argument_at, arguments_at, maybe_arguments_at, directive_at, directives_at, default_at, maybe_default_at, turned, default_and_directives_at, variable_definition_at, variable_definitions_at}
-use Rattle.graphql_grammar.specs.reading.Outcome.{Outcome, Read, Reader, ◌>>=◌, then_at, mapped_at, choose_at, none_at, plus_at}
-use Rattle.graphql_grammar.proofs.Parts.{none}
-use Rattle.graphql_grammar.proofs.Theory.{Within, outside, anything}
-use Rattle.graphql_grammar.proofs.TokenTests.{punctuator, itself, punct-within, within-both, within-first, within-second, within-either, name-sample}
-use Rattle.graphql_grammar.proofs.PunctSamples.{has-equals, has-open, has-close, has-colon, has-at, has-dollar}
-use Rattle.graphql_grammar.proofs.Good.{Good, Has, Led, good-punct, good-name, good-mapped, good-next, good-led, good-plus, good-same, led-one, led-mapped, led-then, has-token, has-pair, has-map, has-star, has-plus, has-first}
-use Rattle.graphql_grammar.proofs.Extra.{Opens, good-seq, opens-led, opens-star, opens-opt, opens-then, good-many-ahead, good-plus-ahead, good-opt, has-opt}
-use Rattle.graphql_grammar.proofs.Optional.{good-choose_ahead, good-none, good-reader, opens-none, opens-either, opt-left, with-some, opt-then, plus-star, star-plus}
-use Rattle.graphql_grammar.proofs.Blind.{Blind, on-option, blind-one, blind-then, blind-mapped, blind-either, blind-star, blind-plus, blind-opt}
-use Rattle.graphql_grammar.proofs.Loop.{Takes, takes-one, many-plus, many-stops}
+use Rattle.graphql_grammar.specs.reading.Arguments.{argument_at, arguments_at, maybe_arguments_at, directive_at, directives_at, default_at, maybe_default_at}
+use Rattle.graphql_reading.specs.reading.Outcome.{Outcome, Read, Reader, ◌>>=◌, then_at, mapped_at, choose_at, none_at, plus_at}
+use Rattle.graphql_reading.proofs.Parts.{none}
+use Rattle.graphql_reading.proofs.Theory.{Within, outside, anything}
+use Rattle.graphql_reading.proofs.TokenTests.{punctuator, itself, punct-within, within-both, within-first, within-second, within-either, name-sample}
+use Rattle.graphql_reading.proofs.PunctSamples.{has-equals, has-open, has-close, has-colon, has-at, has-dollar}
+use Rattle.graphql_reading.proofs.Good.{Good, Has, Led, good-punct, good-name, good-mapped, good-next, good-led, good-plus, good-same, led-one, led-mapped, led-then, has-token, has-pair, has-map, has-star, has-plus, has-first}
+use Rattle.graphql_reading.proofs.Extra.{Opens, good-seq, opens-led, opens-star, opens-opt, opens-then, good-many-ahead, good-plus-ahead, good-opt, has-opt}
+use Rattle.graphql_reading.proofs.Optional.{good-choose_ahead, good-none, good-reader, opens-none, opens-either, opt-left, with-some, opt-then, plus-star, star-plus}
+use Rattle.graphql_reading.proofs.Blind.{Blind, on-option, blind-one, blind-then, blind-mapped, blind-either, blind-star, blind-plus, blind-opt}
+use Rattle.graphql_reading.proofs.Loop.{Takes, takes-one, many-plus, many-stops}
 use Rattle.graphql_grammar.proofs.TypeProductions.{good-type, has-type, blind-type}
 use Rattle.graphql_grammar.proofs.ValueProductions.{good-value, has-value, blind-value}
 
-abbrev budget : ℕ → ℕ → Limits
+abbrev pub budget : ℕ → ℕ → Limits
 budget values types = record { selections = 0; values = values; types = types }
 
 -- ---- arguments
 
-pub good-argument : (vars : Bool) {b : Limits} {f : Test} → Good (λ c. an_argument vars c.values) b f (argument_at vars b.values)
+pub good-argument : (vars : Bool) {b : Limits} {f : Test} → Good (λ c. an_argument Current vars c.values) b f (argument_at vars b.values)
 good-argument vars = good-mapped (good-next (has-pair has-colon (has-value vars)) good-name (good-next (has-value vars) (good-punct ":") (good-value vars)))
 
-pub led-argument : (vars : Bool) → Led (λ c. an_argument vars c.values) any_name
+pub led-argument : (vars : Bool) → Led (λ c. an_argument Current vars c.values) any_name
 led-argument vars = led-mapped (led-then led-one)
 
-pub has-argument : (vars : Bool) → Has (λ c. an_argument vars c.values)
+pub has-argument : (vars : Bool) → Has (λ c. an_argument Current vars c.values)
 has-argument vars = has-map (has-pair (has-token name-sample) (has-pair has-colon (has-value vars)))
 
-pub blind-argument : (vars : Bool) → Blind (λ c. an_argument vars c.values) placeless_argument
+pub blind-argument : (vars : Bool) → Blind (λ c. an_argument Current vars c.values) placeless_argument
 blind-argument vars = blind-mapped (λ x. refl) (blind-then (blind-one any_name) (blind-then (blind-one (punct ":")) (blind-value vars)))
 
 -- nothing is looked ahead at behind `)`
-pub good-arguments : (vars : Bool) {b : Limits} {f : Test} → Good (λ c. arguments vars c.values) b f (arguments_at vars b.values)
+pub good-arguments : (vars : Bool) {b : Limits} {f : Test} → Good (λ c. arguments Current vars c.values) b f (arguments_at vars b.values)
 good-arguments vars =
     good-mapped (good-next (has-pair (has-plus (has-argument vars)) has-close) (good-punct "(")
     (good-led led-one has-close (good-plus (led-argument vars) (punct-within ")" refl) (good-argument vars))
     (good-punct ")")))
 
-pub led-arguments : (vars : Bool) → Led (λ c. arguments vars c.values) (punct "(")
+pub led-arguments : (vars : Bool) → Led (λ c. arguments Current vars c.values) (punct "(")
 led-arguments vars = led-mapped (led-then led-one)
 
-pub has-arguments : (vars : Bool) → Has (λ c. arguments vars c.values)
+pub has-arguments : (vars : Bool) → Has (λ c. arguments Current vars c.values)
 has-arguments vars = has-map (has-pair has-open (has-pair (has-plus (has-argument vars)) has-close))
 
-pub blind-arguments : (vars : Bool) → Blind (λ c. arguments vars c.values) (map placeless_argument)
+pub blind-arguments : (vars : Bool) → Blind (λ c. arguments Current vars c.values) (map placeless_argument)
 blind-arguments vars = blind-mapped (λ x. refl) (blind-then (blind-one (punct "(")) (blind-then (blind-plus (blind-argument vars)) (blind-one (punct ")"))))
 
 -- ---- arguments, where there are any
 
-pub good-maybe_arguments : (vars : Bool) {b : Limits} {f : Test} → Within f (outside (punct "(")) → Good (λ c. opt (arguments vars c.values)) b f (maybe_arguments_at vars b.values)
+pub good-maybe_arguments : (vars : Bool) {b : Limits} {f : Test} → Within f (outside (punct "(")) → Good (λ c. opt (arguments Current vars c.values)) b f (maybe_arguments_at vars b.values)
 good-maybe_arguments vars away = good-opt (led-arguments vars) away (good-arguments vars)
 
-pub opens-maybe_arguments : (vars : Bool) {f g : Test} → IsTrue (g (punctuator "(")) → Within f g → Opens (λ c. opt (arguments vars c.values)) f g
+pub opens-maybe_arguments : (vars : Bool) {f g : Test} → IsTrue (g (punctuator "(")) → Within f g → Opens (λ c. opt (arguments Current vars c.values)) f g
 opens-maybe_arguments vars here h = opens-opt (led-arguments vars) (punct-within "(" here) h
 
-pub has-maybe_arguments : (vars : Bool) → Has (λ c. opt (arguments vars c.values))
-has-maybe_arguments vars = has-opt {p = λ c. arguments vars c.values}
+pub has-maybe_arguments : (vars : Bool) → Has (λ c. opt (arguments Current vars c.values))
+has-maybe_arguments vars = has-opt {p = λ c. arguments Current vars c.values}
 
-pub blind-maybe_arguments : (vars : Bool) → Blind (λ c. opt (arguments vars c.values)) (on-option (map placeless_argument))
+pub blind-maybe_arguments : (vars : Bool) → Blind (λ c. opt (arguments Current vars c.values)) (on-option (map placeless_argument))
 blind-maybe_arguments vars = blind-opt (blind-arguments vars)
 
 -- ---- directives
 
 -- a `(` behind the name belongs to the directive
-pub good-directive : (vars : Bool) {b : Limits} {f : Test} → Within f (outside (punct "(")) → Good (λ c. a_directive vars c.values) b f (directive_at vars b.values)
+pub good-directive : (vars : Bool) {b : Limits} {f : Test} → Within f (outside (punct "(")) → Good (λ c. a_directive Current vars c.values) b f (directive_at vars b.values)
 good-directive vars away = good-mapped (good-next (has-pair (has-token name-sample) (has-maybe_arguments vars)) (good-punct "@") (good-next (has-maybe_arguments vars) good-name (good-maybe_arguments vars away)))
 
-pub led-directive : (vars : Bool) → Led (λ c. a_directive vars c.values) (punct "@")
+pub led-directive : (vars : Bool) → Led (λ c. a_directive Current vars c.values) (punct "@")
 led-directive vars = led-mapped (led-then led-one)
 
-pub has-directive : (vars : Bool) → Has (λ c. a_directive vars c.values)
+pub has-directive : (vars : Bool) → Has (λ c. a_directive Current vars c.values)
 has-directive vars = has-map (has-pair has-at (has-pair (has-token name-sample) (has-maybe_arguments vars)))
 
 given-same : (xs : Option trees.Arguments) → map placeless_argument (given xs) ≡ given (on-option (map placeless_argument) xs)
 given-same None = refl
 given-same (Some xs) = refl
 
-pub blind-directive : (vars : Bool) → Blind (λ c. a_directive vars c.values) (unplaced placeless_directive)
+pub blind-directive : (vars : Bool) → Blind (λ c. a_directive Current vars c.values) (unplaced placeless_directive)
 blind-directive vars =
     blind-mapped (λ x. ap (λ (l : trees.Arguments). at {A = Directive} (without_place x.0) (record { name = name_of (without_place x.1.0); arguments = l })) (given-same x.1.1))
     (blind-then (blind-one (punct "@")) (blind-then (blind-one any_name) (blind-maybe_arguments vars)))
 
-pub good-directives : (vars : Bool) {b : Limits} {f : Test} → Within f (outside (punct "(")) → Within f (outside (punct "@")) → Good (λ c. directives vars c.values) b f (directives_at vars b.values)
+pub good-directives : (vars : Bool) {b : Limits} {f : Test} → Within f (outside (punct "(")) → Within f (outside (punct "@")) → Good (λ c. directives Current vars c.values) b f (directives_at vars b.values)
 good-directives vars away last = good-many-ahead {g = outside (punct "(")} (led-directive vars) (punct-within "@" refl) away last (good-directive vars itself)
 
-pub opens-directives : (vars : Bool) {f g : Test} → IsTrue (g (punctuator "@")) → Within f g → Opens (λ c. directives vars c.values) f g
+pub opens-directives : (vars : Bool) {f g : Test} → IsTrue (g (punctuator "@")) → Within f g → Opens (λ c. directives Current vars c.values) f g
 opens-directives vars here h = opens-star (led-directive vars) (punct-within "@" here) h
 
-pub has-directives : (vars : Bool) → Has (λ c. directives vars c.values)
-has-directives vars = has-star {p = λ c. a_directive vars c.values}
+pub has-directives : (vars : Bool) → Has (λ c. directives Current vars c.values)
+has-directives vars = has-star {p = λ c. a_directive Current vars c.values}
 
-pub blind-directives : (vars : Bool) → Blind (λ c. directives vars c.values) placeless_directives
+pub blind-directives : (vars : Bool) → Blind (λ c. directives Current vars c.values) placeless_directives
 blind-directives vars = blind-star (blind-directive vars)
 
 -- ---- defaults
 
-pub good-default : {b : Limits} {f : Test} → Good (λ c. a_default c.values) b f (default_at b.values)
+pub good-default : {b : Limits} {f : Test} → Good (λ c. a_default Current c.values) b f (default_at b.values)
 good-default = good-mapped (good-next (has-value false) (good-punct "=") (good-value false))
 
-pub led-default : Led (λ c. a_default c.values) (punct "=")
+pub led-default : Led (λ c. a_default Current c.values) (punct "=")
 led-default = led-mapped (led-then led-one)
 
-pub has-default : Has (λ c. a_default c.values)
+pub has-default : Has (λ c. a_default Current c.values)
 has-default = has-map (has-pair has-equals (has-value false))
 
-pub blind-default : Blind (λ c. a_default c.values) bare_node
+pub blind-default : Blind (λ c. a_default Current c.values) bare_node
 blind-default = blind-mapped (λ x. refl) (blind-then (blind-one (punct "=")) (blind-value false))
 
 pub takes-argument : (vars : Bool) (values : ℕ) → Takes (argument_at vars values)
@@ -125,178 +126,3 @@ takes-argument vars values = takes-one {b = budget values 0} {f = anything} (goo
 
 pub takes-directive : (vars : Bool) (values : ℕ) → Takes (directive_at vars values)
 takes-directive vars values = takes-one {b = budget values 0} {f = outside (punct "(")} (good-directive vars itself) (led-directive vars)
-
--- ---- a default and directives, in either order
-
--- By the token in sight: a default and directives, directives and perhaps a default, or nothing.
-abbrev pub Both : Type 0
-Both = Option Value × Directives
-
-abbrev default-first : Limits → Rel Both
-default-first c = mapped with-some (a_default c.values ⨾ directives true c.values)
-
-abbrev directives-first : Limits → Rel Both
-directives-first c = mapped turned (plus (a_directive true c.values) ⨾ opt (a_default c.values))
-
-abbrev neither : Both
-neither = (None, [])
-
-abbrev by-first : Limits → Rel Both
-by-first c = default-first c ∪ directives-first c ∪ none neither
-
-abbrev default-first_at : ℕ → Reader Both
-default-first_at values = mapped_at with-some (then_at (default_at values) (directives_at true values))
-
-abbrev directives-first_at : ℕ → Reader Both
-directives-first_at values = mapped_at turned (then_at (plus_at (punct "@") (directive_at true values)) (maybe_default_at values))
-
-abbrev by-first_at : ℕ → Reader Both
-by-first_at values = choose_at (punct "=") (default-first_at values) (choose_at (punct "@") (directives-first_at values) (none_at neither))
-
--- the same phrases,
-is-by-first : (c : Limits) (x : List Token) (t : Both) → by-first c x t ↔ default_and_directives c.values x t
-is-by-first c x t = (to, from t)
-  where
-    directives-then : (ds : Directives) (o : Option Value) → (plus (a_directive true c.values) ⨾ opt (a_default c.values)) x (ds, o) → default_and_directives c.values x (o, ds)
-    directives-then ds None m =
-        let all : x ≡ m.front = m.joined ∙ ap (λ (l : List Token). m.front ++ l) m.second ∙ append-nil m.front in
-        inl (record { front = []; back = x; joined = refl; first = refl; second = subst (λ (l : List Token). star (a_directive true c.values) l ds) (sym all) (plus-star (a_directive true c.values) m.front ds m.first) })
-    directives-then ds (Some v) m = inr (record { value = (ds, v); holds = record { front = m.front; back = m.back; joined = m.joined; first = m.first; second = m.second }; is = refl })
-
-    to : by-first c x t → default_and_directives c.values x t
-    to (inl m) = subst (λ (t : Both). default_and_directives c.values x t) (sym m.is) (inl (record { front = m.holds.front; back = m.holds.back; joined = m.holds.joined; first = m.holds.first; second = m.holds.second }))
-    to (inr (inl m)) = subst (λ (t : Both). default_and_directives c.values x t) (sym m.is) (directives-then m.value.0 m.value.1 m.holds)
-    to (inr (inr m)) = subst (λ (t : Both). default_and_directives c.values x t) (sym m.1) (inl (record { front = []; back = x; joined = refl; first = refl; second = m.0 }))
-
-    alone : (front back : List Token) (ds : Directives) → x ≡ front ++ back → front ≡ [] → star (a_directive true c.values) back ds → by-first c x (None, ds)
-    alone front back [] e h m = inr (inr (e ∙ ap (λ (l : List Token). l ++ back) h ∙ m, refl))
-    alone front back (d ∷ ds) e h m =
-        let all : x ≡ back = e ∙ ap (λ (l : List Token). l ++ back) h in
-        inr (inl (record { value = (d ∷ ds, None); holds = record { front = back; back = []; joined = all ∙ sym (append-nil back); first = star-plus (a_directive true c.values) back d ds m; second = refl }; is = refl }))
-
-    default-then : (o : Option Value) (ds : Directives) → (opt (a_default c.values) ⨾ directives true c.values) x (o, ds) → by-first c x (o, ds)
-    default-then None ds m = alone m.front m.back ds m.joined m.first m.second
-    default-then (Some v) ds m = inl (record { value = (v, ds); holds = record { front = m.front; back = m.back; joined = m.joined; first = m.first; second = m.second }; is = refl })
-
-    from : (t : Both) → default_and_directives c.values x t → by-first c x t
-    from t (inl m) = default-then t.0 t.1 m
-    from t (inr m) = inr (inl (record { value = (m.value.0, Some m.value.1); holds = record { front = m.holds.front; back = m.holds.back; joined = m.holds.joined; first = m.holds.first; second = m.holds.second }; is = m.is }))
-
--- read in the same way
-abbrev then-turned : ℕ → Outcome Directives → Outcome Both
-then-turned values o = (o >>= λ ds rest. maybe_default_at values rest >>= λ v rest'. Read (ds, v) rest') >>= λ x rest. Read (turned x) rest
-
-abbrev turn : Directives → Outcome (Option Value) → Outcome Both
-turn ds o = (o >>= λ v rest'. Read (ds, v) rest') >>= λ x rest. Read (turned x) rest
-
-reads-by-first : (values : ℕ) (ts : List Token) → by-first_at values ts ≡ default_and_directives_at values ts
-reads-by-first values [] = refl
-reads-by-first values (t ∷ ts) = go (punct "=" t.bare) refl
-  where
-    other : (w : Bool) → punct "=" t.bare ≡ false → punct "@" t.bare ≡ w → cond w (directives-first_at values (t ∷ ts)) (Read neither (t ∷ ts)) ≡ then-turned values (directives_at true values (t ∷ ts))
-    other true none e = ap (then-turned values) (sym (many-plus (punct "@") (directive_at true values) (takes-directive true values) t ts e))
-    other false none e = sym (ap (then-turned values) (many-stops (punct "@") (directive_at true values) t ts e) ∙ ap (turn []) (opt-left (punct "=") (default_at values) t ts none))
-
-    go : (w : Bool) → punct "=" t.bare ≡ w → cond w (default-first_at values (t ∷ ts)) (cond (punct "@" t.bare) (directives-first_at values (t ∷ ts)) (Read neither (t ∷ ts))) ≡ cond w (then_at (maybe_default_at values) (directives_at true values) (t ∷ ts)) (then-turned values (directives_at true values (t ∷ ts)))
-    go true e = sym (opt-then (punct "=") (default_at values) (directives_at true values) t ts e)
-    go false e = other (punct "@" t.bare) e refl
-
--- what follows neither belongs to a directive nor is one
-abbrev past-directives : Test
-past-directives t = outside (punct "(") t && outside (punct "@") t
-
-good-default-first : {b : Limits} {f : Test} → Within f (outside (punct "(")) → Within f (outside (punct "@")) → Good default-first b f (default-first_at b.values)
-good-default-first away last = good-mapped (good-next (has-directives true) good-default (good-directives true away last))
-
-good-directives-first : {b : Limits} {f : Test} → Within f (outside (punct "(")) → Within f (outside (punct "@")) → Within f (outside (punct "=")) → Good directives-first b f (directives-first_at b.values)
-good-directives-first away last none =
-    good-mapped (good-seq {g = past-directives} (opens-opt led-default (punct-within "=" refl) (within-both away last)) (has-opt {p = λ c. a_default c.values})
-    (good-plus-ahead {g = outside (punct "(")} (led-directive true) (punct-within "@" refl) (within-first _ _) (within-second _ _) (good-directive true itself))
-    (good-opt led-default none good-default))
-
-led-default-first : Led default-first (punct "=")
-led-default-first = led-mapped (led-then led-default)
-
-led-directives-first : Led directives-first (punct "@")
-led-directives-first = led-mapped (led-then (led-mapped (led-then (led-directive true))))
-
-pub good-default_and_directives : {b : Limits} {f : Test} → Within f (outside (punct "(")) → Within f (outside (punct "@")) → Within f (outside (punct "=")) → Good (λ c. default_and_directives c.values) b f (default_and_directives_at b.values)
-good-default_and_directives {b} away last none =
-    good-reader (reads-by-first b.values)
-    (good-same is-by-first
-    (good-choose_ahead led-default-first (opens-either (opens-led led-directives-first (punct-within "@" refl)) (opens-none none))
-    (good-default-first away last)
-    (good-choose_ahead led-directives-first (opens-none last) (good-directives-first away last none) good-none)))
-
-pub opens-default_and_directives : {f g : Test} → IsTrue (g (punctuator "=")) → IsTrue (g (punctuator "@")) → Within f g → Opens (λ c. default_and_directives c.values) f g
-opens-default_and_directives default-in directive-in h =
-    opens-either (opens-then (opens-opt led-default (punct-within "=" default-in) itself) (opens-directives true directive-in h))
-    (opens-led (led-mapped (led-then (led-mapped (led-then (led-directive true))))) (punct-within "@" directive-in))
-
-pub has-default_and_directives : Has (λ c. default_and_directives c.values)
-has-default_and_directives = has-first {p = λ c. opt (a_default c.values) ⨾ directives true c.values} (has-pair (has-opt {p = λ c. a_default c.values}) (has-directives true))
-
-abbrev pub placeless-both : Both → Both
-placeless-both x = (on-option bare_node x.0, placeless_directives x.1)
-
-pub blind-default_and_directives : Blind (λ c. default_and_directives c.values) placeless-both
-blind-default_and_directives =
-    blind-either (blind-then (blind-opt blind-default) (blind-directives true))
-    (blind-mapped (λ x. refl) (blind-then (blind-plus (blind-directive true)) blind-default))
-
--- ---- variable definitions
-
-pub good-variable_definition : {b : Limits} {f : Test} → Within f (outside (punct "!")) → Within f (outside (punct "(")) → Within f (outside (punct "@")) → Within f (outside (punct "=")) → Good (λ c. a_variable_definition c.values c.types) b f (variable_definition_at b.values b.types)
-good-variable_definition marked away last none =
-    good-mapped (good-next (has-pair (has-token name-sample) (has-pair has-colon has-behind)) (good-punct "$")
-    (good-next (has-pair has-colon has-behind) good-name
-    (good-next has-behind (good-punct ":")
-    (good-seq {g = outside (punct "!")} (opens-default_and_directives refl refl marked) has-default_and_directives (good-type itself)
-    (good-default_and_directives away last none)))))
-  where
-    has-behind : Has (λ c. type_reference c.types ⨾ default_and_directives c.values)
-    has-behind = has-pair has-type has-default_and_directives
-
-pub led-variable_definition : Led (λ c. a_variable_definition c.values c.types) (punct "$")
-led-variable_definition = led-mapped (led-then led-one)
-
-pub has-variable_definition : Has (λ c. a_variable_definition c.values c.types)
-has-variable_definition = has-map (has-pair has-dollar (has-pair (has-token name-sample) (has-pair has-colon (has-pair has-type has-default_and_directives))))
-
-on-option-map : {A : Type 0} (f : A → A) (o : Option A) → option_map f o ≡ on-option f o
-on-option-map f None = refl
-on-option-map f (Some a) = refl
-
-pub blind-variable_definition : Blind (λ c. a_variable_definition c.values c.types) (unplaced placeless_variable)
-blind-variable_definition =
-    blind-mapped (λ x. ap (λ (v : Option Value). at {A = VariableDefinition} (without_place x.0) (record { name = name_of (without_place x.1.0); var_type = bare_node x.1.1.1.0; directives = placeless_directives x.1.1.1.1.1; default_value = v })) (on-option-map bare_node x.1.1.1.1.0))
-    (blind-then (blind-one (punct "$")) (blind-then (blind-one any_name) (blind-then (blind-one (punct ":")) (blind-then blind-type blind-default_and_directives))))
-
--- another one, or the end of the list
-abbrev next-definition : Test
-next-definition t = punct "$" t || punct ")" t
-
-follows : {g : Test} → IsTrue (g (punctuator "$")) → IsTrue (g (punctuator ")")) → Within next-definition g
-follows h k = within-either (punct-within "$" h) (punct-within ")" k)
-
-good-next-definition : {b : Limits} → Good (λ c. a_variable_definition c.values c.types) b next-definition (variable_definition_at b.values b.types)
-good-next-definition = good-variable_definition (follows refl refl) (follows refl refl) (follows refl refl) (follows refl refl)
-
-pub takes-variable_definition : (values types : ℕ) → Takes (variable_definition_at values types)
-takes-variable_definition values types = takes-one {b = budget values types} good-next-definition led-variable_definition
-
--- nothing is looked ahead at behind `)`
-pub good-variable_definitions : {b : Limits} {f : Test} → Good (λ c. variable_definitions c.values c.types) b f (variable_definitions_at b.values b.types)
-good-variable_definitions =
-    good-mapped (good-next (has-pair (has-plus has-variable_definition) has-close) (good-punct "(")
-    (good-led led-one has-close (good-plus-ahead {g = next-definition} led-variable_definition (punct-within "$" refl) (punct-within ")" refl) (punct-within ")" refl) good-next-definition)
-    (good-punct ")")))
-
-pub led-variable_definitions : Led (λ c. variable_definitions c.values c.types) (punct "(")
-led-variable_definitions = led-mapped (led-then led-one)
-
-pub has-variable_definitions : Has (λ c. variable_definitions c.values c.types)
-has-variable_definitions = has-map (has-pair has-open (has-pair (has-plus has-variable_definition) has-close))
-
-pub blind-variable_definitions : Blind (λ c. variable_definitions c.values c.types) (map (unplaced placeless_variable))
-blind-variable_definitions = blind-mapped (λ x. refl) (blind-then (blind-one (punct "(")) (blind-then (blind-plus blind-variable_definition) (blind-one (punct ")"))))

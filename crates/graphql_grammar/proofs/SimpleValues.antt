@@ -15,14 +15,14 @@ use Rattle.graphql_tokens.specs.declared.lexer.Token.{Token as LentToken}
 use Rattle.graphql_tokens.specs.declared.lexer.TokenKind.{TokenKind}
 use Rattle.graphql_tokens.specs.declared.lexer.TokenKind.TheVariants as kinds
 use Rattle.graphql_tokens.proofs.Meanings.{content_means, means_content}
-use Rattle.graphql_grammar.specs.grammar.Fronts.{syntax}
-use Rattle.graphql_grammar.specs.grammar.Tests.{is_number, is_string, is_block}
+use Rattle.graphql_reading.specs.grammar.Fronts.{syntax}
+use Rattle.graphql_reading.specs.grammar.Tests.{is_number, is_string, is_block}
 use Rattle.graphql_grammar.specs.grammar.Values.{inside}
 use Rattle.graphql_grammar.specs.reading.OpenValues.{node_at}
-use Rattle.graphql_grammar.specs.reading.Outcome.{Read, Refused}
-use Rattle.graphql_grammar.specs.reading.Spelled.{IsQuoted}
+use Rattle.graphql_reading.specs.reading.Outcome.{Read, Refused}
+use Rattle.graphql_reading.specs.reading.Spelled.{IsQuoted}
 use Rattle.graphql_grammar.specs.reading.Values.{string_at, block_at}
-use Rattle.graphql_grammar.proofs.ProperTokens.{proper-number, proper-string, proper-block}
+use Rattle.graphql_reading.proofs.ProperTokens.{proper-number, proper-string, proper-block}
 
 -- ---- the token in hand is proper, where it is neither a fault nor the end
 

@@ -3,22 +3,22 @@ use Rattle.std.proofs.Common.{◌≡◌, ℕ, zero, suc, ◌||◌, Option, Some,
 use Rattle.graphql_tokens.specs.declared.pos.Positioned.{Positioned}
 use Rattle.graphql_tokens.specs.tokens.Token.{Token}
 use Rattle.graphql_syntax.specs.trees.TypeTree.{TypeTree, named, list}
-use Rattle.graphql_grammar.specs.grammar.Fronts.{without_place}
-use Rattle.graphql_grammar.specs.grammar.Limits.{Limits}
+use Rattle.graphql_reading.specs.grammar.Fronts.{without_place}
+use Rattle.graphql_reading.specs.grammar.Limits.{Limits}
 use Rattle.graphql_grammar.specs.grammar.Placeless.{bare_node}
-use Rattle.graphql_grammar.specs.grammar.Places.{at}
-use Rattle.graphql_grammar.specs.grammar.Relations.{Rel, one, ◌⨾◌, ◌∪◌, opt}
-use Rattle.graphql_grammar.specs.grammar.Tests.{Test, punct, any_name}
+use Rattle.graphql_reading.specs.grammar.Places.{at}
+use Rattle.graphql_reading.specs.grammar.Relations.{Rel, one, ◌⨾◌, ◌∪◌, opt}
+use Rattle.graphql_reading.specs.grammar.Tests.{Test, punct, any_name}
 use Rattle.graphql_grammar.specs.grammar.Types.{nullable, a_named_type, a_list_type, type_reference}
-use Rattle.graphql_grammar.specs.reading.Outcome.{Reader, choose_at}
+use Rattle.graphql_reading.specs.reading.Outcome.{Reader, choose_at}
 use Rattle.graphql_grammar.specs.reading.Types.{mark_at, named_type_at, list_type_at, type_at}
-use Rattle.graphql_grammar.proofs.Parts.{nested, below, of_types}
-use Rattle.graphql_grammar.proofs.Theory.{Extends, Within, outside}
-use Rattle.graphql_grammar.proofs.TokenTests.{punct-within, any_name-within, name-sample}
-use Rattle.graphql_grammar.proofs.PunctSamples.{has-close_list}
-use Rattle.graphql_grammar.proofs.Good.{Good, Has, Led, good-punct, good-name, good-mapped, good-next, good-led, good-choose, good-nested, good-deep, good-same, led-one, led-within, led-same, led-mapped, led-then, led-either, led-nested, has-token, has-pair, has-map, has-first, opens}
-use Rattle.graphql_grammar.proofs.Extra.{good-opt, has-opt}
-use Rattle.graphql_grammar.proofs.Blind.{Blind, blind-one, blind-then, blind-mapped, blind-either, blind-opt, on-option}
+use Rattle.graphql_reading.proofs.Parts.{nested, below, of_types}
+use Rattle.graphql_reading.proofs.Theory.{Extends, Within, outside}
+use Rattle.graphql_reading.proofs.TokenTests.{punct-within, any_name-within, name-sample}
+use Rattle.graphql_reading.proofs.PunctSamples.{has-close_list}
+use Rattle.graphql_reading.proofs.Good.{Good, Has, Led, good-punct, good-name, good-mapped, good-next, good-led, good-choose, good-nested, good-deep, good-same, led-one, led-within, led-same, led-mapped, led-then, led-either, led-nested, has-token, has-pair, has-map, has-first, opens}
+use Rattle.graphql_reading.proofs.Extra.{good-opt, has-opt}
+use Rattle.graphql_reading.proofs.Blind.{Blind, blind-one, blind-then, blind-mapped, blind-either, blind-opt, on-option}
 
 -- ---- names and lists
 

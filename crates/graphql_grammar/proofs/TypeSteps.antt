@@ -3,20 +3,20 @@ use Rattle.std.proofs.Common.{◌≡◌, ℕ, zero, suc, ◌≤◌, ◌+◌, ◌
 use Rattle.graphql_tokens.specs.declared.pos.Positioned.{Positioned}
 use Rattle.graphql_tokens.specs.tokens.Token.{Bare, Token}
 use Rattle.graphql_syntax.specs.trees.TypeTree.{TypeTree, named, list}
-use Rattle.graphql_grammar.specs.declared.cursor.Refusal.{Refusal}
-use Rattle.graphql_grammar.specs.declared.cursor.Refusal.TheVariants.{Memory, Syntax, Limit}
-use Rattle.graphql_grammar.specs.grammar.Fronts.{Verdict, syntax, limit}
-use Rattle.graphql_grammar.specs.grammar.Places.{at}
-use Rattle.graphql_grammar.specs.grammar.Tests.{punct, any_name}
-use Rattle.graphql_grammar.specs.grammar.Types.{nullable, named_of, list_of}
-use Rattle.graphql_grammar.specs.reading.Ahead.{Ahead, tokens}
-use Rattle.graphql_grammar.specs.reading.Given.{Gives, GoesOn}
-use Rattle.graphql_grammar.specs.reading.Outcome.{Outcome, Read, Refused, Reader, ◌>>=◌, one_at, then_at, mapped_at, deep_at, opt_at}
+use Rattle.graphql_reading.specs.declared.cursor.Refusal.{Refusal}
+use Rattle.graphql_reading.specs.declared.cursor.Refusal.TheVariants.{Memory, Syntax, Limit}
+use Rattle.graphql_reading.specs.grammar.Fronts.{Verdict, syntax, limit}
+use Rattle.graphql_reading.specs.grammar.Places.{at}
+use Rattle.graphql_reading.specs.grammar.Tests.{punct, any_name}
+use Rattle.graphql_grammar.specs.grammar.Types.{nullable, named_of, list_type_of}
+use Rattle.graphql_reading.specs.reading.Ahead.{Ahead, tokens}
+use Rattle.graphql_reading.specs.reading.Given.{Gives, GoesOn}
+use Rattle.graphql_reading.specs.reading.Outcome.{Outcome, Read, Refused, Reader, ◌>>=◌, one_at, then_at, mapped_at, deep_at, opt_at}
 use Rattle.graphql_grammar.specs.reading.Types.{mark_at, named_type_at, list_type_at, type_at}
 use Rattle.graphql_grammar.specs.reading.TypeSteps.{opens_at, nullable_at, named_at, close_at, closes_at, steps_at}
-use Rattle.graphql_grammar.proofs.Loops.{go-on, stays, there}
-use Rattle.graphql_grammar.proofs.Readers.{mapped-on, then-on, on-same, grouped}
-use Rattle.graphql_grammar.proofs.TokenTests.{any_name-is}
+use Rattle.graphql_reading.proofs.Loops.{go-on, stays, there}
+use Rattle.graphql_reading.proofs.Readers.{mapped-on, then-on, on-same, grouped}
+use Rattle.graphql_reading.proofs.TokenTests.{any_name-is}
 use Prim.Native.String.{String}
 
 name-no-punct : (word : String) (t : Bare) → any_name t ≡ true → punct word t ≡ false
@@ -51,9 +51,9 @@ named-node {A} k ts =
     ∙ sym (then-on (one_at any_name) nullable_at (λ x. k (named_node x.0 x.1)) ts)
     ∙ sym (mapped-on (λ x. named_node x.0 x.1) (then_at (one_at any_name) nullable_at) k ts)
 
-close-end : {A : Type 0} (item : Positioned TypeTree) (first : Token) (k : TypeTree → Reader A) (ts : List Token) → (then_at (one_at (punct "]")) mark_at ts >>= λ end. k (list_of (first, (item, end))).node) ≡ (close_at item.node ts >>= k)
+close-end : {A : Type 0} (item : Positioned TypeTree) (first : Token) (k : TypeTree → Reader A) (ts : List Token) → (then_at (one_at (punct "]")) mark_at ts >>= λ end. k (list_type_of (first, (item, end))).node) ≡ (close_at item.node ts >>= k)
 close-end {A} item first k ts =
-    then-on (one_at (punct "]")) mark_at (λ end. k (list_of (first, (item, end))).node) ts
+    then-on (one_at (punct "]")) mark_at (λ end. k (list_type_of (first, (item, end))).node) ts
     ∙ on-same (one_at (punct "]") ts) (λ t rest. mark_at rest >>= λ mark. k (list item.node (nullable mark))) (λ t rest. nullable_at rest >>= λ null. k (list item.node null)) (λ t rest. by-mark (λ null. k (list item.node null)) rest)
     ∙ sym (then-on (one_at (punct "]")) nullable_at (λ x. k (list item.node x.1)) ts)
     ∙ sym (mapped-on (λ x. list item.node x.1) (then_at (one_at (punct "]")) nullable_at) k ts)
@@ -92,17 +92,17 @@ inside-name : (opened more : ℕ) (t : Token) (ts : List Token) → punct "[" t.
 inside-name opened more t ts e = ap (λ (o : Outcome ℕ). o >>= behind) (opens-no-more opened more t ts e) ∙ sym (named-node (closes_at opened) (t ∷ ts))
 
 -- a list that is open and closes
-one-level : (opened : ℕ) (t : Token) (ts : List Token) (r : Reader (Positioned TypeTree)) → on-node (closes_at (suc opened)) (r ts) ≡ (then_at r (then_at (one_at (punct "]")) mark_at) ts >>= λ x. closes_at opened (list_of (t, x)).node)
+one-level : (opened : ℕ) (t : Token) (ts : List Token) (r : Reader (Positioned TypeTree)) → on-node (closes_at (suc opened)) (r ts) ≡ (then_at r (then_at (one_at (punct "]")) mark_at) ts >>= λ x. closes_at opened (list_type_of (t, x)).node)
 unfolding closes_at
 one-level opened t ts r =
-    on-same (r ts) (λ item. closes_at (suc opened) item.node) (λ item rest. then_at (one_at (punct "]")) mark_at rest >>= λ end. closes_at opened (list_of (t, (item, end))).node) (λ item rest. sym (close-end item t (closes_at opened) rest))
-    ∙ sym (then-on r (then_at (one_at (punct "]")) mark_at) (λ x. closes_at opened (list_of (t, x)).node) ts)
+    on-same (r ts) (λ item. closes_at (suc opened) item.node) (λ item rest. then_at (one_at (punct "]")) mark_at rest >>= λ end. closes_at opened (list_type_of (t, (item, end))).node) (λ item rest. sym (close-end item t (closes_at opened) rest))
+    ∙ sym (then-on r (then_at (one_at (punct "]")) mark_at) (λ x. closes_at opened (list_type_of (t, x)).node) ts)
 
 -- what a list gives at its first token
-list-on : {A : Type 0} (t : Token) (ts : List Token) (r : Reader (Positioned TypeTree)) (k : Positioned TypeTree → Reader A) → punct "[" t.bare ≡ true → (list_type_at r (t ∷ ts) >>= k) ≡ (then_at r (then_at (one_at (punct "]")) mark_at) ts >>= λ x. k (list_of (t, x)))
+list-on : {A : Type 0} (t : Token) (ts : List Token) (r : Reader (Positioned TypeTree)) (k : Positioned TypeTree → Reader A) → punct "[" t.bare ≡ true → (list_type_at r (t ∷ ts) >>= k) ≡ (then_at r (then_at (one_at (punct "]")) mark_at) ts >>= λ x. k (list_type_of (t, x)))
 list-on t ts r k e =
-    mapped-on list_of (then_at (one_at (punct "[")) (then_at r (then_at (one_at (punct "]")) mark_at))) k (t ∷ ts)
-    ∙ then-on (one_at (punct "[")) (then_at r (then_at (one_at (punct "]")) mark_at)) (λ x. k (list_of x)) (t ∷ ts)
+    mapped-on list_type_of (then_at (one_at (punct "[")) (then_at r (then_at (one_at (punct "]")) mark_at))) k (t ∷ ts)
+    ∙ then-on (one_at (punct "[")) (then_at r (then_at (one_at (punct "]")) mark_at)) (λ x. k (list_type_of x)) (t ∷ ts)
     ∙ rw e refl
 
 -- steps give what levels give
@@ -146,8 +146,8 @@ name-stands t ts e =
 list-stands : (t : Token) (ts : List Token) (r : Reader (Positioned TypeTree)) → punct "[" t.bare ≡ true → list_type_at r (t ∷ ts) ≡ on-node (set-at t) (list_type_at r (t ∷ ts))
 list-stands t ts r e =
     let more : Reader (Positioned TypeTree × (Token × Option Token)) = then_at r (then_at (one_at (punct "]")) mark_at) in
-    let read : list_type_at r (t ∷ ts) ≡ (more ts >>= λ x. set-at t (list_of (t, x)).node) = then-on (one_at (punct "[")) more (λ x rest. Read (list_of x) rest) (t ∷ ts) ∙ rw e refl in
-    read ∙ stands t (λ x. (list_of (t, x)).node) (more ts) ∙ ap (on-node (set-at t)) (sym read)
+    let read : list_type_at r (t ∷ ts) ≡ (more ts >>= λ x. set-at t (list_type_of (t, x)).node) = then-on (one_at (punct "[")) more (λ x rest. Read (list_type_of x) rest) (t ∷ ts) ∙ rw e refl in
+    read ∙ stands t (λ x. (list_type_of (t, x)).node) (more ts) ∙ ap (on-node (set-at t)) (sym read)
 
 choice-stands : (t : Token) (w : Bool) (x y : Outcome (Positioned TypeTree)) → (w ≡ true → x ≡ on-node (set-at t) x) → (w ≡ false → y ≡ on-node (set-at t) y) → cond w x y ≡ on-node (set-at t) (cond w x y)
 choice-stands t true x y h k = h refl

@@ -2,16 +2,16 @@
 use Rattle.std.proofs.Common.{◌≡◌, ℕ, ◌<◌, ◌≤◌, Bool, true, false, List, Option, Some, None, Ok, Err, length, refl, ap, ◌∙◌, arith}
 use Rattle.graphql_tokens.specs.tokens.Token.{Token}
 use Rattle.graphql_syntax.specs.trees.ValueTree.{Tree}
-use Rattle.graphql_grammar.specs.declared.cursor.Refusal.{Refusal}
-use Rattle.graphql_grammar.specs.declared.cursor.Refusal.TheVariants.{Memory, Syntax, Limit}
-use Rattle.graphql_grammar.specs.grammar.Fronts.{Verdict, syntax, limit}
-use Rattle.graphql_grammar.specs.grammar.Tests.{punct}
-use Rattle.graphql_grammar.specs.reading.Ahead.{Ahead, tokens}
+use Rattle.graphql_reading.specs.declared.cursor.Refusal.{Refusal}
+use Rattle.graphql_reading.specs.declared.cursor.Refusal.TheVariants.{Memory, Syntax, Limit}
+use Rattle.graphql_reading.specs.grammar.Fronts.{Verdict, syntax, limit}
+use Rattle.graphql_reading.specs.grammar.Tests.{punct}
+use Rattle.graphql_reading.specs.reading.Ahead.{Ahead, tokens}
 use Rattle.graphql_grammar.specs.reading.OpenValues.{Field, node_at, Opened, Waiting, list_waits, object_waits, list_tree, object_tree, list_rest, object_rest, open_rest, add, filled, closes, enters, key_at, enter_at, MeetsAt}
-use Rattle.graphql_grammar.specs.reading.Given.{Gives, GoesOn, Refuses}
-use Rattle.graphql_grammar.specs.reading.Outcome.{Outcome, Read, Refused, Reader, ◌>>=◌, take_at}
+use Rattle.graphql_reading.specs.reading.Given.{Gives, GoesOn, Refuses}
+use Rattle.graphql_reading.specs.reading.Outcome.{Outcome, Read, Refused, Reader, ◌>>=◌, take_at}
 use Rattle.graphql_grammar.specs.reading.Values.{simple_at, value_at}
-use Rattle.graphql_grammar.proofs.Loops.{go-on, stays}
+use Rattle.graphql_reading.proofs.Loops.{go-on, stays}
 use Rattle.graphql_grammar.proofs.ValueFrames.{value-law, begun, entered, list-law, after-item, object-law, after-key, taken, not-taken, takes-key, takes-node}
 
 -- From the first token on, all that is read comes of what is held now and of the tokens ahead.

@@ -3,14 +3,14 @@ use Rattle.std.proofs.Common.{◌≡◌, ℕ, zero, suc, pred, ◌+◌, ◌<◌,
 use Rattle.std.proofs.lemmas.Bool.Decides.{nat_tests}
 use Rattle.graphql_tokens.specs.tokens.Token.{Bare, Token}
 use Rattle.graphql_syntax.specs.trees.ValueTree.{Tree}
-use Rattle.graphql_grammar.specs.grammar.Fronts.{Verdict, syntax, limit}
-use Rattle.graphql_grammar.specs.grammar.Tests.{Test, punct, any_name, any_number, any_string, any_block}
-use Rattle.graphql_grammar.specs.grammar.Values.{Value, dollar, list_of, field_of, object_of}
+use Rattle.graphql_reading.specs.grammar.Fronts.{Verdict, syntax, limit}
+use Rattle.graphql_reading.specs.grammar.Tests.{Test, punct, any_name, any_number, any_string, any_block}
+use Rattle.graphql_grammar.specs.grammar.Values.{Value, dollar, list_of, object_field_of, object_of}
 use Rattle.graphql_grammar.specs.reading.OpenValues.{Field, node_of, node_at, Opened, in_list, in_object, Waiting, list_waits, object_waits, list_tree, object_tree, close_list, close_object, list_rest, object_rest, open_rest, filled, resume, key_at, enters_at, enter_at}
-use Rattle.graphql_grammar.specs.reading.Outcome.{Outcome, Read, Refused, Reader, ◌>>=◌, one_at, take_at, mapped_at, deep_at, repeat_at, many_at, with_front}
+use Rattle.graphql_reading.specs.reading.Outcome.{Outcome, Read, Refused, Reader, ◌>>=◌, one_at, take_at, mapped_at, deep_at, repeat_at, many_at, with_front}
 use Rattle.graphql_grammar.specs.reading.Values.{simple_first, value_first, simple_at, list_at, field_at, object_at, by_first, value_at}
-use Rattle.graphql_grammar.proofs.Loop.{Takes, rest-of, rest-more, rest-stops, many-nothing}
-use Rattle.graphql_grammar.proofs.TokenTests.{punctuator, punct-is}
+use Rattle.graphql_reading.proofs.Loop.{Takes, rest-of, rest-more, rest-stops, many-nothing}
+use Rattle.graphql_reading.proofs.TokenTests.{punctuator, punct-is}
 use Prim.Native.String.{String}
 use Rattle.graphql_grammar.proofs.ValueProductions.{takes-value, takes-field}
 
@@ -246,7 +246,7 @@ abbrev name-value : Token → Outcome (Token × Value) → Outcome (Token × (To
 name-value n o = o >>= λ x rest. Read (n, x) rest
 
 abbrev a-field : Outcome (Token × (Token × Value)) → Outcome Field
-a-field o = o >>= λ x rest. Read (field_of x) rest
+a-field o = o >>= λ x rest. Read (object_field_of x) rest
 
 -- a name, a colon, and the value of that name
 field-flat : (value : Reader Value) (k : Field → List Token → Outcome Tree) (ts : List Token) → (field_at value ts >>= k) ≡ (one_at any_name ts >>= λ n rest. one_at (punct ":") rest >>= λ c rest'. node_at value rest' >>= λ v rest''. k (n.bare.spelling, v) rest'')

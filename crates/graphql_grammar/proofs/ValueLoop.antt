@@ -5,18 +5,18 @@ use Rattle.graphql_tokens.specs.declared.pos.Pos.{Pos}
 use Rattle.graphql_tokens.specs.declared.pos.Positioned.{Positioned}
 use Rattle.graphql_syntax.specs.trees.Request.{placed}
 use Rattle.graphql_syntax.specs.trees.ValueTree.{Tree}
-use Rattle.graphql_grammar.specs.declared.cursor.Refusal.{Refusal}
-use Rattle.graphql_grammar.specs.declared.cursor.Refusal.TheVariants.{Memory, Syntax, Limit}
+use Rattle.graphql_reading.specs.declared.cursor.Refusal.{Refusal}
+use Rattle.graphql_reading.specs.declared.cursor.Refusal.TheVariants.{Memory, Syntax, Limit}
 use Rattle.graphql_grammar.specs.declared.value.frames.Open.{Open}
 use Rattle.graphql_grammar.specs.declared.value.frames.Frame.{Frame}
-use Rattle.graphql_grammar.specs.grammar.Fronts.{Verdict, syntax, limit}
-use Rattle.graphql_grammar.specs.grammar.Places.{at}
-use Rattle.graphql_grammar.specs.reading.Ahead.{Ahead, tokens}
+use Rattle.graphql_reading.specs.grammar.Fronts.{Verdict, syntax, limit}
+use Rattle.graphql_reading.specs.grammar.Places.{at}
+use Rattle.graphql_reading.specs.reading.Ahead.{Ahead, tokens}
 use Rattle.graphql_grammar.specs.reading.OpenValues.{node_at, Opened, opened, Waiting, waiting, open_rest, add, resume, closes, enters, goes_on, enter_at, Met, MeetsAt, Meets}
-use Rattle.graphql_grammar.specs.reading.Given.{Gives, GoesOn, Refuses}
-use Rattle.graphql_grammar.specs.reading.Outcome.{Outcome, Read, Refused, Reader, ◌>>=◌}
+use Rattle.graphql_reading.specs.reading.Given.{Gives, GoesOn, Refuses}
+use Rattle.graphql_reading.specs.reading.Outcome.{Outcome, Read, Refused, Reader, ◌>>=◌}
 use Rattle.graphql_grammar.specs.reading.Values.{simple_at, value_at}
-use Rattle.graphql_grammar.proofs.Loops.{go-on, stays}
+use Rattle.graphql_reading.proofs.Loops.{go-on, stays}
 use Rattle.graphql_grammar.proofs.ValueFrames.{value-law, begun, resume-refused, resume-push}
 use Rattle.graphql_grammar.proofs.ValuePlaces.{value-placed}
 

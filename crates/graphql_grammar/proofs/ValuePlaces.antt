@@ -1,12 +1,12 @@
 -- A value stands at its first token.
 use Rattle.std.proofs.Common.{◌≡◌, ℕ, zero, suc, Bool, true, false, cond, Option, Some, None, List, [], ◌∷◌, refl}
 use Rattle.graphql_tokens.specs.tokens.Token.{Bare, Token}
-use Rattle.graphql_grammar.specs.grammar.Fronts.{syntax, limit}
-use Rattle.graphql_grammar.specs.grammar.Places.{at}
-use Rattle.graphql_grammar.specs.grammar.Tests.{Test, punct, keyword, any_name, name_but, any_number, any_string, any_block}
+use Rattle.graphql_reading.specs.grammar.Fronts.{syntax, limit}
+use Rattle.graphql_reading.specs.grammar.Places.{at}
+use Rattle.graphql_reading.specs.grammar.Tests.{Test, punct, keyword, any_name, name_but, any_number, any_string, any_block}
 use Rattle.graphql_grammar.specs.grammar.Values.{Value, true_of, false_of, null_of, enumeration_of, number_of, string_of, dollar, variable_of, list_of, object_of}
 use Rattle.graphql_grammar.specs.reading.OpenValues.{node_at}
-use Rattle.graphql_grammar.specs.reading.Outcome.{Outcome, Read, Refused, Reader, ◌>>=◌, one_at, meant, meaning_at, then_at, mapped_at, choose_at, many_at, deep_at}
+use Rattle.graphql_reading.specs.reading.Outcome.{Outcome, Read, Refused, Reader, ◌>>=◌, one_at, meant, meaning_at, then_at, mapped_at, choose_at, many_at, deep_at}
 use Rattle.graphql_grammar.specs.reading.Values.{word_at, number_at, string_at, block_at, string_text, block_text, variable_at, simple_at, simple_first, value_first, list_at, field_at, object_at, by_first, value_at}
 
 abbrev StandsAt : Token → Outcome Value → Type 0

@@ -1,28 +1,29 @@
 -- Values are read exactly, at every budget; and their places don't matter.
 use Rattle.std.proofs.Common.{◌≡◌, ℕ, zero, suc, Bool, true, false, not, ◌||◌, IsTrue, List, [], ◌∷◌, map, codes, ◌↔◌, inl, inr, refl, sym, ap, subst}
 use Rattle.std.specs.Str.{bytes_eq}
+use Rattle.graphql_tokens.specs.tokens.Edition.{Current}
 use Rattle.graphql_tokens.specs.tokens.Token.{Token}
 use Rattle.graphql_syntax.specs.trees.ValueTree.{Tree, list, object, trees_of, fields_of}
-use Rattle.graphql_grammar.specs.grammar.Fronts.{without_place}
-use Rattle.graphql_grammar.specs.grammar.Limits.{Limits}
+use Rattle.graphql_reading.specs.grammar.Fronts.{without_place}
+use Rattle.graphql_reading.specs.grammar.Limits.{Limits}
 use Rattle.graphql_grammar.specs.grammar.Merged.{merged}
 use Rattle.graphql_grammar.specs.grammar.Placeless.{bare_node}
-use Rattle.graphql_grammar.specs.grammar.Places.{at}
-use Rattle.graphql_grammar.specs.grammar.Relations.{Rel, one, ◌∪◌, mapped}
-use Rattle.graphql_grammar.specs.grammar.Tests.{Test, is_among, punct, keyword, any_name, name_but, any_number, any_string, any_block}
+use Rattle.graphql_reading.specs.grammar.Places.{at}
+use Rattle.graphql_reading.specs.grammar.Relations.{Rel, one, ◌∪◌, mapped}
+use Rattle.graphql_reading.specs.grammar.Tests.{Test, is_among, punct, keyword, any_name, name_but, any_number, any_string, any_block}
 use Rattle.graphql_grammar.specs.grammar.Values.{Value, true_of, enumeration_of, StringStands, BlockStands, a_word, a_number, a_string, a_block, dollar, a_variable, a_list, a_field, an_object, a_simple_value, value}
-use Rattle.graphql_grammar.specs.reading.Outcome.{Reader}
+use Rattle.graphql_reading.specs.reading.Outcome.{Reader}
 use Rattle.graphql_grammar.specs.reading.Values.{word_at, number_at, string_at, block_at, variable_at, simple_at, simple_first, value_first, list_at, field_at, object_at, by_first, value_at}
-use Rattle.graphql_grammar.proofs.Parts.{nested, below, of_values}
-use Rattle.graphql_grammar.proofs.Theory.{Extends, Within, outside, anything}
-use Rattle.graphql_grammar.proofs.TokenTests.{punctuator, named, punct-within, keyword-within, any_name-within, name_but-within, keyword-sample, name-sample}
+use Rattle.graphql_reading.proofs.Parts.{nested, below, of_values}
+use Rattle.graphql_reading.proofs.Theory.{Extends, Within, outside, anything}
+use Rattle.graphql_reading.proofs.TokenTests.{punctuator, named, punct-within, keyword-within, any_name-within, name_but-within, keyword-sample, name-sample}
 use Rattle.graphql_grammar.proofs.ValueTests.{number, quoted, block, any_number-within, any_string-within, any_block-within, dollar-within, any_number-inner, any_string-inner, any_block-inner, dollar-inner}
-use Rattle.graphql_grammar.proofs.PunctSamples.{has-close_list, has-close_object, has-colon}
-use Rattle.graphql_grammar.proofs.Good.{Good, Has, Led, good-one, good-punct, good-keyword, good-name, good-name_but, good-mapped, good-next, good-led, good-many, good-choose, good-nested, good-deep, good-same, led-one, led-within, led-same, led-mapped, led-then, led-either, led-nested, has-token, has-pair, has-map, has-star, has-first, opens}
-use Rattle.graphql_grammar.proofs.Meaning.{good-meaning, led-meaning, blind-meaning}
+use Rattle.graphql_reading.proofs.PunctSamples.{has-close_list, has-close_object, has-colon}
+use Rattle.graphql_reading.proofs.Good.{Good, Has, Led, good-one, good-punct, good-keyword, good-name, good-name_but, good-mapped, good-next, good-led, good-many, good-choose, good-nested, good-deep, good-same, led-one, led-within, led-same, led-mapped, led-then, led-either, led-nested, has-token, has-pair, has-map, has-star, has-first, opens}
+use Rattle.graphql_reading.proofs.Meaning.{good-meaning, led-meaning, blind-meaning}
 use Rattle.graphql_grammar.proofs.Strings.{string-decides, block-decides}
-use Rattle.graphql_grammar.proofs.Blind.{Blind, blind-one, blind-then, blind-mapped, blind-either, blind-star}
-use Rattle.graphql_grammar.proofs.Loop.{Takes, takes-one}
+use Rattle.graphql_reading.proofs.Blind.{Blind, blind-one, blind-then, blind-mapped, blind-either, blind-star}
+use Rattle.graphql_reading.proofs.Loop.{Takes, takes-one}
 use Prim.Native.String.{String}
 
 -- ---- names, and the words among them
@@ -81,8 +82,8 @@ blind-word =
 led-number : {g : Test} → ((spelling : List ℕ) → IsTrue (g (number spelling))) → Led (λ c. a_number) g
 led-number h = led-mapped (led-within (any_number-within h) led-one)
 
-led-string : {g : Test} → ((spelling : List ℕ) → IsTrue (g (quoted spelling))) → Led (λ c. a_string) g
-led-string h = led-mapped (led-within (any_string-within h) (led-meaning any_string StringStands))
+led-string : {g : Test} → ((spelling : List ℕ) → IsTrue (g (quoted spelling))) → Led (λ c. a_string Current) g
+led-string h = led-mapped (led-within (any_string-within h) (led-meaning any_string (StringStands Current)))
 
 led-block : {g : Test} → ((spelling : List ℕ) → IsTrue (g (block spelling))) → Led (λ c. a_block) g
 led-block h = led-mapped (led-within (any_block-within h) (led-meaning any_block BlockStands))
@@ -93,7 +94,7 @@ led-variable vars h = led-mapped (led-then (led-within (dollar-within vars h) le
 good-number : {b : Limits} {f : Test} → Good (λ c. a_number) b f number_at
 good-number = good-mapped (good-one any_number-inner)
 
-good-string : {b : Limits} {f : Test} → Good (λ c. a_string) b f string_at
+good-string : {b : Limits} {f : Test} → Good (λ c. a_string Current) b f string_at
 good-string = good-mapped (good-meaning any_string-inner string-decides)
 
 good-block : {b : Limits} {f : Test} → Good (λ c. a_block) b f block_at
@@ -104,14 +105,14 @@ good-variable vars = good-mapped (good-next (has-token name-sample) (good-one (d
 
 -- ---- what is neither a list nor an object
 
-led-simple : (vars : Bool) → Led (λ c. a_simple_value vars) (simple_first vars)
+led-simple : (vars : Bool) → Led (λ c. a_simple_value Current vars) (simple_first vars)
 led-simple vars =
     led-either (led-within (any_name-within (λ spelling. refl)) led-word)
     (led-either (led-number (λ spelling. refl))
     (led-either (led-string (λ spelling. refl))
     (led-either (led-block (λ spelling. refl)) (led-variable vars (λ allowed. allowed)))))
 
-good-simple : (vars : Bool) {b : Limits} {f : Test} → Good (λ c. a_simple_value vars) b f (simple_at vars)
+good-simple : (vars : Bool) {b : Limits} {f : Test} → Good (λ c. a_simple_value Current vars) b f (simple_at vars)
 good-simple vars =
     good-choose led-word
     (led-either (led-number (λ spelling. refl)) (led-either (led-string (λ spelling. refl)) (led-either (led-block (λ spelling. refl)) (led-variable vars (λ allowed. refl)))))
@@ -124,14 +125,14 @@ good-simple vars =
     good-string
     (good-choose {first = any_block} (led-block (λ spelling. refl)) (led-variable vars (λ allowed. refl)) good-block (good-variable vars))))
 
-has-simple : (vars : Bool) → Has (λ c. a_simple_value vars)
+has-simple : (vars : Bool) → Has (λ c. a_simple_value Current vars)
 has-simple vars = has-first {p = λ c. a_word} has-word
 
-blind-simple : (vars : Bool) → Blind (λ c. a_simple_value vars) bare_node
+blind-simple : (vars : Bool) → Blind (λ c. a_simple_value Current vars) bare_node
 blind-simple vars =
     blind-either blind-word
     (blind-either (blind-mapped (λ t. refl) (blind-one any_number))
-    (blind-either (blind-mapped (λ x. refl) (blind-meaning any_string StringStands))
+    (blind-either (blind-mapped (λ x. refl) (blind-meaning any_string (StringStands Current)))
     (blind-either (blind-mapped (λ x. refl) (blind-meaning any_block BlockStands))
     (blind-mapped (λ x. refl) (blind-then (blind-one (dollar vars)) (blind-one any_name))))))
 
@@ -192,22 +193,22 @@ blind-object h =
 -- ---- values
 
 abbrev values : Bool → Limits → Rel Value
-values vars c = value vars c.values
+values vars c = value Current vars c.values
 
 abbrev lists : Bool → Limits → Rel Value
-lists vars c = a_list (value vars c.values)
+lists vars c = a_list (value Current vars c.values)
 
 abbrev objects : Bool → Limits → Rel Value
-objects vars c = an_object (value vars c.values)
+objects vars c = an_object (value Current vars c.values)
 
 -- any value, by what lists and objects are
 abbrev by-first : Bool → (Limits → Rel Value) → (Limits → Rel Value) → Limits → Rel Value
-by-first vars l o c = a_simple_value vars ∪ l c ∪ o c
+by-first vars l o c = a_simple_value Current vars ∪ l c ∪ o c
 
 is-value : (vars : Bool) (c : Limits) (x : List Token) (t : Value) → by-first vars (nested of_values (lists vars)) (nested of_values (objects vars)) c x t ↔ values vars c x t
 is-value vars c x t = go c.values
   where
-    go : (n : ℕ) → (a_simple_value vars ∪ below of_values (lists vars) c n ∪ below of_values (objects vars) c n) x t ↔ value vars n x t
+    go : (n : ℕ) → (a_simple_value Current vars ∪ below of_values (lists vars) c n ∪ below of_values (objects vars) c n) x t ↔ value Current vars n x t
     go zero = (λ h. elim h [ inl k ↦ k | inr k ↦ elim k [ inl m ↦ absurd m | inr m ↦ absurd m ] ], λ h. inl h)
     go (suc n) = (λ h. h, λ h. h)
 
@@ -243,15 +244,15 @@ led-lists vars = led-nested of_values (led-list {v = values vars})
 led-objects : (vars : Bool) → Led (nested of_values (objects vars)) (punct "{")
 led-objects vars = led-nested of_values (led-object {v = values vars})
 
-pub led-value : (vars : Bool) → Led (λ c. value vars c.values) (value_first vars)
+pub led-value : (vars : Bool) → Led (λ c. value Current vars c.values) (value_first vars)
 led-value vars = led-same (is-value vars) (led-by-first vars (led-lists vars) (led-objects vars))
 
-pub has-value : (vars : Bool) → Has (λ c. value vars c.values)
+pub has-value : (vars : Bool) → Has (λ c. value Current vars c.values)
 has-value vars = record { some = λ c. some c c.values }
   where
-    some : (c : Limits) (n : ℕ) → Extends (value vars n) []
+    some : (c : Limits) (n : ℕ) → Extends (value Current vars n) []
     some c zero = (has-simple vars).some c
-    some c (suc n) = (has-first {p = λ c. a_simple_value vars} {q = λ c. a_list (value vars n) ∪ an_object (value vars n)} (has-simple vars)).some c
+    some c (suc n) = (has-first {p = λ c. a_simple_value Current vars} {q = λ c. a_list (value Current vars n) ∪ an_object (value Current vars n)} (has-simple vars)).some c
 
 good-either : (vars : Bool) {b : Limits} {f : Test} {r s : Reader Value} → Good (nested of_values (lists vars)) b f r → Good (nested of_values (objects vars)) b f s → Good (values vars) b f (by_first vars r s)
 good-either vars l o = good-same (is-value vars) (good-by-first vars (led-lists vars) (led-objects vars) l o)
@@ -261,7 +262,7 @@ unfolding value_at
 good-within vars zero b e =
     good-either vars
     (good-deep of_values e (opens (punct "[") (has-pair (has-star {p = values vars}) has-close_list)) (led-list {v = values vars}))
-    (good-deep of_values e (opens (punct "{") (has-pair (has-star {p = λ c. a_field (value vars c.values)}) has-close_object)) (led-object {v = values vars}))
+    (good-deep of_values e (opens (punct "{") (has-pair (has-star {p = λ c. a_field (value Current vars c.values)}) has-close_object)) (led-object {v = values vars}))
 good-within vars (suc n) b {f} e =
     let inner : Limits = record b { values = n } in
     subst (λ (k : ℕ). Good (values vars) (record b { values = k }) f (value_at vars (suc n))) (sym e)
@@ -270,16 +271,16 @@ good-within vars (suc n) b {f} e =
     (good-nested of_values {b = inner} (good-object (has-value vars) (good-within vars n inner refl))))
 
 -- Nothing is looked ahead at: a value is one token, ends with a closing bracket, or is a variable.
-pub good-value : (vars : Bool) {b : Limits} {f : Test} → Good (λ c. value vars c.values) b f (value_at vars b.values)
+pub good-value : (vars : Bool) {b : Limits} {f : Test} → Good (λ c. value Current vars c.values) b f (value_at vars b.values)
 good-value vars {b} = good-within vars b.values b refl
 
 -- ---- places
 
-blind-within : (vars : Bool) (n : ℕ) → Blind (λ c. value vars n) bare_node
+blind-within : (vars : Bool) (n : ℕ) → Blind (λ c. value Current vars n) bare_node
 blind-within vars zero = blind-simple vars
 blind-within vars (suc n) = blind-either (blind-simple vars) (blind-either (blind-list (blind-within vars n)) (blind-object (blind-within vars n)))
 
-pub blind-value : (vars : Bool) → Blind (λ c. value vars c.values) bare_node
+pub blind-value : (vars : Bool) → Blind (λ c. value Current vars c.values) bare_node
 blind-value vars = record { by = λ c. (blind-within vars c.values).by c; fixed = λ c. (blind-within vars c.values).fixed c }
 
 -- ---- a token at least
@@ -291,4 +292,4 @@ pub takes-value : (vars : Bool) (values : ℕ) → Takes (value_at vars values)
 takes-value vars values = takes-one {b = budget values} {f = anything} (good-value vars) (led-value vars)
 
 pub takes-field : (vars : Bool) (values : ℕ) → Takes (field_at (value_at vars values))
-takes-field vars values = takes-one {b = budget values} {f = anything} (good-field (has-value vars) (good-value vars)) (led-field {v = λ c. value vars c.values})
+takes-field vars values = takes-one {b = budget values} {f = anything} (good-field (has-value vars) (good-value vars)) (led-field {v = λ c. value Current vars c.values})

@@ -1,4 +1,6 @@
 -- Public: what a reader of the public contracts has to believe.
+pub mod answers
+pub mod errors
 pub mod grammar
 -- Inner: what the readers' clauses and models cite. No public definition imports one of these.
 pub mod reading

@@ -1,18 +1,19 @@
-//! Readers of arguments and directives, by GraphQL October 2021, sections 2.6 and 2.12.
-ghost use Rattle.std.specs.Prelude.{true, false};
+//! Readers of arguments, directives and default values, by GraphQL October 2021, sections 2.6, 2.10 and 2.12.
+ghost use Rattle.std.specs.Prelude.{true, false, option_map};
 ghost use Rattle.graphql_syntax.specs.trees.Request as request;
 ghost use Rattle.graphql_syntax.specs.trees.RequestViews.{directive_tree, const_directive_tree};
+ghost use Rattle.graphql_syntax.specs.trees.ValueViews.{const_tree};
 ghost use Rattle.graphql_grammar.specs.grammar.Arguments.{given};
-ghost use Rattle.graphql_grammar.specs.grammar.Tests.{any_name};
+ghost use Rattle.graphql_reading.specs.grammar.Tests.{any_name};
 ghost use Rattle.graphql_grammar.specs.reading.ArgumentViews.{trees_in, in_argument, in_directive};
-ghost use Rattle.graphql_grammar.specs.reading.Arguments.{argument_at, arguments_at, maybe_arguments_at, directive_at, directives_at};
-ghost use Rattle.graphql_grammar.specs.reading.Given.{Gives};
-ghost use Rattle.graphql_grammar.specs.reading.Outcome.{mapped_at, plus_at};
+ghost use Rattle.graphql_grammar.specs.reading.Arguments.{argument_at, arguments_at, maybe_arguments_at, directive_at, directives_at, maybe_default_at};
+ghost use Rattle.graphql_reading.specs.reading.Given.{Gives};
+ghost use Rattle.graphql_reading.specs.reading.Outcome.{mapped_at, plus_at};
 
-use crate::cursor::{Cursor, Reading};
-use crate::list::push;
+use graphql_reading::cursor::{Cursor, Reading};
+use graphql_reading::list::push;
 use crate::value::read_value;
-use crate::words::name_in;
+use graphql_reading::names::name_in;
 use graphql_syntax::pos::{Pos, Positioned};
 use graphql_syntax::types::{ConstDirective, Directive};
 use graphql_syntax::value::{ConstValue, Literal, Name, Value};
@@ -76,7 +77,7 @@ pub fn read_arguments<V: Literal>(
 }
 
 /// Reads arguments with their brackets, where a `(` is in hand; else there are none.
-#[tactic(auto, unfolding(crate::specs::reading::Outcome::opt_at))]
+#[tactic(auto, unfolding(graphql_reading::specs::reading::Outcome::opt_at))]
 #[inline(always)]
 pub fn read_maybe_arguments<V: Literal>(
     alloc: Global,
@@ -182,4 +183,21 @@ pub fn read_const_directives(
             return Ok(directives);
         }
     }
+}
+
+/// Reads a default value behind its `=` (GraphQL October 2021, section 2.10), where a `=` is in hand.
+#[tactic(auto, unfolding(graphql_reading::specs::reading::Outcome::opt_at))]
+pub fn read_maybe_default(
+    alloc: Global,
+    cursor: &mut Cursor,
+    values: usize,
+) -> Reading<Option<Positioned<ConstValue>>>
+    ensures { Gives (option_map (request.placed const_tree)) result cursor.old cursor.new (maybe_default_at values) }
+{
+    if !cursor.is_at_punct("=") {
+        return Ok(None);
+    }
+    cursor.advance();
+    let value = read_value(alloc, cursor, values)?;
+    Ok(Some(value))
 }

@@ -2,12 +2,12 @@
 ghost use Rattle.std.specs.Prelude.{◌≡◌, ◌≤◌, ◌+◌, MatchResult, Ok};
 ghost use Rattle.graphql_syntax.specs.trees.Request as request;
 ghost use Rattle.graphql_syntax.specs.trees.TypeTree.{type_tree};
-ghost use Rattle.graphql_grammar.specs.declared.cursor.Refusal.TheVariants.{Limit};
-ghost use Rattle.graphql_grammar.specs.reading.Given.{Gives};
+ghost use Rattle.graphql_reading.specs.declared.cursor.Refusal.TheVariants.{Limit};
+ghost use Rattle.graphql_reading.specs.reading.Given.{Gives};
 ghost use Rattle.graphql_grammar.specs.reading.TypeSteps.{opens_at, nullable_at, named_at, close_at, closes_at};
 ghost use Rattle.graphql_grammar.specs.reading.Types.{type_at};
 
-use crate::cursor::{Cursor, Reading, Refusal};
+use graphql_reading::cursor::{Cursor, Reading, Refusal};
 use graphql_syntax::pos::Positioned;
 use graphql_syntax::types::{BaseType, Type};
 use graphql_syntax::value::Name;

@@ -2,7 +2,7 @@
 ghost use Rattle.std.specs.Prelude.{◌<◌, pred};
 ghost use Rattle.graphql_syntax.specs.trees.Request as request;
 ghost use Rattle.graphql_grammar.specs.reading.OpenValues.{node_at, opened, met, open_rest, Meets};
-ghost use Rattle.graphql_grammar.specs.reading.Given.{Gives};
+ghost use Rattle.graphql_reading.specs.reading.Given.{Gives};
 ghost use Rattle.graphql_grammar.specs.reading.Values.{value_at};
 
 mod fields;
@@ -10,7 +10,7 @@ mod fill;
 mod frames;
 mod simple;
 
-use crate::cursor::{Cursor, Reading};
+use graphql_reading::cursor::{Cursor, Reading};
 use fields::merge;
 use fill::{enter, fill_list, fill_object};
 use frames::{Frame, Frames, Open};

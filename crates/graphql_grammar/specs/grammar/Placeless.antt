@@ -1,8 +1,8 @@
 -- Trees without their places: each place is 0:0.
-use Rattle.std.specs.Prelude.{List, map, option_map}
+use Rattle.std.specs.Prelude.{List, map}
 use Rattle.graphql_tokens.specs.declared.pos.Positioned.{Positioned}
-use Rattle.graphql_syntax.specs.trees.Request.{Argument, Directive, VariableDefinition}
-use Rattle.graphql_grammar.specs.grammar.Places.{nowhere}
+use Rattle.graphql_syntax.specs.trees.Request.{Argument, Directive}
+use Rattle.graphql_reading.specs.grammar.Places.{nowhere}
 
 -- the node without its place, and what is inside it without places too
 abbrev pub unplaced : {A : Type 0} → (A → A) → Positioned A → Positioned A
@@ -20,11 +20,3 @@ placeless_directive d = record { name = bare_node d.name; arguments = map placel
 
 abbrev pub placeless_directives : List (Positioned Directive) → List (Positioned Directive)
 placeless_directives ds = map (unplaced placeless_directive) ds
-
-abbrev pub placeless_variable : VariableDefinition → VariableDefinition
-placeless_variable v = record {
-  name = bare_node v.name;
-  var_type = bare_node v.var_type;
-  directives = placeless_directives v.directives;
-  default_value = option_map bare_node v.default_value;
-}

@@ -1,16 +1,16 @@
--- Values, and their places.
+-- Values, and their places (GraphQL October 2021, section 2.9).
 use Rattle.std.specs.Prelude.{◌≡◌, ℕ, zero, suc, Bool, true, false, ◌-◌, ◌&&◌, List, [], ◌∷◌, length, take, drop, map}
 use Rattle.std.specs.Str.{chars, encode_utf8_all}
 use Rattle.graphql_tokens.specs.declared.pos.Positioned.{Positioned}
 use Rattle.graphql_tokens.specs.tokens.BlockText.{block_value}
-use Rattle.graphql_tokens.specs.tokens.Edition.{Current}
+use Rattle.graphql_tokens.specs.tokens.Edition.{Edition}
 use Rattle.graphql_tokens.specs.tokens.Strings.{StringMeans}
 use Rattle.graphql_tokens.specs.tokens.Token.{Bare, Token}
 use Rattle.graphql_syntax.specs.trees.ValueTree.{Tree, variable, null, number, string, boolean, enumeration, list, object, trees_of, fields_of}
 use Rattle.graphql_grammar.specs.grammar.Merged.{merged}
-use Rattle.graphql_grammar.specs.grammar.Places.{at}
-use Rattle.graphql_grammar.specs.grammar.Relations.{Rel, one, meaning, ◌⨾◌, ◌∪◌, mapped, star}
-use Rattle.graphql_grammar.specs.grammar.Tests.{Test, punct, keyword, any_name, name_but, any_number, any_string, any_block}
+use Rattle.graphql_reading.specs.grammar.Places.{at}
+use Rattle.graphql_reading.specs.grammar.Relations.{Rel, one, meaning, ◌⨾◌, ◌∪◌, mapped, star}
+use Rattle.graphql_reading.specs.grammar.Tests.{Test, punct, keyword, any_name, name_but, any_number, any_string, any_block}
 
 abbrev pub Value : Type 0
 Value = Positioned Tree
@@ -52,18 +52,18 @@ abbrev pub inside : ℕ → List ℕ → List ℕ
 inside quotes spelling = drop quotes (take (length spelling - quotes) spelling)
 
 -- the bytes of the one value of a string's content
-abbrev pub StringStands : Bare → List ℕ → Type 0
-StringStands t bytes = (value : List ℕ) × StringMeans Current (chars (inside 1 t.spelling)) value × (bytes ≡ encode_utf8_all value)
+abbrev pub StringStands : Edition → Bare → List ℕ → Type 0
+StringStands edition t bytes = (value : List ℕ) × StringMeans edition (chars (inside 1 t.spelling)) value × (bytes ≡ encode_utf8_all value)
 
 -- the bytes of the value of a block string's raw text
 abbrev pub BlockStands : Bare → List ℕ → Type 0
 BlockStands t bytes = bytes ≡ encode_utf8_all (block_value (chars (inside 3 t.spelling)))
 
 abbrev pub string_of : Token × List ℕ → Value
-string_of x = at x.0 (string x.1)
+string_of (t, bytes) = at t (string bytes)
 
-abbrev pub a_string : Rel Value
-a_string = mapped string_of (meaning any_string StringStands)
+abbrev pub a_string : Edition → Rel Value
+a_string edition = mapped string_of (meaning any_string (StringStands edition))
 
 abbrev pub a_block : Rel Value
 a_block = mapped string_of (meaning any_block BlockStands)
@@ -75,7 +75,7 @@ abbrev pub dollar : Bool → Test
 dollar vars t = punct "$" t && vars
 
 abbrev pub variable_of : Token × Token → Value
-variable_of x = at x.0 (variable x.1.bare.spelling)
+variable_of (sign, name) = at sign (variable name.bare.spelling)
 
 -- '$' Name
 abbrev pub a_variable : Bool → Rel Value
@@ -84,21 +84,21 @@ a_variable vars = mapped variable_of (one (dollar vars) ⨾ one any_name)
 -- ---- lists and objects
 
 abbrev pub list_of : Token × (List Value × Token) → Value
-list_of x = at x.0 (list (trees_of (map (λ v. v.node) x.1.0)))
+list_of (opening, (values, closing)) = at opening (list (trees_of (map (λ v. v.node) values)))
 
 -- '[' Value* ']'
 abbrev pub a_list : Rel Value → Rel Value
 a_list value = mapped list_of (one (punct "[") ⨾ star value ⨾ one (punct "]"))
 
-abbrev pub field_of : Token × (Token × Value) → List ℕ × Tree
-field_of x = (x.0.bare.spelling, x.1.1.node)
+abbrev pub object_field_of : Token × (Token × Value) → List ℕ × Tree
+object_field_of (name, (colon, value)) = (name.bare.spelling, value.node)
 
 -- Name ':' Value
 abbrev pub a_field : Rel Value → Rel (List ℕ × Tree)
-a_field value = mapped field_of (one any_name ⨾ one (punct ":") ⨾ value)
+a_field value = mapped object_field_of (one any_name ⨾ one (punct ":") ⨾ value)
 
 abbrev pub object_of : Token × (List (List ℕ × Tree) × Token) → Value
-object_of x = at x.0 (object (fields_of (merged x.1.0)))
+object_of (opening, (fields, closing)) = at opening (object (fields_of (merged fields)))
 
 -- '{' (Name ':' Value)* '}'
 abbrev pub an_object : Rel Value → Rel Value
@@ -107,11 +107,11 @@ an_object value = mapped object_of (one (punct "{") ⨾ star (a_field value) ⨾
 -- ---- values
 
 -- a value that is neither a list nor an object
-abbrev pub a_simple_value : Bool → Rel Value
-a_simple_value vars = a_word ∪ a_number ∪ a_string ∪ a_block ∪ a_variable vars
+abbrev pub a_simple_value : Edition → Bool → Rel Value
+a_simple_value edition vars = a_word ∪ a_number ∪ a_string edition ∪ a_block ∪ a_variable vars
 
 -- A value whose lists and objects nest at most so deep; variables may stand in it, or may not.
 -- It stands at its first token.
-abbrev pub value : Bool → ℕ → Rel Value
-value vars zero = a_simple_value vars
-value vars (suc b) = a_simple_value vars ∪ a_list (value vars b) ∪ an_object (value vars b)
+abbrev pub value : Edition → Bool → ℕ → Rel Value
+value edition vars zero = a_simple_value edition vars
+value edition vars (suc b) = a_simple_value edition vars ∪ a_list (value edition vars b) ∪ an_object (value edition vars b)

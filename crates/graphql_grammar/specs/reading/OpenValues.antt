@@ -3,20 +3,20 @@ use Rattle.std.specs.Prelude.{◌≡◌, ℕ, pred, ◌+◌, ◌<◌, Bool, true
 use Rattle.std.specs.Str.{bytes_eq}
 use Rattle.graphql_tokens.specs.tokens.Token.{Token}
 use Rattle.graphql_syntax.specs.trees.ValueTree.{Tree, null, boolean, enumeration, list, object, trees_of, fields_of}
-use Rattle.graphql_grammar.specs.declared.cursor.Refusal.{Refusal}
+use Rattle.graphql_reading.specs.declared.cursor.Refusal.{Refusal}
 use Rattle.graphql_grammar.specs.declared.value.frames.Open.{Open}
 use Rattle.graphql_grammar.specs.declared.value.frames.Open.TheVariants as opens
 use Rattle.graphql_grammar.specs.declared.value.frames.Frame.{Frame}
 use Rattle.graphql_grammar.specs.declared.value.frames.Frame.TheVariants as frames
 use Rattle.graphql_grammar.specs.declared.value.Stop.{Stop}
 use Rattle.graphql_grammar.specs.declared.value.Stop.TheVariants as stops
-use Rattle.graphql_grammar.specs.grammar.Fronts.{limit}
+use Rattle.graphql_reading.specs.grammar.Fronts.{limit}
 use Rattle.graphql_grammar.specs.grammar.Merged.{merged}
-use Rattle.graphql_grammar.specs.grammar.Tests.{Test, punct, any_name}
+use Rattle.graphql_reading.specs.grammar.Tests.{Test, punct, any_name}
 use Rattle.graphql_grammar.specs.grammar.Values.{Value}
-use Rattle.graphql_grammar.specs.reading.Ahead.{Ahead, tokens}
-use Rattle.graphql_grammar.specs.reading.Given.{GoesOn, Refuses}
-use Rattle.graphql_grammar.specs.reading.Outcome.{Outcome, Read, Refused, Reader, ◌>>=◌, one_at, then_at, mapped_at, choose_at, none_at, many_at, with_front}
+use Rattle.graphql_reading.specs.reading.Ahead.{Ahead, tokens}
+use Rattle.graphql_reading.specs.reading.Given.{GoesOn, Refuses}
+use Rattle.graphql_reading.specs.reading.Outcome.{Outcome, Read, Refused, Reader, ◌>>=◌, one_at, then_at, mapped_at, choose_at, none_at, many_at, with_front}
 use Rattle.graphql_grammar.specs.reading.Values.{value_first, value_at, field_at}
 
 abbrev pub Field : Type 0

@@ -3,9 +3,9 @@ use Rattle.std.specs.Prelude.{ℕ, zero, suc, Bool, true, false}
 use Rattle.graphql_tokens.specs.declared.pos.Positioned.{Positioned}
 use Rattle.graphql_tokens.specs.tokens.Token.{Token}
 use Rattle.graphql_syntax.specs.trees.TypeTree.{TypeTree, named, list}
-use Rattle.graphql_grammar.specs.grammar.Places.{at}
-use Rattle.graphql_grammar.specs.grammar.Tests.{punct, any_name}
-use Rattle.graphql_grammar.specs.reading.Outcome.{Reader, Read, ◌>>=◌, one_at, peek_at, then_at, mapped_at, choose_at, none_at, deep_at}
+use Rattle.graphql_reading.specs.grammar.Places.{at}
+use Rattle.graphql_reading.specs.grammar.Tests.{punct, any_name}
+use Rattle.graphql_reading.specs.reading.Outcome.{Reader, Read, ◌>>=◌, one_at, peek_at, then_at, mapped_at, choose_at, none_at, deep_at}
 
 -- how many lists are open, where so many are and so many more may be
 unfoldable pub opens_at : ℕ → ℕ → Reader ℕ

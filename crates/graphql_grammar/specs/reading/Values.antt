@@ -5,9 +5,9 @@ use Rattle.graphql_tokens.specs.inner.Contents.{content_value}
 use Rattle.graphql_tokens.specs.tokens.BlockText.{block_value}
 use Rattle.graphql_tokens.specs.tokens.Token.{Bare}
 use Rattle.graphql_syntax.specs.trees.ValueTree.{Tree}
-use Rattle.graphql_grammar.specs.grammar.Tests.{Test, punct, keyword, any_name, name_but, any_number, any_string, any_block}
-use Rattle.graphql_grammar.specs.grammar.Values.{Value, inside, true_of, false_of, null_of, enumeration_of, number_of, string_of, dollar, variable_of, list_of, field_of, object_of}
-use Rattle.graphql_grammar.specs.reading.Outcome.{Reader, one_at, meaning_at, then_at, mapped_at, choose_at, many_at, deep_at}
+use Rattle.graphql_reading.specs.grammar.Tests.{Test, punct, keyword, any_name, name_but, any_number, any_string, any_block}
+use Rattle.graphql_grammar.specs.grammar.Values.{Value, inside, true_of, false_of, null_of, enumeration_of, number_of, string_of, dollar, variable_of, list_of, object_field_of, object_of}
+use Rattle.graphql_reading.specs.reading.Outcome.{Reader, one_at, meaning_at, then_at, mapped_at, choose_at, many_at, deep_at}
 
 -- ---- what stands alone
 
@@ -56,7 +56,7 @@ abbrev pub list_at : Bool → Reader Value → Reader Value
 list_at vars value = mapped_at list_of (then_at (one_at (punct "[")) (then_at (many_at (value_first vars) value) (one_at (punct "]"))))
 
 abbrev pub field_at : Reader Value → Reader (List ℕ × Tree)
-field_at value = mapped_at field_of (then_at (one_at any_name) (then_at (one_at (punct ":")) value))
+field_at value = mapped_at object_field_of (then_at (one_at any_name) (then_at (one_at (punct ":")) value))
 
 abbrev pub object_at : Reader Value → Reader Value
 object_at value = mapped_at object_of (then_at (one_at (punct "{")) (then_at (many_at any_name (field_at value)) (one_at (punct "}"))))

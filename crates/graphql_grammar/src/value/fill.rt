@@ -1,11 +1,11 @@
 //! Lists and objects filled with what stands alone, up to their end or to a list or an object inside them.
 ghost use Rattle.std.specs.Prelude.{map, option_map};
 ghost use Rattle.graphql_grammar.specs.reading.OpenValues.{field_tree, opened, list_stop, object_stop, key_at, enter_at, list_rest, object_rest, Meets};
-ghost use Rattle.graphql_grammar.specs.reading.Given.{Gives};
+ghost use Rattle.graphql_reading.specs.reading.Given.{Gives};
 
 use super::frames::Open;
 use super::simple::read_simple;
-use crate::cursor::{Cursor, Reading, Refusal};
+use graphql_reading::cursor::{Cursor, Reading, Refusal};
 use graphql_syntax::value::{Literal, Name};
 use std::alloc::Global;
 

@@ -1,7 +1,7 @@
 //! Lists and objects that are open while a value inside them is read.
 ghost use Rattle.std.specs.Prelude.{◌≡◌, ◌+◌, ◌<◌, [], ◌∷◌, ◌++◌, length, IfOk, IfNone, option_to_list};
 
-use crate::list::push;
+use graphql_reading::list::push;
 use graphql_syntax::value::{Literal, Name};
 use std::alloc::{AllocError, AllocFailed, Global};
 

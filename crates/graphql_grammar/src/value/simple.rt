@@ -2,11 +2,11 @@
 ghost use Rattle.std.specs.Prelude.{◌≡◌, IfOk};
 ghost use Rattle.graphql_grammar.specs.grammar.Values as grammar;
 ghost use Rattle.graphql_grammar.specs.reading.OpenValues.{node_at, word_tree};
-ghost use Rattle.graphql_grammar.specs.reading.Given.{Gives};
-ghost use Rattle.graphql_grammar.specs.reading.Spelled.{IsQuoted};
+ghost use Rattle.graphql_reading.specs.reading.Given.{Gives};
+ghost use Rattle.graphql_reading.specs.reading.Spelled.{IsQuoted};
 ghost use Rattle.graphql_grammar.specs.reading.Values.{simple_at, word_at, number_at, string_at, block_at, variable_at};
 
-use crate::cursor::{Cursor, Reading, Refusal, is_block, is_number, is_string};
+use graphql_reading::cursor::{Cursor, Reading, Refusal, is_block, is_number, is_string};
 use graphql_syntax::lexer::TokenKind;
 use graphql_syntax::text::{block_string_value, string_value};
 use graphql_syntax::value::{Literal, Name, Number};

@@ -1,10 +1,10 @@
 use Rattle.std.proofs.Common.{sym, ◌∙◌}
 use Rattle.std.proofs.lemmas.Result.{err_from_is_err_and}
-use Rattle.graphql_grammar.specs.grammar.Tests.{any_name}
+use Rattle.graphql_reading.specs.grammar.Tests.{any_name}
 use Rattle.graphql_grammar.specs.reading.ArgumentViews.{trees_in, in_argument}
 use Rattle.graphql_grammar.specs.reading.Arguments.{argument_at}
 use Rattle.graphql_grammar.proofs.ArgumentProductions.{takes-argument}
-use Rattle.graphql_grammar.proofs.Loops.{stops, goes, ends, shorter}
+use Rattle.graphql_reading.proofs.Loops.{stops, goes, ends, shorter}
 use Rattle.graphql_grammar.proofs.arguments.read_argument_list.Goals as goal
 
 pub returns-in_err-argument : goal.returns-in_err-argument

@@ -1,8 +1,8 @@
 use Rattle.std.proofs.Common.{length}
-use Rattle.graphql_grammar.specs.grammar.Tests.{any_name}
+use Rattle.graphql_reading.specs.grammar.Tests.{any_name}
 use Rattle.graphql_grammar.specs.reading.ArgumentViews.{trees_in, in_argument}
 use Rattle.graphql_grammar.specs.reading.Arguments.{argument_at}
-use Rattle.graphql_grammar.proofs.Loops.{Kept}
+use Rattle.graphql_reading.proofs.Loops.{Kept}
 use Rattle.graphql_grammar.proofs.arguments.read_argument_list.Given as goal
 
 abbrev pub invariant-loop-arguments : goal.invariant-loop-arguments

@@ -2,11 +2,11 @@ use Rattle.std.proofs.Common.{sym, ◌∙◌, false, Ok, Err}
 use Rattle.std.proofs.lemmas.Result.{err_from_is_err_and}
 use Rattle.graphql_syntax.specs.trees.Request.{placed}
 use Rattle.graphql_syntax.specs.trees.RequestViews.{const_directive_tree}
-use Rattle.graphql_grammar.specs.grammar.Tests.{punct}
+use Rattle.graphql_reading.specs.grammar.Tests.{punct}
 use Rattle.graphql_grammar.specs.reading.ArgumentViews.{trees_in}
 use Rattle.graphql_grammar.specs.reading.Arguments.{directive_at}
 use Rattle.graphql_grammar.proofs.ArgumentProductions.{takes-directive}
-use Rattle.graphql_grammar.proofs.Loops.{stops, goes, ends, shorter, any-number, none-there}
+use Rattle.graphql_reading.proofs.Loops.{stops, goes, ends, shorter, any-number, none-there}
 use Rattle.graphql_grammar.proofs.arguments.read_const_directives.Goals as goal
 
 pub returns-then-not-is_at_punct : goal.returns-then-not-is_at_punct

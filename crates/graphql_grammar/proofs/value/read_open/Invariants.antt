@@ -1,5 +1,5 @@
 use Rattle.std.proofs.Common.{pred, length}
-use Rattle.graphql_grammar.specs.reading.Ahead.{tokens}
+use Rattle.graphql_reading.specs.reading.Ahead.{tokens}
 use Rattle.graphql_grammar.specs.reading.OpenValues.{opened, open_rest}
 use Rattle.graphql_grammar.proofs.ValueLoop.{Kept}
 use Rattle.graphql_grammar.proofs.value.read_open.Given as goal

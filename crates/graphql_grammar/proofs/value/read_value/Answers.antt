@@ -1,8 +1,8 @@
 use Rattle.std.proofs.Common.{ap, sym, ◌∙◌}
 use Rattle.graphql_tokens.specs.declared.pos.Positioned.{Positioned}
 use Rattle.graphql_tokens.specs.tokens.Token.{Token}
-use Rattle.graphql_grammar.specs.reading.Ahead.{tokens}
-use Rattle.graphql_grammar.specs.reading.Outcome.{Read}
+use Rattle.graphql_reading.specs.reading.Ahead.{tokens}
+use Rattle.graphql_reading.specs.reading.Outcome.{Read}
 use Rattle.graphql_grammar.proofs.ValueLoop.{value-stands}
 use Rattle.graphql_grammar.proofs.value.read_value.Goals as goal
 

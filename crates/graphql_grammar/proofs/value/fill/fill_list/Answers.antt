@@ -2,7 +2,7 @@ use Rattle.std.proofs.Common.{◌≡◌, List, map, option_map, ◌∷◌, ◌++
 use Rattle.std.proofs.lemmas.List.{map_push}
 use Rattle.std.proofs.lemmas.Result.{err_from_is_err_and}
 use Rattle.graphql_syntax.specs.trees.ValueTree.{Tree}
-use Rattle.graphql_grammar.specs.reading.Ahead.{tokens}
+use Rattle.graphql_reading.specs.reading.Ahead.{tokens}
 use Rattle.graphql_grammar.specs.reading.OpenValues.{opened, list_rest}
 use Rattle.graphql_grammar.proofs.ValueFill.{wants-item, ends-list, meets-inside, stops-inside, stops-alone, falls, fills}
 use Rattle.graphql_grammar.proofs.value.fill.fill_list.Goals as goal

@@ -2,7 +2,7 @@ use Rattle.std.proofs.Common.{◌≡◌, ℕ, List, rules, map, option_map, ◌�
 use Rattle.std.proofs.lemmas.List.{map_push}
 use Rattle.std.proofs.lemmas.Result.{err_from_is_err_and}
 use Rattle.graphql_syntax.specs.trees.ValueTree.{Tree}
-use Rattle.graphql_grammar.specs.reading.Ahead.{tokens}
+use Rattle.graphql_reading.specs.reading.Ahead.{tokens}
 use Rattle.graphql_grammar.specs.reading.OpenValues.{Field, field_tree, opened, object_rest}
 use Rattle.graphql_grammar.proofs.ValueFill.{wants-field, ends-object, stops-field, meets-inside, stops-inside, stops-alone, falls, fills}
 use Rattle.graphql_grammar.proofs.value.fill.fill_object.Goals as goal

@@ -1,5 +1,5 @@
 use Rattle.std.proofs.Common.{length, map}
-use Rattle.graphql_grammar.specs.reading.Ahead.{tokens}
+use Rattle.graphql_reading.specs.reading.Ahead.{tokens}
 use Rattle.graphql_grammar.specs.reading.OpenValues.{field_tree, object_rest}
 use Rattle.graphql_grammar.proofs.ValueFill.{Filling}
 use Rattle.graphql_grammar.proofs.value.fill.fill_object.Given as goal

@@ -3,7 +3,7 @@ use Rattle.std.proofs.lemmas.Str.{encodes-chars, IsUtf8-string_bytes}
 use Rattle.std.specs.String.{string_bytes}
 use Rattle.graphql_tokens.specs.tokens.Token.{Token}
 use Rattle.graphql_syntax.specs.trees.ValueTree.{Tree}
-use Rattle.graphql_grammar.specs.reading.Outcome.{Read}
+use Rattle.graphql_reading.specs.reading.Outcome.{Read}
 use Rattle.graphql_grammar.proofs.SimpleValues.{string-here, string-means, string-none}
 use Rattle.graphql_grammar.proofs.value.simple.read_string.Goals as goal
 

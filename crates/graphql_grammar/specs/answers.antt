@@ -1,0 +1,3 @@
+-- Public: what an answer of a parser means, whichever language it reads.
+pub mod Answers
+pub mod Language

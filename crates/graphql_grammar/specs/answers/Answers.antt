@@ -1,0 +1,81 @@
+-- What the answer of a parser says of the tokens of its text, whichever language it reads.
+use Rattle.std.specs.Prelude.{◌≡◌, ◌⊎◌, ℕ, ◌≤◌, length, Option, Some, None, Result, Ok, Err, List, ◌∷◌, ◌++◌, string_bytes}
+use Rattle.graphql_tokens.specs.tokens.Edition.{Current}
+use Rattle.graphql_tokens.specs.tokens.Token.{Token}
+use Rattle.graphql_grammar.specs.answers.Language.{Language, grammar}
+use Rattle.graphql_grammar.specs.declared.error.Error.{Error}
+use Rattle.graphql_grammar.specs.declared.error.Error.TheVariants.{Syntax, RecursionLimitExceeded, OutOfMemory}
+use Rattle.graphql_grammar.specs.errors.Errors.{syntax_message}
+use Rattle.graphql_reading.specs.grammar.Fronts.{IsTheTree, IsRefused, RefusedToken, Verdict, syntax, limit, unlimited, without_places}
+use Rattle.graphql_reading.specs.grammar.Limits.{Limits}
+
+-- ---- definitions that break a rule, or none
+
+-- no definition breaks a rule
+abbrev pub AreUnbroken : {D Document : Type 0} → Language D Document → List D → Type 0
+AreUnbroken {D} language ds = (before : List D) (d : D) (after : List D) → ds ≡ before ++ d ∷ after → language.breach before d ≡ None
+
+-- the first definition in source order that breaks a rule, and the error that it is
+pub record FirstBreach {D Document : Type 0} (language : Language D Document) (ds : List D) (error : Error) : Type 0 where
+  pub before : List D
+  pub broken : D
+  pub after : List D
+  pub split : ds ≡ before ++ broken ∷ after
+  pub unbroken_before : AreUnbroken language before
+  pub is : language.breach before broken ≡ Some error
+
+-- no definition breaks a rule, and the list lacks something
+pub record Lacks {D Document : Type 0} (language : Language D Document) (ds : List D) (error : Error) : Type 0 where
+  pub unbroken : AreUnbroken language ds
+  pub is : language.lack ds ≡ Some error
+
+-- no definition breaks a rule, nothing is lacking, and this is the document
+pub record IsDocument {D Document : Type 0} (language : Language D Document) (ds : List D) (document : Document) : Type 0 where
+  pub unbroken : AreUnbroken language ds
+  pub complete : language.lack ds ≡ None
+  pub made : language.makes ds document
+
+-- ---- answers
+
+-- the definitions are the one tree of the tokens
+abbrev pub AreTheDefinitions : {D Document : Type 0} → Language D Document → Limits → List Token → List D → Type 0
+AreTheDefinitions language limits tokens ds = IsTheTree (grammar language Current) language.placeless limits tokens ds
+
+-- the tokens have one tree, and this is what it breaks first, or what it lacks
+pub record Breaks {D Document : Type 0} (language : Language D Document) (limits : Limits) (tokens : List Token) (error : Error) : Type 0 where
+  pub definitions : List D
+  pub tree : AreTheDefinitions language limits tokens definitions
+  pub broken : FirstBreach language definitions error ⊎ Lacks language definitions error
+
+-- what an error says
+abbrev pub Tells : {D Document : Type 0} → Language D Document → Limits → List Token → Error → Type 0
+Tells language limits tokens (Syntax message start end) =
+    (refused : RefusedToken (grammar language Current) limits tokens syntax) × (start ≡ refused.token.pos) × (end ≡ None) × (string_bytes message ≡ syntax_message start)
+Tells language limits tokens RecursionLimitExceeded = RefusedToken (grammar language Current) limits tokens limit
+Tells language limits tokens OutOfMemory = Unit {0}
+Tells language limits tokens broken = Breaks language limits tokens broken
+
+-- what an answer says
+abbrev pub Answers : {D Document : Type 0} → Language D Document → Limits → List Token → Result Document Error → Type 0
+Answers {D} language limits tokens (Ok document) = (ds : List D) × AreTheDefinitions language limits tokens ds × IsDocument language ds document
+Answers language limits tokens (Err error) = Tells language limits tokens error
+
+-- So many tokens are taken for an answer: those up to the refused one and that one, or all where there
+-- is a tree; where memory runs out, no more than there are.
+abbrev pub TakenFor : {D Document : Type 0} → Language D Document → Limits → List Token → Result Document Error → ℕ → Type 0
+TakenFor language limits tokens (Err (Syntax message start end)) count = IsRefused (grammar language Current) limits tokens count syntax
+TakenFor language limits tokens (Err RecursionLimitExceeded) count = IsRefused (grammar language Current) limits tokens count limit
+TakenFor language limits tokens (Err OutOfMemory) count = count ≤ length tokens
+TakenFor language limits tokens other count = count ≡ length tokens
+
+-- ---- what holds of each list of tokens, whatever the answer
+
+-- any two trees of the tokens, at any limits, are equal, with places and without
+pub record HasOneTree {D Document : Type 0} (language : Language D Document) (tokens : List Token) : Type 0 where
+  pub same : (one other : List D) → unlimited (grammar language Current) tokens one → unlimited (grammar language Current) tokens other → one ≡ other
+  pub same_placeless : (one other : List D) → unlimited (grammar language Current) (without_places tokens) one → unlimited (grammar language Current) (without_places tokens) other → one ≡ other
+
+-- the tokens have a tree within the limits, or a refused token, and never both
+pub record IsDecided {D Document : Type 0} (language : Language D Document) (limits : Limits) (tokens : List Token) : Type 0 where
+  pub either : ((ds : List D) × grammar language Current limits tokens ds) ⊎ ((verdict : Verdict) × RefusedToken (grammar language Current) limits tokens verdict)
+  pub never_both : (ds : List D) → grammar language Current limits tokens ds → (count : ℕ) (verdict : Verdict) → ¬ (IsRefused (grammar language Current) limits tokens count verdict)

@@ -1,0 +1,34 @@
+//! The error that a refusal of the readers becomes.
+ghost use Rattle.graphql_reading.specs.declared.cursor.Refusal.TheVariants.{Syntax};
+ghost use Rattle.graphql_grammar.specs.reading.Errors.{IsErrorOf};
+
+use crate::error::Error;
+use graphql_reading::cursor::{Cursor, Refusal};
+use graphql_syntax::pos::Pos;
+use std::alloc::Global;
+
+#[cold]
+#[inline(never)]
+fn syntax_error(alloc: Global, start: Pos) -> Error
+    ensures { IsErrorOf Syntax start result }
+{
+    match format!(in alloc; "syntax error at {start}") {
+        Ok(message) => Error::Syntax {
+            message,
+            start,
+            end: None,
+        },
+        Err(_) => Error::OutOfMemory,
+    }
+}
+
+/// The error of a refusal; the refused token is in hand.
+pub fn error_of(alloc: Global, cursor: &Cursor, refusal: Refusal) -> Error
+    ensures { IsErrorOf refusal cursor.now.hand.pos result }
+{
+    match refusal {
+        Refusal::Memory => Error::OutOfMemory,
+        Refusal::Limit => Error::RecursionLimitExceeded,
+        Refusal::Syntax => syntax_error(alloc, cursor.hand().pos),
+    }
+}

@@ -1,6 +1,0 @@
-use Rattle.std.proofs.Common.{sym, refl, ◌∙◌}
-use Rattle.graphql_parser.proofs.Sorted.{sorted-anonymous}
-use Rattle.graphql_parser.proofs.parse.rules.Sorted.add_anonymous.Goals as goal
-
-pub returns : goal.returns
-returns c ds h = sorted-anonymous ds c.args.self.now _ c.args.operation h (sym c.first_operation.ensures ∙ c.in_default.is) refl refl refl

@@ -1,0 +1,159 @@
+-- Places don't matter: with other places there is a tree too, the same but for places.
+use Rattle.std.proofs.Common.{◌≡◌, ℕ, zero, suc, IsTrue, map, Option, Some, None, List, [], ◌∷◌, ◌++◌, ◌↔◌, inl, inr, refl, sym, ap, ap₂, ◌∙◌, subst}
+use Rattle.graphql_tokens.specs.tokens.Token.{Bare, Token}
+use Rattle.graphql_reading.specs.grammar.Tests.{Test}
+use Rattle.graphql_reading.specs.grammar.Limits.{Limits}
+use Rattle.graphql_reading.specs.grammar.Relations.{Rel, one, ◌⨾◌, ◌∪◌, mapped, never, opt, star, plus, cons}
+use Rattle.graphql_reading.specs.grammar.Fronts.{bares, without_place, without_places}
+use Rattle.graphql_reading.proofs.Parts.{none, nested, below, Nesting, left, leave}
+
+-- a tree of y, the same as a but for places
+pub record Same {A : Type 0} (p : Rel A) (placeless : A → A) (y : List Token) (a : A) : Type 0 where
+  pub tree : A
+  pub holds : p y tree
+  pub same : placeless tree ≡ placeless a
+
+pub record Blind {A : Type 0} (p : Limits → Rel A) (placeless : A → A) : Type 0 where
+  pub by : (c : Limits) (x y : List Token) (a : A) → p c x a → bares x ≡ bares y → Same (p c) placeless y a
+  pub fixed : (c : Limits) (x : List Token) (a : A) → p c x a → without_places x ≡ x → placeless a ≡ a
+
+-- ---- lists
+
+pub no-bares : (y : List Token) → bares y ≡ [] → y ≡ []
+no-bares [] e = refl
+no-bares (t ∷ y) e = absurd cc
+
+tail-is : {A : Type 0} (t s : A) (u y : List A) → t ∷ u ≡ s ∷ y → u ≡ y
+tail-is t s u y e = cc
+
+head-is : {A : Type 0} (t s : A) (u y : List A) → t ∷ u ≡ s ∷ y → t ≡ s
+head-is t s u y e = cc
+
+pub record Splits (u v y : List Token) : Type 0 where
+  pub front : List Token
+  pub back : List Token
+  pub joined : y ≡ front ++ back
+  pub first : bares u ≡ bares front
+  pub second : bares v ≡ bares back
+
+pub splits : (u v y : List Token) → bares (u ++ v) ≡ bares y → Splits u v y
+splits [] v y e = record { front = []; back = y; joined = refl; first = refl; second = e }
+splits (t ∷ u) v [] e = absurd cc
+splits (t ∷ u) v (s ∷ y) e =
+    let m = splits u v y (tail-is t.bare s.bare (bares (u ++ v)) (bares y) e) in
+    record { front = s ∷ m.front; back = m.back; joined = ap (λ (l : List Token). s ∷ l) m.joined; first = ap₂ (λ (t : Bare) (l : List Bare). t ∷ l) (head-is t.bare s.bare (bares (u ++ v)) (bares y) e) m.first; second = m.second }
+
+-- a list has no places where its parts have none
+fixed-parts : (u v : List Token) → without_places (u ++ v) ≡ u ++ v → (without_places u ≡ u) × (without_places v ≡ v)
+fixed-parts [] v e = (refl, e)
+fixed-parts (t ∷ u) v e =
+    let m = fixed-parts u v (tail-is (without_place t) t (without_places (u ++ v)) (u ++ v) e) in
+    (ap₂ (λ (t : Token) (l : List Token). t ∷ l) (head-is (without_place t) t (without_places (u ++ v)) (u ++ v) e) m.0, m.1)
+
+fixed-at : (x u v : List Token) → x ≡ u ++ v → without_places x ≡ x → (without_places u ≡ u) × (without_places v ≡ v)
+fixed-at x u v e h = fixed-parts u v (subst (λ (l : List Token). without_places l ≡ l) e h)
+
+-- ---- the combinators
+
+pub blind-one : (test : Test) → Blind (λ c. one test) without_place
+blind-one test = record { by = by; fixed = λ c x a m e. head-is (without_place a) a [] [] (subst (λ (l : List Token). without_places l ≡ l) m.0 e) }
+  where
+    by : (c : Limits) (x y : List Token) (a : Token) → one test x a → bares x ≡ bares y → Same (one test) without_place y a
+    by c x [] a m e = absurd (nothing (sym (ap bares m.0) ∙ e))
+      where
+        nothing : a.bare ∷ [] ≡ bares [] → ⊥
+        nothing e = cc
+    by c x (s ∷ y) a m e =
+        let e₁ : a.bare ∷ [] ≡ s.bare ∷ bares y = sym (ap bares m.0) ∙ e in
+        let same : a.bare ≡ s.bare = head-is a.bare s.bare [] (bares y) e₁ in
+        record { tree = s; holds = (ap (λ (l : List Token). s ∷ l) (no-bares y (sym (tail-is a.bare s.bare [] (bares y) e₁))), subst (λ (t : Bare). IsTrue (test t)) same m.1); same = ap (λ (t : Bare). without_place (record a { bare = t })) (sym same) }
+
+pub blind-never : {A : Type 0} {f : A → A} → Blind (λ c. never {A = A}) f
+blind-never = record { by = λ c x y a m e. absurd m; fixed = λ c x a m e. absurd m }
+
+pub blind-none : {A : Type 0} {a : A} {f : A → A} → f a ≡ a → Blind (λ c. none a) f
+blind-none {a = a} {f = f} e = record { by = λ c x y b m same. record { tree = a; holds = (no-bares y (sym same ∙ ap bares m.0), refl); same = ap f (sym m.1) }; fixed = λ c x b m _. ap f m.1 ∙ e ∙ sym m.1 }
+
+pub blind-then : {A B : Type 0} {p : Limits → Rel A} {q : Limits → Rel B} {f : A → A} {g : B → B} → Blind p f → Blind q g → Blind (λ c. p c ⨾ q c) (λ x. (f x.0, g x.1))
+blind-then h k = record {
+  by = λ c x y a m e.
+      let s = splits m.front m.back y (sym (ap bares m.joined) ∙ e) in
+      let i = h.by c m.front s.front a.0 m.first s.first in
+      let j = k.by c m.back s.back a.1 m.second s.second in
+      record { tree = (i.tree, j.tree); holds = record { front = s.front; back = s.back; joined = s.joined; first = i.holds; second = j.holds }; same = λ n. (i.same n, j.same n) };
+  fixed = λ c x a m e.
+      let s = fixed-at x m.front m.back m.joined e in
+      λ n. (h.fixed c m.front a.0 m.first s.0 n, k.fixed c m.back a.1 m.second s.1 n);
+}
+
+-- what is made of a tree has its places from that tree
+pub blind-mapped : {A B : Type 0} {p : Limits → Rel A} {f : A → A} {g : B → B} {k : A → B} → ((a : A) → g (k a) ≡ k (f a)) → Blind p f → Blind (λ c. mapped k (p c)) g
+blind-mapped {f = f} {g = g} {k = k} e h = record {
+  by = λ c x y b m same.
+      let i = h.by c x y m.value m.holds same in
+      record { tree = k i.tree; holds = record { value = i.tree; holds = i.holds; is = refl }; same = e i.tree ∙ ap k i.same ∙ sym (e m.value) ∙ ap g (sym m.is) };
+  fixed = λ c x b m is. ap g m.is ∙ e m.value ∙ ap k (h.fixed c x m.value m.holds is) ∙ sym m.is;
+}
+
+pub blind-either : {A : Type 0} {p q : Limits → Rel A} {f : A → A} → Blind p f → Blind q f → Blind (λ c. p c ∪ q c) f
+blind-either {A} {p} {q} {f} h k = record { by = by; fixed = fixed }
+  where
+    by : (c : Limits) (x y : List Token) (a : A) → (p c ∪ q c) x a → bares x ≡ bares y → Same (p c ∪ q c) f y a
+    by c x y a (inl m) e = let i = h.by c x y a m e in record { tree = i.tree; holds = inl i.holds; same = i.same }
+    by c x y a (inr m) e = let i = k.by c x y a m e in record { tree = i.tree; holds = inr i.holds; same = i.same }
+
+    fixed : (c : Limits) (x : List Token) (a : A) → (p c ∪ q c) x a → without_places x ≡ x → f a ≡ a
+    fixed c x a (inl m) e = h.fixed c x a m e
+    fixed c x a (inr m) e = k.fixed c x a m e
+
+pub blind-star : {A : Type 0} {p : Limits → Rel A} {f : A → A} → Blind p f → Blind (λ c. star (p c)) (map f)
+blind-star {A} {p} {f} h = record { by = by; fixed = fixed }
+  where
+    by : (c : Limits) (x y : List Token) (a : List A) → star (p c) x a → bares x ≡ bares y → Same (star (p c)) (map f) y a
+    by c x y [] m e = record { tree = []; holds = no-bares y (sym e ∙ ap bares m); same = refl }
+    by c x y (a ∷ more) m e =
+        let s = splits m.front m.back y (sym (ap bares m.joined) ∙ e) in
+        let i = h.by c m.front s.front a m.first s.first in
+        let j = by c m.back s.back more m.second s.second in
+        record { tree = i.tree ∷ j.tree; holds = record { front = s.front; back = s.back; joined = s.joined; first = i.holds; second = j.holds }; same = ap₂ (λ (a : A) (l : List A). a ∷ l) i.same j.same }
+
+    fixed : (c : Limits) (x : List Token) (a : List A) → star (p c) x a → without_places x ≡ x → map f a ≡ a
+    fixed c x [] m e = refl
+    fixed c x (a ∷ more) m e =
+        let s = fixed-at x m.front m.back m.joined e in
+        ap₂ (λ (a : A) (l : List A). a ∷ l) (h.fixed c m.front a m.first s.0) (fixed c m.back more m.second s.1)
+
+pub blind-plus : {A : Type 0} {p : Limits → Rel A} {f : A → A} → Blind p f → Blind (λ c. plus (p c)) (map f)
+blind-plus {p = p} {f = f} h = blind-mapped {g = map f} {k = cons} (λ a. refl) (blind-then h (blind-star h))
+
+pub blind-nested : {A : Type 0} (k : Nesting) {p : Limits → Rel A} {f : A → A} → Blind p f → Blind (nested k p) f
+blind-nested {A} k {p} {f} h = record { by = λ c. by c (left k c); fixed = λ c. fixed c (left k c) }
+  where
+    by : (c : Limits) (n : ℕ) (x y : List Token) (a : A) → below k p c n x a → bares x ≡ bares y → Same (below k p c n) f y a
+    by c zero x y a m e = absurd m
+    by c (suc n) x y a m e = let i = h.by (leave k c n) x y a m e in record { tree = i.tree; holds = i.holds; same = i.same }
+
+    fixed : (c : Limits) (n : ℕ) (x : List Token) (a : A) → below k p c n x a → without_places x ≡ x → f a ≡ a
+    fixed c zero x a m e = absurd m
+    fixed c (suc n) x a m e = h.fixed (leave k c n) x a m e
+
+pub blind-same : {A : Type 0} {p q : Limits → Rel A} {f : A → A} → ((c : Limits) (x : List Token) (t : A) → p c x t ↔ q c x t) → Blind p f → Blind q f
+blind-same e h = record {
+  by = λ c x y a m same. let i = h.by c x y a ((e c x a).1 m) same in record { tree = i.tree; holds = (e c y i.tree).0 i.holds; same = i.same };
+  fixed = λ c x a m is. h.fixed c x a ((e c x a).1 m) is;
+}
+
+abbrev pub on-option : {A : Type 0} → (A → A) → Option A → Option A
+on-option f None = None
+on-option f (Some a) = Some (f a)
+
+pub blind-opt : {A : Type 0} {p : Limits → Rel A} {f : A → A} → Blind p f → Blind (λ c. opt (p c)) (on-option f)
+blind-opt {A} {p} {f} h = record { by = by; fixed = fixed }
+  where
+    by : (c : Limits) (x y : List Token) (a : Option A) → opt (p c) x a → bares x ≡ bares y → Same (opt (p c)) (on-option f) y a
+    by c x y None m e = record { tree = None; holds = no-bares y (sym e ∙ ap bares m); same = refl }
+    by c x y (Some a) m e = let i = h.by c x y a m e in record { tree = Some i.tree; holds = i.holds; same = ap Some i.same }
+
+    fixed : (c : Limits) (x : List Token) (a : Option A) → opt (p c) x a → without_places x ≡ x → on-option f a ≡ a
+    fixed c x None m e = refl
+    fixed c x (Some a) m e = ap Some (h.fixed c x a m e)

@@ -1,0 +1,136 @@
+-- Optional parts, parts that look ahead, and productions that have to be factored.
+use Rattle.std.proofs.Common.{◌≡◌, ℕ, zero, suc, ◌⊎◌, ◌↔◌, inl, inr, Option, Some, None, List, [], ◌∷◌, ◌++◌, refl, sym, ap, ◌∙◌, subst, append_assoc}
+use Rattle.graphql_tokens.specs.tokens.Token.{Token}
+use Rattle.graphql_reading.specs.grammar.Tests.{Test}
+use Rattle.graphql_reading.specs.grammar.Limits.{Limits}
+use Rattle.graphql_reading.specs.grammar.Relations.{Rel, ◌⨾◌, ◌∪◌, mapped, star, plus, opt}
+use Rattle.graphql_reading.specs.reading.Outcome.{Reader, then_at, mapped_at, none_at, many_at, plus_at, opt_at}
+use Rattle.graphql_reading.proofs.Parts.{none, nested, below, Nesting, of_selections, left}
+use Rattle.graphql_reading.proofs.Theory.{Starts, Within, outside, within-begins, then-exact, none-exact, star-starts, leads-starts, choose-exact, Begins, many-exact, plus-exact}
+use Rattle.graphql_reading.proofs.Good.{Good, Has, Led, good-mapped, good-same, led-mapped}
+
+abbrev nothing : {A : Type 0} → Option A
+nothing = None
+
+-- what a part and its follow begin with
+pub record Opens {A : Type 0} (q : Limits → Rel A) (f g : Test) : Type 0 where
+  pub by : Starts q f g
+
+-- a part, and any other
+pub good-seq : {A B : Type 0} {p : Limits → Rel A} {q : Limits → Rel B} {b : Limits} {f g : Test} {r : Reader A} {s : Reader B} → Opens q f g → Has q → Good p b g r → Good q b f s → Good (λ c. p c ⨾ q c) b f (then_at r s)
+good-seq {p = p} {q = q} {b = b} {f = f} {g = g} {r = r} {s = s} opens has h k = record { at = λ ts. then-exact p q b f g r s ts opens.by has.some (h.at ts) (λ a rest _. k.at rest) }
+
+pub opens-led : {A : Type 0} {p : Limits → Rel A} {f first g : Test} → Led p first → Within first g → Opens p f g
+opens-led {p = p} {first = first} {g = g} led h = record { by = λ c x y a m begins. within-begins first g h (x ++ y) (led.by c x y a m) }
+
+pub opens-star : {A : Type 0} {p : Limits → Rel A} {f first g : Test} → Led p first → Within first g → Within f g → Opens (λ c. star (p c)) f g
+opens-star {p = p} {f = f} {first = first} {g = g} led h k = record { by = star-starts p f first g led.by h k }
+
+pub opens-opt : {A : Type 0} {p : Limits → Rel A} {f first g : Test} → Led p first → Within first g → Within f g → Opens (λ c. opt (p c)) f g
+opens-opt {A} {p} {f} {first} {g} led h k = record { by = by }
+  where
+    by : Starts (λ c. opt (p c)) f g
+    by c x y None e begins = within-begins f g k (x ++ y) (subst (λ (l : List Token). Begins f (l ++ y)) (sym e) begins)
+    by c x y (Some a) e begins = within-begins first g h (x ++ y) (led.by c x y a e)
+
+pub opens-then : {A B : Type 0} {p : Limits → Rel A} {q : Limits → Rel B} {f g h : Test} → Opens p g h → Opens q f g → Opens (λ c. p c ⨾ q c) f h
+opens-then {p = p} {q = q} {f = f} {g = g} {h = h} o n = record { by = λ c x y a m begins. subst (λ (l : List Token). Begins h l) (sym (append_assoc m.front m.back y) ∙ ap (λ (l : List Token). l ++ y) (sym m.joined)) (o.by c m.front (m.back ++ y) a.0 m.first (n.by c m.back y a.1 m.second begins)) }
+
+-- any number of parts that look ahead
+pub good-many-ahead : {A : Type 0} {p : Limits → Rel A} {b : Limits} {f first g : Test} {r : Reader A} → Led p first → Within first g → Within f g → Within f (outside first) → Good p b g r → Good (λ c. star (p c)) b f (many_at first r)
+good-many-ahead {p = p} {b = b} {f = f} {first = first} {g = g} {r = r} led h k away good = record { at = many-exact p b f first g r led.by h k away good.at }
+
+pub good-plus-ahead : {A : Type 0} {p : Limits → Rel A} {b : Limits} {f first g : Test} {r : Reader A} → Led p first → Within first g → Within f g → Within f (outside first) → Good p b g r → Good (λ c. plus (p c)) b f (plus_at first r)
+good-plus-ahead {p = p} {b = b} {f = f} {first = first} {g = g} {r = r} led h k away good = record { at = plus-exact p b f first g r led.by h k away good.at }
+
+-- ---- optional parts
+
+pub has-opt : {A : Type 0} {p : Limits → Rel A} → Has (λ c. opt (p c))
+has-opt {p = p} = record { some = λ c. record { tail = []; tree = None; holds = refl; proper = tt } }
+
+is-opt : {A : Type 0} (p : Rel A) (x : List Token) (t : Option A) → (mapped Some p ∪ none None) x t ↔ opt p x t
+is-opt {A} p x t = (to t, from t)
+  where
+    to : (t : Option A) → (mapped Some p ∪ none None) x t → opt p x t
+    to t (inl m) = subst (λ (o : Option A). opt p x o) (sym m.is) m.holds
+    to t (inr m) = subst (λ (o : Option A). opt p x o) (sym m.1) m.0
+
+    from : (t : Option A) → opt p x t → (mapped Some p ∪ none None) x t
+    from None e = inr (e, refl)
+    from (Some a) e = inl (record { value = a; holds = e; is = refl })
+
+pub good-opt : {A : Type 0} {p : Limits → Rel A} {b : Limits} {f first : Test} {r : Reader A} → Led p first → Within f (outside first) → Good p b f r → Good (λ c. opt (p c)) b f (opt_at first r)
+unfolding opt_at
+good-opt {A} {p} {b} {f} {first} {r} led away h = good-same {p = λ c. mapped Some (p c) ∪ none None} (λ c. is-opt (p c)) (record { at = λ ts. choose-exact (λ c. mapped Some (p c)) (λ c. none None) b f first (mapped_at Some r) (none_at None) ts (leads-starts _ f first (led-mapped {f = Some} led).by) starts ((good-mapped {g = Some} h).at ts) (none-exact None b f ts) })
+  where
+    starts : Starts (λ c. none (nothing {A = A})) f (outside first)
+    starts c x y t m begins = within-begins f (outside first) away (x ++ y) (subst (λ (l : List Token). Begins f (l ++ y)) (sym m.0) begins)
+
+-- an optional part and another
+pub led-opt : {A B : Type 0} {p : Limits → Rel A} {q : Limits → Rel B} {g : Test} → Led p g → Led q g → Led (λ c. opt (p c) ⨾ q c) g
+led-opt {A} {B} {p} {q} {g} h k = record { by = λ c x y a m. subst (λ (l : List Token). Begins g l) (sym (append_assoc m.front m.back y) ∙ ap (λ (l : List Token). l ++ y) (sym m.joined)) (go c m.front (m.back ++ y) a.0 m.first (k.by c m.back y a.1 m.second)) }
+  where
+    go : (c : Limits) (x y : List Token) (o : Option A) → opt (p c) x o → Begins g y → Begins g (x ++ y)
+    go c x y None e begins = subst (λ (l : List Token). Begins g (l ++ y)) (sym e) begins
+    go c x y (Some a) e begins = h.by c x y a e
+
+-- any number of parts and another
+pub led-star : {A B : Type 0} {p : Limits → Rel A} {q : Limits → Rel B} {g : Test} → Led p g → Led q g → Led (λ c. star (p c) ⨾ q c) g
+led-star {A} {B} {p} {q} {g} h k = record { by = λ c x y a m. subst (λ (l : List Token). Begins g l) (sym (append_assoc m.front m.back y) ∙ ap (λ (l : List Token). l ++ y) (sym m.joined)) (go c m.front (m.back ++ y) a.0 m.first (k.by c m.back y a.1 m.second)) }
+  where
+    go : (c : Limits) (x y : List Token) (l : List A) → star (p c) x l → Begins g y → Begins g (x ++ y)
+    go c x y [] e begins = subst (λ (l : List Token). Begins g (l ++ y)) (sym e) begins
+    go c x y (a ∷ more) e begins = subst (λ (l : List Token). Begins g l) (sym (append_assoc e.front e.back y) ∙ ap (λ (l : List Token). l ++ y) (sym e.joined)) (h.by c e.front (e.back ++ y) a e.first)
+
+-- ---- laws
+
+pub either-way : {A : Type 0} (p q : Rel A) (x : List Token) (t : A) → (p ∪ q) x t ↔ (q ∪ p) x t
+either-way p q x t = (turn-round, turn-round)
+  where
+    turn-round : {P Q : Type 0} → P ⊎ Q → Q ⊎ P
+    turn-round (inl h) = inr h
+    turn-round (inr h) = inl h
+
+-- two productions that begin with the same part
+pub factored : {A B C X D : Type 0} (p : Rel A) (q : Rel B) (r : Rel C) (i : B → X) (j : C → X) (f : A × B → D) (g : A × C → D) (h : A × X → D) → ((a : A) (b : B) → h (a, i b) ≡ f (a, b)) → ((a : A) (c : C) → h (a, j c) ≡ g (a, c)) → (x : List Token) (t : D) → mapped h (p ⨾ (mapped i q ∪ mapped j r)) x t ↔ (mapped f (p ⨾ q) ∪ mapped g (p ⨾ r)) x t
+factored {A} {B} {C} {X} {D} p q r i j f g h first second x t = (to, from)
+  where
+    to : mapped h (p ⨾ (mapped i q ∪ mapped j r)) x t → (mapped f (p ⨾ q) ∪ mapped g (p ⨾ r)) x t
+    to m = elim m.holds.second [
+      | inl k ↦ inl (record { value = (m.value.0, k.value); holds = record { front = m.holds.front; back = m.holds.back; joined = m.holds.joined; first = m.holds.first; second = k.holds }; is = m.is ∙ ap (λ (y : X). h (m.value.0, y)) k.is ∙ first m.value.0 k.value })
+      | inr k ↦ inr (record { value = (m.value.0, k.value); holds = record { front = m.holds.front; back = m.holds.back; joined = m.holds.joined; first = m.holds.first; second = k.holds }; is = m.is ∙ ap (λ (y : X). h (m.value.0, y)) k.is ∙ second m.value.0 k.value })
+    ]
+
+    from : (mapped f (p ⨾ q) ∪ mapped g (p ⨾ r)) x t → mapped h (p ⨾ (mapped i q ∪ mapped j r)) x t
+    from (inl m) = record { value = (m.value.0, i m.value.1); holds = record { front = m.holds.front; back = m.holds.back; joined = m.holds.joined; first = m.holds.first; second = inl (record { value = m.value.1; holds = m.holds.second; is = refl }) }; is = m.is ∙ sym (first m.value.0 m.value.1) }
+    from (inr m) = record { value = (m.value.0, j m.value.1); holds = record { front = m.holds.front; back = m.holds.back; joined = m.holds.joined; first = m.holds.first; second = inr (record { value = m.value.1; holds = m.holds.second; is = refl }) }; is = m.is ∙ sym (second m.value.0 m.value.1) }
+
+-- a part, and one a level deeper: the whole is one level deeper
+pub nested-behind : {A B : Type 0} (k : Nesting) (p : Rel A) (q : Limits → Rel B) (c : Limits) (x : List Token) (t : A × B) → nested k (λ c. p ⨾ q c) c x t ↔ (p ⨾ nested k q c) x t
+nested-behind {A} {B} k p q c x t = (to (left k c), from (left k c))
+  where
+    to : (n : ℕ) → below k (λ c. p ⨾ q c) c n x t → (p ⨾ below k q c n) x t
+    to zero h = absurd h
+    to (suc n) h = record { front = h.front; back = h.back; joined = h.joined; first = h.first; second = h.second }
+
+    from : (n : ℕ) → (p ⨾ below k q c n) x t → below k (λ c. p ⨾ q c) c n x t
+    from zero h = absurd h.second
+    from (suc n) h = record { front = h.front; back = h.back; joined = h.joined; first = h.first; second = h.second }
+
+-- the same, where the part has its own budgets
+pub sets-behind : {A B : Type 0} (p : ℕ → Rel A) (q : Limits → Rel B) (c : Limits) (x : List Token) (t : A × B) → nested of_selections (λ c. p c.values ⨾ q c) c x t ↔ (p c.values ⨾ nested of_selections q c) x t
+sets-behind {A} {B} p q c x t = (to c.selections, from c.selections)
+  where
+    to : (n : ℕ) → below of_selections (λ c. p c.values ⨾ q c) c n x t → (p c.values ⨾ below of_selections q c n) x t
+    to zero h = absurd h
+    to (suc n) h = record { front = h.front; back = h.back; joined = h.joined; first = h.first; second = h.second }
+
+    from : (n : ℕ) → (p c.values ⨾ below of_selections q c n) x t → below of_selections (λ c. p c.values ⨾ q c) c n x t
+    from zero h = absurd h.second
+    from (suc n) h = record { front = h.front; back = h.back; joined = h.joined; first = h.first; second = h.second }
+
+pub then-same : {A B : Type 0} (p : Rel A) (q r : Rel B) → ((x : List Token) (t : B) → q x t ↔ r x t) → (x : List Token) (t : A × B) → (p ⨾ q) x t ↔ (p ⨾ r) x t
+then-same p q r e x t = (λ h. record { front = h.front; back = h.back; joined = h.joined; first = h.first; second = (e h.back t.1).0 h.second }, λ h. record { front = h.front; back = h.back; joined = h.joined; first = h.first; second = (e h.back t.1).1 h.second })
+
+pub both-ways : {P Q R : Type 0} → P ↔ Q → Q ↔ R → P ↔ R
+both-ways h k = (λ p. k.0 (h.0 p), λ r. h.1 (k.1 r))

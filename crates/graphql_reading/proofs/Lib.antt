@@ -1,0 +1,15 @@
+pub mod Parts
+pub mod ProperTokens
+pub mod Theory
+pub mod TokenTests
+pub mod Good
+pub mod Blind
+pub mod Extra
+pub mod Whole
+pub mod Loop
+pub mod Loops
+pub mod Readers
+pub mod Steps
+pub mod Meaning
+pub mod PunctSamples
+pub mod Optional

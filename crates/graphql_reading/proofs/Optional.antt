@@ -1,0 +1,66 @@
+-- Alternatives that may be empty, and optional parts by the token in sight.
+use Rattle.std.proofs.Common.{◌≡◌, true, false, Option, Some, None, List, ◌∷◌, ◌++◌, inl, inr, refl, sym, ap, ◌∙◌, subst}
+use Rattle.graphql_tokens.specs.tokens.Token.{Token}
+use Rattle.graphql_reading.specs.grammar.Tests.{Test}
+use Rattle.graphql_reading.specs.grammar.Limits.{Limits}
+use Rattle.graphql_reading.specs.grammar.Relations.{Rel, ◌∪◌, star, plus}
+use Rattle.graphql_reading.specs.reading.Outcome.{Outcome, Read, Refused, Reader, ◌>>=◌, then_at, mapped_at, choose_at, none_at, opt_at}
+use Rattle.graphql_reading.proofs.Parts.{none}
+use Rattle.graphql_reading.proofs.Theory.{Begins, Exact, Starts, Within, outside, within-begins, leads-starts, choose-exact, none-exact}
+use Rattle.graphql_reading.proofs.Good.{Good, Led}
+use Rattle.graphql_reading.proofs.Extra.{Opens}
+
+-- ---- alternatives of which the second may be empty
+
+pub good-choose_ahead : {A : Type 0} {p q : Limits → Rel A} {b : Limits} {f first : Test} {r s : Reader A} → Led p first → Opens q f (outside first) → Good p b f r → Good q b f s → Good (λ c. p c ∪ q c) b f (choose_at first r s)
+good-choose_ahead {p = p} {q = q} {b = b} {f = f} {first = first} {r = r} {s = s} led out h k = record { at = λ ts. choose-exact p q b f first r s ts (leads-starts p f first led.by) out.by (h.at ts) (k.at ts) }
+
+pub good-none : {A : Type 0} {a : A} {b : Limits} {f : Test} → Good (λ c. none a) b f (none_at a)
+good-none {a = a} {b = b} {f = f} = record { at = none-exact a b f }
+
+pub opens-none : {A : Type 0} {a : A} {f g : Test} → Within f g → Opens (λ c. none a) f g
+opens-none {f = f} {g = g} h = record { by = λ c x y t m begins. within-begins f g h (x ++ y) (subst (λ (l : List Token). Begins f (l ++ y)) (sym m.0) begins) }
+
+pub opens-either : {A : Type 0} {p q : Limits → Rel A} {f g : Test} → Opens p f g → Opens q f g → Opens (λ c. p c ∪ q c) f g
+opens-either {p = p} {q = q} {f = f} {g = g} h k = record { by = by }
+  where
+    by : Starts (λ c. p c ∪ q c) f g
+    by c x y a (inl m) begins = h.by c x y a m begins
+    by c x y a (inr m) begins = k.by c x y a m begins
+
+-- one reader in place of another
+pub good-reader : {A : Type 0} {p : Limits → Rel A} {b : Limits} {f : Test} {r s : Reader A} → ((ts : List Token) → r ts ≡ s ts) → Good p b f r → Good p b f s
+good-reader {p = p} {b = b} {f = f} e h = record { at = λ ts. subst (Exact p b f ts) (e ts) (h.at ts) }
+
+-- ---- optional parts by the token in sight
+
+pub opt-taken : {A : Type 0} (first : Test) (r : Reader A) (t : Token) (ts : List Token) → first t.bare ≡ true → opt_at first r (t ∷ ts) ≡ mapped_at Some r (t ∷ ts)
+unfolding opt_at
+opt-taken first r t ts e = rw e refl
+
+pub opt-left : {A : Type 0} (first : Test) (r : Reader A) (t : Token) (ts : List Token) → first t.bare ≡ false → opt_at first r (t ∷ ts) ≡ Read None (t ∷ ts)
+unfolding opt_at
+opt-left first r t ts e = rw e refl
+
+abbrev pub with-some : {A B : Type 0} → A × B → Option A × B
+with-some x = (Some x.0, x.1)
+
+-- an optional part that is there, and another
+pub opt-then : {A B : Type 0} (first : Test) (r : Reader A) (s : Reader B) (t : Token) (ts : List Token) → first t.bare ≡ true → then_at (opt_at first r) s (t ∷ ts) ≡ mapped_at with-some (then_at r s) (t ∷ ts)
+opt-then {A} {B} first r s t ts e = ap (λ (o : Outcome (Option A)). o >>= λ a rest. s rest >>= λ b rest'. Read (a, b) rest') (opt-taken first r t ts e) ∙ go (r (t ∷ ts))
+  where
+    pairs : (a : A) (o : Outcome B) → (o >>= λ b rest'. Read (Some a, b) rest') ≡ ((o >>= λ b rest'. Read (a, b) rest') >>= λ x rest. Read (with-some x) rest)
+    pairs a (Read b rest) = refl
+    pairs a (Refused v rest) = refl
+
+    go : (o : Outcome A) → ((o >>= λ a rest. Read (Some a) rest) >>= λ a rest. s rest >>= λ b rest'. Read (a, b) rest') ≡ ((o >>= λ a rest. s rest >>= λ b rest'. Read (a, b) rest') >>= λ x rest. Read (with-some x) rest)
+    go (Read a rest) = pairs a (s rest)
+    go (Refused v rest) = refl
+
+-- ---- one or more are any number
+
+pub plus-star : {A : Type 0} (p : Rel A) (x : List Token) (l : List A) → plus p x l → star p x l
+plus-star p x l m = subst (λ (l : List _). star p x l) (sym m.is) (record { front = m.holds.front; back = m.holds.back; joined = m.holds.joined; first = m.holds.first; second = m.holds.second })
+
+pub star-plus : {A : Type 0} (p : Rel A) (x : List Token) (a : A) (l : List A) → star p x (a ∷ l) → plus p x (a ∷ l)
+star-plus p x a l m = record { value = (a, l); holds = record { front = m.front; back = m.back; joined = m.joined; first = m.first; second = m.second }; is = refl }

@@ -1,0 +1,257 @@
+//! Reading a text token by token, with one token in hand.
+ghost use Rattle.std.specs.Prelude.{◌≡◌, ◌≢◌, ◌≤◌, ◌+◌, length, ◌&&◌, false, [], Ok};
+ghost use Rattle.std.specs.Str.{bytes_eq};
+ghost use Rattle.graphql_tokens.specs.tokens.Cuts.{is_last, EndsOnce};
+ghost use Rattle.graphql_tokens.specs.tokens.Proper.{AreProperButFaults, IsProper};
+ghost use Rattle.graphql_tokens.specs.tokens.Seen.{seen};
+ghost use Rattle.graphql_tokens.specs.tokens.Token.{left};
+ghost use Rattle.graphql_reading.specs.declared.cursor.Refusal.TheVariants.{Memory};
+ghost use Rattle.graphql_reading.specs.grammar.Tests as tests;
+ghost use Rattle.graphql_reading.specs.reading.Ahead.{tokens as ahead};
+ghost use Rattle.graphql_reading.specs.reading.Given.{Gives, GivesWhole};
+ghost use Rattle.graphql_reading.specs.reading.Outcome.{one_at, take_at};
+ghost use Rattle.graphql_reading.specs.reading.Spelled.{keyword_of, punct_of};
+
+use graphql_tokens::lexer::{Token, TokenKind, Tokens};
+use std::alloc::{AllocError, AllocFailed};
+use std::marker::Model;
+
+/// Why a reader stopped.
+#[derive(Clone, Copy, Debug, PartialEq, Eq)]
+pub enum Refusal {
+    /// Memory was refused.
+    Memory,
+    /// No document goes on with the token in hand.
+    Syntax,
+    /// Only a document that nests deeper than is allowed goes on with the token in hand.
+    Limit,
+}
+
+/// What a reader gives: what stands at the cursor, which then is behind it; or why there is no such thing,
+/// with the refused token in hand. Where memory ran out, the cursor is somewhere in between.
+pub type Reading<T> = Result<T, Refusal>;
+
+impl From<AllocError> for Refusal {
+    ghost from_gives = { λ _ e. e ≡ Memory };
+
+    fn from(_refused: AllocError) -> Refusal {
+        Refusal::Memory
+    }
+}
+
+impl<T: Drop> From<AllocFailed<T>> for Refusal {
+    ghost from_gives = { λ _ e. e ≡ Memory };
+
+    fn from(_refused: AllocFailed<T>) -> Refusal {
+        Refusal::Memory
+    }
+}
+
+#[inline(always)]
+pub fn is_punct(kind: TokenKind) -> bool
+    ensures { result ≡ tests.is_punct kind }
+{
+    matches!(kind, TokenKind::Punct)
+}
+
+#[inline(always)]
+fn is_name(kind: TokenKind) -> bool
+    ensures { result ≡ tests.is_name kind }
+{
+    matches!(kind, TokenKind::Name)
+}
+
+#[inline(always)]
+pub fn is_number(kind: TokenKind) -> bool
+    ensures { result ≡ tests.is_number kind }
+{
+    matches!(kind, TokenKind::Number)
+}
+
+#[inline(always)]
+pub fn is_string(kind: TokenKind) -> bool
+    ensures { result ≡ tests.is_string kind }
+{
+    matches!(kind, TokenKind::String)
+}
+
+#[inline(always)]
+pub fn is_block(kind: TokenKind) -> bool
+    ensures { result ≡ tests.is_block kind }
+{
+    matches!(kind, TokenKind::Block)
+}
+
+#[inline(always)]
+fn is_end(kind: TokenKind) -> bool
+    ensures { result ≡ tests.is_end kind }
+{
+    matches!(kind, TokenKind::End)
+}
+
+/// The tokens of a text that are still to be read. The first is in hand; the others are taken
+/// from the lexer one by one, each when the one before it is used up.
+#[derive(Drop)]
+pub struct Cursor<'a> {
+    tokens: Tokens<'a>,
+    hand: Token<'a>,
+}
+
+impl<'a> Model for Cursor<'a> {
+    ghost use Rattle.graphql_reading.specs.reading.Ahead.{Ahead};
+
+    ghost Value = { Ahead };
+
+    ghost use Rattle.graphql_reading.specs.reading.Cursor.{shown, IsReading};
+
+    ghost view = { shown };
+
+    ghost invariant = { IsReading };
+}
+
+impl<'a> Cursor<'a> {
+    /// Takes the first token in hand. The caller owes that one is left: `tokens.is_ended()` is false.
+    pub fn new(mut tokens: Tokens<'a>) -> Cursor<'a>
+        requires { left tokens ≢ [] }
+        ensures left { ahead result ≡ left tokens.entry }
+        ensures whole { result.whole ≡ tokens.entry.whole }
+        ensures taken { result.taken ≡ tokens.entry.taken + 1 }
+        ensures ends { EndsOnce (left tokens.entry) }
+        ensures proper { AreProperButFaults (left tokens.entry) }
+    {
+        let hand = tokens.next_token();
+        Cursor { tokens, hand }
+    }
+
+    /// The tokens that are still to come, behind the one in hand.
+    pub fn into_tokens(self) -> Tokens<'a>
+        ensures left { left result ≡ self.entry.behind }
+        ensures whole { result.whole ≡ self.entry.whole }
+        ensures taken { result.taken ≡ self.entry.taken }
+        ensures within { result.taken ≤ length result.whole }
+    {
+        self.tokens
+    }
+
+    /// Uses up the token in hand and takes the next. The caller owes that it isn't the last one.
+    // Field by field: a copy of the whole would carry the padding along.
+    #[inline(never)]
+    pub fn advance(&mut self)
+        requires { is_last self.old.hand.bare.kind ≡ false }
+        ensures left { ahead self.new ≡ self.old.behind }
+        ensures taken { self.new.taken ≡ self.old.taken + 1 }
+        ensures whole { self.new.whole ≡ self.old.whole }
+    {
+        let next = self.tokens.next_token();
+        self.hand.kind = next.kind;
+        self.hand.text = next.text;
+        self.hand.start = next.start;
+        self.hand.pos = next.pos;
+    }
+
+    /// The token in hand.
+    #[inline(always)]
+    pub fn hand(&self) -> Token<'a>
+        ensures token { seen result ≡ self.now.hand }
+        ensures proper { is_last self.now.hand.bare.kind ≡ false → IsProper self.now.hand }
+    {
+        self.hand
+    }
+
+    /// Gives the token in hand and takes the next. The caller owes that it isn't the last one.
+    #[inline(always)]
+    pub fn take(&mut self) -> Token<'a>
+        requires { is_last self.old.hand.bare.kind ≡ false }
+        ensures token { seen result ≡ self.old.hand }
+        ensures left { ahead self.new ≡ self.old.behind }
+        ensures taken { self.new.taken ≡ self.old.taken + 1 }
+        ensures whole { self.new.whole ≡ self.old.whole }
+    {
+        let token = self.hand;
+        self.advance();
+        token
+    }
+
+    /// Whether this punctuator is in hand.
+    #[inline(always)]
+    pub fn is_at_punct(&self, text: &str) -> bool
+        ensures { result ≡ punct_of text.now self.now.hand.bare }
+    {
+        is_punct(self.hand.kind) && self.hand.text == text
+    }
+
+    /// Whether a name is in hand.
+    #[inline(always)]
+    pub fn is_at_name(&self) -> bool
+        ensures { result ≡ tests.any_name self.now.hand.bare }
+    {
+        is_name(self.hand.kind)
+    }
+
+    /// Whether this keyword is in hand.
+    #[inline(always)]
+    pub fn is_at_keyword(&self, word: &str) -> bool
+        ensures { result ≡ keyword_of word.now self.now.hand.bare }
+    {
+        is_name(self.hand.kind) && self.hand.text == word
+    }
+
+    /// Uses up this punctuator, where it is in hand, and tells whether it was.
+    pub fn take_punct(&mut self, text: &str) -> bool
+        ensures { Gives (λ taken. taken) (Ok result) self.old self.new (take_at (punct_of text.now)) }
+    {
+        let is_there = self.is_at_punct(text);
+        if is_there {
+            self.advance();
+        }
+        is_there
+    }
+
+    /// Uses up this punctuator and gives it; anything else in hand is refused with `Syntax`.
+    #[inline(always)]
+    pub fn expect_punct(&mut self, text: &str) -> Reading<Token<'a>>
+        ensures { Gives seen result self.old self.new (one_at (punct_of text.now)) }
+    {
+        if !self.is_at_punct(text) {
+            return Err(Refusal::Syntax);
+        }
+        let token = self.hand;
+        self.advance();
+        Ok(token)
+    }
+
+    /// Uses up a name and gives it; anything else in hand is refused with `Syntax`.
+    #[inline(always)]
+    pub fn expect_name(&mut self) -> Reading<Token<'a>>
+        ensures { Gives seen result self.old self.new (one_at tests.any_name) }
+    {
+        if !self.is_at_name() {
+            return Err(Refusal::Syntax);
+        }
+        let token = self.hand;
+        self.advance();
+        Ok(token)
+    }
+
+    /// Uses up this keyword and gives it; anything else in hand is refused with `Syntax`.
+    #[inline(always)]
+    pub fn expect_keyword(&mut self, word: &str) -> Reading<Token<'a>>
+        ensures { Gives seen result self.old self.new (one_at (keyword_of word.now)) }
+    {
+        if !self.is_at_keyword(word) {
+            return Err(Refusal::Syntax);
+        }
+        Ok(self.take())
+    }
+
+    /// The end of the text has to be in hand, and stays there; anything else is refused with `Syntax`.
+    pub fn expect_end(&self) -> Reading<()>
+        ensures { GivesWhole (λ _. self.now.hand) result self.now self.now (one_at tests.the_end) }
+    {
+        if is_end(self.hand.kind) {
+            Ok(())
+        } else {
+            Err(Refusal::Syntax)
+        }
+    }
+}

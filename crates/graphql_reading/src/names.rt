@@ -1,0 +1,31 @@
+//! Readers of names.
+ghost use Rattle.std.specs.Prelude.{◌≡◌, IfOk};
+ghost use Rattle.graphql_tokens.specs.tokens.Seen.{seen};
+ghost use Rattle.graphql_reading.specs.grammar.Places.{name_of};
+ghost use Rattle.graphql_reading.specs.grammar.Tests.{any_name};
+ghost use Rattle.graphql_reading.specs.reading.Given.{Gives};
+ghost use Rattle.graphql_reading.specs.reading.Outcome.{one_at, mapped_at};
+
+use crate::cursor::{Cursor, Reading};
+use graphql_tokens::lexer::Token;
+use graphql_tokens::pos::Positioned;
+use graphql_tokens::name::Name;
+use std::alloc::{AllocError, Global};
+
+/// The name that a token spells, at its place. Fails only where memory was refused.
+#[inline(always)]
+pub fn name_in(alloc: Global, token: Token) -> Result<Positioned<Name>, AllocError>
+    ensures { IfOk result (λ name. name ≡ name_of (seen token.entry)) }
+{
+    Ok(Positioned::new(Name::new(alloc, token.text)?, token.pos))
+}
+
+/// Reads a name (GraphQL October 2021, section 2.1.9).
+#[inline(always)]
+pub fn read_name(alloc: Global, cursor: &mut Cursor) -> Reading<Positioned<Name>>
+    ensures { Gives (λ name. name) result cursor.old cursor.new (mapped_at name_of (one_at any_name)) }
+{
+    let token = cursor.expect_name()?;
+    let name = name_in(alloc, token)?;
+    Ok(name)
+}

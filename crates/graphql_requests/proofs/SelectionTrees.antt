@@ -1,0 +1,83 @@
+-- The trees of selections that the code makes and changes.
+use Rattle.std.proofs.Common.{◌≡◌, ℕ, zero, suc, List, [], ◌∷◌, length, sym, ap, ◌∙◌, option_map, slice_set, slice_index_or, arith}
+use Rattle.graphql_tokens.specs.declared.pos.Positioned.{Positioned}
+use Rattle.graphql_syntax.specs.declared.types.executable.Field.{Field, out-Field, roll-Field, fold-roll-Field, fold_out-Field}
+use Rattle.graphql_syntax.specs.declared.types.executable.FragmentSpread.{FragmentSpread}
+use Rattle.graphql_syntax.specs.declared.types.executable.InlineFragment.{InlineFragment, out-InlineFragment, roll-InlineFragment, fold-roll-InlineFragment, fold_out-InlineFragment}
+use Rattle.graphql_syntax.specs.declared.types.executable.Selection.{Selection, fold-roll-Selection}
+use Rattle.graphql_syntax.specs.declared.types.executable.Selection.TheOpen.{Selection-F, Field-F, InlineFragment-F}
+use Rattle.graphql_syntax.specs.declared.types.executable.Selection.TheVariants as selections
+use Rattle.graphql_syntax.specs.declared.types.executable.Selection.TheViews.{rolls-Field, rolls-FragmentSpread, rolls-InlineFragment}
+use Rattle.graphql_syntax.specs.declared.types.executable.SelectionSet.{SelectionSet}
+use Rattle.graphql_syntax.specs.trees.Request as request
+use Rattle.graphql_syntax.specs.trees.Request.{placed}
+use Rattle.graphql_syntax.specs.trees.RequestViews.{selection_step, field_step, inline_fragment_step, selection_set_step, selection_tree, field_tree, inline_fragment_tree, selection_set_tree, selection_trees, fragment_spread_tree, arguments_tree, directives_tree, type_condition_tree}
+use Rattle.graphql_requests.specs.grammar.Selections.{Set}
+use Rattle.graphql_requests.specs.reading.SelectionSteps.{with_set, fill_last}
+
+-- ---- what a selection stands for, by its case
+
+pub of-field : (f : Positioned Field) → selection_tree (selections.Field f) ≡ request.of_field (placed field_tree f)
+of-field f = ap selection_tree (sym (rolls-Field f)) ∙ fold-roll-Selection request.Selection request.Field request.InlineFragment request.SelectionSet selection_step field_step inline_fragment_step selection_set_step (Selection-F.Field f)
+
+pub of-spread : (s : Positioned FragmentSpread) → selection_tree (selections.FragmentSpread s) ≡ request.fragment_spread (placed fragment_spread_tree s)
+of-spread s = ap selection_tree (sym (rolls-FragmentSpread s)) ∙ fold-roll-Selection request.Selection request.Field request.InlineFragment request.SelectionSet selection_step field_step inline_fragment_step selection_set_step (Selection-F.FragmentSpread s)
+
+pub of-inline : (i : Positioned InlineFragment) → selection_tree (selections.InlineFragment i) ≡ request.of_inline_fragment (placed inline_fragment_tree i)
+of-inline i = ap selection_tree (sym (rolls-InlineFragment i)) ∙ fold-roll-Selection request.Selection request.Field request.InlineFragment request.SelectionSet selection_step field_step inline_fragment_step selection_set_step (Selection-F.InlineFragment i)
+
+abbrev field_parts : Field-F Selection Field InlineFragment SelectionSet → request.Field
+field_parts f = record {
+  alias = f.alias;
+  name = f.name;
+  arguments = arguments_tree f.arguments.items;
+  directives = directives_tree f.directives.items;
+  selection_set = placed selection_set_tree f.selection_set;
+}
+
+pub made-field : (f : Field-F Selection Field InlineFragment SelectionSet) → field_tree (roll-Field f) ≡ field_parts f
+made-field = fold-roll-Field request.Selection request.Field request.InlineFragment request.SelectionSet selection_step field_step inline_fragment_step selection_set_step
+
+pub seen-field : (f : Field) → field_tree f ≡ field_parts (out-Field f)
+seen-field = fold_out-Field request.Selection request.Field request.InlineFragment request.SelectionSet selection_step field_step inline_fragment_step selection_set_step
+
+abbrev inline_parts : InlineFragment-F Selection Field InlineFragment SelectionSet → request.InlineFragment
+inline_parts i = record {
+  type_condition = option_map (placed type_condition_tree) i.type_condition;
+  directives = directives_tree i.directives.items;
+  selection_set = placed selection_set_tree i.selection_set;
+}
+
+pub made-inline : (i : InlineFragment-F Selection Field InlineFragment SelectionSet) → inline_fragment_tree (roll-InlineFragment i) ≡ inline_parts i
+made-inline = fold-roll-InlineFragment request.Selection request.Field request.InlineFragment request.SelectionSet selection_step field_step inline_fragment_step selection_set_step
+
+pub seen-inline : (i : InlineFragment) → inline_fragment_tree i ≡ inline_parts (out-InlineFragment i)
+seen-inline = fold_out-InlineFragment request.Selection request.Field request.InlineFragment request.SelectionSet selection_step field_step inline_fragment_step selection_set_step
+
+-- ---- what it stands for with another set
+
+pub field-with : (f : Positioned Field) (set : Positioned SelectionSet) → selection_tree (selections.Field (record f { node = roll-Field (record (out-Field f.node) { selection_set = set }) })) ≡ with_set (placed selection_set_tree set) (selection_tree (selections.Field f))
+field-with f set =
+    of-field _
+    ∙ ap (λ (n : request.Field). request.of_field (record { pos = f.pos; node = n })) (made-field _)
+    ∙ sym (ap (λ (n : request.Field). with_set (placed selection_set_tree set) (request.of_field (record { pos = f.pos; node = n }))) (seen-field f.node))
+    ∙ sym (ap (with_set (placed selection_set_tree set)) (of-field f))
+
+pub inline-with : (i : Positioned InlineFragment) (set : Positioned SelectionSet) → selection_tree (selections.InlineFragment (record i { node = roll-InlineFragment (record (out-InlineFragment i.node) { selection_set = set }) })) ≡ with_set (placed selection_set_tree set) (selection_tree (selections.InlineFragment i))
+inline-with i set =
+    of-inline _
+    ∙ ap (λ (n : request.InlineFragment). request.of_inline_fragment (record { pos = i.pos; node = n })) (made-inline _)
+    ∙ sym (ap (λ (n : request.InlineFragment). with_set (placed selection_set_tree set) (request.of_inline_fragment (record { pos = i.pos; node = n }))) (seen-inline i.node))
+    ∙ sym (ap (with_set (placed selection_set_tree set)) (of-inline i))
+
+-- ---- the last of a list, with another set
+
+pub last-with : (xs : List (Positioned Selection)) (n : ℕ) (last : Positioned Selection) (node : Selection) (set : Set) → suc n ≡ length xs → last ≡ slice_index_or xs n last → selection_tree node ≡ with_set set (selection_tree last.node) → selection_trees (slice_set xs n (record { pos = last.pos; node = node })) ≡ fill_last (selection_trees xs) set
+last-with [] n last node set size is e = absurd (omega (arith, size))
+last-with (x ∷ []) zero last node set size is e =
+    let same : last ≡ x = is in
+    ap (λ (t : request.Selection). record { pos = last.pos; node = t } ∷ []) e
+    ∙ ap (λ (p : Positioned Selection). placed (with_set set) (placed selection_tree p) ∷ []) same
+last-with (x ∷ []) (suc n) last node set size is e = absurd (omega (arith, size))
+last-with (x ∷ y ∷ ys) zero last node set size is e = absurd (omega (arith, size))
+last-with (x ∷ y ∷ ys) (suc n) last node set size is e = ap (λ (l : List (Positioned request.Selection)). placed selection_tree x ∷ l) (last-with (y ∷ ys) n last node set (omega (arith, size)) is e)

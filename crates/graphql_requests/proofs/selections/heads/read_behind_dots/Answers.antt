@@ -1,0 +1,20 @@
+use Rattle.std.proofs.Common.{◌≡◌, ℕ, Bool, true, List, ◌∷◌, sym, ap₂, ◌∙◌, arith}
+use Rattle.graphql_tokens.specs.declared.pos.Pos.{Pos}
+use Rattle.graphql_tokens.specs.declared.pos.Positioned.{Positioned}
+use Rattle.graphql_tokens.specs.tokens.Token.{Token}
+use Rattle.graphql_syntax.specs.trees.Request as request
+use Rattle.graphql_syntax.specs.trees.RequestViews.{selection_trees}
+use Rattle.graphql_requests.specs.grammar.Selections.{fragment_name}
+use Rattle.graphql_requests.specs.reading.SelectionSteps.{behind_dots_at, spread_at, onto}
+use Rattle.graphql_reading.proofs.Steps.{gives-behind}
+use Rattle.graphql_requests.proofs.selections.heads.read_behind_dots.Goals as goal
+
+named : (values : ℕ) (nests : Bool) (dots : Pos) (front : List (Positioned request.Selection)) (t name : Token) (ts rest : List Token) → fragment_name t.bare ≡ true → name ≡ t → rest ≡ ts → onto front (behind_dots_at values nests dots) (t ∷ ts) ≡ onto front (spread_at values dots name) rest
+named values nests dots front t name ts rest e is left = rw e (sym (ap₂ (λ (name : Token) (rest : List Token). onto front (spread_at values dots name) rest) is left))
+
+pub returns-then-is_at_fragment_name : goal.returns-then-is_at_fragment_name
+returns-then-is_at_fragment_name c =
+    gives-behind _ c.read_spread.result c.args.cursor.now c.take-name.new.self c.read_spread.new.cursor
+    (onto (selection_trees c.args.items.now.items) (behind_dots_at c.args.values c.args.nests c.args.dots)) _
+    (named c.args.values c.args.nests c.args.dots _ c.args.cursor.now.hand _ c.args.cursor.now.behind _ (sym c.is_at_fragment_name.ensures ∙ c.if-is_at_fragment_name.true) c.take-name.ensures.token c.take-name.ensures.left)
+    (c.take-name.ensures.whole, omega (arith, c.take-name.ensures.taken)) c.read_spread.ensures

@@ -1,0 +1,80 @@
+use Rattle.std.proofs.Common.{sym, ap, ◌∙◌, arith}
+use Rattle.std.proofs.lemmas.List.{length-map}
+use Rattle.std.proofs.lemmas.Result.{err_from_is_err_and}
+use Rattle.graphql_tokens.specs.tokens.Seen.{seen}
+use Rattle.graphql_syntax.specs.trees.Request.{placed}
+use Rattle.graphql_syntax.specs.trees.RequestViews.{selection_tree, selection_trees}
+use Rattle.graphql_reading.specs.grammar.Tests.{punct}
+use Rattle.graphql_reading.specs.reading.Ahead.{tokens}
+use Rattle.graphql_requests.proofs.HeadTakes.{head-nests, onto-takes, one-takes}
+use Rattle.graphql_reading.proofs.Loops.{go-on}
+use Rattle.graphql_requests.proofs.OpenParts.{opens, enters, reads, again, ends, leaves, reads-not}
+use Rattle.graphql_requests.proofs.OpenSets.{opens-not, closes-not}
+use Rattle.graphql_requests.proofs.selections.read_selection_set.Goals as goal
+
+pub returns-in_err-brace : goal.returns-in_err-brace
+returns-in_err-brace c =
+    let p = err_from_is_err_and c.from_residual.result c.from_residual.ensures.1 in
+    rw (p.1, p.2) (opens-not c.args.values c.args.selections c.args.cursor.now c.expect_punct.new.self _ c.in_err-brace.ensures)
+
+pub loop-frames-init : goal.loop-frames-init
+loop-frames-init c = opens (seen c.in_ok-brace.brace) c.in_ok-brace.ensures (ap selection_trees c.new-items.ensures.items) c.new-frames.ensures.outer c.new-frames.ensures.left
+
+pub returns-in_err-place : goal.returns-in_err-place
+returns-in_err-place c =
+    let p = err_from_is_err_and c.from_residual-in_err-place.result c.from_residual-in_err-place.ensures.1 in
+    rw (p.1, p.2) (reads-not c.read_head.new.cursor _ c.may_nest-nests.ensures c.in_err-place.ensures c.loop-frames.invariant)
+
+pub enter-requires : goal.enter-requires
+enter-requires c = sym c.may_nest-nests.ensures ∙ head-nests c.args.values c.may_nest-nests.result (selection_trees c.loop-frames.items.items) _ _ (tokens c.loop-frames.cursor) _ (rw c.in-Some.is at c.in_ok-place.ensures.0)
+
+pub returns-in_err-enter : goal.returns-in_err-enter
+returns-in_err-enter c =
+    let p = err_from_is_err_and c.from_residual-in_err-enter.result c.from_residual-in_err-enter.ensures.1 in
+    rw (p.1, p.2) (tt, go-on c.args.cursor.now c.loop-frames.cursor c.read_head.new.cursor c.loop-frames.invariant.kept.on c.in_ok-place.ensures.1)
+
+pub loop-frames-smaller-in-Some : goal.loop-frames-smaller-in-Some
+loop-frames-smaller-in-Some c =
+    let shorter = onto-takes c.args.values c.may_nest-nests.result _ (tokens c.loop-frames.cursor) _ (tokens c.read_head.new.cursor) c.in_ok-place.ensures.0 in
+    omega (arith, shorter)
+
+pub loop-frames-preserved-in-Some : goal.loop-frames-preserved-in-Some
+loop-frames-preserved-in-Some c =
+    enters (selection_trees c.read_head.new.items.items) c.may_nest-nests.ensures (rw c.in-Some.is at c.in_ok-place.ensures) c.in_ok-enter.ensures.outer c.in_ok-enter.ensures.left
+    (omega (arith, c.len.ensures, c.read_head.new.items.ok.0, length-map c.read_head.new.items.items (placed selection_tree)))
+    c.loop-frames.invariant
+
+pub loop-nests-init : goal.loop-nests-init
+loop-nests-init c = reads (selection_trees c.read_head.new.items.items) c.may_nest-nests.ensures (rw c.in_default.is at c.in_ok-place.ensures) c.loop-frames.invariant
+
+pub loop-frames-smaller : goal.loop-frames-smaller
+loop-frames-smaller c =
+    let shorter = onto-takes c.args.values c.may_nest-nests.result _ (tokens c.loop-frames.cursor) _ (tokens c.read_head.new.cursor) c.in_ok-place.ensures.0 in
+    omega (arith, shorter, c.loop-nests.invariant.kept.less)
+
+pub loop-frames-preserved : goal.loop-frames-preserved
+loop-frames-preserved c = again (sym c.is_at_selection.ensures ∙ c.loop-nests-test.false) c.loop-nests.invariant
+
+pub returns-in_err-expect_punct : goal.returns-in_err-expect_punct
+returns-in_err-expect_punct c =
+    let p = err_from_is_err_and c.from_residual-in_err-expect_punct.result c.from_residual-in_err-expect_punct.ensures.1 in
+    rw (p.1, p.2) (closes-not c.expect_punct-in-loop-nests.new.self _ (sym c.is_at_selection.ensures ∙ c.loop-nests-test.true) c.in_err-expect_punct.ensures c.loop-nests.invariant.kept)
+
+pub close-requires : goal.close-requires
+close-requires c = omega (arith, c.loop-nests.invariant.waits.0, c.loop-nests.items.ok.0, length-map c.loop-nests.items.items (placed selection_tree))
+
+pub returns-in_err-set : goal.returns-in_err-set
+returns-in_err-set c =
+    let p = err_from_is_err_and c.from_residual-in_err-set.result c.from_residual-in_err-set.ensures.1 in
+    rw (p.1, p.2) (tt, go-on c.args.cursor.now c.loop-nests.cursor c.expect_punct-in-loop-nests.new.self c.loop-nests.invariant.kept.on c.in_ok-expect_punct.ensures.1)
+
+pub returns-in-None : goal.returns-in-None
+returns-in-None c = ends (seen c.in_ok-expect_punct.field-0) (sym c.is_at_selection.ensures ∙ c.loop-nests-test.true) c.in_ok-expect_punct.ensures c.in-None.ensures c.in_ok-set.ensures.set c.loop-nests.invariant
+
+pub loop-nests-smaller : goal.loop-nests-smaller
+loop-nests-smaller c =
+    let shorter = one-takes (punct "}") (tokens c.loop-nests.cursor) _ (tokens c.expect_punct-in-loop-nests.new.self) c.in_ok-expect_punct.ensures.0 in
+    omega (arith, shorter)
+
+pub loop-nests-preserved : goal.loop-nests-preserved
+loop-nests-preserved c = leaves c.in-Some-leave.outer (seen c.in_ok-expect_punct.field-0) (sym c.is_at_selection.ensures ∙ c.loop-nests-test.true) c.in_ok-expect_punct.ensures c.in-Some-leave.ensures c.in_ok-set.ensures.set c.in_ok-set.ensures.rest c.fill_last.ensures c.loop-nests.invariant

@@ -1,0 +1,59 @@
+//! Readers of selection sets: one loop over the sets that are open.
+ghost use Rattle.graphql_syntax.specs.trees.Request as request;
+ghost use Rattle.graphql_syntax.specs.trees.RequestViews.{selection_set_tree};
+ghost use Rattle.graphql_reading.specs.reading.Given.{Gives};
+ghost use Rattle.graphql_requests.specs.reading.Selections.{selection_set_at};
+
+mod frames;
+mod heads;
+
+use frames::{Frames, OpenSet, fill_last};
+use graphql_reading::cursor::{Cursor, Reading};
+use graphql_syntax::pos::Positioned;
+use graphql_syntax::types::SelectionSet;
+pub use heads::{is_at_fragment_name, read_type_condition};
+use std::alloc::Global;
+
+/// A selection set in which sets nest at most `selections` deep, and whose values nest at most
+/// `values` deep.
+pub fn read_selection_set(
+    alloc: Global,
+    cursor: &mut Cursor,
+    values: usize,
+    selections: usize,
+) -> Reading<Positioned<SelectionSet>>
+    ensures { Gives (request.placed selection_set_tree) result cursor.old cursor.new (selection_set_at values selections) }
+{
+    let brace = cursor.expect_punct("{")?;
+    // The selections of all sets that are open, the innermost set's last.
+    let mut items = Vec::new(alloc);
+    let mut frames = Frames::new(alloc, selections);
+    let mut own = OpenSet {
+        place: brace.pos,
+        first: 0,
+    };
+    loop {
+        let nests = frames.may_nest();
+        if let Some(place) = heads::read_head(alloc, cursor, values, nests, &mut items)? {
+            // Its set is read before what stands behind it.
+            frames.enter(own)?;
+            own = OpenSet {
+                place,
+                first: items.len(),
+            };
+            continue;
+        }
+        // Each set that ends here is given to the selection that waits for it.
+        while !heads::is_at_selection(cursor) {
+            cursor.expect_punct("}")?;
+            let set = own.close(&mut items)?;
+            match frames.leave() {
+                None => return Ok(set),
+                Some(outer) => {
+                    fill_last(&mut items, set);
+                    own = outer;
+                }
+            }
+        }
+    }
+}

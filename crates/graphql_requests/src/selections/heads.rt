@@ -1,0 +1,255 @@
+//! Readers of selections up to their sets.
+ghost use Rattle.std.specs.Prelude.{◌≡◌, ◌++◌, ◌∷◌, [], None, Some, option_map, IfOk};
+ghost use Rattle.graphql_syntax.specs.trees.Request as request;
+ghost use Rattle.graphql_syntax.specs.trees.RequestViews.{arguments_tree, directives_tree, selection_tree, selection_trees, type_condition_tree};
+ghost use Rattle.graphql_tokens.specs.tokens.Seen.{seen};
+ghost use Rattle.graphql_requests.specs.grammar.Selections.{fragment_name};
+ghost use Rattle.graphql_requests.specs.reading.SelectionSteps.{names_at, maybe_brace_at, bare_field, bare_inline, onto, field_head_at, spread_at, inline_head_at, maybe_condition_at, behind_dots_at, head_at};
+ghost use Rattle.graphql_reading.specs.reading.Given.{Gives};
+ghost use Rattle.graphql_requests.specs.reading.Selections.{type_condition_at, inline_first, selection_first};
+
+use graphql_grammar::arguments::{read_directives, read_maybe_arguments};
+use graphql_reading::cursor::{Cursor, Reading, Refusal};
+use graphql_reading::list;
+use graphql_reading::names::{name_in, read_name};
+use graphql_syntax::lexer::Token;
+use graphql_syntax::pos::{Pos, Positioned};
+use graphql_syntax::types::{
+    Directive, Field, FragmentSpread, InlineFragment, Selection, SelectionSet, TypeCondition,
+};
+use graphql_syntax::value::{Name, Value};
+use std::alloc::{AllocError, Global};
+
+// A field without a set has an empty one, which stands nowhere.
+const NOWHERE: Pos = Pos { line: 0, column: 0 };
+
+type Names = (Option<Positioned<Name>>, Positioned<Name>);
+
+type Arguments = Vec<(Positioned<Name>, Positioned<Value>)>;
+
+type Selections = Vec<Positioned<Selection>>;
+
+#[inline(always)]
+pub fn is_at_fragment_name(cursor: &Cursor) -> bool
+    ensures { result ≡ fragment_name cursor.now.hand.bare }
+{
+    cursor.is_at_name() && !cursor.is_at_keyword("on")
+}
+
+#[inline(always)]
+fn is_at_inline(cursor: &Cursor) -> bool
+    ensures { result ≡ inline_first cursor.now.hand.bare }
+{
+    cursor.is_at_keyword("on") || cursor.is_at_punct("@") || cursor.is_at_punct("{")
+}
+
+#[inline(always)]
+pub(super) fn is_at_selection(cursor: &Cursor) -> bool
+    ensures { result ≡ selection_first cursor.now.hand.bare }
+{
+    cursor.is_at_name() || cursor.is_at_punct("...")
+}
+
+#[inline(always)]
+fn push(items: &mut Selections, selection: Positioned<Selection>) -> Result<(), AllocError>
+    ensures { IfOk result (λ _. selection_trees items.new.items ≡ selection_trees items.old.items ++ request.placed selection_tree selection ∷ []) }
+{
+    list::push(items, selection)
+}
+
+/// An alias, if there is one, and a name.
+#[inline(always)]
+fn read_names(alloc: Global, cursor: &mut Cursor) -> Reading<Names>
+    ensures { Gives (λ names. names) result cursor.old cursor.new names_at }
+{
+    let first = read_name(alloc, cursor)?;
+    if !cursor.is_at_punct(":") {
+        return Ok((None, first));
+    }
+    cursor.take();
+    let name = read_name(alloc, cursor)?;
+    Ok((Some(first), name))
+}
+
+/// The `{` of a set, if one follows.
+#[inline(always)]
+fn read_maybe_brace(cursor: &mut Cursor, nests: bool) -> Reading<Option<Pos>>
+    ensures { Gives (λ place. place) result cursor.old cursor.new (maybe_brace_at nests) }
+{
+    if !cursor.is_at_punct("{") {
+        return Ok(None);
+    }
+    if !nests {
+        return Err(Refusal::Limit);
+    }
+    let brace = cursor.take();
+    Ok(Some(brace.pos))
+}
+
+#[inline(always)]
+fn bare_field(
+    alloc: Global,
+    names: Names,
+    arguments: Arguments,
+    directives: Vec<Positioned<Directive>>,
+) -> Positioned<Selection>
+    ensures { request.placed selection_tree result ≡ bare_field names (arguments_tree arguments.items) (directives_tree directives.items) }
+{
+    let (alias, name) = names;
+    let pos = match &alias {
+        Some(alias) => alias.pos,
+        None => name.pos,
+    };
+    let field = Field {
+        alias,
+        name,
+        arguments,
+        directives,
+        selection_set: Positioned::new(SelectionSet::new(alloc), NOWHERE),
+    };
+    Positioned::new(Selection::Field(Positioned::new(field, pos)), pos)
+}
+
+fn read_field(
+    alloc: Global,
+    cursor: &mut Cursor,
+    values: usize,
+    nests: bool,
+    items: &mut Selections,
+) -> Reading<Option<Pos>>
+    ensures { Gives (λ place. (selection_trees items.new.items, place)) result cursor.old cursor.new (onto (selection_trees items.old.items) (field_head_at values nests)) }
+{
+    let names = read_names(alloc, cursor)?;
+    let arguments = read_maybe_arguments(alloc, cursor, values)?;
+    let directives = read_directives(alloc, cursor, values)?;
+    let place = read_maybe_brace(cursor, nests)?;
+    push(items, bare_field(alloc, names, arguments, directives))?;
+    Ok(place)
+}
+
+/// The rest of a spread behind its name. It has no set.
+fn read_spread(
+    alloc: Global,
+    cursor: &mut Cursor,
+    values: usize,
+    dots: Pos,
+    name: Token,
+    items: &mut Selections,
+) -> Reading<Option<Pos>>
+    ensures { Gives (λ place. (selection_trees items.new.items, place)) result cursor.old cursor.new (onto (selection_trees items.old.items) (spread_at values dots (seen name.entry))) }
+{
+    let fragment_name = name_in(alloc, name)?;
+    let directives = read_directives(alloc, cursor, values)?;
+    let spread = FragmentSpread {
+        fragment_name,
+        directives,
+    };
+    let node = Selection::FragmentSpread(Positioned::new(spread, dots));
+    push(items, Positioned::new(node, dots))?;
+    Ok(None)
+}
+
+/// `on` and the name of a type.
+pub fn read_type_condition(
+    alloc: Global,
+    cursor: &mut Cursor,
+) -> Reading<Positioned<TypeCondition>>
+    ensures { Gives (request.placed type_condition_tree) result cursor.old cursor.new type_condition_at }
+{
+    let word = cursor.expect_keyword("on")?;
+    let on = read_name(alloc, cursor)?;
+    Ok(Positioned::new(TypeCondition { on }, word.pos))
+}
+
+fn read_maybe_condition(
+    alloc: Global,
+    cursor: &mut Cursor,
+) -> Reading<Option<Positioned<TypeCondition>>>
+    ensures { Gives (option_map (request.placed type_condition_tree)) result cursor.old cursor.new maybe_condition_at }
+{
+    if !cursor.is_at_keyword("on") {
+        return Ok(None);
+    }
+    let condition = read_type_condition(alloc, cursor)?;
+    Ok(Some(condition))
+}
+
+fn bare_inline(
+    alloc: Global,
+    dots: Pos,
+    type_condition: Option<Positioned<TypeCondition>>,
+    directives: Vec<Positioned<Directive>>,
+) -> Positioned<Selection>
+    ensures { request.placed selection_tree result ≡ bare_inline dots (option_map (request.placed type_condition_tree) type_condition) (directives_tree directives.items) }
+{
+    let inline = InlineFragment {
+        type_condition,
+        directives,
+        selection_set: Positioned::new(SelectionSet::new(alloc), NOWHERE),
+    };
+    Positioned::new(
+        Selection::InlineFragment(Positioned::new(inline, dots)),
+        dots,
+    )
+}
+
+fn read_inline(
+    alloc: Global,
+    cursor: &mut Cursor,
+    values: usize,
+    dots: Pos,
+    items: &mut Selections,
+) -> Reading<Pos>
+    ensures { Gives (λ place. (selection_trees items.new.items, Some place)) result cursor.old cursor.new (onto (selection_trees items.old.items) (inline_head_at values dots)) }
+{
+    let condition = read_maybe_condition(alloc, cursor)?;
+    let directives = read_directives(alloc, cursor, values)?;
+    let brace = cursor.expect_punct("{")?;
+    push(items, bare_inline(alloc, dots, condition, directives))?;
+    Ok(brace.pos)
+}
+
+/// The rest of a spread or of an inline fragment behind its `...`.
+fn read_behind_dots(
+    alloc: Global,
+    cursor: &mut Cursor,
+    values: usize,
+    nests: bool,
+    dots: Pos,
+    items: &mut Selections,
+) -> Reading<Option<Pos>>
+    ensures { Gives (λ place. (selection_trees items.new.items, place)) result cursor.old cursor.new (onto (selection_trees items.old.items) (behind_dots_at values nests dots)) }
+{
+    if is_at_fragment_name(cursor) {
+        let name = cursor.take();
+        return read_spread(alloc, cursor, values, dots, name, items);
+    }
+    if !nests {
+        return Err(if is_at_inline(cursor) {
+            Refusal::Limit
+        } else {
+            Refusal::Syntax
+        });
+    }
+    let place = read_inline(alloc, cursor, values, dots, items)?;
+    Ok(Some(place))
+}
+
+/// Puts a selection behind the others, without its set. If that follows, it gives the place of its `{`,
+/// which is read.
+pub(super) fn read_head(
+    alloc: Global,
+    cursor: &mut Cursor,
+    values: usize,
+    nests: bool,
+    items: &mut Selections,
+) -> Reading<Option<Pos>>
+    ensures { Gives (λ place. (selection_trees items.new.items, place)) result cursor.old cursor.new (onto (selection_trees items.old.items) (head_at values nests)) }
+{
+    if cursor.is_at_punct("...") {
+        let dots = cursor.take();
+        read_behind_dots(alloc, cursor, values, nests, dots.pos, items)
+    } else {
+        read_field(alloc, cursor, values, nests, items)
+    }
+}
