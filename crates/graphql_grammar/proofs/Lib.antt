@@ -10,3 +10,5 @@ pub mod ValueFill
 pub mod ValueLoop
 pub mod ValuePlaces
 pub mod ArgumentProductions
+pub mod Former
+pub mod Languages

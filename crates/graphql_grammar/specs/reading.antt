@@ -2,6 +2,7 @@
 pub mod ArgumentViews
 pub mod Arguments
 pub mod ErrorPlaces
+pub mod DocumentOf
 pub mod Errors
 pub mod Fields
 pub mod OpenValues

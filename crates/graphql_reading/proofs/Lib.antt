@@ -13,3 +13,4 @@ pub mod Steps
 pub mod Meaning
 pub mod PunctSamples
 pub mod Optional
+pub mod Includes
