@@ -12,3 +12,5 @@ pub mod ValuePlaces
 pub mod ArgumentProductions
 pub mod Former
 pub mod Languages
+pub mod OperationKinds
+pub mod Unbroken

@@ -1,6 +1,7 @@
 -- Public: the grammar of what requests and schema files share.
 pub mod Arguments
 pub mod Merged
+pub mod Operations
 pub mod Placeless
 pub mod Types
 pub mod Values

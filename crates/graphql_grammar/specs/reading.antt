@@ -6,6 +6,7 @@ pub mod DocumentOf
 pub mod Errors
 pub mod Fields
 pub mod OpenValues
+pub mod Operations
 pub mod TypeSteps
 pub mod Types
 pub mod Values

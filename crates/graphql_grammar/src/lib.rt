@@ -13,6 +13,7 @@
 
 pub mod arguments;
 pub mod error;
+pub mod operations;
 pub mod positions;
 pub mod refusals;
 pub mod types;

@@ -1,11 +1,11 @@
 pub mod Rules
 pub mod Sorted
+pub mod VariableProductions
 pub mod SelectionTrees
 pub mod SelectionProductions
 pub mod SelectionPlaces
 pub mod RequestProductions
-pub mod Headline
-pub mod Calls
+pub mod FormerRequests
 pub mod Heads
 pub mod HeadTakes
 pub mod OpenSets

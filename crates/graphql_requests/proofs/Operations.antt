@@ -10,10 +10,12 @@ use Rattle.graphql_reading.specs.grammar.Limits.{Limits}
 use Rattle.graphql_requests.specs.grammar.Request.{Definition, operation_of, name_in}
 use Rattle.graphql_requests.specs.grammar.Selections.{Set}
 use Rattle.graphql_reading.specs.grammar.Tests.{punct, any_name}
-use Rattle.graphql_grammar.specs.reading.Arguments.{directives_at, variable_definitions_at}
+use Rattle.graphql_grammar.specs.reading.Arguments.{directives_at}
+use Rattle.graphql_requests.specs.reading.Variables.{variable_definitions_at}
 use Rattle.graphql_requests.specs.reading.Definitions.{maybe_name_at, given_variables_at, worded, worded_at}
 use Rattle.graphql_reading.specs.reading.Outcome.{Outcome, Read, Refused, ◌>>=◌, one_at, then_at, opt_at}
-use Rattle.graphql_requests.specs.reading.Request.{operation_type_at, own_set_at, full_operation_at}
+use Rattle.graphql_grammar.specs.reading.Operations.{operation_type_at}
+use Rattle.graphql_requests.specs.reading.Request.{own_set_at, full_operation_at}
 
 abbrev pair-up : {A B : Type 0} → A → B → List Token → Outcome (A × B)
 pair-up a b rest = Read (a, b) rest

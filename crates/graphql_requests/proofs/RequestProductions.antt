@@ -2,97 +2,80 @@
 use Rattle.std.proofs.Common.{◌≡◌, true, IsTrue, Option, Some, None, List, [], ◌∷◌, map, refl}
 use Rattle.graphql_tokens.specs.declared.pos.Positioned.{Positioned}
 use Rattle.graphql_syntax.specs.declared.types.OperationType.{OperationType}
-use Rattle.graphql_syntax.specs.declared.types.OperationType.TheVariants.{Mutation, Subscription}
+use Rattle.graphql_tokens.specs.tokens.Edition.{Current}
 use Rattle.graphql_tokens.specs.tokens.Token.{Token}
 use Rattle.graphql_syntax.specs.trees.Request.{Directives, VariableDefinition}
 use Rattle.graphql_reading.specs.grammar.Tests.{Test, punct, keyword, any_name, the_end}
 use Rattle.graphql_reading.specs.grammar.Limits.{Limits}
 use Rattle.graphql_reading.specs.grammar.Relations.{Rel, one, ◌⨾◌, ◌∪◌, mapped, opt}
-use Rattle.graphql_grammar.specs.grammar.Arguments.{a_directive, directives, variable_definitions}
+use Rattle.graphql_grammar.specs.grammar.Arguments.{a_directive, directives}
+use Rattle.graphql_grammar.specs.grammar.Operations.{operation_type}
+use Rattle.graphql_requests.specs.grammar.Variables.{variable_definitions}
 use Rattle.graphql_reading.specs.grammar.Fronts.{without_place}
-use Rattle.graphql_grammar.specs.grammar.Placeless.{unplaced, placeless_variable, placeless_directives}
-use Rattle.graphql_requests.specs.grammar.Placeless.{placeless_set, placeless_definition, placeless_definitions}
+use Rattle.graphql_grammar.specs.grammar.Placeless.{unplaced, placeless_directives}
+use Rattle.graphql_requests.specs.grammar.Placeless.{placeless_variable, placeless_set, placeless_definition, placeless_definitions}
 use Rattle.graphql_requests.specs.grammar.Selections.{Set, fragment_name, a_type_condition}
-use Rattle.graphql_requests.specs.grammar.Request.{own_set, a_short_operation, kind_of, operation_type, operation_of, a_full_operation, fragment_of, a_fragment, a_definition, definitions, request}
+use Rattle.graphql_requests.specs.grammar.Request.{own_set, a_short_operation, operation_of, a_full_operation, fragment_of, a_fragment, a_definition, definitions}
 use Rattle.graphql_reading.specs.reading.Outcome.{then_at, choose_at, opt_at}
-use Rattle.graphql_grammar.specs.reading.Arguments.{directives_at, variable_definitions_at}
-use Rattle.graphql_requests.specs.reading.Request.{own_set_at, short_operation_at, operation_type_at, full_operation_at, fragment_at, definition_first, definition_at, definitions_at}
+use Rattle.graphql_grammar.specs.reading.Arguments.{directives_at}
+use Rattle.graphql_grammar.specs.reading.Operations.{operation_type_at}
+use Rattle.graphql_requests.specs.reading.Variables.{variable_definitions_at}
+use Rattle.graphql_requests.specs.reading.Request.{own_set_at, short_operation_at, full_operation_at, fragment_at, definition_first, definition_at, definitions_at}
 use Rattle.graphql_reading.proofs.Theory.{Within, outside, anything}
 use Rattle.graphql_reading.proofs.TokenTests.{word_of, itself, punct-within, keyword-within, the_end-within, HasSample, keyword-sample}
 use Rattle.graphql_reading.proofs.Good.{Good, Has, Led, good-keyword, good-name, good-name_but, good-mapped, good-next, good-led, good-choose, good-same, good-plus, led-one, led-within, led-mapped, led-then, led-either, has-token, has-pair, has-map, has-plus, has-first}
 use Rattle.graphql_reading.proofs.Extra.{has-opt, good-opt, led-opt, led-star, either-way}
 use Rattle.graphql_reading.proofs.Blind.{Blind, blind-one, blind-then, blind-mapped, blind-either, blind-plus, blind-opt, on-option}
-use Rattle.graphql_reading.proofs.Whole.{blind-whole}
 use Rattle.graphql_reading.proofs.Loop.{Takes, takes-one}
-use Rattle.graphql_grammar.proofs.ArgumentProductions.{good-directives, led-directive, has-directives, blind-directives, good-variable_definitions, led-variable_definitions, blind-variable_definitions}
+use Rattle.graphql_grammar.proofs.Languages.{IsRead}
+use Rattle.graphql_requests.specs.grammar.Requests.{requests}
+use Rattle.graphql_requests.proofs.FormerRequests.{includes-definitions}
+use Rattle.graphql_grammar.proofs.ArgumentProductions.{good-directives, led-directive, has-directives, blind-directives}
+use Rattle.graphql_grammar.proofs.OperationKinds.{good-operation_type, led-operation_type, has-operation_type, without-keyword-place, blind-operation_type}
+use Rattle.graphql_requests.proofs.VariableProductions.{good-variable_definitions, led-variable_definitions, blind-variable_definitions}
 use Rattle.graphql_requests.proofs.SelectionProductions.{good-sets, led-sets, has-sets, good-type_condition, has-type_condition, fragment-sample}
 use Rattle.graphql_requests.proofs.SelectionPlaces.{blind-sets, blind-type_condition}
-use Prim.Native.String.{String}
 
 -- ---- the set of a definition
 
-pub good-own_set : {b : Limits} {f : Test} → Good own_set b f (own_set_at b)
+pub good-own_set : {b : Limits} {f : Test} → Good (own_set Current) b f (own_set_at b)
 good-own_set {b} = good-sets b.selections b refl
 
-pub led-own_set : Led own_set (punct "{")
+pub led-own_set : Led (own_set Current) (punct "{")
 led-own_set = led-sets
 
-pub has-own_set : Has own_set
+pub has-own_set : Has (own_set Current)
 has-own_set = has-sets
 
-pub blind-own_set : Blind own_set (unplaced placeless_set)
+pub blind-own_set : Blind (own_set Current) (unplaced placeless_set)
 blind-own_set = blind-sets
 
 -- directives and the set
 abbrev with-set : Limits → Rel (Directives × Set)
-with-set c = directives Current true c.values ⨾ own_set c
+with-set c = directives Current true c.values ⨾ own_set Current c
 
 good-with-set : {b : Limits} {f : Test} → Good with-set b f (then_at (directives_at true b.values) (own_set_at b))
 good-with-set = good-led led-own_set has-own_set (good-directives true (punct-within "{" refl) (punct-within "{" refl)) good-own_set
 
 led-with-set : {g : Test} → Within (punct "@") g → Within (punct "{") g → Led with-set g
-led-with-set at brace = led-star {p = λ c. a_directive Current true c.values} {q = own_set} (led-within at (led-directive true)) (led-within brace led-own_set)
+led-with-set at brace = led-star {p = λ c. a_directive Current true c.values} {q = (own_set Current)} (led-within at (led-directive true)) (led-within brace led-own_set)
 
 has-with-set : Has with-set
 has-with-set = has-pair (has-directives true) has-own_set
 
 -- ---- operations
 
-pub good-short_operation : {b : Limits} {f : Test} → Good a_short_operation b f (short_operation_at b)
+pub good-short_operation : {b : Limits} {f : Test} → Good (a_short_operation Current) b f (short_operation_at b)
 good-short_operation = good-mapped good-own_set
 
-pub led-short_operation : Led a_short_operation (punct "{")
+pub led-short_operation : Led (a_short_operation Current) (punct "{")
 led-short_operation = led-mapped led-own_set
 
-pub has-short_operation : Has a_short_operation
+pub has-short_operation : Has (a_short_operation Current)
 has-short_operation = has-map has-own_set
 
-pub blind-short_operation : Blind a_short_operation placeless_definition
+pub blind-short_operation : Blind (a_short_operation Current) placeless_definition
 blind-short_operation = blind-mapped (λ set. refl) blind-own_set
-
--- a keyword, whichever kind it tells
-led-kind : {ty : OperationType} (word : String) {g : Test} → IsTrue (g (word_of word)) → Led (λ c. mapped (kind_of ty) (one (keyword word))) g
-led-kind word h = led-mapped {p = λ c. one (keyword word)} (led-within (keyword-within word h) led-one)
-
-pub good-operation_type : {b : Limits} {f : Test} → Good (λ c. operation_type) b f operation_type_at
-good-operation_type =
-    good-choose (led-mapped {p = λ c. one (keyword "query")} led-one) (led-either (led-kind "mutation" refl) (led-kind "subscription" refl)) (good-mapped (good-keyword "query"))
-    (good-choose (led-mapped {p = λ c. one (keyword "mutation")} led-one) (led-kind "subscription" refl) (good-mapped (good-keyword "mutation")) (good-mapped (good-keyword "subscription")))
-
-pub led-operation_type : {g : Test} → IsTrue (g (word_of "query")) → IsTrue (g (word_of "mutation")) → IsTrue (g (word_of "subscription")) → Led (λ c. operation_type) g
-led-operation_type query mutation subscription = led-either (led-kind "query" query) (led-either (led-kind "mutation" mutation) (led-kind "subscription" subscription))
-
-query-sample : HasSample (keyword "query")
-query-sample = keyword-sample "query" refl (refl, (refl, (refl, (refl, (refl, tt)))))
-
-pub has-operation_type : Has (λ c. operation_type)
-has-operation_type = has-first {q = λ c. mapped (kind_of Mutation) (one (keyword "mutation")) ∪ mapped (kind_of Subscription) (one (keyword "subscription"))} (has-map (has-token query-sample))
-
-abbrev without-keyword-place : Token × OperationType → Token × OperationType
-without-keyword-place x = (without_place x.0, x.1)
-
-pub blind-operation_type : Blind (λ c. operation_type) without-keyword-place
-blind-operation_type = blind-either (blind-mapped (λ t. refl) (blind-one (keyword "query"))) (blind-either (blind-mapped (λ t. refl) (blind-one (keyword "mutation"))) (blind-mapped (λ t. refl) (blind-one (keyword "subscription"))))
 
 -- variable definitions, where there are any, and what is behind them
 abbrev with-variables : Limits → Rel (Option (List (Positioned VariableDefinition)) × (Directives × Set))
@@ -107,17 +90,17 @@ led-with-variables paren at brace = led-opt {q = with-set} (led-within paren led
 has-with-variables : Has with-variables
 has-with-variables = has-pair (has-opt {p = λ c. variable_definitions Current c.values c.types}) has-with-set
 
-pub good-full_operation : {b : Limits} {f : Test} → Good a_full_operation b f (full_operation_at b)
+pub good-full_operation : {b : Limits} {f : Test} → Good (a_full_operation Current) b f (full_operation_at b)
 good-full_operation =
     good-mapped (good-next (has-pair (has-opt {p = λ c. one any_name}) has-with-variables) good-operation_type
     (good-led {g = outside any_name} (led-with-variables (punct-within "(" refl) (punct-within "@" refl) (punct-within "{" refl)) has-with-variables
     (good-opt led-one itself good-name)
     good-with-variables))
 
-pub led-full_operation : {g : Test} → IsTrue (g (word_of "query")) → IsTrue (g (word_of "mutation")) → IsTrue (g (word_of "subscription")) → Led a_full_operation g
+pub led-full_operation : {g : Test} → IsTrue (g (word_of "query")) → IsTrue (g (word_of "mutation")) → IsTrue (g (word_of "subscription")) → Led (a_full_operation Current) g
 led-full_operation query mutation subscription = led-mapped {p = λ c. operation_type ⨾ opt (one any_name) ⨾ with-variables c} (led-then (led-operation_type query mutation subscription))
 
-pub has-full_operation : Has a_full_operation
+pub has-full_operation : Has (a_full_operation Current)
 has-full_operation = has-map (has-pair has-operation_type (has-pair (has-opt {p = λ c. one any_name}) has-with-variables))
 
 abbrev operation-parts : Type 0
@@ -129,63 +112,63 @@ operation-placeless (ty, (None, (Some variables, more))) = refl
 operation-placeless (ty, (Some name, (None, more))) = refl
 operation-placeless (ty, (Some name, (Some variables, more))) = refl
 
-pub blind-full_operation : Blind a_full_operation placeless_definition
+pub blind-full_operation : Blind (a_full_operation Current) placeless_definition
 blind-full_operation = blind-mapped {k = operation_of} operation-placeless (blind-then blind-operation_type (blind-then (blind-opt (blind-one any_name)) (blind-then (blind-opt blind-variable_definitions) (blind-then (blind-directives true) blind-own_set))))
 
 -- ---- fragments
 
-pub good-fragment : {b : Limits} {f : Test} → Good a_fragment b f (fragment_at b)
+pub good-fragment : {b : Limits} {f : Test} → Good (a_fragment Current) b f (fragment_at b)
 good-fragment =
     good-mapped (good-next (has-pair (has-token fragment-sample) (has-pair has-type_condition has-with-set)) (good-keyword "fragment")
     (good-next (has-pair has-type_condition has-with-set) (good-name_but ("on" ∷ []))
     (good-next has-with-set good-type_condition good-with-set)))
 
-pub led-fragment : Led a_fragment (keyword "fragment")
+pub led-fragment : Led (a_fragment Current) (keyword "fragment")
 led-fragment = led-mapped {p = λ c. one (keyword "fragment") ⨾ one fragment_name ⨾ a_type_condition ⨾ with-set c} (led-then led-one)
 
-pub has-fragment : Has a_fragment
+pub has-fragment : Has (a_fragment Current)
 has-fragment = has-map (has-pair (has-token (keyword-sample "fragment" refl (refl, (refl, (refl, (refl, (refl, (refl, (refl, (refl, tt)))))))))) (has-pair (has-token fragment-sample) (has-pair has-type_condition has-with-set)))
 
-pub blind-fragment : Blind a_fragment placeless_definition
+pub blind-fragment : Blind (a_fragment Current) placeless_definition
 blind-fragment = blind-mapped {k = fragment_of} (λ x. refl) (blind-then (blind-one (keyword "fragment")) (blind-then (blind-one fragment_name) (blind-then blind-type_condition (blind-then (blind-directives true) blind-own_set))))
 
 -- ---- definitions
 
 -- what begins with a word
-good-worded : {b : Limits} {f : Test} → Good (λ c. a_full_operation c ∪ a_fragment c) b f (choose_at (keyword "fragment") (fragment_at b) (full_operation_at b))
-good-worded = good-same (λ c. either-way (a_fragment c) (a_full_operation c)) (good-choose led-fragment (led-full_operation refl refl refl) good-fragment good-full_operation)
+good-worded : {b : Limits} {f : Test} → Good (λ c. a_full_operation Current c ∪ a_fragment Current c) b f (choose_at (keyword "fragment") (fragment_at b) (full_operation_at b))
+good-worded = good-same (λ c. either-way (a_fragment Current c) (a_full_operation Current c)) (good-choose led-fragment (led-full_operation refl refl refl) good-fragment good-full_operation)
 
-led-worded : {g : Test} → IsTrue (g (word_of "query")) → IsTrue (g (word_of "mutation")) → IsTrue (g (word_of "subscription")) → IsTrue (g (word_of "fragment")) → Led (λ c. a_full_operation c ∪ a_fragment c) g
+led-worded : {g : Test} → IsTrue (g (word_of "query")) → IsTrue (g (word_of "mutation")) → IsTrue (g (word_of "subscription")) → IsTrue (g (word_of "fragment")) → Led (λ c. a_full_operation Current c ∪ a_fragment Current c) g
 led-worded query mutation subscription fragment = led-either (led-full_operation query mutation subscription) (led-within (keyword-within "fragment" fragment) led-fragment)
 
-pub good-definition : {b : Limits} {f : Test} → Good a_definition b f (definition_at b)
+pub good-definition : {b : Limits} {f : Test} → Good (a_definition Current) b f (definition_at b)
 good-definition = good-choose led-short_operation (led-worded refl refl refl refl) good-short_operation good-worded
 
-pub led-definition : Led a_definition definition_first
-led-definition = led-either {p = a_short_operation} (led-within (punct-within "{" refl) led-short_operation) (led-worded refl refl refl refl)
+pub led-definition : Led (a_definition Current) definition_first
+led-definition = led-either {p = (a_short_operation Current)} (led-within (punct-within "{" refl) led-short_operation) (led-worded refl refl refl refl)
 
-pub has-definition : Has a_definition
-has-definition = has-first {q = λ c. a_full_operation c ∪ a_fragment c} has-short_operation
+pub has-definition : Has (a_definition Current)
+has-definition = has-first {q = λ c. a_full_operation Current c ∪ a_fragment Current c} has-short_operation
 
-pub blind-definition : Blind a_definition placeless_definition
+pub blind-definition : Blind (a_definition Current) placeless_definition
 blind-definition = blind-either blind-short_operation (blind-either blind-full_operation blind-fragment)
 
 pub takes-definition : (limits : Limits) → Takes (definition_at limits)
 takes-definition limits = takes-one {b = limits} {f = anything} good-definition led-definition
 
 -- what is no definition ends the list
-pub good-definitions : {b : Limits} {f : Test} → Within f (outside definition_first) → Good definitions b f (definitions_at b)
+pub good-definitions : {b : Limits} {f : Test} → Within f (outside definition_first) → Good (definitions Current) b f (definitions_at b)
 good-definitions away = good-plus led-definition away good-definition
 
-pub has-definitions : Has definitions
+pub has-definitions : Has (definitions Current)
 has-definitions = has-plus has-definition
 
-pub blind-definitions : Blind definitions placeless_definitions
+pub blind-definitions : Blind (definitions Current) placeless_definitions
 blind-definitions = blind-plus blind-definition
 
 -- the end of the text is none
-pub good-request : {b : Limits} → Good definitions b the_end (definitions_at b)
+pub good-request : {b : Limits} → Good (definitions Current) b the_end (definitions_at b)
 good-request = good-definitions (the_end-within (λ w. refl))
 
-pub blind-request : Blind request placeless_definitions
-blind-request = blind-whole blind-definitions
+pub requests-are-read : IsRead requests definitions_at
+requests-are-read = record { has = has-definitions; blind = blind-definitions; good = λ b. good-request {b = b}; includes = includes-definitions }

@@ -9,48 +9,8 @@ use Rattle.graphql_syntax.specs.trees.RequestViews.{entry_tree}
 use Rattle.indexmap.specs.IndexMap.{insert_entry}
 use Rattle.graphql_requests.specs.grammar.Documents.{named_operations, fragments, operations_beside}
 use Rattle.graphql_requests.specs.grammar.Request.{Definition, operation, fragment}
-use Rattle.graphql_requests.specs.grammar.Rules.{breach_behind, or_else, first_operation, first_anonymous, first_operation_named, first_fragment_named, AreUnbroken}
+use Rattle.graphql_requests.specs.grammar.Rules.{or_else, first_operation, first_anonymous, first_operation_named, first_fragment_named}
 use Rattle.graphql_requests.specs.reading.Sorting.{anonymous_in, first_place}
-
--- ---- one definition more
-
--- a definition of a list with one more at its end is that one, or stands before it
-pub data Stands (ds before after : List Definition) (d e : Definition) : Type 0 where
-  last : before ≡ ds → e ≡ d → Stands ds before after d e
-  within : (rest : List Definition) → ds ≡ before ++ e ∷ rest → Stands ds before after d e
-
-not-nil : {A : Type 0} (x : A) (xs ys : List A) → [] ≡ xs ++ x ∷ ys → ⊥
-not-nil x [] ys e = absurd cc
-not-nil x (y ∷ xs) ys e = absurd cc
-
-heads : {A : Type 0} (x y : A) (xs ys : List A) → x ∷ xs ≡ y ∷ ys → x ≡ y
-heads x y xs ys e = cc
-
-tails : {A : Type 0} (x y : A) (xs ys : List A) → x ∷ xs ≡ y ∷ ys → xs ≡ ys
-tails x y xs ys e = cc
-
-stands : (ds : List Definition) (d : Definition) (before : List Definition) (e : Definition) (after : List Definition) → ds ++ d ∷ [] ≡ before ++ e ∷ after → Stands ds before after d e
-stands [] d [] e after h = last refl (sym (heads d e [] after h))
-stands [] d (b ∷ before) e after h = absurd (not-nil e before after (tails d b [] (before ++ e ∷ after) h))
-stands (x ∷ ds) d [] e after h = within ds (ap (λ (y : Definition). y ∷ ds) (heads x e (ds ++ d ∷ []) after h))
-stands (x ∷ ds) d (b ∷ before) e after h = onto (stands ds d before e after (tails x b (ds ++ d ∷ []) (before ++ e ∷ after) h))
-  where
-    same : x ≡ b
-    same = heads x b (ds ++ d ∷ []) (before ++ e ∷ after) h
-
-    onto : Stands ds before after d e → Stands (x ∷ ds) (b ∷ before) after d e
-    onto (last p q) = last (ap (λ (l : List Definition). b ∷ l) p ∙ ap (λ (y : Definition). y ∷ ds) (sym same)) q
-    onto (within rest p) = within rest (ap (λ (y : Definition). y ∷ ds) same ∙ ap (λ (l : List Definition). b ∷ l) p)
-
-pub unbroken-none : AreUnbroken []
-unbroken-none before d after e = absurd (not-nil d before after e)
-
-pub unbroken-more : (ds : List Definition) (d : Definition) → AreUnbroken ds → breach_behind ds d ≡ None → AreUnbroken (ds ++ d ∷ [])
-unbroken-more ds d h k before e after same = by (stands ds d before e after same)
-  where
-    by : Stands ds before after d e → breach_behind before e ≡ None
-    by (last p q) = ap (λ (l : List Definition). breach_behind l e) p ∙ ap (breach_behind ds) q ∙ k
-    by (within rest p) = h before e rest p
 
 -- ---- what is found in the list with one more
 

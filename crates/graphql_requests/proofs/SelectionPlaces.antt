@@ -1,6 +1,7 @@
 -- Selections and selection sets don't look at places.
 use Rattle.std.proofs.Common.{◌≡◌, ℕ, zero, suc, true, Option, Some, None, List, [], ◌∷◌, map, refl, ap}
 use Rattle.graphql_tokens.specs.declared.pos.Positioned.{Positioned}
+use Rattle.graphql_tokens.specs.tokens.Edition.{Current}
 use Rattle.graphql_tokens.specs.tokens.Token.{Token}
 use Rattle.graphql_syntax.specs.trees.Request.{Arguments, Directives, TypeCondition, Selection, SelectionSet, set_of}
 use Rattle.graphql_reading.specs.grammar.Tests.{punct, keyword, any_name}
@@ -39,12 +40,12 @@ field-placeless ((Some alias, name), (None, (ds, Some set))) = refl
 field-placeless ((Some alias, name), (Some arguments, (ds, None))) = refl
 field-placeless ((Some alias, name), (Some arguments, (ds, Some set))) = refl
 
-pub blind-field : {set : Limits → Rel Set} → Blind set (unplaced placeless_set) → Blind (λ c. a_field c.values (set c)) (unplaced placeless_selection)
+pub blind-field : {set : Limits → Rel Set} → Blind set (unplaced placeless_set) → Blind (λ c. a_field Current c.values (set c)) (unplaced placeless_selection)
 blind-field h = blind-mapped {k = field_of} field-placeless (blind-then blind-aliased (blind-then (blind-maybe_arguments true) (blind-then (blind-directives true) (blind-opt h))))
 
 -- ---- spreads and inline fragments
 
-pub blind-spread : Blind (λ c. a_spread c.values) (unplaced placeless_selection)
+pub blind-spread : Blind (λ c. a_spread Current c.values) (unplaced placeless_selection)
 blind-spread = blind-mapped (λ x. refl) (blind-then (blind-one (punct "...")) (blind-then (blind-one fragment_name) (blind-directives true)))
 
 pub blind-type_condition : Blind (λ c. a_type_condition) (unplaced placeless_condition)
@@ -54,10 +55,10 @@ inline-placeless : (x : Token × (Option (Positioned TypeCondition) × (Directiv
 inline-placeless (dots, (None, (ds, set))) = refl
 inline-placeless (dots, (Some on, (ds, set))) = refl
 
-pub blind-inline_fragment : {set : Limits → Rel Set} → Blind set (unplaced placeless_set) → Blind (λ c. an_inline_fragment c.values (set c)) (unplaced placeless_selection)
+pub blind-inline_fragment : {set : Limits → Rel Set} → Blind set (unplaced placeless_set) → Blind (λ c. an_inline_fragment Current c.values (set c)) (unplaced placeless_selection)
 blind-inline_fragment h = blind-mapped {k = inline_of} inline-placeless (blind-then (blind-one (punct "...")) (blind-then (blind-opt blind-type_condition) (blind-then (blind-directives true) h)))
 
-pub blind-selection : {set : Limits → Rel Set} → Blind set (unplaced placeless_set) → Blind (λ c. a_selection c.values (set c)) (unplaced placeless_selection)
+pub blind-selection : {set : Limits → Rel Set} → Blind set (unplaced placeless_set) → Blind (λ c. a_selection Current c.values (set c)) (unplaced placeless_selection)
 blind-selection h = blind-either (blind-field h) (blind-either blind-spread (blind-inline_fragment h))
 
 -- ---- sets
@@ -72,9 +73,9 @@ placed-nowhere s = record { pos = nowhere; node = s }
 pub blind-a_set : {selection : Limits → Rel (Positioned Selection)} → Blind selection (unplaced placeless_selection) → Blind (λ c. a_set (selection c)) (unplaced placeless_set)
 blind-a_set h = blind-mapped (λ x. ap (λ (s : SelectionSet). placed-nowhere s) (set-placeless x.1.0)) (blind-then (blind-one (punct "{")) (blind-then (blind-plus h) (blind-one (punct "}"))))
 
-blind-at : (n : ℕ) → Blind (λ c. selection_set c.values n) (unplaced placeless_set)
+blind-at : (n : ℕ) → Blind (λ c. selection_set Current c.values n) (unplaced placeless_set)
 blind-at zero = blind-a_set (blind-selection {set = λ c. never} blind-never)
-blind-at (suc n) = blind-a_set (blind-selection {set = λ c. selection_set c.values n} (blind-at n))
+blind-at (suc n) = blind-a_set (blind-selection {set = λ c. selection_set Current c.values n} (blind-at n))
 
 pub blind-sets : Blind sets (unplaced placeless_set)
 blind-sets = record { by = λ c. (blind-at c.selections).by c; fixed = λ c. (blind-at c.selections).fixed c }

@@ -1,6 +1,7 @@
 -- Selections and selection sets are read exactly at every budget, and have phrases.
 use Rattle.std.proofs.Common.{◌≡◌, ℕ, zero, suc, Bool, true, false, ◌||◌, IsTrue, ◌↔◌, codes, inl, inr, Option, Some, None, List, [], ◌∷◌, ◌++◌, refl, sym, ap, ◌∙◌, subst, append-nil}
 use Rattle.graphql_tokens.specs.declared.pos.Positioned.{Positioned}
+use Rattle.graphql_tokens.specs.tokens.Edition.{Current}
 use Rattle.graphql_tokens.specs.tokens.Token.{Token}
 use Rattle.graphql_tokens.specs.tokens.Proper.{IsProper}
 use Rattle.graphql_syntax.specs.trees.Request.{Arguments, Directives, Selection}
@@ -133,16 +134,16 @@ opens-behind-names {g = g} paren at brace away led = opens-then (opens-maybe_arg
 has-behind-names : {set : Limits → Rel Set} → Has (behind-names set)
 has-behind-names {set} = has-pair (has-maybe_arguments true) (has-behind-arguments {set = set})
 
-pub good-field : {set : Limits → Rel Set} {b : Limits} {r : Reader Set} → Led set (punct "{") → Good set b after_selection r → Good (λ c. a_field c.values (set c)) b after_selection (field_at b.values r)
+pub good-field : {set : Limits → Rel Set} {b : Limits} {r : Reader Set} → Led set (punct "{") → Good set b after_selection r → Good (λ c. a_field Current c.values (set c)) b after_selection (field_at b.values r)
 good-field {set} led h =
     good-mapped (good-seq {g = outside (punct ":")} (opens-behind-names refl refl refl no-alias led) (has-behind-names {set = set})
     (good-aliased itself)
     (good-behind-names led h))
 
-pub led-field : {set : Limits → Rel Set} → Led (λ c. a_field c.values (set c)) any_name
+pub led-field : {set : Limits → Rel Set} → Led (λ c. a_field Current c.values (set c)) any_name
 led-field {set} = led-mapped {p = λ c. aliased ⨾ behind-names set c} (led-then led-aliased)
 
-pub has-field : {set : Limits → Rel Set} → Has (λ c. a_field c.values (set c))
+pub has-field : {set : Limits → Rel Set} → Has (λ c. a_field Current c.values (set c))
 has-field {set} = has-map (has-pair has-aliased (has-behind-names {set = set}))
 
 -- ---- spreads and inline fragments
@@ -178,16 +179,16 @@ led-inline-first led = led-inline (keyword-within "on" refl) (punct-within "@" r
 pub good-spread : {b : Limits} {f : Test} → Within f (outside (punct "(")) → Within f (outside (punct "@")) → Good (λ c. one fragment_name ⨾ directives Current true c.values) b f (then_at (one_at fragment_name) (directives_at true b.values))
 good-spread away apart = good-next (has-directives true) (good-name_but ("on" ∷ [])) (good-directives true away apart)
 
-pub led-spread : Led (λ c. a_spread c.values) (punct "...")
+pub led-spread : Led (λ c. a_spread Current c.values) (punct "...")
 led-spread = led-mapped {p = λ c. one (punct "...") ⨾ one fragment_name ⨾ directives Current true c.values} (led-then led-one)
 
-pub led-inline_fragment : {set : Limits → Rel Set} → Led (λ c. an_inline_fragment c.values (set c)) (punct "...")
+pub led-inline_fragment : {set : Limits → Rel Set} → Led (λ c. an_inline_fragment Current c.values (set c)) (punct "...")
 led-inline_fragment {set} = led-mapped {p = λ c. one (punct "...") ⨾ inline set c} (led-then led-one)
 
-pub has-spread : Has (λ c. a_spread c.values)
+pub has-spread : Has (λ c. a_spread Current c.values)
 has-spread = has-map (has-pair (has-token dots-sample) (has-pair (has-token fragment-sample) (has-directives true)))
 
-pub has-inline_fragment : {set : Limits → Rel Set} → Has set → Has (λ c. an_inline_fragment c.values (set c))
+pub has-inline_fragment : {set : Limits → Rel Set} → Has set → Has (λ c. an_inline_fragment Current c.values (set c))
 has-inline_fragment {set} has = has-map (has-pair (has-token dots-sample) (has-pair (has-opt {p = λ c. a_type_condition}) (has-pair (has-directives true) has)))
 
 -- what follows `...` in either
@@ -205,24 +206,24 @@ has-after-dots : {set : Limits → Rel Set} → Has (after-dots set)
 has-after-dots {set} = has-first {p = λ c. mapped a_name (one fragment_name ⨾ directives Current true c.values)} {q = λ c. mapped an_inline (inline set c)} (has-map (has-pair (has-token fragment-sample) (has-directives true)))
 
 -- the two, with `...` once
-is-dotted : (set : Limits → Rel Set) (c : Limits) (x : List Token) (t : Positioned Selection) → mapped dotted (one (punct "...") ⨾ after-dots set c) x t ↔ (a_spread c.values ∪ an_inline_fragment c.values (set c)) x t
+is-dotted : (set : Limits → Rel Set) (c : Limits) (x : List Token) (t : Positioned Selection) → mapped dotted (one (punct "...") ⨾ after-dots set c) x t ↔ (a_spread Current c.values ∪ an_inline_fragment Current c.values (set c)) x t
 is-dotted set c = factored (one (punct "...")) (one fragment_name ⨾ directives Current true c.values) (inline set c) a_name an_inline spread_of inline_of dotted (λ a b. refl) (λ a d. refl)
 
-pub good-dots : {set : Limits → Rel Set} {b : Limits} {r : Reader Inline} → Led set (punct "{") → Good (inline set) b after_selection r → Good (λ c. a_spread c.values ∪ an_inline_fragment c.values (set c)) b after_selection (dots_at b.values r)
+pub good-dots : {set : Limits → Rel Set} {b : Limits} {r : Reader Inline} → Led set (punct "{") → Good (inline set) b after_selection r → Good (λ c. a_spread Current c.values ∪ an_inline_fragment Current c.values (set c)) b after_selection (dots_at b.values r)
 good-dots {set} led h = good-same (is-dotted set) (good-mapped (good-next (has-after-dots {set = set}) (good-punct "...") (good-after-dots led h)))
 
 -- ---- selections
 
-pub led-selection : {set : Limits → Rel Set} → Led (λ c. a_selection c.values (set c)) selection_first
-led-selection {set} = led-either {p = λ c. a_field c.values (set c)} (led-within (any_name-within (λ w. refl)) (led-field {set = set})) (led-either {q = λ c. an_inline_fragment c.values (set c)} (led-within (punct-within "..." refl) led-spread) (led-within (punct-within "..." refl) (led-inline_fragment {set = set})))
+pub led-selection : {set : Limits → Rel Set} → Led (λ c. a_selection Current c.values (set c)) selection_first
+led-selection {set} = led-either {p = λ c. a_field Current c.values (set c)} (led-within (any_name-within (λ w. refl)) (led-field {set = set})) (led-either {q = λ c. an_inline_fragment Current c.values (set c)} (led-within (punct-within "..." refl) led-spread) (led-within (punct-within "..." refl) (led-inline_fragment {set = set})))
 
-pub has-selection : {set : Limits → Rel Set} → Has (λ c. a_selection c.values (set c))
-has-selection {set} = has-first {q = λ c. a_spread c.values ∪ an_inline_fragment c.values (set c)} (has-field {set = set})
+pub has-selection : {set : Limits → Rel Set} → Has (λ c. a_selection Current c.values (set c))
+has-selection {set} = has-first {q = λ c. a_spread Current c.values ∪ an_inline_fragment Current c.values (set c)} (has-field {set = set})
 
-pub good-selection : {set : Limits → Rel Set} {b : Limits} {r : Reader Set} {s : Reader Inline} → Led set (punct "{") → Good set b after_selection r → Good (inline set) b after_selection s → Good (λ c. a_selection c.values (set c)) b after_selection (selection_at b.values r s)
+pub good-selection : {set : Limits → Rel Set} {b : Limits} {r : Reader Set} {s : Reader Inline} → Led set (punct "{") → Good set b after_selection r → Good (inline set) b after_selection s → Good (λ c. a_selection Current c.values (set c)) b after_selection (selection_at b.values r s)
 good-selection {set} led h k =
-    good-same (λ c. either-way (a_spread c.values ∪ an_inline_fragment c.values (set c)) (a_field c.values (set c))) (good-choose
-    (led-either {q = λ c. an_inline_fragment c.values (set c)} led-spread (led-inline_fragment {set = set}))
+    good-same (λ c. either-way (a_spread Current c.values ∪ an_inline_fragment Current c.values (set c)) (a_field Current c.values (set c))) (good-choose
+    (led-either {q = λ c. an_inline_fragment Current c.values (set c)} led-spread (led-inline_fragment {set = set}))
     (led-within (any_name-within (λ w. refl)) (led-field {set = set}))
     (good-dots led k)
     (good-field led h))
@@ -238,10 +239,10 @@ close-sample = punct-sample "}" refl (inl (125, refl, refl))
 pub led-a_set : {selection : Limits → Rel (Positioned Selection)} → Led (λ c. a_set (selection c)) (punct "{")
 led-a_set {selection} = led-mapped {p = λ c. one (punct "{") ⨾ plus (selection c) ⨾ one (punct "}")} (led-then led-one)
 
-pub has-a_set : {set : Limits → Rel Set} → Has (λ c. a_set (a_selection c.values (set c)))
-has-a_set {set} = has-map {p = λ c. one (punct "{") ⨾ plus (a_selection c.values (set c)) ⨾ one (punct "}")} (has-pair (has-token open-sample) (has-pair (has-plus (has-selection {set = set})) (has-token close-sample)))
+pub has-a_set : {set : Limits → Rel Set} → Has (λ c. a_set (a_selection Current c.values (set c)))
+has-a_set {set} = has-map {p = λ c. one (punct "{") ⨾ plus (a_selection Current c.values (set c)) ⨾ one (punct "}")} (has-pair (has-token open-sample) (has-pair (has-plus (has-selection {set = set})) (has-token close-sample)))
 
-pub good-a_set : {set : Limits → Rel Set} {b : Limits} {f : Test} {r : Reader Set} {s : Reader Inline} → Led set (punct "{") → Good set b after_selection r → Good (inline set) b after_selection s → Good (λ c. a_set (a_selection c.values (set c))) b f (a_set_at (selection_at b.values r s))
+pub good-a_set : {set : Limits → Rel Set} {b : Limits} {f : Test} {r : Reader Set} {s : Reader Inline} → Led set (punct "{") → Good set b after_selection r → Good (inline set) b after_selection s → Good (λ c. a_set (a_selection Current c.values (set c))) b f (a_set_at (selection_at b.values r s))
 good-a_set {set} led h k =
     good-mapped (good-next (has-pair (has-plus (has-selection {set = set})) (has-token close-sample)) (good-punct "{")
     (good-led {g = punct "}"} led-one (has-token close-sample)
@@ -251,31 +252,31 @@ good-a_set {set} led h k =
 -- ---- sets within limits
 
 abbrev pub sets : Limits → Rel Set
-sets c = selection_set c.values c.selections
+sets c = selection_set Current c.values c.selections
 
 abbrev inner-sets : Limits → Rel Set
 inner-sets c = nested of_selections sets c
 
-is-set : (c : Limits) (x : List Token) (t : Set) → a_set (a_selection c.values (inner-sets c)) x t ↔ sets c x t
+is-set : (c : Limits) (x : List Token) (t : Set) → a_set (a_selection Current c.values (inner-sets c)) x t ↔ sets c x t
 is-set c x t = at c.selections
   where
-    at : (n : ℕ) → a_set (a_selection c.values (below of_selections sets c n)) x t ↔ selection_set c.values n x t
+    at : (n : ℕ) → a_set (a_selection Current c.values (below of_selections sets c n)) x t ↔ selection_set Current c.values n x t
     at zero = (λ h. h, λ h. h)
     at (suc n) = (λ h. h, λ h. h)
 
 pub led-sets : Led sets (punct "{")
-led-sets = led-same is-set (led-a_set {selection = λ c. a_selection c.values (inner-sets c)})
+led-sets = led-same is-set (led-a_set {selection = λ c. a_selection Current c.values (inner-sets c)})
 
 pub has-sets : Has sets
 has-sets = record { some = λ c. some c c.selections }
   where
-    some : (c : Limits) (n : ℕ) → Extends (selection_set c.values n) []
+    some : (c : Limits) (n : ℕ) → Extends (selection_set Current c.values n) []
     some c zero = (has-a_set {set = λ c. never}).some c
-    some c (suc n) = (has-a_set {set = λ c. selection_set c.values n}).some c
+    some c (suc n) = (has-a_set {set = λ c. selection_set Current c.values n}).some c
 
 opens-set : (c : Limits) (t : Token) → IsTrue (punct "{" t.bare) → Extends (sets c) (t ∷ [])
 opens-set c t e =
-    let m = opens {f = selections_of} {q = λ c. plus (a_selection c.values (inner-sets c)) ⨾ one (punct "}")} (punct "{") (has-pair (has-plus (has-selection {set = inner-sets})) (has-token close-sample)) c t e in
+    let m = opens {f = selections_of} {q = λ c. plus (a_selection Current c.values (inner-sets c)) ⨾ one (punct "}")} (punct "{") (has-pair (has-plus (has-selection {set = inner-sets})) (has-token close-sample)) c t e in
     record { tail = m.tail; tree = m.tree; holds = (is-set c (t ∷ m.tail) m.tree).0 m.holds; proper = m.proper }
 
 -- what can follow `...` where a set may follow it
@@ -355,7 +356,7 @@ pub good-sets : (n : ℕ) (b : Limits) {f : Test} → b.selections ≡ n → Goo
 good-sets n b e = good-outside n (good-inside n b e)
 
 -- one selection in a set
-pub good-selections : (n : ℕ) (b : Limits) → b.selections ≡ n → Good (λ c. a_selection c.values (inner-sets c)) b after_selection (selection_at b.values (inner-set-at b.values n) (inner-inline-at b.values n))
+pub good-selections : (n : ℕ) (b : Limits) → b.selections ≡ n → Good (λ c. a_selection Current c.values (inner-sets c)) b after_selection (selection_at b.values (inner-set-at b.values n) (inner-inline-at b.values n))
 good-selections n b e =
     let h = good-inside n b e in
     good-selection (led-nested of_selections led-sets) h.set h.inline

@@ -15,14 +15,15 @@ use Rattle.graphql_syntax.specs.trees.RequestViews.{operation_tree, fragment_tre
 use Rattle.graphql_requests.specs.declared.rules.Sorted.{Sorted}
 use Rattle.graphql_requests.specs.grammar.Documents.{named_operations, fragments, operations_beside, document_of}
 use Rattle.graphql_requests.specs.grammar.Request.{Definition, operation, fragment}
-use Rattle.graphql_requests.specs.grammar.Rules.{breach_behind, multiple_operations, operation_duplicated, fragment_duplicated, or_else, first_operation, first_anonymous, first_operation_named, first_fragment_named, AreUnbroken, HasOperation}
-use Rattle.graphql_grammar.specs.declared.error.Error.{Error}
-use Rattle.graphql_grammar.specs.declared.error.Error.TheVariants.{Syntax, MultipleRoots, MissingQueryRoot, MultipleOperations, OperationDuplicated, FragmentDuplicated, MissingOperation, RecursionLimitExceeded, OutOfMemory}
+use Rattle.graphql_requests.specs.grammar.Requests.{requests}
+use Rattle.graphql_requests.specs.grammar.Rules.{breach_of, missing_operation, or_else, first_operation, first_anonymous, first_operation_named, first_fragment_named}
+use Rattle.graphql_grammar.specs.answers.Answers.{IsDocument, Lacks}
+use Rattle.graphql_grammar.specs.declared.error.Error.TheVariants.{MultipleOperations, OperationDuplicated, FragmentDuplicated, MissingOperation}
 use Rattle.graphql_requests.specs.declared.definitions.Definition.{Definition as CodeDefinition}
 use Rattle.graphql_requests.specs.reading.Definitions.{definition_tree}
-use Rattle.graphql_requests.specs.reading.Sorting.{definition_trees, anonymous_in, first_place, IsSorted, TellsOf}
-use Rattle.graphql_requests.specs.reading.Rules.{TellsBreach}
-use Rattle.graphql_requests.proofs.Rules.{unbroken-none, unbroken-more, first-more, anonymous-more, named-more, fragments-more, anonymous-place, operation-place, fragment-place, lookup-place, map-last, first-place-map, first-place-more, none-inside, beside-anonymous, beside-named}
+use Rattle.graphql_requests.specs.reading.Sorting.{definition_trees, anonymous_in, first_place, IsSorted}
+use Rattle.graphql_grammar.proofs.Unbroken.{unbroken-none, unbroken-more}
+use Rattle.graphql_requests.proofs.Rules.{first-more, anonymous-more, named-more, fragments-more, anonymous-place, operation-place, fragment-place, lookup-place, map-last, first-place-map, first-place-more, none-inside, beside-anonymous, beside-named}
 
 -- ---- what is found among them
 
@@ -58,21 +59,21 @@ fragment-found name ds s h =
 
 -- ---- breaches
 
-pub anonymous-breaks : (ds : List Definition) (s : Sorted) (o : Positioned request.OperationDefinition) (first : Pos) → IsSorted ds s → or_else (option_map (λ o. o.pos) s.anonymous) (first_place s.operations.entries) ≡ Some first → breach_behind ds (operation None o) ≡ Some (multiple_operations o.pos first)
-anonymous-breaks ds s o first h e = ap (option_map (λ first. multiple_operations o.pos first)) (first-found ds s h ∙ e)
+pub anonymous-breaks : (ds : List Definition) (s : Sorted) (o : Positioned request.OperationDefinition) (first : Pos) → IsSorted ds s → or_else (option_map (λ o. o.pos) s.anonymous) (first_place s.operations.entries) ≡ Some first → breach_of ds (operation None o) ≡ Some (MultipleOperations o.pos first)
+anonymous-breaks ds s o first h e = ap (option_map (λ first. MultipleOperations o.pos first)) (first-found ds s h ∙ e)
 
-pub operation-breaks : (ds : List Definition) (s : Sorted) (name : Name) (o : Positioned request.OperationDefinition) (place : Pos) → IsSorted ds s → option_map (λ o. o.pos) s.anonymous ≡ Some place → breach_behind ds (operation (Some name) o) ≡ Some (multiple_operations place o.pos)
+pub operation-breaks : (ds : List Definition) (s : Sorted) (name : Name) (o : Positioned request.OperationDefinition) (place : Pos) → IsSorted ds s → option_map (λ o. o.pos) s.anonymous ≡ Some place → breach_of ds (operation (Some name) o) ≡ Some (MultipleOperations place o.pos)
 operation-breaks ds s name o place h e =
-    ap (λ (x : Option Pos). or_else (option_map (λ anonymous. multiple_operations anonymous o.pos) x) (option_map (λ first. operation_duplicated name first o.pos) (first_operation_named name ds))) (anonymous-found ds s h ∙ e)
+    ap (λ (x : Option Pos). or_else (option_map (λ anonymous. MultipleOperations anonymous o.pos) x) (option_map (λ first. OperationDuplicated name first o.pos) (first_operation_named name ds))) (anonymous-found ds s h ∙ e)
 
 -- behind operations with names, only an operation of the name breaks a rule
-pub named-breach : (ds : List Definition) (s : Sorted) (name : Name) (o : Positioned request.OperationDefinition) → IsSorted ds s → s.anonymous ≡ None → breach_behind ds (operation (Some name) o) ≡ option_map (λ first. operation_duplicated name first o.pos) (option_map (λ o. o.pos) (lookup (bytes_eq name) s.operations.entries))
+pub named-breach : (ds : List Definition) (s : Sorted) (name : Name) (o : Positioned request.OperationDefinition) → IsSorted ds s → s.anonymous ≡ None → breach_of ds (operation (Some name) o) ≡ option_map (λ first. OperationDuplicated name first o.pos) (option_map (λ o. o.pos) (lookup (bytes_eq name) s.operations.entries))
 named-breach ds s name o h e =
-    ap (λ (x : Option Pos). or_else (option_map (λ anonymous. multiple_operations anonymous o.pos) x) (option_map (λ first. operation_duplicated name first o.pos) (first_operation_named name ds))) (anonymous-found ds s h ∙ ap place-of e)
-    ∙ ap (option_map (λ first. operation_duplicated name first o.pos)) (operation-found name ds s h)
+    ap (λ (x : Option Pos). or_else (option_map (λ anonymous. MultipleOperations anonymous o.pos) x) (option_map (λ first. OperationDuplicated name first o.pos) (first_operation_named name ds))) (anonymous-found ds s h ∙ ap place-of e)
+    ∙ ap (option_map (λ first. OperationDuplicated name first o.pos)) (operation-found name ds s h)
 
-pub fragment-breach : (ds : List Definition) (s : Sorted) (name : Name) (f : Positioned request.FragmentDefinition) → IsSorted ds s → breach_behind ds (fragment name f) ≡ option_map (λ first. fragment_duplicated name first f.pos) (option_map (λ f. f.pos) (lookup (bytes_eq name) s.fragments.entries))
-fragment-breach ds s name f h = ap (option_map (λ first. fragment_duplicated name first f.pos)) (fragment-found name ds s h)
+pub fragment-breach : (ds : List Definition) (s : Sorted) (name : Name) (f : Positioned request.FragmentDefinition) → IsSorted ds s → breach_of ds (fragment name f) ≡ option_map (λ first. FragmentDuplicated name first f.pos) (option_map (λ f. f.pos) (lookup (bytes_eq name) s.fragments.entries))
+fragment-breach ds s name f h = ap (option_map (λ first. FragmentDuplicated name first f.pos)) (fragment-found name ds s h)
 
 -- ---- one more
 
@@ -90,7 +91,7 @@ no-entries (x ∷ es) e = absurd cc
 
 pub sorted-none : (s : Sorted) → s.anonymous ≡ None → s.operations.entries ≡ [] → s.fragments.entries ≡ [] → IsSorted [] s
 sorted-none s a o f = record {
-  unbroken = unbroken-none;
+  unbroken = unbroken-none requests;
   first = refl;
   alone = λ e. refl;
   anonymous = ap (option_map (placed operation_tree)) a;
@@ -107,7 +108,7 @@ sorted-anonymous ds s t o h e now operations fragments =
     let named : named_operations (ds ++ d ∷ []) ≡ [] = named-more ds d ∙ append-nil (named_operations ds) ∙ empty in
     let its : anonymous_in (ds ++ d ∷ []) ≡ Some (placed operation_tree o) = anonymous-more ds d ∙ ap (λ (x : Option (Positioned request.OperationDefinition)). or_else x (Some (placed operation_tree o))) absent in
     record {
-      unbroken = unbroken-more ds d h.unbroken (ap (option_map (λ first. multiple_operations o.pos first)) before);
+      unbroken = unbroken-more requests ds d h.unbroken (ap (option_map (λ first. MultipleOperations o.pos first)) before);
       first =
           first-more ds d ∙ ap (λ (x : Option Pos). or_else x (Some o.pos)) before
           ∙ sym (ap (λ (x : Option (Positioned request.OperationDefinition)). or_else (place-of x) (first_place (named_operations (ds ++ d ∷ [])))) its);
@@ -125,7 +126,7 @@ sorted-operation ds s t name o h e none same pushed fragments =
     let named = named-more ds d in
     let before : first_operation ds ≡ first_place (named_operations ds) = h.first ∙ ap (λ (x : Option (Positioned request.OperationDefinition)). or_else (place-of x) (first_place (named_operations ds))) absent in
     record {
-      unbroken = unbroken-more ds d h.unbroken (named-breach ds s name (placed operation_tree o) h e ∙ ap (λ (x : Option (Positioned OperationDefinition)). option_map (λ first. operation_duplicated name first o.pos) (place-of x)) none);
+      unbroken = unbroken-more requests ds d h.unbroken (named-breach ds s name (placed operation_tree o) h e ∙ ap (λ (x : Option (Positioned OperationDefinition)). option_map (λ first. OperationDuplicated name first o.pos) (place-of x)) none);
       first =
           first-more ds d ∙ ap (λ (x : Option Pos). or_else x (Some o.pos)) before ∙ sym (first-place-more (named_operations ds) ((name, placed operation_tree o) ∷ [])) ∙ ap first_place (sym named)
           ∙ sym (ap (λ (x : Option (Positioned request.OperationDefinition)). or_else (place-of x) (first_place (named_operations (ds ++ d ∷ [])))) its);
@@ -145,7 +146,7 @@ sorted-fragment ds s t name f h none same operations pushed =
     let its : anonymous_in (ds ++ d ∷ []) ≡ anonymous_in ds = anonymous-more ds d ∙ or-none (anonymous_in ds) in
     let named : named_operations (ds ++ d ∷ []) ≡ named_operations ds = named-more ds d ∙ append-nil (named_operations ds) in
     record {
-      unbroken = unbroken-more ds d h.unbroken (fragment-breach ds s name (placed fragment_tree f) h ∙ ap (λ (x : Option (Positioned FragmentDefinition)). option_map (λ first. fragment_duplicated name first f.pos) (place-of x)) none);
+      unbroken = unbroken-more requests ds d h.unbroken (fragment-breach ds s name (placed fragment_tree f) h ∙ ap (λ (x : Option (Positioned FragmentDefinition)). option_map (λ first. FragmentDuplicated name first f.pos) (place-of x)) none);
       first =
           first-more ds d ∙ or-none (first_operation ds) ∙ h.first
           ∙ ap (λ (x : Option (Positioned request.OperationDefinition)). or_else (place-of x) (first_place (named_operations ds))) (sym its)
@@ -158,48 +159,43 @@ sorted-fragment ds s t name f h none same operations pushed =
 
 -- ---- documents
 
-pub single-document : (ds : List Definition) (s : Sorted) (o : Positioned OperationDefinition) (operations : DocumentOperations) → IsSorted ds s → s.anonymous ≡ Some o → operations ≡ Single o → AreUnbroken ds × HasOperation ds × (document_tree (record { operations = operations; fragments = s.fragments }) ≡ document_of ds)
+pub single-document : (ds : List Definition) (s : Sorted) (o : Positioned OperationDefinition) (operations : DocumentOperations) → IsSorted ds s → s.anonymous ≡ Some o → operations ≡ Single o → IsDocument requests ds (record { operations = operations; fragments = s.fragments })
 single-document ds s o operations h e is =
-    let its : anonymous_in ds ≡ Some (placed operation_tree o) = sym h.anonymous ∙ ap (option_map (placed operation_tree)) e in (
-      h.unbroken,
-      (o.pos, first-found ds s h ∙ ap (λ (x : Option (Positioned OperationDefinition)). or_else (place-of x) (first_place s.operations.entries)) e),
-      ap (λ os. record { operations = operations_tree os; fragments = map (entry_tree fragment_tree) s.fragments.entries }) is
+    let its : anonymous_in ds ≡ Some (placed operation_tree o) = sym h.anonymous ∙ ap (option_map (placed operation_tree)) e in
+    record {
+      unbroken = h.unbroken;
+      complete = ap missing_operation (first-found ds s h ∙ ap (λ (x : Option (Positioned OperationDefinition)). or_else (place-of x) (first_place s.operations.entries)) e);
+      made =
+          ap (λ os. record { operations = operations_tree os; fragments = map (entry_tree fragment_tree) s.fragments.entries }) is
           ∙ ap (λ os. record { operations = os; fragments = map (entry_tree fragment_tree) s.fragments.entries }) (sym (beside-anonymous (named_operations ds) ds (placed operation_tree o) its))
-          ∙ ap (λ fs. record { operations = operations_beside (named_operations ds) ds; fragments = fs }) h.fragments,
-    )
+          ∙ ap (λ fs. record { operations = operations_beside (named_operations ds) ds; fragments = fs }) h.fragments;
+    }
 
 has-place : {A : Type 0} (es : List (Name × Positioned A)) → (es ≡ [] → ⊥) → (place : Pos) × (first_place es ≡ Some place)
 has-place [] h = absurd (h refl)
 has-place (e ∷ es) h = (e.1.pos, refl)
 
-pub multiple-document : (ds : List Definition) (s : Sorted) (operations : DocumentOperations) → IsSorted ds s → s.anonymous ≡ None → (s.operations.entries ≡ [] → ⊥) → operations ≡ Multiple s.operations → AreUnbroken ds × HasOperation ds × (document_tree (record { operations = operations; fragments = s.fragments }) ≡ document_of ds)
+pub multiple-document : (ds : List Definition) (s : Sorted) (operations : DocumentOperations) → IsSorted ds s → s.anonymous ≡ None → (s.operations.entries ≡ [] → ⊥) → operations ≡ Multiple s.operations → IsDocument requests ds (record { operations = operations; fragments = s.fragments })
 multiple-document ds s operations h e some is =
     let its : anonymous_in ds ≡ None = sym h.anonymous ∙ ap (option_map (placed operation_tree)) e in
-    let p = has-place s.operations.entries some in (
-      h.unbroken,
-      (p.0, first-found ds s h ∙ ap (λ (x : Option (Positioned OperationDefinition)). or_else (place-of x) (first_place s.operations.entries)) e ∙ p.1),
-      ap (λ os. record { operations = operations_tree os; fragments = map (entry_tree fragment_tree) s.fragments.entries }) is
+    let p = has-place s.operations.entries some in
+    record {
+      unbroken = h.unbroken;
+      complete = ap missing_operation (first-found ds s h ∙ ap (λ (x : Option (Positioned OperationDefinition)). or_else (place-of x) (first_place s.operations.entries)) e ∙ p.1);
+      made =
+          ap (λ os. record { operations = operations_tree os; fragments = map (entry_tree fragment_tree) s.fragments.entries }) is
           ∙ ap (λ es. record { operations = multiple es; fragments = map (entry_tree fragment_tree) s.fragments.entries }) h.operations
           ∙ ap (λ os. record { operations = os; fragments = map (entry_tree fragment_tree) s.fragments.entries }) (sym (beside-named (named_operations ds) ds its))
-          ∙ ap (λ fs. record { operations = operations_beside (named_operations ds) ds; fragments = fs }) h.fragments,
-    )
+          ∙ ap (λ fs. record { operations = operations_beside (named_operations ds) ds; fragments = fs }) h.fragments;
+    }
 
-pub no-document : (ds : List Definition) (s : Sorted) → IsSorted ds s → s.anonymous ≡ None → s.operations.entries ≡ [] → AreUnbroken ds × ¬ HasOperation ds
-no-document ds s h e empty =
-    (h.unbroken, λ has. let none = sym (first-found ds s h ∙ ap (λ (x : Option (Positioned OperationDefinition)). or_else (place-of x) (first_place s.operations.entries)) e ∙ ap first_place empty) ∙ has.1 in absurd (cc))
+pub no-document : (ds : List Definition) (s : Sorted) → IsSorted ds s → s.anonymous ≡ None → s.operations.entries ≡ [] → Lacks requests ds MissingOperation
+no-document ds s h e empty = record {
+  unbroken = h.unbroken;
+  is = ap missing_operation (first-found ds s h ∙ ap (λ (x : Option (Positioned OperationDefinition)). or_else (place-of x) (first_place s.operations.entries)) e ∙ ap first_place empty);
+}
 
--- ---- the first breach
-
-pub breaks : (ds before : List Definition) (d : Definition) (after : List Definition) (error : Error) → ds ≡ before ++ d ∷ after → AreUnbroken before → TellsOf (breach_behind before d) error → TellsBreach ds error
-breaks ds before d after (MultipleOperations anonymous other) split unbroken e = record { before = before; broken = d; after = after; split = split; unbroken_before = unbroken; is = e }
-breaks ds before d after (OperationDuplicated name first second) split unbroken e = record { before = before; broken = d; after = after; split = split; unbroken_before = unbroken; is = e }
-breaks ds before d after (FragmentDuplicated name first second) split unbroken e = record { before = before; broken = d; after = after; split = split; unbroken_before = unbroken; is = e }
-breaks ds before d after OutOfMemory split unbroken e = tt
-breaks ds before d after (Syntax message start end) split unbroken e = absurd e
-breaks ds before d after (MultipleRoots root schema pos) split unbroken e = absurd e
-breaks ds before d after (MissingQueryRoot pos) split unbroken e = absurd e
-breaks ds before d after MissingOperation split unbroken e = absurd e
-breaks ds before d after RecursionLimitExceeded split unbroken e = absurd e
+-- ---- lists of definitions of the code
 
 pub trees-split : (before : List CodeDefinition) (d : CodeDefinition) (after : List CodeDefinition) → definition_trees (before ++ d ∷ after) ≡ definition_trees before ++ definition_tree d ∷ definition_trees after
 trees-split [] d after = refl

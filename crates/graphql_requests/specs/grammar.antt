@@ -1,7 +1,8 @@
--- Public: the grammar of requests, and what an answer means.
-pub mod Answers
+-- Public: the grammar of requests, their rules and their documents.
 pub mod Documents
 pub mod Placeless
 pub mod Request
+pub mod Requests
 pub mod Rules
 pub mod Selections
+pub mod Variables

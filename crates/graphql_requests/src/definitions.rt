@@ -9,11 +9,12 @@ ghost use Rattle.graphql_grammar.specs.reading.Arguments.{directives_at};
 ghost use Rattle.graphql_requests.specs.reading.Definitions.{definition_tree, in_definitions, maybe_name_at, given_variables_at, worded_at};
 ghost use Rattle.graphql_reading.specs.reading.Given.{Gives, GivesWhole};
 ghost use Rattle.graphql_reading.specs.reading.Outcome.{one_at};
-ghost use Rattle.graphql_requests.specs.reading.Request.{own_set_at, short_operation_at, operation_type_at, fragment_at, definition_first, definition_at, definitions_at, request_at};
+ghost use Rattle.graphql_requests.specs.reading.Request.{own_set_at, short_operation_at, fragment_at, definition_first, definition_at, definitions_at, request_at};
 
 use crate::selections::{is_at_fragment_name, read_selection_set, read_type_condition};
 use graphql_reading::limits::Limits;
 use graphql_grammar::arguments::read_directives;
+use graphql_grammar::operations::read_operation_type;
 use graphql_reading::cursor::{Cursor, Reading, Refusal};
 use graphql_reading::list::push;
 use crate::variables::read_maybe_variable_definitions;
@@ -52,22 +53,6 @@ fn expect_fragment_name<'a>(cursor: &mut Cursor<'a>) -> Reading<Token<'a>>
         return Err(Refusal::Syntax);
     }
     Ok(cursor.take())
-}
-
-/// The keyword of an operation, and the kind that it tells.
-fn expect_operation_type<'a>(cursor: &mut Cursor<'a>) -> Reading<(Token<'a>, OperationType)>
-    ensures { Gives (λ x. (seen x.0, x.1)) result cursor.old cursor.new operation_type_at }
-{
-    let kind = if cursor.is_at_keyword("query") {
-        OperationType::Query
-    } else if cursor.is_at_keyword("mutation") {
-        OperationType::Mutation
-    } else if cursor.is_at_keyword("subscription") {
-        OperationType::Subscription
-    } else {
-        return Err(Refusal::Syntax);
-    };
-    Ok((cursor.take(), kind))
 }
 
 /// The set of a definition, whose nesting isn't counted.
@@ -131,7 +116,7 @@ fn read_maybe_name(alloc: Global, cursor: &mut Cursor) -> Reading<Option<Name>>
 fn read_operation(alloc: Global, cursor: &mut Cursor, limits: Limits) -> Reading<Definition>
     ensures { Gives definition_tree result cursor.old cursor.new (worded_at limits) }
 {
-    let (word, ty) = expect_operation_type(cursor)?;
+    let (word, ty) = read_operation_type(cursor)?;
     let name = read_maybe_name(alloc, cursor)?;
     let variable_definitions = read_own_variables(alloc, cursor, limits)?;
     let directives = read_own_directives(alloc, cursor, limits)?;

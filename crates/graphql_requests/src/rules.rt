@@ -8,7 +8,8 @@ ghost use Rattle.graphql_requests.specs.grammar.Request.{Definition as SpecDefin
 ghost use Rattle.graphql_requests.specs.grammar.Rules.{or_else};
 ghost use Rattle.graphql_requests.specs.reading.Definitions.{definition_tree};
 ghost use Rattle.graphql_requests.specs.reading.Sorting.{definition_trees, first_place, IsSorted, IsAdded};
-ghost use Rattle.graphql_requests.specs.reading.Rules.{IsDocumentOf};
+ghost use Rattle.graphql_grammar.specs.reading.DocumentOf.{IsDocumentOf};
+ghost use Rattle.graphql_requests.specs.grammar.Requests.{requests};
 
 use crate::definitions::Definition;
 use graphql_grammar::error::{Error, Result};
@@ -139,7 +140,7 @@ impl Sorted {
 
     /// The document, which has an operation.
     fn into_document(self) -> Result<ExecutableDocument>
-        ensures { (ds : List SpecDefinition) → IsSorted ds self → IsDocumentOf ds result }
+        ensures { (ds : List SpecDefinition) → IsSorted ds self → IsDocumentOf requests ds result }
     {
         let Sorted {
             anonymous,
@@ -164,7 +165,7 @@ impl Sorted {
 
 /// The document of a request's definitions, or the first of the rules that they break, in source order.
 pub fn document_of(alloc: Global, definitions: Vec<Definition>) -> Result<ExecutableDocument>
-    ensures { IsDocumentOf (definition_trees definitions.items) result }
+    ensures { IsDocumentOf requests (definition_trees definitions.items) result }
 {
     let mut sorted = Sorted::new(alloc);
     for definition in definitions {

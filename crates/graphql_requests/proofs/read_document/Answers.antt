@@ -2,12 +2,16 @@ use Rattle.std.proofs.Common.{◌≡◌, ℕ, ◌≤◌, ◌+◌, ◌-◌, List,
 use Rattle.graphql_tokens.specs.tokens.Cuts.{EndsOnce}
 use Rattle.graphql_tokens.specs.tokens.Proper.{AreProperButFaults}
 use Rattle.graphql_tokens.specs.tokens.Token.{Token, left}
-use Rattle.graphql_requests.specs.grammar.Answers.{Answers, TakenFor}
+use Rattle.graphql_grammar.specs.answers.Answers.{Answers, TakenFor, HasOneTree, IsDecided, AreTheDefinitions}
+use Rattle.graphql_grammar.specs.answers.Language.{grammar}
+use Rattle.graphql_tokens.specs.tokens.Edition.{Current}
+use Rattle.graphql_requests.specs.grammar.Requests.{requests}
+use Rattle.graphql_requests.specs.reading.Request.{definitions_at}
 use Rattle.graphql_reading.specs.reading.Ahead.{tokens}
 use Rattle.graphql_reading.specs.reading.Given.{GoesOn}
 use Rattle.graphql_requests.specs.reading.Definitions.{in_definitions}
-use Rattle.graphql_requests.proofs.Headline.{accepted, accepted-all}
-use Rattle.graphql_requests.proofs.Calls.{document-answers, document-taken, refusal-answers, refusal-taken, taken-between}
+use Rattle.graphql_grammar.proofs.Languages.{accepted, accepted-all, document-answers, document-taken, refusal-answers, refusal-taken, taken-between, has-one-tree, is-decided, the-tree}
+use Rattle.graphql_requests.proofs.RequestProductions.{requests-are-read}
 use Rattle.graphql_requests.proofs.read_document.Goals as goal
 use Rattle.graphql_requests.proofs.read_document.Goals.{in-Ok, in-Err}
 
@@ -44,10 +48,10 @@ pub returns-clause-answer : goal.returns-clause-answer
 returns-clause-answer c =
     let ts = tokens c.new-cursor.result in
     let limits = c.args.limits in
-    subst (λ (ts : List Token). Answers limits ts c.match-read_request.answer) (ahead-is c)
+    subst (λ (ts : List Token). Answers requests limits ts c.match-read_request.answer) (ahead-is c)
     (elim c.match-read_request.branch [
-      | in-Ok w ↦ subst (Answers limits ts) (sym w.answer-is) (document-answers limits ts (in_definitions w.in-Ok.definitions) _ (accepted limits ts _ (in_definitions w.in-Ok.definitions) (ends c) (proper c) w.in-Ok.ensures.0) w.document_of-answer.ensures)
-      | in-Err w ↦ subst (Answers limits ts) (sym w.answer-is) (refusal-answers limits c.new-cursor.result c.read_request.new.cursor w.in-Err.refusal w.error_of.result (ends c) (proper c) w.in-Err.ensures.0 w.error_of.ensures)
+      | in-Ok w ↦ subst (Answers requests limits ts) (sym w.answer-is) (document-answers requests limits ts (in_definitions w.in-Ok.definitions) _ (accepted requests definitions_at requests-are-read limits ts _ (in_definitions w.in-Ok.definitions) (ends c) (proper c) w.in-Ok.ensures.0) w.document_of-answer.ensures)
+      | in-Err w ↦ subst (Answers requests limits ts) (sym w.answer-is) (refusal-answers requests definitions_at requests-are-read limits c.new-cursor.result c.read_request.new.cursor w.in-Err.refusal w.error_of.result (ends c) (proper c) w.in-Err.ensures.0 w.error_of.ensures)
     ])
 
 pub returns-clause-taken : goal.returns-clause-taken
@@ -58,16 +62,16 @@ returns-clause-taken c =
       | in-Ok w ↦ (
         count c,
         sums c w.in-Ok.ensures.1,
-        subst (λ (ts : List Token). TakenFor limits ts c.match-read_request.answer (count c)) (ahead-is c)
-            (subst (λ r. TakenFor limits ts r (count c)) (sym w.answer-is)
-            (document-taken limits ts (in_definitions w.in-Ok.definitions) _ (count c) (all c w.in-Ok.ensures.1 (accepted-all limits ts _ (in_definitions w.in-Ok.definitions) (ends c) (proper c) w.in-Ok.ensures.0)) w.document_of-answer.ensures)),
+        subst (λ (ts : List Token). TakenFor requests limits ts c.match-read_request.answer (count c)) (ahead-is c)
+            (subst (λ r. TakenFor requests limits ts r (count c)) (sym w.answer-is)
+            (document-taken requests limits ts (in_definitions w.in-Ok.definitions) _ (count c) (all c w.in-Ok.ensures.1 (accepted-all requests definitions_at requests-are-read limits ts _ (in_definitions w.in-Ok.definitions) (ends c) (proper c) w.in-Ok.ensures.0)) w.document_of-answer.ensures)),
       )
       | in-Err w ↦ (
         count c,
         sums c w.in-Err.ensures.1,
-        subst (λ (ts : List Token). TakenFor limits ts c.match-read_request.answer (count c)) (ahead-is c)
-            (subst (λ r. TakenFor limits ts r (count c)) (sym w.answer-is)
-            (refusal-taken limits c.new-cursor.result c.read_request.new.cursor w.in-Err.refusal w.error_of.result (count c) (taken c w.in-Err.ensures.1) (ends c) (proper c) w.in-Err.ensures.0 w.error_of.ensures)),
+        subst (λ (ts : List Token). TakenFor requests limits ts c.match-read_request.answer (count c)) (ahead-is c)
+            (subst (λ r. TakenFor requests limits ts r (count c)) (sym w.answer-is)
+            (refusal-taken requests definitions_at requests-are-read limits c.new-cursor.result c.read_request.new.cursor w.in-Err.refusal w.error_of.result (count c) (taken c w.in-Err.ensures.1) (ends c) (proper c) w.in-Err.ensures.0 w.error_of.ensures)),
       )
     ]
   where
@@ -76,3 +80,14 @@ returns-clause-taken c =
 
     all : (c : goal.After-into_tokens) → GoesOn c.new-cursor.result c.read_request.new.cursor → c.read_request.new.cursor.behind ≡ [] → count c ≡ length (tokens c.new-cursor.result)
     all c on empty = let t = taken c on in let n = ap length empty in omega (arith, t, n)
+
+pub returns-clause-one_tree : goal.returns-clause-one_tree
+returns-clause-one_tree c = has-one-tree requests definitions_at requests-are-read (left c.args.tokens.now)
+
+pub returns-clause-decided : goal.returns-clause-decided
+returns-clause-decided c = subst (IsDecided requests c.args.limits) (ahead-is c) (is-decided requests definitions_at requests-are-read c.args.limits (tokens c.new-cursor.result) (ends c) (proper c))
+
+pub returns-clause-only : goal.returns-clause-only
+returns-clause-only c ds h =
+    subst (λ ts. AreTheDefinitions requests c.args.limits ts ds) (ahead-is c)
+    (the-tree requests definitions_at requests-are-read c.args.limits (tokens c.new-cursor.result) ds (ends c) (proper c) (subst (λ ts. grammar requests Current c.args.limits ts ds) (sym (ahead-is c)) h))

@@ -1,7 +1,8 @@
--- Selections and selection sets, and their places.
+-- Selections and selection sets, and their places (GraphQL October 2021, sections 2.4, 2.5, 2.7 and 2.8).
 use Rattle.std.specs.Prelude.{ℕ, zero, suc, true, Option, Some, None, List, [], ◌∷◌}
 use Rattle.graphql_tokens.specs.declared.pos.Pos.{Pos}
 use Rattle.graphql_tokens.specs.declared.pos.Positioned.{Positioned}
+use Rattle.graphql_tokens.specs.tokens.Edition.{Edition}
 use Rattle.graphql_tokens.specs.tokens.Token.{Token}
 use Rattle.graphql_syntax.specs.trees.Request.{Name, Arguments, Directives, TypeCondition, Selection, field, fragment_spread, inline_fragment, SelectionSet, no_selections, set_of}
 use Rattle.graphql_grammar.specs.grammar.Arguments.{given, arguments, directives}
@@ -14,9 +15,12 @@ Set = Positioned SelectionSet
 
 -- ---- fields
 
+abbrev pub alias_name : Token × Token → Token
+alias_name (name, colon) = name
+
 -- (Name ':')? Name
 abbrev pub aliased : Rel (Option Token × Token)
-aliased = opt (mapped (λ x. x.0) (one any_name ⨾ one (punct ":"))) ⨾ one any_name
+aliased = opt (mapped alias_name (one any_name ⨾ one (punct ":"))) ⨾ one any_name
 
 abbrev pub alias_of : Option Token → Option (Positioned Name)
 alias_of None = None
@@ -28,19 +32,19 @@ field_place (None, name) = name.pos
 field_place (Some alias, name) = alias.pos
 
 -- a field without a set has an empty one, which stands nowhere
-abbrev pub own_set : Option Set → Set
-own_set None = record { pos = nowhere; node = no_selections }
-own_set (Some set) = set
+abbrev pub set_or_none : Option Set → Set
+set_or_none None = record { pos = nowhere; node = no_selections }
+set_or_none (Some set) = set
 
 abbrev pub field_of : (Option Token × Token) × (Option Arguments × (Directives × Option Set)) → Positioned Selection
-field_of x = record {
-  pos = field_place x.0;
-  node = field (field_place x.0) (alias_of x.0.0) (name_of x.0.1) (given x.1.0) x.1.1.0 (own_set x.1.1.1).pos (own_set x.1.1.1).node;
+field_of ((alias, name), (arguments, (directives, set))) = record {
+  pos = field_place (alias, name);
+  node = field (field_place (alias, name)) (alias_of alias) (name_of name) (given arguments) directives (set_or_none set).pos (set_or_none set).node;
 }
 
 -- Field : (Name ':')? Name Arguments? Directives? SelectionSet?
-abbrev pub a_field : ℕ → Rel Set → Rel (Positioned Selection)
-a_field values set = mapped field_of (aliased ⨾ opt (arguments true values) ⨾ directives true values ⨾ opt set)
+abbrev pub a_field : Edition → ℕ → Rel Set → Rel (Positioned Selection)
+a_field edition values set = mapped field_of (aliased ⨾ opt (arguments edition true values) ⨾ directives edition true values ⨾ opt set)
 
 -- ---- spreads
 
@@ -49,42 +53,42 @@ abbrev pub fragment_name : Test
 fragment_name = name_but ("on" ∷ [])
 
 abbrev pub spread_of : Token × (Token × Directives) → Positioned Selection
-spread_of x = at x.0 (fragment_spread (at x.0 (record { fragment_name = name_of x.1.0; directives = x.1.1 })))
+spread_of (dots, (name, directives)) = at dots (fragment_spread (at dots (record { fragment_name = name_of name; directives = directives })))
 
 -- Spread : '...' FragmentName Directives?
-abbrev pub a_spread : ℕ → Rel (Positioned Selection)
-a_spread values = mapped spread_of (one (punct "...") ⨾ one fragment_name ⨾ directives true values)
+abbrev pub a_spread : Edition → ℕ → Rel (Positioned Selection)
+a_spread edition values = mapped spread_of (one (punct "...") ⨾ one fragment_name ⨾ directives edition true values)
 
 -- ---- inline fragments
 
 -- TypeCondition : 'on' Name
 abbrev pub condition_of : Token × Token → Positioned TypeCondition
-condition_of x = at x.0 (record { on = name_of x.1 })
+condition_of (word, name) = at word (record { on = name_of name })
 
 abbrev pub a_type_condition : Rel (Positioned TypeCondition)
 a_type_condition = mapped condition_of (one (keyword "on") ⨾ one any_name)
 
 abbrev pub inline_of : Token × (Option (Positioned TypeCondition) × (Directives × Set)) → Positioned Selection
-inline_of x = at x.0 (inline_fragment x.0.pos x.1.0 x.1.1.0 x.1.1.1.pos x.1.1.1.node)
+inline_of (dots, (condition, (directives, set))) = at dots (inline_fragment dots.pos condition directives set.pos set.node)
 
 -- Inline : '...' TypeCondition? Directives? SelectionSet
-abbrev pub an_inline_fragment : ℕ → Rel Set → Rel (Positioned Selection)
-an_inline_fragment values set = mapped inline_of (one (punct "...") ⨾ opt a_type_condition ⨾ directives true values ⨾ set)
+abbrev pub an_inline_fragment : Edition → ℕ → Rel Set → Rel (Positioned Selection)
+an_inline_fragment edition values set = mapped inline_of (one (punct "...") ⨾ opt a_type_condition ⨾ directives edition true values ⨾ set)
 
 -- ---- sets
 
 -- Selection : Field | Spread | Inline
-abbrev pub a_selection : ℕ → Rel Set → Rel (Positioned Selection)
-a_selection values set = a_field values set ∪ a_spread values ∪ an_inline_fragment values set
+abbrev pub a_selection : Edition → ℕ → Rel Set → Rel (Positioned Selection)
+a_selection edition values set = a_field edition values set ∪ a_spread edition values ∪ an_inline_fragment edition values set
 
 abbrev pub selections_of : Token × (List (Positioned Selection) × Token) → Set
-selections_of x = at x.0 (set_of x.1.0)
+selections_of (opening, (selections, closing)) = at opening (set_of selections)
 
 -- SelectionSet : '{' Selection+ '}'
 abbrev pub a_set : Rel (Positioned Selection) → Rel Set
 a_set selection = mapped selections_of (one (punct "{") ⨾ plus selection ⨾ one (punct "}"))
 
 -- A set in whose fields and inline fragments sets nest at most so deep. A spread has none.
-abbrev pub selection_set : ℕ → ℕ → Rel Set
-selection_set values zero = a_set (a_selection values never)
-selection_set values (suc s) = a_set (a_selection values (selection_set values s))
+abbrev pub selection_set : Edition → ℕ → ℕ → Rel Set
+selection_set edition values zero = a_set (a_selection edition values never)
+selection_set edition values (suc s) = a_set (a_selection edition values (selection_set edition values s))

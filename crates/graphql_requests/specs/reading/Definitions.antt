@@ -14,9 +14,11 @@ use Rattle.graphql_reading.specs.grammar.Places.{at}
 use Rattle.graphql_requests.specs.grammar.Request.{Definition, operation, fragment}
 use Rattle.graphql_requests.specs.grammar.Selections.{Set}
 use Rattle.graphql_reading.specs.grammar.Tests.{punct, any_name}
-use Rattle.graphql_grammar.specs.reading.Arguments.{directives_at, variable_definitions_at}
+use Rattle.graphql_grammar.specs.reading.Arguments.{directives_at}
+use Rattle.graphql_requests.specs.reading.Variables.{variable_definitions_at}
 use Rattle.graphql_reading.specs.reading.Outcome.{Reader, one_at, then_at, mapped_at, choose_at, none_at, opt_at}
-use Rattle.graphql_requests.specs.reading.Request.{operation_type_at, own_set_at}
+use Rattle.graphql_grammar.specs.reading.Operations.{operation_type_at}
+use Rattle.graphql_requests.specs.reading.Request.{own_set_at}
 
 abbrev pub definition_tree : code.Definition → Definition
 definition_tree (Operation name node) = operation name (placed operation_tree node)

@@ -1,13 +1,12 @@
 -- Reading operations, fragments and documents from lists of tokens.
 use Rattle.std.specs.Prelude.{true, ◌||◌, List}
-use Rattle.graphql_syntax.specs.declared.types.OperationType.{OperationType}
-use Rattle.graphql_syntax.specs.declared.types.OperationType.TheVariants.{Query, Mutation, Subscription}
-use Rattle.graphql_tokens.specs.tokens.Token.{Token}
 use Rattle.graphql_reading.specs.grammar.Limits.{Limits}
-use Rattle.graphql_requests.specs.grammar.Request.{Definition, query_of, kind_of, operation_of, fragment_of}
+use Rattle.graphql_requests.specs.grammar.Request.{Definition, query_of, operation_of, fragment_of}
 use Rattle.graphql_requests.specs.grammar.Selections.{Set, fragment_name}
 use Rattle.graphql_reading.specs.grammar.Tests.{Test, punct, keyword, any_name}
-use Rattle.graphql_grammar.specs.reading.Arguments.{directives_at, variable_definitions_at}
+use Rattle.graphql_grammar.specs.reading.Arguments.{directives_at}
+use Rattle.graphql_grammar.specs.reading.Operations.{operation_type_at}
+use Rattle.graphql_requests.specs.reading.Variables.{variable_definitions_at}
 use Rattle.graphql_reading.specs.reading.Outcome.{Reader, one_at, then_at, mapped_at, choose_at, opt_at, plus_at, whole_at}
 use Rattle.graphql_requests.specs.reading.Selections.{type_condition_at, selection_set_at}
 
@@ -16,12 +15,6 @@ own_set_at limits = selection_set_at limits.values limits.selections
 
 abbrev pub short_operation_at : Limits → Reader Definition
 short_operation_at limits = mapped_at query_of (own_set_at limits)
-
-abbrev pub operation_type_at : Reader (Token × OperationType)
-operation_type_at =
-    choose_at (keyword "query") (mapped_at (kind_of Query) (one_at (keyword "query")))
-    (choose_at (keyword "mutation") (mapped_at (kind_of Mutation) (one_at (keyword "mutation")))
-    (mapped_at (kind_of Subscription) (one_at (keyword "subscription"))))
 
 abbrev pub full_operation_at : Limits → Reader Definition
 full_operation_at limits =

@@ -6,13 +6,15 @@ use Rattle.graphql_syntax.specs.trees.Request.{Name, placed}
 use Rattle.graphql_syntax.specs.trees.Request as request
 use Rattle.graphql_syntax.specs.trees.RequestViews.{operation_tree, fragment_tree, entry_tree}
 use Rattle.graphql_grammar.specs.declared.error.Error.{Error}
-use Rattle.graphql_grammar.specs.declared.error.Error.TheVariants.{MultipleOperations, OperationDuplicated, FragmentDuplicated, OutOfMemory}
 use Rattle.graphql_requests.specs.declared.rules.Sorted.{Sorted}
 use Rattle.graphql_requests.specs.grammar.Documents.{named_operations, fragments}
 use Rattle.graphql_requests.specs.grammar.Request.{Definition, operation, fragment}
 use Rattle.graphql_requests.specs.declared.definitions.Definition.{Definition as CodeDefinition}
 use Rattle.graphql_requests.specs.reading.Definitions.{definition_tree}
-use Rattle.graphql_requests.specs.grammar.Rules.{Breach, multiple_operations, operation_duplicated, fragment_duplicated, breach_behind, or_else, first_operation, AreUnbroken}
+use Rattle.graphql_requests.specs.grammar.Requests.{requests}
+use Rattle.graphql_requests.specs.grammar.Rules.{breach_of, or_else, first_operation}
+use Rattle.graphql_grammar.specs.answers.Answers.{AreUnbroken}
+use Rattle.graphql_grammar.specs.reading.DocumentOf.{TellsOf}
 
 abbrev pub definition_trees : List CodeDefinition → List Definition
 definition_trees ds = map definition_tree ds
@@ -31,22 +33,14 @@ first_place (e ∷ es) = Some e.1.pos
 
 -- these definitions break no rule, and are sorted by what they are
 pub record IsSorted (ds : List Definition) (s : Sorted) : Type 0 where
-  pub unbroken : AreUnbroken ds
+  pub unbroken : AreUnbroken requests ds
   pub first : first_operation ds ≡ or_else (option_map (λ o. o.pos) (anonymous_in ds)) (first_place (named_operations ds))
   pub alone : is_some (anonymous_in ds) ≡ true → named_operations ds ≡ []
   pub anonymous : option_map (placed operation_tree) s.anonymous ≡ anonymous_in ds
   pub operations : map (entry_tree operation_tree) s.operations.entries ≡ named_operations ds
   pub fragments : map (entry_tree fragment_tree) s.fragments.entries ≡ fragments ds
 
--- the error of a breach, or of want of memory
-abbrev pub TellsOf : Option Breach → Error → Type 0
-TellsOf breach (MultipleOperations anonymous other) = breach ≡ Some (multiple_operations anonymous other)
-TellsOf breach (OperationDuplicated name first second) = breach ≡ Some (operation_duplicated name first second)
-TellsOf breach (FragmentDuplicated name first second) = breach ≡ Some (fragment_duplicated name first second)
-TellsOf breach OutOfMemory = Unit {0}
-TellsOf breach other = ⊥
-
 -- with one definition more they are sorted still, or it breaks a rule
 abbrev pub IsAdded : List Definition → Definition → Result Unit Error → Sorted → Type 0
 IsAdded ds d (Ok done) new = IsSorted (ds ++ d ∷ []) new
-IsAdded ds d (Err error) new = TellsOf (breach_behind ds d) error
+IsAdded ds d (Err error) new = TellsOf (breach_of ds d) error

@@ -1,7 +1,7 @@
 use Rattle.std.proofs.Common.{option_map, sym, refl, ap, ◌∙◌}
 use Rattle.graphql_syntax.specs.trees.Request.{placed}
 use Rattle.graphql_syntax.specs.trees.RequestViews.{fragment_tree}
-use Rattle.graphql_requests.specs.grammar.Rules.{fragment_duplicated}
+use Rattle.graphql_grammar.specs.declared.error.Error.TheVariants.{FragmentDuplicated}
 use Rattle.graphql_requests.proofs.Rules.{insert-last, none-inside}
 use Rattle.graphql_requests.proofs.Sorted.{sorted-fragment, fragment-breach}
 use Rattle.graphql_requests.proofs.rules.Sorted.add_fragment.Goals as goal
@@ -9,7 +9,7 @@ use Rattle.graphql_requests.proofs.rules.Sorted.add_fragment.Goals as goal
 pub returns-in-Some : goal.returns-in-Some
 returns-in-Some c ds h =
     fragment-breach ds c.args.self.now c.args.name (placed fragment_tree c.args.fragment) h
-    ∙ ap (option_map (λ first. fragment_duplicated c.args.name first c.args.fragment.pos)) (sym c.fragment_named.ensures ∙ c.in-Some.is)
+    ∙ ap (option_map (λ first. FragmentDuplicated c.args.name first c.args.fragment.pos)) (sym c.fragment_named.ensures ∙ c.in-Some.is)
 
 pub returns-in-Ok : goal.returns-in-Ok
 returns-in-Ok c ds h =

@@ -1,7 +1,7 @@
 use Rattle.std.proofs.Common.{option_map, sym, refl, ap, ◌∙◌}
 use Rattle.graphql_syntax.specs.trees.Request.{placed}
 use Rattle.graphql_syntax.specs.trees.RequestViews.{operation_tree}
-use Rattle.graphql_requests.specs.grammar.Rules.{operation_duplicated}
+use Rattle.graphql_grammar.specs.declared.error.Error.TheVariants.{OperationDuplicated}
 use Rattle.graphql_requests.proofs.Rules.{insert-last, none-inside}
 use Rattle.graphql_requests.proofs.Sorted.{sorted-operation, operation-breaks, named-breach}
 use Rattle.graphql_requests.proofs.rules.Sorted.add_operation.Goals as goal
@@ -12,7 +12,7 @@ returns-in-Some c ds h = operation-breaks ds c.args.self.now c.args.name (placed
 pub returns-in-Some-operation_named : goal.returns-in-Some-operation_named
 returns-in-Some-operation_named c ds h =
     named-breach ds c.args.self.now c.args.name (placed operation_tree c.args.operation) h c.in_default.is
-    ∙ ap (option_map (λ first. operation_duplicated c.args.name first c.args.operation.pos)) (sym c.operation_named.ensures ∙ c.in-Some-operation_named.is)
+    ∙ ap (option_map (λ first. OperationDuplicated c.args.name first c.args.operation.pos)) (sym c.operation_named.ensures ∙ c.in-Some-operation_named.is)
 
 pub returns-in-Ok : goal.returns-in-Ok
 returns-in-Ok c ds h =
