@@ -4,7 +4,8 @@ use Rattle.graphql_tokens.specs.tokens.Edition.{Current}
 use Rattle.graphql_tokens.specs.tokens.Token.{Token}
 use Rattle.graphql_syntax.specs.trees.Request.{Argument, Directive, Directives}
 use Rattle.graphql_syntax.specs.trees.Request as trees
-use Rattle.graphql_grammar.specs.grammar.Arguments.{an_argument, arguments, given, a_directive, directives, a_default}
+use Rattle.graphql_grammar.specs.grammar.Arguments.{an_argument, arguments, a_directive, directives, a_default}
+use Rattle.graphql_reading.specs.grammar.Relations.{given}
 use Rattle.graphql_reading.specs.grammar.Fronts.{without_place}
 use Rattle.graphql_reading.specs.grammar.Limits.{Limits}
 use Rattle.graphql_grammar.specs.grammar.Placeless.{unplaced, bare_node, placeless_argument, placeless_directive, placeless_directives}

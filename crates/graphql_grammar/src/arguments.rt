@@ -1,23 +1,26 @@
 //! Readers of arguments, directives and default values, by GraphQL October 2021, sections 2.6, 2.10 and 2.12.
 ghost use Rattle.std.specs.Prelude.{true, false, option_map};
+ghost use Rattle.graphql_tokens.specs.declared.pos.Positioned.{Positioned};
 ghost use Rattle.graphql_syntax.specs.trees.Request as request;
 ghost use Rattle.graphql_syntax.specs.trees.RequestViews.{directive_tree, const_directive_tree};
+ghost use Rattle.graphql_syntax.specs.trees.ValueTree.{Tree};
 ghost use Rattle.graphql_syntax.specs.trees.ValueViews.{const_tree};
-ghost use Rattle.graphql_grammar.specs.grammar.Arguments.{given};
-ghost use Rattle.graphql_reading.specs.grammar.Tests.{any_name};
-ghost use Rattle.graphql_grammar.specs.reading.ArgumentViews.{trees_in, in_argument, in_directive};
-ghost use Rattle.graphql_grammar.specs.reading.Arguments.{argument_at, arguments_at, maybe_arguments_at, directive_at, directives_at, maybe_default_at};
-ghost use Rattle.graphql_reading.specs.reading.Given.{Gives};
-ghost use Rattle.graphql_reading.specs.reading.Outcome.{mapped_at, plus_at};
+ghost use Rattle.graphql_grammar.specs.reading.ArgumentViews.{in_argument, in_directive};
+ghost use Rattle.graphql_grammar.specs.reading.Arguments.{argument_at, arguments_at, maybe_arguments_at, directive_at, directives_at, default_at, maybe_default_at};
+ghost use Rattle.graphql_reading.specs.grammar.Relations.{given};
+ghost use Rattle.graphql_reading.specs.grammar.Tests.{any_name, punct};
+ghost use Rattle.graphql_reading.specs.reading.Given.{Gives, trees_in};
+ghost use Rattle.graphql_reading.specs.reading.Outcome.{mapped_at};
 
-use graphql_reading::cursor::{Cursor, Reading};
-use graphql_reading::list::push;
 use crate::value::read_value;
+use graphql_reading::cursor::{Cursor, Reading};
 use graphql_reading::names::name_in;
+use graphql_reading::production::{Production, any_number, bracketed, optional};
 use graphql_syntax::pos::{Pos, Positioned};
 use graphql_syntax::types::{ConstDirective, Directive};
 use graphql_syntax::value::{ConstValue, Literal, Name, Value};
 use std::alloc::Global;
+use std::marker::PhantomData;
 
 type Arguments<V> = Vec<(Positioned<Name>, Positioned<V>)>;
 
@@ -28,40 +31,43 @@ struct Applied<V> {
     arguments: Arguments<V>,
 }
 
-fn read_argument<V: Literal>(
-    alloc: Global,
-    cursor: &mut Cursor,
-    values: usize,
-) -> Reading<(Positioned<Name>, Positioned<V>)>
-    ensures { Gives (in_argument V.tree) result cursor.old cursor.new (argument_at V.VARIABLES values) }
-{
-    let token = cursor.expect_name()?;
-    let name = name_in(alloc, token)?;
-    cursor.expect_punct(":")?;
-    let value = read_value(alloc, cursor, values)?;
-    Ok((name, value))
-}
+/// `Name ':' Value`, with values of the type `V`.
+struct ArgumentPhrase<V>(PhantomData<V>);
 
-// Arguments are large, and mostly there is one: the list starts with room for that.
-fn read_argument_list<V: Literal>(
-    alloc: Global,
-    cursor: &mut Cursor,
-    values: usize,
-) -> Reading<Arguments<V>>
-    ensures { Gives (trees_in (in_argument V.tree)) result cursor.old cursor.new (plus_at any_name (argument_at V.VARIABLES values)) }
-{
-    let mut arguments = Vec::with_capacity(alloc, 1)?;
-    loop {
-        let argument = read_argument(alloc, cursor, values)?;
-        push(&mut arguments, argument)?;
-        if !cursor.is_at_name() {
-            return Ok(arguments);
-        }
+impl<V: Literal> Production for ArgumentPhrase<V> {
+    type Node = (Positioned<Name>, Positioned<V>);
+
+    type Budget = usize;
+
+    ghost Tree = { request.Argument };
+
+    ghost tree = { in_argument V.tree };
+
+    ghost first = { any_name };
+
+    ghost reader = { argument_at V.VARIABLES };
+
+    #[inline(always)]
+    fn is_next(cursor: &Cursor) -> bool {
+        cursor.is_at_name()
+    }
+
+    fn read(
+        alloc: Global,
+        cursor: &mut Cursor,
+        values: usize,
+    ) -> Reading<(Positioned<Name>, Positioned<V>)> {
+        let token = cursor.expect_name()?;
+        let name = name_in(alloc, token)?;
+        cursor.expect_punct(":")?;
+        let value = read_value(alloc, cursor, values)?;
+        Ok((name, value))
     }
 }
 
-/// Reads arguments with their brackets, in source order (GraphQL October 2021, section 2.6). Lists and objects
-/// in them nest at most `values` deep.
+/// Reads arguments with their brackets, in source order. Lists and objects in them nest at most `values` deep.
+///
+/// `Arguments : '(' (Name ':' Value)+ ')'` (GraphQL October 2021, section 2.6)
 #[inline(never)]
 pub fn read_arguments<V: Literal>(
     alloc: Global,
@@ -70,13 +76,12 @@ pub fn read_arguments<V: Literal>(
 ) -> Reading<Arguments<V>>
     ensures { Gives (trees_in (in_argument V.tree)) result cursor.old cursor.new (arguments_at V.VARIABLES values) }
 {
-    cursor.expect_punct("(")?;
-    let arguments = read_argument_list(alloc, cursor, values)?;
-    cursor.expect_punct(")")?;
-    Ok(arguments)
+    bracketed::<ArgumentPhrase<V>>(alloc, cursor, "(", ")", values)
 }
 
 /// Reads arguments with their brackets, where a `(` is in hand; else there are none.
+///
+/// `Arguments?`
 #[tactic(auto, unfolding(graphql_reading::specs::reading::Outcome::opt_at))]
 #[inline(always)]
 pub fn read_maybe_arguments<V: Literal>(
@@ -110,24 +115,42 @@ fn read_applied<V: Literal>(
     })
 }
 
-#[inline(never)]
-fn read_directive(
-    alloc: Global,
-    cursor: &mut Cursor,
-    values: usize,
-) -> Reading<Positioned<Directive>>
-    ensures { Gives (request.placed directive_tree) result cursor.old cursor.new (directive_at true values) }
-{
-    let Applied {
-        pos,
-        name,
-        arguments,
-    } = read_applied::<Value>(alloc, cursor, values)?;
-    Ok(Positioned::new(Directive { name, arguments }, pos))
+/// `'@' Name Arguments?`, with variables in the values.
+struct DirectivePhrase;
+
+impl Production for DirectivePhrase {
+    type Node = Positioned<Directive>;
+
+    type Budget = usize;
+
+    ghost Tree = { Positioned request.Directive };
+
+    ghost tree = { request.placed directive_tree };
+
+    ghost first = { punct "@" };
+
+    ghost reader = { directive_at true };
+
+    #[inline(always)]
+    fn is_next(cursor: &Cursor) -> bool {
+        cursor.is_at_punct("@")
+    }
+
+    #[inline(never)]
+    fn read(alloc: Global, cursor: &mut Cursor, values: usize) -> Reading<Positioned<Directive>> {
+        let Applied {
+            pos,
+            name,
+            arguments,
+        } = read_applied::<Value>(alloc, cursor, values)?;
+        Ok(Positioned::new(Directive { name, arguments }, pos))
+    }
 }
 
-/// Reads directives, as long as an `@` is in hand, in source order (GraphQL October 2021, section 2.12). Lists and
-/// objects in their arguments nest at most `values` deep.
+/// Reads directives, as long as an `@` is in hand, in source order. Lists and objects in their arguments nest at most
+/// `values` deep.
+///
+/// `Directives? : ('@' Name Arguments?)*` (GraphQL October 2021, section 2.12)
 #[inline(always)]
 pub fn read_directives(
     alloc: Global,
@@ -136,32 +159,42 @@ pub fn read_directives(
 ) -> Reading<Vec<Positioned<Directive>>>
     ensures { Gives (trees_in (request.placed directive_tree)) result cursor.old cursor.new (directives_at true values) }
 {
-    if !cursor.is_at_punct("@") {
-        return Ok(Vec::new(alloc));
-    }
-    let mut directives = Vec::with_capacity(alloc, 1)?;
-    loop {
-        let directive = read_directive(alloc, cursor, values)?;
-        push(&mut directives, directive)?;
-        if !cursor.is_at_punct("@") {
-            return Ok(directives);
-        }
-    }
+    any_number::<DirectivePhrase>(alloc, cursor, values)
 }
 
-fn read_const_directive(
-    alloc: Global,
-    cursor: &mut Cursor,
-    values: usize,
-) -> Reading<Positioned<ConstDirective>>
-    ensures { Gives (request.placed const_directive_tree) result cursor.old cursor.new (directive_at false values) }
-{
-    let Applied {
-        pos,
-        name,
-        arguments,
-    } = read_applied::<ConstValue>(alloc, cursor, values)?;
-    Ok(Positioned::new(ConstDirective { name, arguments }, pos))
+/// `'@' Name Arguments?`, without variables.
+struct ConstDirectivePhrase;
+
+impl Production for ConstDirectivePhrase {
+    type Node = Positioned<ConstDirective>;
+
+    type Budget = usize;
+
+    ghost Tree = { Positioned request.Directive };
+
+    ghost tree = { request.placed const_directive_tree };
+
+    ghost first = { punct "@" };
+
+    ghost reader = { directive_at false };
+
+    #[inline(always)]
+    fn is_next(cursor: &Cursor) -> bool {
+        cursor.is_at_punct("@")
+    }
+
+    fn read(
+        alloc: Global,
+        cursor: &mut Cursor,
+        values: usize,
+    ) -> Reading<Positioned<ConstDirective>> {
+        let Applied {
+            pos,
+            name,
+            arguments,
+        } = read_applied::<ConstValue>(alloc, cursor, values)?;
+        Ok(Positioned::new(ConstDirective { name, arguments }, pos))
+    }
 }
 
 /// As [`read_directives`], without variables.
@@ -172,21 +205,40 @@ pub fn read_const_directives(
 ) -> Reading<Vec<Positioned<ConstDirective>>>
     ensures { Gives (trees_in (request.placed const_directive_tree)) result cursor.old cursor.new (directives_at false values) }
 {
-    if !cursor.is_at_punct("@") {
-        return Ok(Vec::new(alloc));
+    any_number::<ConstDirectivePhrase>(alloc, cursor, values)
+}
+
+/// `'=' ConstValue`.
+struct DefaultPhrase;
+
+impl Production for DefaultPhrase {
+    type Node = Positioned<ConstValue>;
+
+    type Budget = usize;
+
+    ghost Tree = { Positioned Tree };
+
+    ghost tree = { request.placed const_tree };
+
+    ghost first = { punct "=" };
+
+    ghost reader = { default_at };
+
+    #[inline(always)]
+    fn is_next(cursor: &Cursor) -> bool {
+        cursor.is_at_punct("=")
     }
-    let mut directives = Vec::with_capacity(alloc, 1)?;
-    loop {
-        let directive = read_const_directive(alloc, cursor, values)?;
-        push(&mut directives, directive)?;
-        if !cursor.is_at_punct("@") {
-            return Ok(directives);
-        }
+
+    #[inline(always)]
+    fn read(alloc: Global, cursor: &mut Cursor, values: usize) -> Reading<Positioned<ConstValue>> {
+        cursor.expect_punct("=")?;
+        read_value(alloc, cursor, values)
     }
 }
 
-/// Reads a default value behind its `=` (GraphQL October 2021, section 2.10), where a `=` is in hand.
-#[tactic(auto, unfolding(graphql_reading::specs::reading::Outcome::opt_at))]
+/// Reads a default value after its `=`, where a `=` is in hand. Its lists and objects nest at most `values` deep.
+///
+/// `Default? : ('=' ConstValue)?` (GraphQL October 2021, section 2.10)
 pub fn read_maybe_default(
     alloc: Global,
     cursor: &mut Cursor,
@@ -194,10 +246,5 @@ pub fn read_maybe_default(
 ) -> Reading<Option<Positioned<ConstValue>>>
     ensures { Gives (option_map (request.placed const_tree)) result cursor.old cursor.new (maybe_default_at values) }
 {
-    if !cursor.is_at_punct("=") {
-        return Ok(None);
-    }
-    cursor.advance();
-    let value = read_value(alloc, cursor, values)?;
-    Ok(Some(value))
+    optional::<DefaultPhrase>(alloc, cursor, values)
 }

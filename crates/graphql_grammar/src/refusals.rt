@@ -9,7 +9,7 @@ use std::alloc::Global;
 
 #[cold]
 #[inline(never)]
-fn syntax_error(alloc: Global, start: Pos) -> Error
+pub fn syntax_error(alloc: Global, start: Pos) -> Error
     ensures { IsErrorOf Syntax start result }
 {
     match format!(in alloc; "syntax error at {start}") {

@@ -4,22 +4,17 @@
 //! Proved of `parse_query`, `parse_query_limited` and `parse_query_from`, unless memory runs out: where the
 //! text's tokens have a tree within the limits, it is the only one, and it is given, or else the first rule
 //! that it breaks is told. Where they have none, the answer is `RecursionLimitExceeded` or `Syntax`, at the
-//! first token with which no request goes on, and which of the two it is depends on whether a deeper one
-//! does. The texts and the places of each `Error` are what `specs/errors` writes down.
+//! first token whose front no request completes, and which of the two it is depends on whether a deeper one
+//! does. The texts and the places of each `Error` are written definitions too.
 //!
-//! A user names this crate alone: the modules of `graphql_syntax` are given out again. What a reader of the
-//! contracts has to believe stands in `specs/grammar` and `specs/errors`, and below them in `specs/grammar` of
-//! `graphql_grammar`, which has what requests and schema files share; `specs/reading` is inner.
+//! A user names this crate alone: what stands here is given out from the crates below it. What a reader of the
+//! contracts has to believe is given out by `specs/Lib.antt`.
 #![tactic(auto)]
 
-mod error;
-mod limits;
-mod parse;
-mod positions;
-
-pub use error::{Error, Result};
-pub use graphql_syntax::pos::{Pos, Positioned};
-pub use graphql_syntax::{lexer, pos, text, types, value};
-pub use limits::Limits;
-pub use parse::{parse_query, parse_query_from, parse_query_limited};
-pub use positions::ErrorPositions;
+pub use graphql_grammar::error::{Error, Result};
+pub use graphql_grammar::positions::ErrorPositions;
+pub use graphql_reading::limits::Limits;
+pub use graphql_requests::{parse_query, parse_query_from, parse_query_limited};
+pub use graphql_syntax::{types, value};
+pub use graphql_tokens::pos::{Pos, Positioned};
+pub use graphql_tokens::{lexer, pos, text};

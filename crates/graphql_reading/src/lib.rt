@@ -15,3 +15,4 @@ pub mod cursor;
 pub mod limits;
 pub mod list;
 pub mod names;
+pub mod production;

@@ -51,19 +51,22 @@ impl Limits {
         })
     }
 
-    pub(crate) fn selections(self) -> usize
+    /// How deep selection sets may nest.
+    pub fn selections(self) -> usize
         ensures { result ≡ self.selections }
     {
         self.selections
     }
 
-    pub(crate) fn values(self) -> usize
+    /// How deep the lists and objects of one value may nest.
+    pub fn values(self) -> usize
         ensures { result ≡ self.values }
     {
         self.values
     }
 
-    pub(crate) fn types(self) -> usize
+    /// How deep the lists of one type reference may nest.
+    pub fn types(self) -> usize
         ensures { result ≡ self.types }
     {
         self.types

@@ -8,8 +8,8 @@ ghost use Rattle.graphql_reading.specs.reading.Outcome.{one_at, mapped_at};
 
 use crate::cursor::{Cursor, Reading};
 use graphql_tokens::lexer::Token;
-use graphql_tokens::pos::Positioned;
 use graphql_tokens::name::Name;
+use graphql_tokens::pos::Positioned;
 use std::alloc::{AllocError, Global};
 
 /// The name that a token spells, at its place. Fails only where memory was refused.

@@ -1,4 +1,4 @@
-pub mod Rules
+pub mod OneMore
 pub mod Sorted
 pub mod VariableProductions
 pub mod SelectionTrees

@@ -23,7 +23,7 @@ use Rattle.graphql_requests.specs.declared.definitions.Definition.{Definition as
 use Rattle.graphql_requests.specs.reading.Definitions.{definition_tree}
 use Rattle.graphql_requests.specs.reading.Sorting.{definition_trees, anonymous_in, first_place, IsSorted}
 use Rattle.graphql_grammar.proofs.Unbroken.{unbroken-none, unbroken-more}
-use Rattle.graphql_requests.proofs.Rules.{first-more, anonymous-more, named-more, fragments-more, anonymous-place, operation-place, fragment-place, lookup-place, map-last, first-place-map, first-place-more, none-inside, beside-anonymous, beside-named}
+use Rattle.graphql_requests.proofs.OneMore.{first-more, anonymous-more, named-more, fragments-more, anonymous-place, operation-place, fragment-place, lookup-place, map-last, first-place-map, first-place-more, none-inside, beside-anonymous, beside-named}
 
 -- ---- what is found among them
 

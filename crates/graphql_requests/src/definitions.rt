@@ -3,8 +3,9 @@ ghost use Rattle.std.specs.Prelude.{◌≡◌, true};
 ghost use Rattle.graphql_tokens.specs.tokens.Seen.{seen};
 ghost use Rattle.graphql_syntax.specs.trees.Request as request;
 ghost use Rattle.graphql_syntax.specs.trees.RequestViews.{directive_tree, variable_definition_tree, selection_set_tree};
+ghost use Rattle.graphql_requests.specs.grammar.Request.{Definition as SpecDefinition};
 ghost use Rattle.graphql_requests.specs.grammar.Selections.{fragment_name};
-ghost use Rattle.graphql_grammar.specs.reading.ArgumentViews.{trees_in};
+ghost use Rattle.graphql_reading.specs.reading.Given.{trees_in};
 ghost use Rattle.graphql_grammar.specs.reading.Arguments.{directives_at};
 ghost use Rattle.graphql_requests.specs.reading.Definitions.{definition_tree, in_definitions, maybe_name_at, given_variables_at, worded_at};
 ghost use Rattle.graphql_reading.specs.reading.Given.{Gives, GivesWhole};
@@ -12,12 +13,12 @@ ghost use Rattle.graphql_reading.specs.reading.Outcome.{one_at};
 ghost use Rattle.graphql_requests.specs.reading.Request.{own_set_at, short_operation_at, fragment_at, definition_first, definition_at, definitions_at, request_at};
 
 use crate::selections::{is_at_fragment_name, read_selection_set, read_type_condition};
-use graphql_reading::limits::Limits;
+use crate::variables::read_maybe_variable_definitions;
 use graphql_grammar::arguments::read_directives;
 use graphql_grammar::operations::read_operation_type;
 use graphql_reading::cursor::{Cursor, Reading, Refusal};
-use graphql_reading::list::push;
-use crate::variables::read_maybe_variable_definitions;
+use graphql_reading::limits::Limits;
+use graphql_reading::production::{Production, one_or_more};
 use graphql_syntax::lexer::Token;
 use graphql_syntax::pos::Positioned;
 use graphql_syntax::types::{
@@ -87,6 +88,8 @@ fn read_own_variables(
 }
 
 /// The short form of a query: its set alone.
+///
+/// `Operation : SelectionSet` (GraphQL October 2021, section 2.3)
 fn read_short_operation(alloc: Global, cursor: &mut Cursor, limits: Limits) -> Reading<Definition>
     ensures { Gives definition_tree result cursor.old cursor.new (short_operation_at limits) }
 {
@@ -113,6 +116,8 @@ fn read_maybe_name(alloc: Global, cursor: &mut Cursor) -> Reading<Option<Name>>
 }
 
 /// An operation that begins with its keyword.
+///
+/// `Operation : OperationType Name? VariableDefinitions? Directives? SelectionSet` (GraphQL October 2021, section 2.3)
 fn read_operation(alloc: Global, cursor: &mut Cursor, limits: Limits) -> Reading<Definition>
     ensures { Gives definition_tree result cursor.old cursor.new (worded_at limits) }
 {
@@ -130,6 +135,7 @@ fn read_operation(alloc: Global, cursor: &mut Cursor, limits: Limits) -> Reading
     Ok(Definition::Operation(name, Positioned::new(operation, word.pos)))
 }
 
+/// `Fragment : 'fragment' FragmentName TypeCondition Directives? SelectionSet` (GraphQL October 2021, section 2.8)
 fn read_fragment(alloc: Global, cursor: &mut Cursor, limits: Limits) -> Reading<Definition>
     ensures { Gives definition_tree result cursor.old cursor.new (fragment_at limits) }
 {
@@ -147,6 +153,7 @@ fn read_fragment(alloc: Global, cursor: &mut Cursor, limits: Limits) -> Reading<
     Ok(Definition::Fragment(name, Positioned::new(fragment, word.pos)))
 }
 
+/// `Definition : Operation | Fragment`
 fn read_definition(alloc: Global, cursor: &mut Cursor, limits: Limits) -> Reading<Definition>
     ensures { Gives definition_tree result cursor.old cursor.new (definition_at limits) }
 {
@@ -159,25 +166,39 @@ fn read_definition(alloc: Global, cursor: &mut Cursor, limits: Limits) -> Readin
     }
 }
 
-fn read_definitions(alloc: Global, cursor: &mut Cursor, limits: Limits) -> Reading<Vec<Definition>>
-    ensures { Gives in_definitions result cursor.old cursor.new (definitions_at limits) }
-{
-    let mut definitions = Vec::with_capacity(alloc, 4)?;
-    loop {
-        let definition = read_definition(alloc, cursor, limits)?;
-        push(&mut definitions, definition)?;
-        if !is_at_definition(cursor) {
-            return Ok(definitions);
-        }
+impl Production for Definition {
+    type Node = Definition;
+
+    type Budget = Limits;
+
+    ghost Tree = { SpecDefinition };
+
+    ghost tree = { definition_tree };
+
+    ghost first = { definition_first };
+
+    ghost reader = { definition_at };
+
+    fn is_next(cursor: &Cursor) -> bool {
+        is_at_definition(cursor)
+    }
+
+    fn read(alloc: Global, cursor: &mut Cursor, limits: Limits) -> Reading<Definition> {
+        read_definition(alloc, cursor, limits)
     }
 }
 
+/// `Definition+`
+fn read_definitions(alloc: Global, cursor: &mut Cursor, limits: Limits) -> Reading<Vec<Definition>>
+    ensures { Gives in_definitions result cursor.old cursor.new (definitions_at limits) }
+{
+    one_or_more::<Definition>(alloc, cursor, limits)
+}
+
 /// The definitions of a request. The end of the text stays in hand.
-pub fn read_request(
-    alloc: Global,
-    cursor: &mut Cursor,
-    limits: Limits,
-) -> Reading<Vec<Definition>>
+///
+/// `Document : Definition+ End` (GraphQL October 2021, section 2.2)
+pub fn read_request(alloc: Global, cursor: &mut Cursor, limits: Limits) -> Reading<Vec<Definition>>
     ensures { GivesWhole in_definitions result cursor.old cursor.new (request_at limits) }
 {
     let definitions = read_definitions(alloc, cursor, limits)?;

@@ -1,32 +1,56 @@
-//! The parsers of requests.
+//! Requests: their grammar, their readers, the rules that their definitions keep, and the calls that read them
+//! (GraphQL October 2021, section 2, and of section 5 what its documents need).
+//!
+//! Proved of `parse_query`, `parse_query_limited` and `parse_query_from`, unless memory runs out: where the text's
+//! tokens have a tree within the limits, it is the only one, and it is given, or else the first rule that it breaks
+//! is told. Where they have none, the answer is `RecursionLimitExceeded` or `Syntax`, at the first token whose front
+//! no request completes; which of the two it is depends on whether a deeper request does.
+//!
+//! Users name `graphql_parser`, which gives these calls out. What a reader of the contracts has to believe stands in
+//! `specs/grammar`, and below it in the public specs of `graphql_grammar` and `graphql_reading`; `specs/reading` is
+//! inner.
+#![tactic(auto)]
+
 ghost use Rattle.std.specs.Prelude.{◌≡◌, ◌≢◌, ◌+◌, ℕ, List, []};
 ghost use Rattle.std.specs.Str.{chars};
 ghost use Rattle.graphql_tokens.specs.tokens.Cuts.{Cuts, HasNoFault};
-ghost use Rattle.graphql_tokens.specs.tokens.Edition.{Former};
+ghost use Rattle.graphql_tokens.specs.tokens.Edition.{Former, Current};
 ghost use Rattle.graphql_tokens.specs.tokens.Proper.{IsCutInto};
 ghost use Rattle.graphql_tokens.specs.tokens.Token.{Token as SpecToken, left};
-ghost use Rattle.graphql_requests.specs.grammar.Answers.{Answers, TakenFor};
+ghost use Rattle.graphql_grammar.specs.answers.Answers.{Answers, AreTheDefinitions, HasOneTree, IsDecided, TakenFor};
+ghost use Rattle.graphql_grammar.specs.answers.Language.{grammar};
 ghost use Rattle.graphql_reading.specs.grammar.Limits.{default_limits};
+ghost use Rattle.graphql_requests.specs.grammar.Request.{Definition as SpecDefinition};
+ghost use Rattle.graphql_requests.specs.grammar.Requests.{requests};
 
-use graphql_grammar::refusals::error_of;
-use crate::definitions::read_request;
-use crate::rules::document_of;
+mod definitions;
+mod rules;
+mod selections;
+mod variables;
+
+use definitions::read_request;
 use graphql_grammar::error::Result;
-use graphql_reading::limits::Limits;
+use graphql_grammar::refusals::error_of;
 use graphql_reading::cursor::Cursor;
-use graphql_syntax::lexer::Tokens;
+use graphql_reading::limits::Limits;
 use graphql_syntax::types::ExecutableDocument;
+use graphql_tokens::lexer::Tokens;
+use rules::document_of;
 use std::alloc::Global;
 use std::mem;
 
+// The definitions are read whole before the first rule is looked at.
 fn read_document(
     alloc: Global,
     tokens: &mut Tokens<'_>,
     limits: Limits,
 ) -> Result<ExecutableDocument>
     requires { left tokens.old ≢ [] }
-    ensures answer { Answers limits (left tokens.old) result }
-    ensures taken { (count : ℕ) × (tokens.new.taken ≡ tokens.old.taken + count) × TakenFor limits (left tokens.old) result count }
+    ensures answer { Answers requests limits (left tokens.old) result }
+    ensures only { (ds : List SpecDefinition) → grammar requests Current limits (left tokens.old) ds → AreTheDefinitions requests limits (left tokens.old) ds }
+    ensures one_tree { HasOneTree requests (left tokens.old) }
+    ensures decided { IsDecided requests limits (left tokens.old) }
+    ensures taken { (count : ℕ) × (tokens.new.taken ≡ tokens.old.taken + count) × TakenFor requests limits (left tokens.old) result count }
     ensures whole { tokens.new.whole ≡ tokens.old.whole }
 {
     let mut cursor = Cursor::new(mem::replace(tokens, Tokens::new("")));
@@ -52,17 +76,25 @@ fn read_document(
 ///   `FragmentDuplicated` for a name given twice; and `MissingOperation` for fragments alone;
 /// - `OutOfMemory` where memory was refused.
 pub fn parse_query(alloc: Global, text: &str) -> Result<ExecutableDocument>
-    ensures answer { (tokens : List SpecToken) → IsCutInto text.now tokens → Answers default_limits tokens result }
+    ensures answer { (tokens : List SpecToken) → IsCutInto text.now tokens → Answers requests default_limits tokens result }
+    // A text that has a tree by the former grammar has the same tree now.
+    ensures former { (tokens : List SpecToken) (ds : List SpecDefinition) → Cuts Former [] (chars text.now) tokens → grammar requests Former default_limits tokens ds → IsCutInto text.now tokens × AreTheDefinitions requests default_limits tokens ds }
     // The tokens of a text that the former edition cuts without a fault are those of now.
-    ensures former { (tokens : List SpecToken) → HasNoFault tokens → Cuts Former [] (chars text.now) tokens → Answers default_limits tokens result }
+    ensures former_tokens { (tokens : List SpecToken) → HasNoFault tokens → Cuts Former [] (chars text.now) tokens → Answers requests default_limits tokens result }
+    // These two hold of each text, also where memory runs out.
+    ensures one_tree { (tokens : List SpecToken) → IsCutInto text.now tokens → HasOneTree requests tokens }
+    ensures decided { (tokens : List SpecToken) → IsCutInto text.now tokens → IsDecided requests default_limits tokens }
 {
     parse_query_limited(alloc, text, Limits::default())
 }
 
 /// As [`parse_query`], with limits that the caller chooses (this project's own call).
 pub fn parse_query_limited(alloc: Global, text: &str, limits: Limits) -> Result<ExecutableDocument>
-    ensures answer { (tokens : List SpecToken) → IsCutInto text.now tokens → Answers limits tokens result }
-    ensures former { (tokens : List SpecToken) → HasNoFault tokens → Cuts Former [] (chars text.now) tokens → Answers limits tokens result }
+    ensures answer { (tokens : List SpecToken) → IsCutInto text.now tokens → Answers requests limits tokens result }
+    ensures former { (tokens : List SpecToken) (ds : List SpecDefinition) → Cuts Former [] (chars text.now) tokens → grammar requests Former limits tokens ds → IsCutInto text.now tokens × AreTheDefinitions requests limits tokens ds }
+    ensures former_tokens { (tokens : List SpecToken) → HasNoFault tokens → Cuts Former [] (chars text.now) tokens → Answers requests limits tokens result }
+    ensures one_tree { (tokens : List SpecToken) → IsCutInto text.now tokens → HasOneTree requests tokens }
+    ensures decided { (tokens : List SpecToken) → IsCutInto text.now tokens → IsDecided requests limits tokens }
 {
     let mut tokens = Tokens::new(text);
     read_document(alloc, &mut tokens, limits)
@@ -76,8 +108,10 @@ pub fn parse_query_limited(alloc: Global, text: &str, limits: Limits) -> Result<
 /// left. What `tokens` then gives is the rest of the same list.
 pub fn parse_query_from(alloc: Global, tokens: &mut Tokens<'_>) -> Result<ExecutableDocument>
     requires { left tokens.old ≢ [] }
-    ensures answer { Answers default_limits (left tokens.old) result }
-    ensures taken { (count : ℕ) × (tokens.new.taken ≡ tokens.old.taken + count) × TakenFor default_limits (left tokens.old) result count }
+    ensures answer { Answers requests default_limits (left tokens.old) result }
+    ensures one_tree { HasOneTree requests (left tokens.old) }
+    ensures decided { IsDecided requests default_limits (left tokens.old) }
+    ensures taken { (count : ℕ) × (tokens.new.taken ≡ tokens.old.taken + count) × TakenFor requests default_limits (left tokens.old) result count }
     ensures whole { tokens.new.whole ≡ tokens.old.whole }
 {
     read_document(alloc, tokens, Limits::default())

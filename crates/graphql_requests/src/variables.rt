@@ -1,26 +1,28 @@
 //! Readers of variable definitions, by GraphQL October 2021, section 2.10.
 ghost use Rattle.std.specs.Prelude.{option_map};
+ghost use Rattle.graphql_tokens.specs.declared.pos.Positioned.{Positioned};
 ghost use Rattle.graphql_syntax.specs.trees.Request as request;
 ghost use Rattle.graphql_syntax.specs.trees.RequestViews.{directive_tree, variable_definition_tree};
 ghost use Rattle.graphql_syntax.specs.trees.ValueViews.{const_tree};
-ghost use Rattle.graphql_grammar.specs.grammar.Arguments.{given};
+ghost use Rattle.graphql_reading.specs.grammar.Relations.{given};
 ghost use Rattle.graphql_reading.specs.grammar.Tests.{punct};
-ghost use Rattle.graphql_grammar.specs.reading.ArgumentViews.{trees_in};
+ghost use Rattle.graphql_reading.specs.reading.Given.{Gives, trees_in};
+ghost use Rattle.graphql_reading.specs.reading.Outcome.{mapped_at, opt_at};
 ghost use Rattle.graphql_requests.specs.reading.Variables.{default_and_directives_at, variable_definition_at, variable_definitions_at};
-ghost use Rattle.graphql_reading.specs.reading.Given.{Gives};
-ghost use Rattle.graphql_reading.specs.reading.Outcome.{mapped_at, opt_at, plus_at};
 
 use graphql_grammar::arguments::{read_directives, read_maybe_default};
-use graphql_reading::cursor::{Cursor, Reading};
-use graphql_reading::list::push;
 use graphql_grammar::types::read_type;
+use graphql_reading::cursor::{Cursor, Reading};
 use graphql_reading::names::name_in;
+use graphql_reading::production::{Production, maybe_bracketed};
 use graphql_syntax::pos::Positioned;
 use graphql_syntax::types::{Directive, VariableDefinition};
 use graphql_syntax::value::ConstValue;
 use std::alloc::Global;
 
-// A default value and directives, in either order.
+/// A default value and directives, in either order.
+///
+/// `Default? Directives? | Directives Default`
 fn read_default_and_directives(
     alloc: Global,
     cursor: &mut Cursor,
@@ -38,66 +40,65 @@ fn read_default_and_directives(
     Ok((default_value, directives))
 }
 
-fn read_variable_definition(
-    alloc: Global,
-    cursor: &mut Cursor,
-    values: usize,
-    types: usize,
-) -> Reading<Positioned<VariableDefinition>>
-    ensures { Gives (request.placed variable_definition_tree) result cursor.old cursor.new (variable_definition_at values types) }
-{
-    let dollar = cursor.expect_punct("$")?;
-    let token = cursor.expect_name()?;
-    let name = name_in(alloc, token)?;
-    cursor.expect_punct(":")?;
-    let var_type = read_type(alloc, cursor, types)?;
-    let (default_value, directives) = read_default_and_directives(alloc, cursor, values)?;
-    let definition = VariableDefinition {
-        name,
-        var_type,
-        directives,
-        default_value,
-    };
-    Ok(Positioned::new(definition, dollar.pos))
+/// How deep the lists and objects of a value may nest, and the lists of a type.
+#[derive(Clone, Copy)]
+pub struct Depths {
+    /// Levels of lists and objects in a value.
+    pub values: usize,
+    /// Levels of lists in a type.
+    pub types: usize,
 }
 
-// Definitions are large, and often there is one: the list starts with room for that.
-fn read_variable_definition_list(
-    alloc: Global,
-    cursor: &mut Cursor,
-    values: usize,
-    types: usize,
-) -> Reading<Vec<Positioned<VariableDefinition>>>
-    ensures { Gives (trees_in (request.placed variable_definition_tree)) result cursor.old cursor.new (plus_at (punct "$") (variable_definition_at values types)) }
-{
-    let mut definitions = Vec::with_capacity(alloc, 1)?;
-    loop {
-        let definition = read_variable_definition(alloc, cursor, values, types)?;
-        push(&mut definitions, definition)?;
-        if !cursor.is_at_punct("$") {
-            return Ok(definitions);
-        }
+/// `'$' Name ':' Type (Default? Directives? | Directives Default)`.
+struct VariablePhrase;
+
+impl Production for VariablePhrase {
+    type Node = Positioned<VariableDefinition>;
+
+    type Budget = Depths;
+
+    ghost Tree = { Positioned request.VariableDefinition };
+
+    ghost tree = { request.placed variable_definition_tree };
+
+    ghost first = { punct "$" };
+
+    ghost reader = { λ depths. variable_definition_at depths.values depths.types };
+
+    #[inline(always)]
+    fn is_next(cursor: &Cursor) -> bool {
+        cursor.is_at_punct("$")
+    }
+
+    fn read(
+        alloc: Global,
+        cursor: &mut Cursor,
+        depths: Depths,
+    ) -> Reading<Positioned<VariableDefinition>> {
+        let dollar = cursor.expect_punct("$")?;
+        let token = cursor.expect_name()?;
+        let name = name_in(alloc, token)?;
+        cursor.expect_punct(":")?;
+        let var_type = read_type(alloc, cursor, depths.types)?;
+        let (default_value, directives) = read_default_and_directives(
+            alloc,
+            cursor,
+            depths.values,
+        )?;
+        let definition = VariableDefinition {
+            name,
+            var_type,
+            directives,
+            default_value,
+        };
+        Ok(Positioned::new(definition, dollar.pos))
     }
 }
 
-/// Reads variable definitions with their brackets (GraphQL October 2021, section 2.10). Lists and objects in
-/// them nest at most `values` deep, and lists in their types `types`.
-pub fn read_variable_definitions(
-    alloc: Global,
-    cursor: &mut Cursor,
-    values: usize,
-    types: usize,
-) -> Reading<Vec<Positioned<VariableDefinition>>>
-    ensures { Gives (trees_in (request.placed variable_definition_tree)) result cursor.old cursor.new (variable_definitions_at values types) }
-{
-    cursor.expect_punct("(")?;
-    let definitions = read_variable_definition_list(alloc, cursor, values, types)?;
-    cursor.expect_punct(")")?;
-    Ok(definitions)
-}
-
-/// Reads variable definitions with their brackets, where a `(` is in hand; else there are none.
-#[tactic(auto, unfolding(graphql_reading::specs::reading::Outcome::opt_at))]
+/// Reads variable definitions with their brackets, where a `(` is in hand; else there are none. Lists and objects in
+/// their values nest at most `values` deep, and lists in their types `types`.
+///
+/// `VariableDefinitions? : ('(' VariableDefinition+ ')')?` (GraphQL October 2021, section 2.10)
 pub fn read_maybe_variable_definitions(
     alloc: Global,
     cursor: &mut Cursor,
@@ -106,8 +107,5 @@ pub fn read_maybe_variable_definitions(
 ) -> Reading<Vec<Positioned<VariableDefinition>>>
     ensures { Gives (trees_in (request.placed variable_definition_tree)) result cursor.old cursor.new (mapped_at given (opt_at (punct "(") (variable_definitions_at values types))) }
 {
-    if !cursor.is_at_punct("(") {
-        return Ok(Vec::new(alloc));
-    }
-    read_variable_definitions(alloc, cursor, values, types)
+    maybe_bracketed::<VariablePhrase>(alloc, cursor, "(", ")", Depths { values, types })
 }

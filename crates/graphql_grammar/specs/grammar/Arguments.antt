@@ -1,5 +1,5 @@
 -- Arguments, directives and default values, and their places (GraphQL October 2021, sections 2.6, 2.10 and 2.12).
-use Rattle.std.specs.Prelude.{ℕ, Bool, false, Option, Some, None, List, []}
+use Rattle.std.specs.Prelude.{ℕ, Bool, false, Option}
 use Rattle.graphql_tokens.specs.declared.pos.Positioned.{Positioned}
 use Rattle.graphql_tokens.specs.tokens.Edition.{Edition}
 use Rattle.graphql_tokens.specs.tokens.Token.{Token}
@@ -7,7 +7,7 @@ use Rattle.graphql_syntax.specs.trees.Request.{Name, Argument, Directive, Direct
 use Rattle.graphql_syntax.specs.trees.Request as trees
 use Rattle.graphql_grammar.specs.grammar.Values.{Value, value}
 use Rattle.graphql_reading.specs.grammar.Places.{at, name_of}
-use Rattle.graphql_reading.specs.grammar.Relations.{Rel, one, ◌⨾◌, mapped, star, plus, opt, between, after}
+use Rattle.graphql_reading.specs.grammar.Relations.{Rel, one, ◌⨾◌, mapped, star, plus, opt, given, between, after}
 use Rattle.graphql_reading.specs.grammar.Tests.{punct, any_name}
 
 -- ---- arguments: each value has the whole budget
@@ -22,11 +22,6 @@ an_argument edition vars values = mapped argument_of (one any_name ⨾ one (punc
 -- Arguments : '(' (Name ':' Value)+ ')'
 abbrev pub arguments : Edition → Bool → ℕ → Rel trees.Arguments
 arguments edition vars values = between (punct "(") (plus (an_argument edition vars values)) (punct ")")
-
--- a list that isn't there is empty
-abbrev pub given : {A : Type 0} → Option (List A) → List A
-given None = []
-given (Some xs) = xs
 
 -- ---- directives
 

@@ -1,15 +1,10 @@
 -- What the parts of arguments and directives in the code stand for, whatever their values are.
-use Rattle.std.specs.Prelude.{List, map, Vec}
-use Rattle.std.specs.declared.alloc.Global.{Global}
+use Rattle.std.specs.Prelude.{map}
 use Rattle.graphql_tokens.specs.declared.pos.Positioned.{Positioned}
 use Rattle.graphql_syntax.specs.trees.Request as request
 use Rattle.graphql_syntax.specs.trees.Request.{Name, placed}
 use Rattle.graphql_syntax.specs.trees.ValueTree.{Tree}
 use Rattle.graphql_grammar.specs.declared.arguments.Applied.{Applied}
-
--- the trees of a list
-abbrev pub trees_in : {X Y : Type 0} → (X → Y) → Vec X Global → List Y
-trees_in view list = map view list.items
 
 -- a name and its value, where each value stands for a tree
 abbrev pub in_argument : {V : Type 0} → (V → Tree) → Positioned Name × Positioned V → request.Argument

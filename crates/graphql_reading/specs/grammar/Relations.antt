@@ -64,6 +64,11 @@ abbrev pub opt : {A : Type 0} → Rel A → Rel (Option A)
 opt p used None = used ≡ []
 opt p used (Some x) = p used x
 
+-- a list that isn't there is empty
+abbrev pub given : {A : Type 0} → Option (List A) → List A
+given None = []
+given (Some xs) = xs
+
 -- any number of phrases of p
 abbrev pub star : {A : Type 0} → Rel A → Rel (List A)
 star p used [] = used ≡ []

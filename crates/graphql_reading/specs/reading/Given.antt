@@ -1,5 +1,6 @@
 -- What a reader of the code gives, by what the reader of lists gives.
-use Rattle.std.specs.Prelude.{◌≡◌, ◌≤◌, Result, Ok, Err}
+use Rattle.std.specs.Prelude.{◌≡◌, ◌≤◌, Result, Ok, Err, List, map, Vec}
+use Rattle.std.specs.declared.alloc.Global.{Global}
 use Rattle.graphql_reading.specs.grammar.Fronts.{syntax, limit}
 use Rattle.graphql_reading.specs.reading.Ahead.{Ahead, tokens}
 use Rattle.graphql_reading.specs.reading.Outcome.{Reader, Read, Refused}
@@ -31,3 +32,7 @@ Gives view result old new r = Told view result old new r × GoesOn old new
 
 abbrev pub GivesWhole : {X Y : Type 0} → (X → Y) → Result X Refusal → Ahead → Ahead → Reader Y → Type 0
 GivesWhole view result old new r = ToldWhole view result old new r × GoesOn old new
+
+-- the trees of a list
+abbrev pub trees_in : {X Y : Type 0} → (X → Y) → Vec X Global → List Y
+trees_in view list = map view list.items

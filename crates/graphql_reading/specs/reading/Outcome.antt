@@ -1,5 +1,5 @@
 -- Reading a list of tokens from left to right, with one token in sight.
-use Rattle.std.specs.Prelude.{ℕ, zero, suc, Bool, true, false, cond, Option, Some, None, List, [], ◌∷◌, ◌++◌, length}
+use Rattle.std.specs.Prelude.{ℕ, zero, suc, Bool, true, false, cond, Option, Some, None, ◌<◌, ◌≡◌, List, [], ◌∷◌, ◌++◌, length}
 use Rattle.graphql_tokens.specs.tokens.Token.{Bare, Token}
 use Rattle.graphql_reading.specs.grammar.Tests.{Test, the_end}
 use Rattle.graphql_reading.specs.grammar.Relations.{cons, between_of, after_of}
@@ -12,6 +12,10 @@ pub data Outcome (A : Type 0) : Type 0 where
 
 abbrev pub Reader : Type 0 → Type 0
 Reader A = List Token → Outcome A
+
+-- a phrase takes a token at least
+abbrev pub Takes : {A : Type 0} → Reader A → Type 0
+Takes {A} r = (ts : List Token) (a : A) (rest : List Token) → r ts ≡ Read a rest → length rest < length ts
 
 infixl 10 ◌>>=◌
 abbrev pub ◌>>=◌ : {A B : Type 0} → Outcome A → (A → List Token → Outcome B) → Outcome B

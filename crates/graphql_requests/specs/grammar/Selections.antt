@@ -5,7 +5,8 @@ use Rattle.graphql_tokens.specs.declared.pos.Positioned.{Positioned}
 use Rattle.graphql_tokens.specs.tokens.Edition.{Edition}
 use Rattle.graphql_tokens.specs.tokens.Token.{Token}
 use Rattle.graphql_syntax.specs.trees.Request.{Name, Arguments, Directives, TypeCondition, Selection, field, fragment_spread, inline_fragment, SelectionSet, no_selections, set_of}
-use Rattle.graphql_grammar.specs.grammar.Arguments.{given, arguments, directives}
+use Rattle.graphql_grammar.specs.grammar.Arguments.{arguments, directives}
+use Rattle.graphql_reading.specs.grammar.Relations.{given}
 use Rattle.graphql_reading.specs.grammar.Places.{at, name_of, nowhere}
 use Rattle.graphql_reading.specs.grammar.Relations.{Rel, one, never, ◌⨾◌, ◌∪◌, mapped, plus, opt}
 use Rattle.graphql_reading.specs.grammar.Tests.{Test, punct, keyword, any_name, name_but}

@@ -8,7 +8,7 @@ use Rattle.graphql_syntax.specs.trees.Request.{Name, Directives, VariableDefinit
 use Rattle.graphql_syntax.specs.trees.RequestViews.{operation_tree, fragment_tree}
 use Rattle.graphql_requests.specs.declared.definitions.Definition as code
 use Rattle.graphql_requests.specs.declared.definitions.Definition.TheVariants.{Operation, Fragment}
-use Rattle.graphql_grammar.specs.grammar.Arguments.{given}
+use Rattle.graphql_reading.specs.grammar.Relations.{given}
 use Rattle.graphql_reading.specs.grammar.Limits.{Limits}
 use Rattle.graphql_reading.specs.grammar.Places.{at}
 use Rattle.graphql_requests.specs.grammar.Request.{Definition, operation, fragment}

@@ -4,7 +4,7 @@ use Rattle.graphql_tokens.specs.declared.pos.Pos.{Pos}
 use Rattle.graphql_tokens.specs.declared.pos.Positioned.{Positioned}
 use Rattle.graphql_tokens.specs.tokens.Token.{Token}
 use Rattle.graphql_syntax.specs.trees.Request.{placed, Name, Arguments, Directives, TypeCondition, Selection, field, fragment_spread, inline_fragment, no_selections, set_of}
-use Rattle.graphql_grammar.specs.grammar.Arguments.{given}
+use Rattle.graphql_reading.specs.grammar.Relations.{given}
 use Rattle.graphql_reading.specs.grammar.Fronts.{syntax}
 use Rattle.graphql_reading.specs.grammar.Places.{name_of, nowhere}
 use Rattle.graphql_requests.specs.grammar.Selections.{Set, fragment_name}

@@ -150,10 +150,7 @@ fn read_spread(
 }
 
 /// `on` and the name of a type.
-pub fn read_type_condition(
-    alloc: Global,
-    cursor: &mut Cursor,
-) -> Reading<Positioned<TypeCondition>>
+pub fn read_type_condition(alloc: Global, cursor: &mut Cursor) -> Reading<Positioned<TypeCondition>>
     ensures { Gives (request.placed type_condition_tree) result cursor.old cursor.new type_condition_at }
 {
     let word = cursor.expect_keyword("on")?;

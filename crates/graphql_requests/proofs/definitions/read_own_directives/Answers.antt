@@ -1,7 +1,7 @@
 use Rattle.std.proofs.Common.{ℕ, true, subst}
 use Rattle.graphql_syntax.specs.trees.Request.{placed}
 use Rattle.graphql_syntax.specs.trees.RequestViews.{directive_tree}
-use Rattle.graphql_grammar.specs.reading.ArgumentViews.{trees_in}
+use Rattle.graphql_reading.specs.reading.Given.{trees_in}
 use Rattle.graphql_grammar.specs.reading.Arguments.{directives_at}
 use Rattle.graphql_reading.specs.reading.Given.{Gives}
 use Rattle.graphql_requests.proofs.definitions.read_own_directives.Goals as goal

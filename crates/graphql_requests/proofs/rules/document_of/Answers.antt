@@ -2,7 +2,7 @@ use Rattle.std.proofs.Common.{[], ◌∷◌, ap, sym, ◌∙◌, ◌++◌, subst
 use Rattle.std.proofs.lemmas.Result.{err_from_is_err_and}
 use Rattle.graphql_requests.specs.reading.Definitions.{definition_tree}
 use Rattle.graphql_requests.specs.reading.Sorting.{definition_trees, IsSorted}
-use Rattle.graphql_requests.proofs.Rules.{map-last}
+use Rattle.graphql_requests.proofs.OneMore.{map-last}
 use Rattle.graphql_requests.specs.grammar.Requests.{requests}
 use Rattle.graphql_grammar.proofs.Languages.{breaks}
 use Rattle.graphql_requests.proofs.Sorted.{trees-split}

@@ -2,7 +2,7 @@ use Rattle.std.proofs.Common.{option_map, sym, refl, ap, ◌∙◌}
 use Rattle.graphql_syntax.specs.trees.Request.{placed}
 use Rattle.graphql_syntax.specs.trees.RequestViews.{fragment_tree}
 use Rattle.graphql_grammar.specs.declared.error.Error.TheVariants.{FragmentDuplicated}
-use Rattle.graphql_requests.proofs.Rules.{insert-last, none-inside}
+use Rattle.graphql_requests.proofs.OneMore.{insert-last, none-inside}
 use Rattle.graphql_requests.proofs.Sorted.{sorted-fragment, fragment-breach}
 use Rattle.graphql_requests.proofs.rules.Sorted.add_fragment.Goals as goal
 

@@ -1,0 +1,132 @@
+//! Readers of what the grammar repeats, makes optional or puts in brackets, the same for every production.
+//!
+//! The caller of a reader that repeats owes that each phrase takes a token at least: the loop ends by that.
+ghost use Rattle.std.specs.Prelude.{◌≡◌, option_map};
+ghost use Rattle.graphql_reading.specs.grammar.Relations.{given};
+ghost use Rattle.graphql_reading.specs.grammar.Tests.{Test};
+ghost use Rattle.graphql_reading.specs.reading.Given.{Gives, trees_in};
+ghost use Rattle.graphql_reading.specs.reading.Outcome.{Reader, Takes, mapped_at, many_at, plus_at, opt_at, between_at};
+ghost use Rattle.graphql_reading.specs.reading.Spelled.{punct_of};
+
+use crate::cursor::{Cursor, Reading};
+use crate::list::push;
+use std::alloc::Global;
+
+/// A production of the grammar: the tokens that its phrases begin with, and how one of them is read.
+/// The type that implements it only names the production; there needn't be a value of it.
+pub trait Production {
+    /// What is made of a phrase.
+    type Node: Drop;
+
+    /// How deep a phrase may nest.
+    type Budget: Copy;
+
+    // The tree that a node stands for.
+    ghost Tree: { Type 0 };
+
+    ghost tree: { Self.Node → Self.Tree };
+
+    // What a phrase begins with.
+    ghost first: { Test };
+
+    // How a phrase is read from a list of tokens.
+    ghost reader: { Self.Budget → Reader Self.Tree };
+
+    /// Whether the token in hand begins a phrase.
+    fn is_next(cursor: &Cursor) -> bool
+        ensures { result ≡ Self.first cursor.now.hand.bare };
+
+    /// Reads a phrase.
+    fn read(alloc: Global, cursor: &mut Cursor, budget: Self::Budget) -> Reading<Self::Node>
+        ensures { Gives Self.tree result cursor.old cursor.new (Self.reader budget) };
+}
+
+/// Reads one phrase or more: another as long as the token in hand begins one.
+// Nodes are large, and mostly there is one: the list starts with room for that.
+#[inline(always)]
+pub fn one_or_more<P: Production>(
+    alloc: Global,
+    cursor: &mut Cursor,
+    budget: P::Budget,
+) -> Reading<Vec<P::Node>>
+    requires { Takes (P.reader budget) }
+    ensures { Gives (trees_in P.tree) result cursor.old cursor.new (plus_at P.first (P.reader budget)) }
+{
+    let mut nodes = Vec::with_capacity(alloc, 1)?;
+    loop {
+        let node = P::read(alloc, cursor, budget)?;
+        push(&mut nodes, node)?;
+        if !P::is_next(cursor) {
+            return Ok(nodes);
+        }
+    }
+}
+
+/// Reads any number of phrases: another as long as the token in hand begins one.
+#[inline(always)]
+pub fn any_number<P: Production>(
+    alloc: Global,
+    cursor: &mut Cursor,
+    budget: P::Budget,
+) -> Reading<Vec<P::Node>>
+    requires { Takes (P.reader budget) }
+    ensures { Gives (trees_in P.tree) result cursor.old cursor.new (many_at P.first (P.reader budget)) }
+{
+    if !P::is_next(cursor) {
+        return Ok(Vec::new(alloc));
+    }
+    one_or_more::<P>(alloc, cursor, budget)
+}
+
+/// Reads a phrase where the token in hand begins one; else there is none.
+#[tactic(auto, unfolding(crate::specs::reading::Outcome::opt_at))]
+#[inline(always)]
+pub fn optional<P: Production>(
+    alloc: Global,
+    cursor: &mut Cursor,
+    budget: P::Budget,
+) -> Reading<Option<P::Node>>
+    ensures { Gives (option_map P.tree) result cursor.old cursor.new (opt_at P.first (P.reader budget)) }
+{
+    if !P::is_next(cursor) {
+        return Ok(None);
+    }
+    Ok(Some(P::read(alloc, cursor, budget)?))
+}
+
+/// Reads one phrase or more between two brackets.
+#[inline(always)]
+pub fn bracketed<P: Production>(
+    alloc: Global,
+    cursor: &mut Cursor,
+    opening: &str,
+    closing: &str,
+    budget: P::Budget,
+) -> Reading<Vec<P::Node>>
+    requires { Takes (P.reader budget) }
+    ensures { Gives (trees_in P.tree) result cursor.old cursor.new (between_at (punct_of opening.now) (plus_at P.first (P.reader budget)) (punct_of closing.now)) }
+{
+    cursor.expect_punct(opening)?;
+    let nodes = one_or_more::<P>(alloc, cursor, budget)?;
+    cursor.expect_punct(closing)?;
+    Ok(nodes)
+}
+
+/// Reads one phrase or more between two brackets, where the first bracket is in hand; else there are none.
+#[tactic(auto, unfolding(crate::specs::reading::Outcome::opt_at))]
+#[inline(always)]
+pub fn maybe_bracketed<P: Production>(
+    alloc: Global,
+    cursor: &mut Cursor,
+    opening: &str,
+    closing: &str,
+    budget: P::Budget,
+) -> Reading<Vec<P::Node>>
+    requires { Takes (P.reader budget) }
+    ensures { Gives (trees_in P.tree) result cursor.old cursor.new (mapped_at given (opt_at (punct_of opening.now) (between_at (punct_of opening.now) (plus_at P.first (P.reader budget)) (punct_of closing.now)))) }
+{
+    if !cursor.is_at_punct(opening) {
+        return Ok(Vec::new(alloc));
+    }
+    bracketed::<P>(alloc, cursor, opening, closing, budget)
+}

@@ -1,0 +1,21 @@
+use Rattle.std.proofs.Common.{◌≡◌, List, sym, subst}
+use Rattle.std.specs.Str.{chars}
+use Rattle.graphql_tokens.specs.tokens.Token.{Token, left}
+use Rattle.graphql_tokens.proofs.Editions.{former-cuts}
+use Rattle.graphql_grammar.specs.answers.Answers.{AreTheDefinitions}
+use Rattle.graphql_grammar.specs.answers.Language.{grammar}
+use Rattle.graphql_tokens.specs.tokens.Edition.{Current}
+use Rattle.graphql_grammar.proofs.Languages.{EndsWell, ends-well, former-tree}
+use Rattle.graphql_requests.specs.grammar.Request.{definitions}
+use Rattle.graphql_requests.specs.grammar.Requests.{requests}
+use Rattle.graphql_requests.specs.reading.Request.{definitions_at}
+use Rattle.graphql_requests.proofs.RequestProductions.{requests-are-read}
+use Rattle.graphql_requests.proofs.parse_query_limited.Goals as goal
+
+pub returns-clause-former : goal.returns-clause-former
+returns-clause-former c ts ds cuts h =
+    let now : grammar requests Current c.args.limits ts ds = former-tree requests definitions_at requests-are-read c.args.limits ts ds h in
+    let end : EndsWell ts = ends-well (definitions Current) c.args.limits ts ds now in
+    let cut = former-cuts c.args.text.now ts cuts end.front end.last end.joined end.is_end in
+    let same : ts ≡ left c.new.result = c.new.ensures.only ts cut in
+    (cut, subst (λ us. AreTheDefinitions requests c.args.limits us ds) (sym same) (c.read_document.ensures.only ds (subst (λ us. grammar requests Current c.args.limits us ds) same now)))
