@@ -10,10 +10,10 @@ mod fill;
 mod frames;
 mod simple;
 
-use graphql_reading::cursor::{Cursor, Reading};
 use fields::merge;
 use fill::{enter, fill_list, fill_object};
 use frames::{Frame, Frames, Open};
+use graphql_reading::cursor::{Cursor, Reading};
 use graphql_syntax::pos::Positioned;
 use graphql_syntax::value::Literal;
 use simple::read_simple;
