@@ -17,5 +17,5 @@ returns-clause-former c ts ds cuts h =
     let now : grammar requests Current c.args.limits ts ds = former-tree requests definitions_at requests-are-read c.args.limits ts ds h in
     let end : EndsWell ts = ends-well (definitions Current) c.args.limits ts ds now in
     let cut = former-cuts c.args.text.now ts cuts end.front end.last end.joined end.is_end in
-    let same : ts ≡ left c.new.result = c.new.ensures.only ts cut in
+    let same : ts ≡ left c.new-tokens.result = c.new-tokens.ensures.only ts cut in
     (cut, subst (λ us. AreTheDefinitions requests c.args.limits us ds) (sym same) (c.read_document.ensures.only ds (subst (λ us. grammar requests Current c.args.limits us ds) same now)))

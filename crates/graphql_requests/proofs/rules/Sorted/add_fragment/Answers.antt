@@ -15,3 +15,9 @@ pub returns-in-Ok : goal.returns-in-Ok
 returns-in-Ok c ds h =
     let none = none-inside (λ f. f.pos) _ (sym c.fragment_named.ensures ∙ c.in_default.is) in
     sorted-fragment ds c.args.self.now _ c.args.name c.args.fragment h none refl refl (c.in-Ok.ensures.entries ∙ insert-last c.args.name c.args.fragment _ none)
+
+-- memory runs out only where no rule is broken
+pub returns : goal.returns
+returns c ds h =
+    fragment-breach ds c.args.self.now c.args.name (placed fragment_tree c.args.fragment) h
+    ∙ ap (option_map (λ first. FragmentDuplicated c.args.name first c.args.fragment.pos)) (sym c.fragment_named.ensures ∙ c.in_default.is)

@@ -18,3 +18,9 @@ pub returns-in-Ok : goal.returns-in-Ok
 returns-in-Ok c ds h =
     let none = none-inside (λ o. o.pos) _ (sym c.operation_named.ensures ∙ c.in_default-operation_named.is) in
     sorted-operation ds c.args.self.now _ c.args.name c.args.operation h c.in_default.is none refl (c.in-Ok.ensures.entries ∙ insert-last c.args.name c.args.operation _ none) refl
+
+-- memory runs out only where no rule is broken
+pub returns : goal.returns
+returns c ds h =
+    named-breach ds c.args.self.now c.args.name (placed operation_tree c.args.operation) h c.in_default.is
+    ∙ ap (option_map (λ first. OperationDuplicated c.args.name first c.args.operation.pos)) (sym c.operation_named.ensures ∙ c.in_default-operation_named.is)
