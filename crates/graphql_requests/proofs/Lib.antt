@@ -11,3 +11,4 @@ pub mod HeadTakes
 pub mod OpenSets
 pub mod OpenParts
 pub mod Operations
+pub mod Laws

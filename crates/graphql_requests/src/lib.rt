@@ -11,7 +11,7 @@
 //! inner.
 #![tactic(auto)]
 
-ghost use Rattle.std.specs.Prelude.{◌≡◌, ◌≢◌, ◌+◌, ℕ, List, []};
+ghost use Rattle.std.specs.Prelude.{◌≡◌, ◌≢◌, ◌+◌, ℕ, List, [], IfOk};
 ghost use Rattle.std.specs.Str.{chars};
 ghost use Rattle.graphql_tokens.specs.tokens.Cuts.{Cuts, HasNoFault};
 ghost use Rattle.graphql_tokens.specs.tokens.Edition.{Former, Current};
@@ -20,6 +20,8 @@ ghost use Rattle.graphql_tokens.specs.tokens.Token.{Token as SpecToken, left};
 ghost use Rattle.graphql_grammar.specs.answers.Answers.{Answers, AreTheDefinitions, HasOneTree, IsDecided, TakenFor};
 ghost use Rattle.graphql_grammar.specs.answers.Language.{grammar};
 ghost use Rattle.graphql_reading.specs.grammar.Limits.{default_limits};
+ghost use Rattle.graphql_syntax.specs.trees.RequestViews.{document_tree};
+ghost use Rattle.graphql_requests.specs.grammar.Laws.{IsLawful};
 ghost use Rattle.graphql_requests.specs.grammar.Request.{Definition as SpecDefinition};
 ghost use Rattle.graphql_requests.specs.grammar.Requests.{requests};
 
@@ -50,6 +52,7 @@ fn read_document(
     ensures only { (ds : List SpecDefinition) → grammar requests Current limits (left tokens.old) ds → AreTheDefinitions requests limits (left tokens.old) ds }
     ensures one_tree { HasOneTree requests (left tokens.old) }
     ensures decided { IsDecided requests limits (left tokens.old) }
+    ensures lawful { IfOk result (λ document. IsLawful (document_tree document)) }
     ensures taken { (count : ℕ) × (tokens.new.taken ≡ tokens.old.taken + count) × TakenFor requests limits (left tokens.old) result count }
     ensures whole { tokens.new.whole ≡ tokens.old.whole }
 {
@@ -84,6 +87,8 @@ pub fn parse_query(alloc: Global, text: &str) -> Result<ExecutableDocument>
     // These two hold of each text, also where memory runs out.
     ensures one_tree { (tokens : List SpecToken) → IsCutInto text.now tokens → HasOneTree requests tokens }
     ensures decided { (tokens : List SpecToken) → IsCutInto text.now tokens → IsDecided requests default_limits tokens }
+    // Operations have distinct names, or there is one without a name; and fragments have distinct names.
+    ensures lawful { IfOk result (λ document. IsLawful (document_tree document)) }
 {
     parse_query_limited(alloc, text, Limits::default())
 }
@@ -95,6 +100,7 @@ pub fn parse_query_limited(alloc: Global, text: &str, limits: Limits) -> Result<
     ensures former_tokens { (tokens : List SpecToken) → HasNoFault tokens → Cuts Former [] (chars text.now) tokens → Answers requests limits tokens result }
     ensures one_tree { (tokens : List SpecToken) → IsCutInto text.now tokens → HasOneTree requests tokens }
     ensures decided { (tokens : List SpecToken) → IsCutInto text.now tokens → IsDecided requests limits tokens }
+    ensures lawful { IfOk result (λ document. IsLawful (document_tree document)) }
 {
     let mut tokens = Tokens::new(text);
     read_document(alloc, &mut tokens, limits)
@@ -111,6 +117,7 @@ pub fn parse_query_from(alloc: Global, tokens: &mut Tokens<'_>) -> Result<Execut
     ensures answer { Answers requests default_limits (left tokens.old) result }
     ensures one_tree { HasOneTree requests (left tokens.old) }
     ensures decided { IsDecided requests default_limits (left tokens.old) }
+    ensures lawful { IfOk result (λ document. IsLawful (document_tree document)) }
     ensures taken { (count : ℕ) × (tokens.new.taken ≡ tokens.old.taken + count) × TakenFor requests default_limits (left tokens.old) result count }
     ensures whole { tokens.new.whole ≡ tokens.old.whole }
 {

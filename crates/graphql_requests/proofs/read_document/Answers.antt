@@ -1,11 +1,14 @@
-use Rattle.std.proofs.Common.{◌≡◌, ℕ, ◌≤◌, ◌+◌, ◌-◌, List, [], length, drop, ap, sym, ◌∙◌, subst, arith}
+use Rattle.std.proofs.Common.{IfOk, ◌≡◌, ℕ, ◌≤◌, ◌+◌, ◌-◌, List, [], length, drop, ap, sym, ◌∙◌, subst, arith}
 use Rattle.graphql_tokens.specs.tokens.Cuts.{EndsOnce}
 use Rattle.graphql_tokens.specs.tokens.Proper.{AreProperButFaults}
 use Rattle.graphql_tokens.specs.tokens.Token.{Token, left}
 use Rattle.graphql_grammar.specs.answers.Answers.{Answers, TakenFor, HasOneTree, IsDecided, AreTheDefinitions}
 use Rattle.graphql_grammar.specs.answers.Language.{grammar}
 use Rattle.graphql_tokens.specs.tokens.Edition.{Current}
+use Rattle.graphql_syntax.specs.trees.RequestViews.{document_tree}
+use Rattle.graphql_requests.specs.grammar.Laws.{IsLawful}
 use Rattle.graphql_requests.specs.grammar.Requests.{requests}
+use Rattle.graphql_requests.proofs.Laws.{lawful-answer}
 use Rattle.graphql_requests.specs.reading.Request.{definitions_at}
 use Rattle.graphql_reading.specs.reading.Ahead.{tokens}
 use Rattle.graphql_reading.specs.reading.Given.{GoesOn}
@@ -91,3 +94,10 @@ pub returns-clause-only : goal.returns-clause-only
 returns-clause-only c ds h =
     subst (λ ts. AreTheDefinitions requests c.args.limits ts ds) (ahead-is c)
     (the-tree requests definitions_at requests-are-read c.args.limits (tokens c.new-cursor.result) ds (ends c) (proper c) (subst (λ ts. grammar requests Current c.args.limits ts ds) (sym (ahead-is c)) h))
+
+pub returns-clause-lawful : goal.returns-clause-lawful
+returns-clause-lawful c =
+    elim c.match-read_request.branch [
+      | in-Ok w ↦ subst (λ answer. IfOk answer (λ document. IsLawful (document_tree document))) (sym w.answer-is) (lawful-answer (in_definitions w.in-Ok.definitions) _ w.document_of-answer.ensures)
+      | in-Err w ↦ subst (λ answer. IfOk answer (λ document. IsLawful (document_tree document))) (sym w.answer-is) tt
+    ]
