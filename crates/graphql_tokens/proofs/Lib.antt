@@ -10,6 +10,7 @@ pub mod BlockValue
 pub mod BlockWritten
 pub mod Chars
 pub mod Contents
+pub mod Editions
 pub mod EscapeUnits
 pub mod Escapes
 pub mod FirstBytes

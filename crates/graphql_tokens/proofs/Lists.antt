@@ -175,14 +175,14 @@ one_ends : (t : Token) (ts : List Token) → is_last t.bare.kind ≡ true → ts
 one_ends t [] l e = l
 one_ends t (u ∷ us) l e = absurd (cc)
 
-ends_step : (here after : List ℕ) (t : Token) (ts : List Token) → ((f r : List ℕ) → Cuts Current f r ts → EndsOnce ts) → Behind Current here after t ts → EndsOnce (t ∷ ts)
-ends_step here after t ts ih (inl b) = cons_ends t ts (ap (λ x. is_last x.bare.kind) b.5 ∙ begins_goes_on Current b.0 b.1 b.2 b.4) (ih (here ++ b.1) b.2 b.6)
-ends_step here after t ts ih (inr (inl b)) = one_ends t ts (ap (λ x. is_last x.bare.kind) b.1) b.2
-ends_step here after t ts ih (inr (inr b)) = one_ends t ts (ap (λ x. is_last x.bare.kind) b.2) b.3
+ends_step : (edition : Edition) (here after : List ℕ) (t : Token) (ts : List Token) → ((f r : List ℕ) → Cuts edition f r ts → EndsOnce ts) → Behind edition here after t ts → EndsOnce (t ∷ ts)
+ends_step edition here after t ts ih (inl b) = cons_ends t ts (ap (λ x. is_last x.bare.kind) b.5 ∙ begins_goes_on edition b.0 b.1 b.2 b.4) (ih (here ++ b.1) b.2 b.6)
+ends_step edition here after t ts ih (inr (inl b)) = one_ends t ts (ap (λ x. is_last x.bare.kind) b.1) b.2
+ends_step edition here after t ts ih (inr (inr b)) = one_ends t ts (ap (λ x. is_last x.bare.kind) b.2) b.3
 
-pub cuts_ends : (front text : List ℕ) (ts : List Token) → Cuts Current front text ts → EndsOnce ts
-cuts_ends front text [] c = absurd c
-cuts_ends front text (t ∷ ts) c = ends_step (front ++ concat c.0) c.1 t ts (λ f r d. cuts_ends f r ts d) c.4
+pub cuts_ends : (edition : Edition) (front text : List ℕ) (ts : List Token) → Cuts edition front text ts → EndsOnce ts
+cuts_ends edition front text [] c = absurd c
+cuts_ends edition front text (t ∷ ts) c = ends_step edition (front ++ concat c.0) c.1 t ts (λ f r d. cuts_ends edition f r ts d) c.4
 
 -- what is left of a list that ends once ends once, where something is left
 pub ends_drop : (n : ℕ) (ts : List Token) → EndsOnce ts → drop n ts ≢ [] → EndsOnce (drop n ts)

@@ -1,5 +1,6 @@
 use Rattle.std.proofs.Common.{◌≡◌, ◌∙◌, ap, drop, [], refl, sym, subst}
 use Rattle.std.specs.Str.{chars, IsUtf8}
+use Rattle.graphql_tokens.specs.tokens.Edition.{Current}
 use Rattle.graphql_tokens.specs.tokens.Cuts.{EndsOnce}
 use Rattle.graphql_tokens.specs.tokens.Proper.{AreProperButFaults}
 use Rattle.graphql_tokens.specs.tokens.Token.{left}
@@ -20,7 +21,7 @@ returns-clause-ended c =
 pub returns-clause-ends : goal.returns-clause-ends
 returns-clause-ends c some =
     let text = chars c.self.inside.text.now in
-    let ends : EndsOnce (tokens [] text) = cuts_ends [] text (tokens [] text) (tokens_cuts [] text) in
+    let ends : EndsOnce (tokens [] text) = cuts_ends Current [] text (tokens [] text) (tokens_cuts [] text) in
     subst EndsOnce (sym (rest c)) (ends_drop c.self.inside.taken (tokens [] text) ends (λ e. some (rest c ∙ e)))
 
 pub returns-clause-proper : goal.returns-clause-proper

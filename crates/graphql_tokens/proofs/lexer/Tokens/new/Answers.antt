@@ -19,7 +19,7 @@ returns-clause-former c ts n h =
     tokens_only [] (chars c.args.text.now) ts (cuts_later [] (chars c.args.text.now) ts n h) ∙ sym (at_start c.args.text.now 0 refl)
 
 pub returns-clause-ends : goal.returns-clause-ends
-returns-clause-ends c = cuts_ends _ _ _ (tokens_cuts _ _)
+returns-clause-ends c = cuts_ends _ _ _ _ (tokens_cuts _ _)
 
 pub returns-clause-proper : goal.returns-clause-proper
 returns-clause-proper c =

@@ -2,6 +2,7 @@ use Rattle.std.proofs.Common.{◌≡◌, ◌+◌, drop, [], ◌∷◌, Bool, tru
 use Rattle.std.proofs.lemmas.List.{drop-drop}
 use Rattle.std.specs.List.{slice_range}
 use Rattle.graphql_tokens.specs.tokens.Place.{place}
+use Rattle.graphql_tokens.specs.tokens.Edition.{Current}
 use Rattle.graphql_tokens.specs.tokens.Cuts.{is_last, EndsOnce}
 use Rattle.graphql_tokens.specs.tokens.Seen.{seen}
 use Rattle.graphql_tokens.specs.tokens.Token.{left}
@@ -91,7 +92,7 @@ rest c = sym (ap left c.self.view_is) ∙ ap (drop c.self.inside.taken) (at_star
 pub returns-clause-ends : goal.returns-clause-ends
 returns-clause-ends c =
     let text = chars c.self.inside.text.now in
-    let ends : EndsOnce (tokens [] text) = cuts_ends [] text (tokens [] text) (tokens_cuts [] text) in
+    let ends : EndsOnce (tokens [] text) = cuts_ends Current [] text (tokens [] text) (tokens_cuts [] text) in
     subst EndsOnce (sym (rest c)) (ends_drop c.self.inside.taken (tokens [] text) ends (λ e. c.requires (rest c ∙ e)))
 
 pub returns-clause-proper : goal.returns-clause-proper
