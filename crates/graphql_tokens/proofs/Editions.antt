@@ -3,8 +3,7 @@ use Rattle.std.proofs.Common.{◌≡◌, ℕ, true, false, List, [], ◌∷◌, 
 use Rattle.std.specs.Str.{chars}
 use Rattle.graphql_tokens.specs.tokens.Edition.{Former}
 use Rattle.graphql_tokens.specs.tokens.Token.{Token}
-use Rattle.graphql_tokens.specs.tokens.Cuts.{is_last, Cuts, EndsOnce, HasNoFault}
-use Rattle.graphql_tokens.specs.tokens.Proper.{IsCutInto}
+use Rattle.graphql_tokens.specs.tokens.Cuts.{is_last, Cuts, IsCutInto, EndsOnce, HasNoFault}
 use Rattle.graphql_tokens.specs.declared.lexer.TokenKind.TheVariants.{Fault, End}
 use Rattle.graphql_tokens.proofs.Lists.{cuts_ends, cuts_later}
 

@@ -176,8 +176,8 @@ impl<'a> Tokens<'a> {
     ghost use Rattle.std.specs.Str.{chars};
     ghost use Rattle.graphql_tokens.specs.tokens.Token.{Token as SpecToken, left};
     ghost use Rattle.graphql_tokens.specs.tokens.Edition.{Former};
-    ghost use Rattle.graphql_tokens.specs.tokens.Cuts.{Cuts, EndsOnce, HasNoFault};
-    ghost use Rattle.graphql_tokens.specs.tokens.Proper.{IsCutInto, AreProperButFaults};
+    ghost use Rattle.graphql_tokens.specs.tokens.Cuts.{Cuts, IsCutInto, EndsOnce, HasNoFault};
+    ghost use Rattle.graphql_tokens.specs.tokens.Proper.{AreProperButFaults};
     ghost use Rattle.graphql_tokens.specs.tokens.Seen.{seen};
 
     /// The tokens of `text`. Characters between tokens that are ignored are tabs, spaces, commas, line
