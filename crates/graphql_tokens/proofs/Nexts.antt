@@ -12,7 +12,7 @@ use Rattle.graphql_tokens.specs.tokens.Blocks.{IsBlock}
 use Rattle.graphql_tokens.specs.inner.Numerals.{then_past}
 use Rattle.graphql_tokens.specs.inner.Numbers.{past_number}
 use Rattle.graphql_tokens.specs.inner.Quoted.{past_string, past_block}
-use Rattle.graphql_tokens.specs.inner.Reading.{next, past_char, past_points, past_word, found, triple, double, quoted}
+use Rattle.graphql_tokens.specs.inner.Reading.{next, past_char, past_dots, past_word, found, triple, double, quoted}
 use Rattle.graphql_tokens.specs.declared.lexer.TokenKind.{TokenKind}
 use Rattle.graphql_tokens.specs.declared.lexer.TokenKind.TheVariants.{Punct, Name, Number, String, Block, Fault, End}
 use Rattle.graphql_tokens.proofs.Options.{some_same}
@@ -63,7 +63,7 @@ punct_follows w (c ∷ cs) = refl
 punct_found : (c : ℕ) (cs : List ℕ) → is_punct c ≡ true → Found Punct (c ∷ cs) cs
 punct_found c cs p = record { word = c ∷ []; whole = refl; begins = record { spelled = inl (c, refl, p); follows = punct_follows (c ∷ []) cs } }
 
-points_found : (c : ℕ) (cs rest : List ℕ) → c ≡ 46 → past_points cs ≡ Some rest → Found Punct (c ∷ cs) rest
+points_found : (c : ℕ) (cs rest : List ℕ) → c ≡ 46 → past_dots cs ≡ Some rest → Found Punct (c ∷ cs) rest
 points_found c cs rest is e =
     let s = then_some (past_char 46 cs) (past_char 46) rest e in
     let one = char_some 46 cs s.0 s.1 in
@@ -185,7 +185,7 @@ next_is (c ∷ cs) = by (is_punct c) refl (is_name_start c) refl (eqb c 34) refl
   where
     by : (p : Bool) → is_punct c ≡ p → (n : Bool) → is_name_start c ≡ n → (q : Bool) → eqb c 34 ≡ q → (m : Bool) → (d : Bool) → eqb c 46 ≡ d
         → (let t : TokenKind × List ℕ = cond p (Punct, cs) (cond n (Name, past_word cs) (cond q (quoted cs) (cond m (found Number (c ∷ cs) (past_number (c ∷ cs)))
-        (cond d (found Punct (c ∷ cs) (past_points cs)) (Fault, c ∷ cs))))) in IsNext (c ∷ cs) t.0 t.1)
+        (cond d (found Punct (c ∷ cs) (past_dots cs)) (Fault, c ∷ cs))))) in IsNext (c ∷ cs) t.0 t.1)
     by true e n f q h m d g = inl (punct_found c cs e)
     by false e true f q h m d g = inl (name_found c cs f)
     by false e false f true h m d g = quoted_is c cs (grind (arith, nat_tests))

@@ -17,7 +17,7 @@ use crate::pos::running::RunningPlace;
 use class::{is_name_start, is_number_start, is_punct};
 use number::pass_number;
 use quoted::{pass_block, pass_string};
-use reading::{pass_char, pass_ignored, pass_points, pass_word, peek};
+use reading::{pass_char, pass_dots, pass_ignored, pass_word, peek};
 use std::iter::FusedIterator;
 use std::marker::Model;
 
@@ -117,7 +117,7 @@ fn rare_token<'a>(bytes: &[u8], start: RunningPlace<'a>, b: u8) -> (TokenKind, R
     }
     if b == b'.' {
         places.pass_ascii();
-        let is_three = pass_points(bytes, &mut places);
+        let is_three = pass_dots(bytes, &mut places);
         let kind = found(TokenKind::Punct, is_three);
         return (kind, places);
     }

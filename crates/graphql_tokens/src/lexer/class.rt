@@ -2,6 +2,7 @@
 
 ghost use Rattle.std.specs.Prelude.{◌≡◌, ◌||◌, ◌==◌, slice_index};
 ghost use Rattle.std.specs.Char.{is_ascii_digit};
+ghost use Rattle.std.specs.Str.{byte};
 ghost use Rattle.graphql_tokens.specs.tokens.Classes as classes;
 ghost use Rattle.graphql_tokens.specs.tokens.Strings as strings;
 
@@ -72,7 +73,7 @@ pub fn is_punct(b: u8) -> bool
 
 #[inline(always)]
 pub fn is_number_start(b: u8) -> bool
-    ensures { result ≡ (is_ascii_digit b || b == 45) }
+    ensures { result ≡ (is_ascii_digit b || b == byte "-") }
 {
     class(b) & NUMBER_START != 0
 }

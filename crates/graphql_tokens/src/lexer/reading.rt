@@ -2,7 +2,7 @@
 //! does; one that gives a `bool` tells whether the part was there.
 
 ghost use Rattle.std.specs.Prelude.{◌≡◌, ◌≢◌, ◌≤◌, ◌<◌, ◌+◌, true, false, [], MatchOption, drop, length};
-ghost use Rattle.graphql_tokens.specs.inner.Reading.{skip, past_line, past_word, past_char, past_points};
+ghost use Rattle.graphql_tokens.specs.inner.Reading.{skip, past_line, past_word, past_char, past_dots};
 ghost use Rattle.graphql_tokens.specs.inner.Running.{ahead, IsRunning};
 ghost use Rattle.graphql_tokens.specs.inner.Lexing.{RunsOver, IsFirstByte, rest_if};
 
@@ -110,12 +110,12 @@ pub fn pass_char(bytes: &[u8], places: &mut RunningPlace, c: u8) -> bool
     true
 }
 
-// Goes past two points.
+// Goes past the second and the third dot of `...`.
 #[inline(always)]
-pub fn pass_points(bytes: &[u8], places: &mut RunningPlace) -> bool
+pub fn pass_dots(bytes: &[u8], places: &mut RunningPlace) -> bool
     requires { RunsOver bytes.now places.old }
     ensures runs { RunsOver bytes.now places.new }
-    ensures rest { past_points (ahead places.old) ≡ rest_if result (ahead places.new) }
+    ensures rest { past_dots (ahead places.old) ≡ rest_if result (ahead places.new) }
     ensures forward { places.old.cursor.offset ≤ places.new.cursor.offset }
 {
     if !pass_char(bytes, places, b'.') {

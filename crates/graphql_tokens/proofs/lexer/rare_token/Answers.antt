@@ -29,16 +29,16 @@ returns-then-is_number_start-clause-rest c l =
 pub returns-then-b-eq46-clause-kind : goal.returns-then-b-eq46-clause-kind
 returns-then-b-eq46-clause-kind c =
     let p = c.pass_ascii-then-b-eq46.ensures.passed in
-    let e = c.pass_points-is_three.ensures.rest in
+    let e = c.pass_dots-is_three.ensures.rest in
     ap (λ t. t.0) (next_point c.args.b p.0 _ _ c.requires.first p.1 c.if-b-eq46.true ∙ ap (found Punct (ahead c.args.start)) e)
-    ∙ found_kind Punct _ _ c.pass_points-is_three.result ∙ sym c.found-kind-then-b-eq46.ensures
+    ∙ found_kind Punct _ _ c.pass_dots-is_three.result ∙ sym c.found-kind-then-b-eq46.ensures
 
 pub returns-then-b-eq46-clause-rest : goal.returns-then-b-eq46-clause-rest
 returns-then-b-eq46-clause-rest c l =
     let p = c.pass_ascii-then-b-eq46.ensures.passed in
-    let e = c.pass_points-is_three.ensures.rest in
+    let e = c.pass_dots-is_three.ensures.rest in
     ap (λ t. t.1) (next_point c.args.b p.0 _ _ c.requires.first p.1 c.if-b-eq46.true ∙ ap (found Punct (ahead c.args.start)) e)
-    ∙ found_rest Punct _ _ c.pass_points-is_three.result (ap is_last (sym c.found-kind-then-b-eq46.ensures) ∙ l)
+    ∙ found_rest Punct _ _ c.pass_dots-is_three.result (ap is_last (sym c.found-kind-then-b-eq46.ensures) ∙ l)
 
 pub returns-clause-kind : goal.returns-clause-kind
 returns-clause-kind c =
