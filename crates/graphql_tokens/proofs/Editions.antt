@@ -1,4 +1,6 @@
--- What the former edition cuts, the current one cuts too. Public: the crates above cite these lemmas.
+-- What the former edition cuts, the current one cuts too, and what it means by a string. Public: the crates above cite
+-- these lemmas.
+pub use Rattle.graphql_tokens.proofs.Contents.{former_units, former_means}
 use Rattle.std.proofs.Common.{◌≡◌, ℕ, true, false, List, [], ◌∷◌, ◌++◌, sym, ap, subst}
 use Rattle.std.specs.Str.{chars}
 use Rattle.graphql_tokens.specs.tokens.Edition.{Former}

@@ -30,7 +30,7 @@ pub enum TokenKind {
     Name,
     /// A number: an integer or a float.
     Number,
-    /// A string in single quotes, with its quotes.
+    /// A string that is no block string, with its quotes.
     String,
     /// A block string, with its quotes.
     Block,
@@ -41,6 +41,57 @@ pub enum TokenKind {
 }
 
 impl TokenKind {
+    ghost use Rattle.graphql_tokens.specs.tokens.Kinds as kinds;
+
+    /// Whether it is a punctuator.
+    #[inline(always)]
+    pub fn is_punct(self) -> bool
+        ensures { result ≡ kinds.is_punct self }
+    {
+        matches!(self, TokenKind::Punct)
+    }
+
+    /// Whether it is a name.
+    #[inline(always)]
+    pub fn is_name(self) -> bool
+        ensures { result ≡ kinds.is_name self }
+    {
+        matches!(self, TokenKind::Name)
+    }
+
+    /// Whether it is a number.
+    #[inline(always)]
+    pub fn is_number(self) -> bool
+        ensures { result ≡ kinds.is_number self }
+    {
+        matches!(self, TokenKind::Number)
+    }
+
+    /// Whether it is a string, and no block string.
+    #[inline(always)]
+    pub fn is_string(self) -> bool
+        ensures { result ≡ kinds.is_string self }
+    {
+        matches!(self, TokenKind::String)
+    }
+
+    /// Whether it is a block string.
+    #[inline(always)]
+    pub fn is_block(self) -> bool
+        ensures { result ≡ kinds.is_block self }
+    {
+        matches!(self, TokenKind::Block)
+    }
+
+    /// Whether it is the end of the text.
+    #[inline(always)]
+    pub fn is_end(self) -> bool
+        ensures { result ≡ kinds.is_end self }
+    {
+        matches!(self, TokenKind::End)
+    }
+
+    // Whether no token comes after it.
     #[inline(always)]
     fn is_last(self) -> bool
         ensures { result ≡ is_last self }

@@ -1,8 +1,9 @@
 //! What strings and block strings mean.
 
-ghost use Rattle.std.specs.Prelude.{◌≡◌, ◌≤◌, ◌+◌, drop, length, slice_index, IfOk, IfSome, IfNone, List, ℕ, string_bytes};
+ghost use Rattle.std.specs.Prelude.{◌≡◌, ◌≤◌, ◌+◌, drop, length, slice_index, IfOk, IfSome, IfNone, Some, List, ℕ, string_bytes};
 ghost use Rattle.std.specs.List.{prefix_len};
 ghost use Rattle.std.specs.Str.{chars};
+ghost use Rattle.graphql_tokens.specs.calls.Contents.{content_value};
 ghost use Rattle.graphql_tokens.specs.tokens.BlockText.{block_value};
 ghost use Rattle.graphql_tokens.specs.tokens.Edition.{Former, Current};
 ghost use Rattle.graphql_tokens.specs.tokens.Strings.{is_plain as is_plain_char, StringMeans, IsContent};
@@ -50,13 +51,17 @@ fn past_plain(bytes: &[u8], start: usize) -> usize
 /// The escapes with one letter and those with four digits are from GraphQL October 2021, section 2.9.4;
 /// that `\u{..}` and surrogate pairs are escapes too is this project's choice, in the manner of later
 /// editions.
-#[tactic(auto, using(crate::proofs::Contents::former_means))]
+#[tactic(auto, using(crate::proofs::Contents::former_means, crate::proofs::Meanings::content_means))]
 pub fn string_value(alloc: Global, content: &str) -> Result<Option<String>, AllocError>
     // What it gives is the value of the content,
     ensures some { IfOk result (λ value. IfSome value (λ s. StringMeans Current (chars content.now) (chars (string_bytes s)))) }
     // and the content has no other.
     ensures only { IfOk result (λ value. IfSome value (λ s. (other : List ℕ) → StringMeans Current (chars content.now) other → other ≡ chars (string_bytes s))) }
     ensures none { IfOk result (λ value. IfNone value (¬ IsContent Current (chars content.now))) }
+    // The function `content_value` gives no value but that of the content,
+    ensures sound { (value : List ℕ) → content_value (chars content.now) ≡ Some value → StringMeans Current (chars content.now) value }
+    // and gives it wherever there is one.
+    ensures complete { (value : List ℕ) → StringMeans Current (chars content.now) value → content_value (chars content.now) ≡ Some value }
     // What a content meant in the former edition, it means now.
     ensures former { (value : List ℕ) → StringMeans Former (chars content.now) value → StringMeans Current (chars content.now) value }
 {

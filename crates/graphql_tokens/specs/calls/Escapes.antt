@@ -1,4 +1,5 @@
--- The escape at the front of a text, as a function: the character for which it stands, and its length.
+-- The escape at the front of a text, as a function: the character for which it stands, and how many characters it has.
+-- `Contents.antt` says what ties it to the relation of `tokens/Strings.antt`.
 use Rattle.std.specs.Prelude.{ℕ, ◌+◌, ◌-◌, ◌*◌, if◌then◌else◌, ◌&&◌, ◌==◌, nat_le, min, List, length, take, drop, slice_index, Option, Some, None}
 use Rattle.std.specs.Char.{is_ascii_hexdigit}
 use Rattle.std.specs.Str.{byte}
