@@ -8,16 +8,16 @@ ghost use Rattle.graphql_tokens.specs.inner.Running.{ahead};
 ghost use Rattle.graphql_tokens.specs.inner.Lexing.{RunsOver, IsFirstByte};
 
 mod class;
-mod number;
+pub(crate) mod number;
 mod quoted;
-mod reading;
+pub(crate) mod reading;
 
 use crate::pos::Pos;
 use crate::pos::running::RunningPlace;
 use class::{is_name_start, is_number_start, is_punct};
 use number::pass_number;
 use quoted::{pass_block, pass_string};
-use reading::{pass_char, pass_dots, pass_ignored, pass_word, peek};
+use reading::{pass_char, pass_dots, pass_ignored, pass_name_chars, peek};
 use std::iter::FusedIterator;
 use std::marker::Model;
 
@@ -145,7 +145,11 @@ fn pass_quoted(bytes: &[u8], places: &mut RunningPlace) -> TokenKind
 // place behind it. It takes and gives a place by value and is never inlined: so the caller's own place has no
 // address, and stays in registers.
 #[inline(never)]
-fn rare_token<'a>(bytes: &[u8], start: RunningPlace<'a>, b: u8) -> (TokenKind, RunningPlace<'a>)
+fn pass_other_token<'a>(
+    bytes: &[u8],
+    start: RunningPlace<'a>,
+    b: u8,
+) -> (TokenKind, RunningPlace<'a>)
     requires runs { RunsOver bytes.now start }
     requires first { IsFirstByte b (ahead start) }
     requires no_name { classes.is_name_start b ≡ false }
@@ -189,14 +193,14 @@ fn pass_token(bytes: &[u8], places: &mut RunningPlace) -> TokenKind
     };
     if is_name_start(b) {
         places.pass_ascii();
-        pass_word(bytes, places);
+        pass_name_chars(bytes, places);
         return TokenKind::Name;
     }
     if is_punct(b) {
         places.pass_ascii();
         return TokenKind::Punct;
     }
-    let (kind, behind) = rare_token(bytes, *places, b);
+    let (kind, behind) = pass_other_token(bytes, *places, b);
     *places = behind;
     kind
 }

@@ -7,12 +7,24 @@ ghost use Rattle.std.specs.Cmp.Lexicographic.{pointwise, nat_list_eq_equiv};
 ghost use Rattle.std.specs.Cmp.{partial_equiv_from_equiv};
 ghost use Rattle.graphql_tokens.specs.tokens.Numbers.{IsNumber};
 ghost use Rattle.graphql_tokens.specs.calls.Integers.{IsIntegerOf};
+ghost use Rattle.graphql_tokens.specs.inner.Numerals.{is_numeral};
 
-mod numeral;
-
+use crate::lexer::number::pass_number;
+use crate::lexer::reading::has_more;
+use crate::pos::running::RunningPlace;
 use std::alloc::{AllocError, Global};
 use std::fmt;
 use std::marker::Model;
+
+// Whether the text is a number literal, from its first byte to its last. The lexer's reader of numbers tells.
+fn is_number(text: &str) -> bool
+    ensures { result ≡ is_numeral text.now }
+{
+    let bytes = text.as_bytes();
+    let mut places = RunningPlace::new(text);
+    let is_passed = pass_number(bytes, &mut places);
+    is_passed && !has_more(bytes, &places)
+}
 
 /// A number, as the literal that was written: nothing is rounded and nothing rewritten.
 ///
@@ -41,7 +53,7 @@ impl Number {
         ensures number { IfOk result (λ number. SomeIff number (IsNumber text.now) text.now) }
         ensures refused { ¬ IsNumber text.now → result ≡ Ok None }
     {
-        if !numeral::is_number(text) {
+        if !is_number(text) {
             return Ok(None);
         }
         Ok(Some(Number(String::from_str(alloc, text)?)))

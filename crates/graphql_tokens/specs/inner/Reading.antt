@@ -37,9 +37,9 @@ abbrev pub past_line : List ℕ → List ℕ
 past_line [] = []
 past_line (c ∷ cs) = if is_line_end c then cs else past_line cs
 
-abbrev pub past_word : List ℕ → List ℕ
-past_word [] = []
-past_word (c ∷ cs) = if is_name_char c then past_word cs else c ∷ cs
+abbrev pub past_name_chars : List ℕ → List ℕ
+past_name_chars [] = []
+past_name_chars (c ∷ cs) = if is_name_char c then past_name_chars cs else c ∷ cs
 
 -- the token, where there is one, and otherwise the fault, which takes nothing
 abbrev pub found : TokenKind → List ℕ → Option (List ℕ) → TokenKind × List ℕ
@@ -63,7 +63,7 @@ unfoldable pub next : List ℕ → TokenKind × List ℕ
 next [] = (End, [])
 next (c ∷ cs) =
     if is_punct c then (Punct, cs)
-    else (if is_name_start c then (Name, past_word cs)
+    else (if is_name_start c then (Name, past_name_chars cs)
     else (if c == byte "\"" then quoted cs
     else (if is_ascii_digit c || c == byte "-" then found Number (c ∷ cs) (past_number (c ∷ cs))
     else (if c == byte "." then found Punct (c ∷ cs) (past_dots cs)

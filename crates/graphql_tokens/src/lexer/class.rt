@@ -6,7 +6,7 @@ ghost use Rattle.std.specs.Str.{byte};
 ghost use Rattle.graphql_tokens.specs.tokens.Classes as classes;
 ghost use Rattle.graphql_tokens.specs.tokens.Strings as strings;
 
-const BLANK: u8 = 1;
+const IGNORED: u8 = 1;
 
 const NAME_START: u8 = 2;
 
@@ -44,10 +44,10 @@ fn class(b: u8) -> u8
 
 // Whether an ASCII character is ignored between tokens.
 #[inline(always)]
-pub fn is_blank(b: u8) -> bool
+pub fn is_ignored(b: u8) -> bool
     ensures { result ≡ classes.is_ignored b }
 {
-    class(b) & BLANK != 0
+    class(b) & IGNORED != 0
 }
 
 #[inline(always)]

@@ -2,7 +2,7 @@
 
 ghost use Rattle.std.specs.Prelude.{◌≡◌, ◌≤◌};
 ghost use Rattle.graphql_tokens.specs.tokens.Numbers.{is_sign};
-ghost use Rattle.graphql_tokens.specs.inner.Numerals.{past_optional, past_all, past_digits, past_whole, past_fraction, past_exponent};
+ghost use Rattle.graphql_tokens.specs.inner.Numerals.{past_optional, past_any_digits, past_some_digits, past_whole, past_fraction, past_exponent};
 ghost use Rattle.graphql_tokens.specs.inner.Numbers.{past_number, unless_forbidden};
 ghost use Rattle.graphql_tokens.specs.inner.Running.{ahead};
 ghost use Rattle.graphql_tokens.specs.inner.Lexing.{RunsOver, rest_if};
@@ -13,10 +13,10 @@ use crate::pos::running::RunningPlace;
 
 // All digits that follow.
 #[inline(always)]
-fn pass_all(bytes: &[u8], places: &mut RunningPlace)
+fn pass_any_digits(bytes: &[u8], places: &mut RunningPlace)
     requires { RunsOver bytes.now places.old }
     ensures runs { RunsOver bytes.now places.new }
-    ensures rest { ahead places.new ≡ past_all (ahead places.old) }
+    ensures rest { ahead places.new ≡ past_any_digits (ahead places.old) }
     ensures forward { places.old.cursor.offset ≤ places.new.cursor.offset }
 {
     while let Some(b) = peek(bytes, places) {
@@ -29,10 +29,10 @@ fn pass_all(bytes: &[u8], places: &mut RunningPlace)
 
 // One digit or more.
 #[inline(always)]
-fn pass_digits(bytes: &[u8], places: &mut RunningPlace) -> bool
+fn pass_some_digits(bytes: &[u8], places: &mut RunningPlace) -> bool
     requires { RunsOver bytes.now places.old }
     ensures runs { RunsOver bytes.now places.new }
-    ensures rest { past_digits (ahead places.old) ≡ rest_if result (ahead places.new) }
+    ensures rest { past_some_digits (ahead places.old) ≡ rest_if result (ahead places.new) }
     ensures forward { places.old.cursor.offset ≤ places.new.cursor.offset }
 {
     let Some(b) = peek(bytes, places) else {
@@ -42,7 +42,7 @@ fn pass_digits(bytes: &[u8], places: &mut RunningPlace) -> bool
         return false;
     }
     places.pass_ascii();
-    pass_all(bytes, places);
+    pass_any_digits(bytes, places);
     true
 }
 
@@ -70,7 +70,7 @@ fn pass_whole(bytes: &[u8], places: &mut RunningPlace) -> bool
     if pass_char(bytes, places, b'0') {
         return true;
     }
-    pass_digits(bytes, places)
+    pass_some_digits(bytes, places)
 }
 
 #[inline(always)]
@@ -83,7 +83,7 @@ fn pass_fraction(bytes: &[u8], places: &mut RunningPlace) -> bool
     if !pass_char(bytes, places, b'.') {
         return true;
     }
-    pass_digits(bytes, places)
+    pass_some_digits(bytes, places)
 }
 
 #[inline(always)]
@@ -99,7 +99,7 @@ fn pass_exponent(bytes: &[u8], places: &mut RunningPlace) -> bool
         }
     }
     pass_sign(bytes, places);
-    pass_digits(bytes, places)
+    pass_some_digits(bytes, places)
 }
 
 // Whether a number may end here.

@@ -2,11 +2,11 @@
 //! does; one that gives a `bool` tells whether the part was there.
 
 ghost use Rattle.std.specs.Prelude.{◌≡◌, ◌≢◌, ◌≤◌, ◌<◌, ◌+◌, true, false, [], MatchOption, drop, length};
-ghost use Rattle.graphql_tokens.specs.inner.Reading.{skip, past_line, past_word, past_char, past_dots};
+ghost use Rattle.graphql_tokens.specs.inner.Reading.{skip, past_line, past_name_chars, past_char, past_dots};
 ghost use Rattle.graphql_tokens.specs.inner.Running.{ahead, IsRunning};
 ghost use Rattle.graphql_tokens.specs.inner.Lexing.{RunsOver, IsFirstByte, rest_if};
 
-use super::class::{is_blank, is_name_char};
+use super::class::{is_ignored, is_name_char};
 use crate::pos::running::RunningPlace;
 
 // The first byte of what is ahead.
@@ -23,8 +23,9 @@ pub fn peek(bytes: &[u8], places: &RunningPlace) -> Option<u8>
     }
 }
 
+// Whether a character is ahead.
 #[inline(always)]
-fn has_more(bytes: &[u8], places: &RunningPlace) -> bool
+pub fn has_more(bytes: &[u8], places: &RunningPlace) -> bool
     requires { RunsOver bytes.now places.now }
     ensures more { result ≡ true → ahead places.now ≢ [] }
     ensures end { result ≡ false → ahead places.now ≡ [] }
@@ -57,7 +58,7 @@ pub fn pass_ignored(bytes: &[u8], places: &mut RunningPlace)
     ensures forward { places.old.cursor.offset ≤ places.new.cursor.offset }
 {
     while let Some(b) = peek(bytes, places) {
-        if is_blank(b) {
+        if is_ignored(b) {
             places.pass_first(b);
         } else if b == b'#' {
             pass_line(bytes, places);
@@ -75,10 +76,10 @@ pub fn pass_ignored(bytes: &[u8], places: &mut RunningPlace)
 
 // Goes past the name characters.
 #[inline(always)]
-pub fn pass_word(bytes: &[u8], places: &mut RunningPlace)
+pub fn pass_name_chars(bytes: &[u8], places: &mut RunningPlace)
     requires { RunsOver bytes.now places.old }
     ensures runs { RunsOver bytes.now places.new }
-    ensures rest { ahead places.new ≡ past_word (ahead places.old) }
+    ensures rest { ahead places.new ≡ past_name_chars (ahead places.old) }
     ensures forward { places.old.cursor.offset ≤ places.new.cursor.offset }
 {
     while let Some(b) = peek(bytes, places) {

@@ -63,7 +63,7 @@ fn pair_value(high: u32, low: u32) -> Option<char>
     }
 }
 
-fn past_digits(text: &[u8]) -> usize
+fn past_hex_digits(text: &[u8]) -> usize
     ensures { result ≡ prefix_len is_ascii_hexdigit text.now }
 {
     let mut at = 0;
@@ -77,7 +77,7 @@ fn past_digits(text: &[u8]) -> usize
 fn braced_at(text: &[u8]) -> Option<(char, usize)>
     ensures { result ≡ escapes.braced_at text.now }
 {
-    let end = past_digits(text);
+    let end = past_hex_digits(text);
     if end == 0 || byte(text, end) != b'}' {
         return None;
     }
