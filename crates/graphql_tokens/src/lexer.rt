@@ -7,7 +7,7 @@ ghost use Rattle.graphql_tokens.specs.inner.Reading.{next, quoted};
 ghost use Rattle.graphql_tokens.specs.inner.Running.{ahead};
 ghost use Rattle.graphql_tokens.specs.inner.Lexing.{RunsOver, IsFirstByte};
 
-mod class;
+pub(crate) mod class;
 pub(crate) mod number;
 mod quoted;
 pub(crate) mod reading;
@@ -34,7 +34,7 @@ pub enum TokenKind {
     String,
     /// A block string, with its quotes.
     Block,
-    /// The place where no token begins. Nothing is read behind it.
+    /// The place where no token begins. Nothing is read after it.
     Fault,
     /// The end of the text.
     End,
@@ -114,7 +114,7 @@ pub struct Token<'a> {
     pub pos: Pos,
 }
 
-// The kind, where its spelling was found, and otherwise a fault.
+// This kind where its spelling was found, and a fault where it wasn't.
 #[inline(always)]
 fn found(kind: TokenKind, is_found: bool) -> TokenKind
     ensures { result ≡ (if is_found then kind else TokenKind.Fault) }
@@ -122,8 +122,7 @@ fn found(kind: TokenKind, is_found: bool) -> TokenKind
     if is_found { kind } else { TokenKind::Fault }
 }
 
-// The kind of the string or block string of which the first quote is passed, and which is passed too,
-// unless it is a fault.
+// Passes a string or a block string after its first quote, and gives its kind, or a fault.
 #[inline(always)]
 fn pass_quoted(bytes: &[u8], places: &mut RunningPlace) -> TokenKind
     requires { RunsOver bytes.now places.old }
@@ -141,9 +140,9 @@ fn pass_quoted(bytes: &[u8], places: &mut RunningPlace) -> TokenKind
     found(TokenKind::Block, pass_block(bytes, places))
 }
 
-// The kind of the token that is next, where it is neither a name nor a punctuator of one character, and the
-// place behind it. It takes and gives a place by value and is never inlined: so the caller's own place has no
-// address, and stays in registers.
+// Passes a token that is neither a name nor a punctuator of one character, and gives its kind and the place after it.
+// `b` is the token's first byte. It takes and gives a place by value and is never inlined, so that the caller's own
+// place has no address and stays in registers.
 #[inline(never)]
 fn pass_other_token<'a>(
     bytes: &[u8],
@@ -179,7 +178,7 @@ fn pass_other_token<'a>(
     (TokenKind::Fault, places)
 }
 
-// The kind of the token that is next, which is passed, unless it is a fault.
+// Passes the token that is next and gives its kind. After a fault the place may be anywhere ahead.
 #[inline(always)]
 fn pass_token(bytes: &[u8], places: &mut RunningPlace) -> TokenKind
     requires { RunsOver bytes.now places.old }
@@ -200,8 +199,8 @@ fn pass_token(bytes: &[u8], places: &mut RunningPlace) -> TokenKind
         places.pass_ascii();
         return TokenKind::Punct;
     }
-    let (kind, behind) = pass_other_token(bytes, *places, b);
-    *places = behind;
+    let (kind, after) = pass_other_token(bytes, *places, b);
+    *places = after;
     kind
 }
 

@@ -1,4 +1,4 @@
-//! Numbers, as the literal that was written.
+//! Number literals, as they were written.
 ghost use Rattle.std.specs.Prelude.{◌≡◌, ◌↔◌, ◌≤◌, ◌^◌, ℕ, ℤ, pos, Ok, Some, None, IfOk, IfSome, IfNone, IsTrue, FitsSigned, nat_eq};
 ghost use Rattle.std.specs.Int.{w64};
 ghost use Rattle.std.specs.Fmt.{styled_text};
@@ -48,7 +48,7 @@ impl Number {
     /// The number of this literal, or None exactly where the text is no number literal of the
     /// grammar (GraphQL October 2021, sections 2.9.1 and 2.9.2).
     ///
-    /// Fails only where no memory is left for the text of a literal; a refusal takes none.
+    /// It fails only where memory runs out for the text of a literal; a refusal takes none.
     pub fn new(alloc: Global, text: &str) -> Result<Option<Number>, AllocError>
         ensures number { IfOk result (λ number. SomeIff number (IsNumber text.now) text.now) }
         ensures refused { ¬ IsNumber text.now → result ≡ Ok None }

@@ -11,6 +11,7 @@ ghost use Rattle.graphql_tokens.specs.tokens.Strings.{is_plain as is_plain_char,
 mod block;
 pub(crate) mod escape;
 
+use crate::lexer::class::is_plain;
 use block::{first_text, last_text, layout_of, push_lines};
 use escape::escape_at;
 use std::alloc::{AllocError, Global};
@@ -21,13 +22,6 @@ fn byte(bytes: &[u8], at: usize) -> u8
     ensures { result ≡ slice_index bytes.now at }
 {
     if at < bytes.len() { bytes[at] } else { 0 }
-}
-
-#[inline(always)]
-fn is_plain(b: u8) -> bool
-    ensures { result ≡ is_plain_char b }
-{
-    !matches!(b, b'"' | b'\\' | b'\n' | b'\r')
 }
 
 // Where the first byte from `start` on stands that isn't plain.
@@ -46,11 +40,11 @@ fn past_plain(bytes: &[u8], start: usize) -> usize
 /// The value of a string whose text between the quotes is `content`: each character but `"`, `\`, line
 /// feed and carriage return stands for itself, and each escape for the character that it names.
 ///
-/// `None` exactly where the content is no content of a string. An error comes from want of memory alone.
+/// `None` exactly where the content is no content of a string. It fails only where memory runs out.
 ///
-/// The escapes with one letter and those with four digits are from GraphQL October 2021, section 2.9.4;
-/// that `\u{..}` and surrogate pairs are escapes too is this project's choice, in the manner of later
-/// editions.
+/// The escapes with one letter and those with four digits are from GraphQL October 2021, section 2.9.4.
+/// It is this project's choice that `\u{..}` and surrogate pairs are escapes too, that an escape which names
+/// half of a pair is none, and that any character may stand in a string.
 #[tactic(auto, using(crate::proofs::Contents::former_means, crate::proofs::Meanings::content_means))]
 pub fn string_value(alloc: Global, content: &str) -> Result<Option<String>, AllocError>
     // What it gives is the value of the content,
@@ -84,15 +78,15 @@ pub fn string_value(alloc: Global, content: &str) -> Result<Option<String>, Allo
     Ok(Some(value))
 }
 
-/// The value of a block string whose text between the quotes is `raw`: each `\"""` stands for `"""`; the
-/// lines, which end at CR LF, LF or CR, lose their common indent, but for the first; blank lines at the
-/// front and at the end go; the others are joined by line feeds. A line is blank that holds tabs and
-/// spaces alone, or nothing, and the indent is of the lines that aren't.
+/// The value of a block string whose text between the quotes is `raw`. Each `\"""` stands for `"""`. Lines end
+/// at CR LF, LF or CR, and all but the first lose their common indent. Blank lines at the front and at the end
+/// go, and the others are joined by line feeds. A line is blank that holds tabs and spaces alone, or nothing.
+/// The common indent is the least one of the lines after the first that aren't blank.
 ///
-/// Every text has a value. An error comes from want of memory alone.
+/// Every text has a value. It fails only where memory runs out.
 ///
-/// GraphQL October 2021, section 2.9.4, but for a blank line that is shorter than the indent: it stays as
-/// it is, which is this project's choice.
+/// GraphQL October 2021, section 2.9.4. It departs in one thing: a blank line that is shorter than the common
+/// indent stays as it is (this project's choice).
 pub fn block_string_value(alloc: Global, raw: &str) -> Result<String, AllocError>
     ensures { IfOk result (λ value. chars (string_bytes value) ≡ block_value (chars raw.now)) }
 {

@@ -1,4 +1,4 @@
-//! Numbers.
+//! Number literals.
 
 ghost use Rattle.std.specs.Prelude.{◌≡◌, ◌≤◌};
 ghost use Rattle.graphql_tokens.specs.tokens.Numbers.{is_sign};
@@ -11,7 +11,7 @@ use super::class::{is_digit, is_name_char};
 use super::reading::{pass_char, peek};
 use crate::pos::running::RunningPlace;
 
-// All digits that follow.
+// Passes all digits that follow.
 #[inline(always)]
 fn pass_any_digits(bytes: &[u8], places: &mut RunningPlace)
     requires { RunsOver bytes.now places.old }
@@ -27,7 +27,7 @@ fn pass_any_digits(bytes: &[u8], places: &mut RunningPlace)
     }
 }
 
-// One digit or more.
+// Passes one digit or more, and tells whether there was one.
 #[inline(always)]
 fn pass_some_digits(bytes: &[u8], places: &mut RunningPlace) -> bool
     requires { RunsOver bytes.now places.old }
@@ -46,7 +46,7 @@ fn pass_some_digits(bytes: &[u8], places: &mut RunningPlace) -> bool
     true
 }
 
-// A sign, if there is one.
+// Passes an optional sign.
 #[inline(always)]
 fn pass_sign(bytes: &[u8], places: &mut RunningPlace)
     requires { RunsOver bytes.now places.old }
@@ -59,7 +59,7 @@ fn pass_sign(bytes: &[u8], places: &mut RunningPlace)
     }
 }
 
-// `0`, or digits that begin with another.
+// Passes `0`, or digits that begin with another one, and tells whether they were there.
 #[inline(always)]
 fn pass_whole(bytes: &[u8], places: &mut RunningPlace) -> bool
     requires { RunsOver bytes.now places.old }
@@ -73,6 +73,7 @@ fn pass_whole(bytes: &[u8], places: &mut RunningPlace) -> bool
     pass_some_digits(bytes, places)
 }
 
+// Passes an optional fraction, and tells whether its digits were there.
 #[inline(always)]
 fn pass_fraction(bytes: &[u8], places: &mut RunningPlace) -> bool
     requires { RunsOver bytes.now places.old }
@@ -86,6 +87,7 @@ fn pass_fraction(bytes: &[u8], places: &mut RunningPlace) -> bool
     pass_some_digits(bytes, places)
 }
 
+// Passes an optional exponent, and tells whether its digits were there.
 #[inline(always)]
 fn pass_exponent(bytes: &[u8], places: &mut RunningPlace) -> bool
     requires { RunsOver bytes.now places.old }
@@ -102,7 +104,7 @@ fn pass_exponent(bytes: &[u8], places: &mut RunningPlace) -> bool
     pass_some_digits(bytes, places)
 }
 
-// Whether a number may end here.
+// Whether a number may end here: a name character and a dot may not follow it.
 #[inline(always)]
 fn may_end(bytes: &[u8], places: &RunningPlace) -> bool
     requires { RunsOver bytes.now places.now }
@@ -114,7 +116,7 @@ fn may_end(bytes: &[u8], places: &RunningPlace) -> bool
     !(is_name_char(b) || b == b'.')
 }
 
-// A number that may end where it does.
+// Passes a number literal, and tells whether it was there and may end where it does.
 #[inline(always)]
 pub fn pass_number(bytes: &[u8], places: &mut RunningPlace) -> bool
     requires { RunsOver bytes.now places.old }

@@ -1,5 +1,5 @@
-//! Parts of tokens, and what stands between tokens. Each function goes on from a place as far as its part
-//! does; one that gives a `bool` tells whether the part was there.
+//! Parts of tokens, and what stands between tokens. Each function moves the place past its part. One that gives a
+//! `bool` tells whether the part was there.
 
 ghost use Rattle.std.specs.Prelude.{◌≡◌, ◌≢◌, ◌≤◌, ◌<◌, ◌+◌, true, false, [], MatchOption, drop, length};
 ghost use Rattle.graphql_tokens.specs.inner.Reading.{skip, past_line, past_name_chars, past_char, past_dots};
@@ -9,7 +9,7 @@ ghost use Rattle.graphql_tokens.specs.inner.Lexing.{RunsOver, IsFirstByte, rest_
 use super::class::{is_ignored, is_name_char};
 use crate::pos::running::RunningPlace;
 
-// The first byte of what is ahead.
+// The first byte of what is ahead, where the text goes on.
 #[inline(always)]
 pub fn peek(bytes: &[u8], places: &RunningPlace) -> Option<u8>
     requires { RunsOver bytes.now places.now }
@@ -65,11 +65,11 @@ pub fn pass_ignored(bytes: &[u8], places: &mut RunningPlace)
         } else if b < 0x80 {
             break;
         } else {
-            let mut behind = *places;
-            if behind.pass() != '\u{feff}' {
+            let mut after = *places;
+            if after.pass() != '\u{feff}' {
                 break;
             }
-            *places = behind;
+            *places = after;
         }
     }
 }

@@ -43,7 +43,7 @@ fn begins_quotes(bytes: &[u8], at: usize) -> bool
         && byte(bytes, at + 3) == b'"'
 }
 
-// Where the line ends, and whether neither `\"""` is in it nor a carriage return behind it.
+// Where the line ends, and whether it holds no `\"""` and no carriage return comes after it.
 fn line_at(bytes: &[u8], start: usize) -> (usize, bool)
     requires { start ≤ length bytes.now }
     ensures end { result.0 ≡ start + prefix_len place.is_in_line (drop start bytes.now) }

@@ -25,7 +25,8 @@ fn letter_value(letter: u8) -> Option<char>
     }
 }
 
-// The number of hexadecimal digits, where all numbers past the characters are one.
+// The number of these digits, or nothing where one of them is no hexadecimal digit. A number past all characters
+// is given as the first of these.
 fn hex_number(digits: &[u8]) -> Option<u32>
     ensures { result ≡ escapes.hex_number digits.now }
 {
@@ -37,6 +38,7 @@ fn hex_number(digits: &[u8]) -> Option<u32>
     Some(number)
 }
 
+// The number of the four digits at the front.
 fn four_digits(text: &[u8]) -> Option<u32>
     ensures { result ≡ escapes.four_digits text.now }
 {
@@ -46,6 +48,7 @@ fn four_digits(text: &[u8]) -> Option<u32>
     hex_number(&text[..4])
 }
 
+// The character of this number, where it has one.
 fn scalar_of(number: u32) -> Option<char>
     ensures { result ≡ escapes.scalar_of number }
 {
@@ -63,6 +66,7 @@ fn pair_value(high: u32, low: u32) -> Option<char>
     }
 }
 
+// How many hexadecimal digits stand at the front.
 fn past_hex_digits(text: &[u8]) -> usize
     ensures { result ≡ prefix_len is_ascii_hexdigit text.now }
 {
@@ -73,7 +77,7 @@ fn past_hex_digits(text: &[u8]) -> usize
     at
 }
 
-// The escape whose text stands behind `\u{`.
+// The escape whose text stands after `\u{`.
 fn braced_at(text: &[u8]) -> Option<(char, usize)>
     ensures { result ≡ escapes.braced_at text.now }
 {
@@ -85,7 +89,7 @@ fn braced_at(text: &[u8]) -> Option<(char, usize)>
     Some((value, end + 4))
 }
 
-// The number of the four digits of an escape.
+// The number of the four digits of the escape at the front.
 fn low_half_at(text: &[u8]) -> Option<u32>
     ensures { result ≡ escapes.low_half_at text.now }
 {
@@ -96,15 +100,15 @@ fn low_half_at(text: &[u8]) -> Option<u32>
     }
 }
 
-// The escape of a surrogate pair, behind the number of its first half.
-fn pair_at(high: u32, behind: &[u8]) -> Option<(char, usize)>
-    ensures { result ≡ escapes.pair_at high behind.now }
+// The escape of a surrogate pair. `rest` is the text after the first half, whose number is `high`.
+fn pair_at(high: u32, rest: &[u8]) -> Option<(char, usize)>
+    ensures { result ≡ escapes.pair_at high rest.now }
 {
-    let low = low_half_at(behind)?;
+    let low = low_half_at(rest)?;
     Some((pair_value(high, low)?, 12))
 }
 
-// The escape whose text stands behind `\u`.
+// The escape whose text stands after `\u`.
 fn number_at(text: &[u8]) -> Option<(char, usize)>
     ensures { result ≡ escapes.number_at text.now }
 {

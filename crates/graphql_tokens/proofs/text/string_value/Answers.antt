@@ -55,7 +55,7 @@ returns-in_default-clause-none c content =
     no_content bs (string_bytes c.loop-at.value) i c.as_bytes-bytes.ensures.utf8 inv.boundary here inv.means (inv.stops here) none
     (rw c.as_bytes-bytes.ensures.value content)
 
--- ---- an escape, and the run behind it
+-- ---- an escape, and the run after it
 
 pub overflow_add-start : goal.overflow_add-start
 overflow_add-start c =
