@@ -1,6 +1,6 @@
 //! What strings and block strings mean.
 
-ghost use Rattle.std.specs.Prelude.{◌≡◌, ◌≤◌, ◌+◌, drop, length, slice_index, IfOk, IfSome, IfNone, Some, List, ℕ, string_bytes};
+ghost use Rattle.std.specs.Prelude.{◌≡◌, ◌≤◌, ◌<◌, Bool, ◌+◌, drop, length, slice_index, IfOk, IfSome, IfNone, Some, List, ℕ, string_bytes};
 ghost use Rattle.std.specs.List.{prefix_len};
 ghost use Rattle.std.specs.Str.{chars};
 ghost use Rattle.graphql_tokens.specs.calls.Contents.{content_value};
@@ -24,17 +24,28 @@ fn byte(bytes: &[u8], at: usize) -> u8
     if at < bytes.len() { bytes[at] } else { 0 }
 }
 
+// Where the first byte from `start` on stands that fails the test, or the end of the bytes.
+#[inline(always)]
+fn past_while<F: Fn(u8) -> bool>(bytes: &[u8], start: usize, test: F) -> usize
+    requires from { start ≤ length bytes.now }
+    requires callable { F.IsAlwaysCallable test }
+    ensures value { (p : ℕ → Bool) → ((b : ℕ) (r : Bool) → b < 256 → F.post test b r → r ≡ p b) → result ≡ start + prefix_len p (drop start bytes.now) }
+    ensures within { result ≤ length bytes.now }
+{
+    let mut at = start;
+    while at < bytes.len() && test(bytes[at]) {
+        at += 1;
+    }
+    at
+}
+
 // Where the first byte from `start` on stands that isn't plain.
 fn past_plain(bytes: &[u8], start: usize) -> usize
     requires { start ≤ length bytes.now }
     ensures value { result ≡ start + prefix_len is_plain_char (drop start bytes.now) }
     ensures within { result ≤ length bytes.now }
 {
-    let mut at = start;
-    while at < bytes.len() && is_plain(bytes[at]) {
-        at += 1;
-    }
-    at
+    past_while(bytes, start, is_plain)
 }
 
 /// The value of a string whose text between the quotes is `content`: each character but `"`, `\`, line

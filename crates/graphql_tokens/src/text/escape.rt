@@ -5,7 +5,7 @@ ghost use Rattle.std.specs.Char.{is_ascii_hexdigit};
 ghost use Rattle.std.specs.List.{prefix_len};
 ghost use Rattle.graphql_tokens.specs.calls.Escapes as escapes;
 
-use super::byte;
+use super::{byte, past_while};
 
 // The first number past all characters.
 const PAST_CHARS: u32 = 0x11_0000;
@@ -70,11 +70,7 @@ fn pair_value(high: u32, low: u32) -> Option<char>
 fn past_hex_digits(text: &[u8]) -> usize
     ensures { result ≡ prefix_len is_ascii_hexdigit text.now }
 {
-    let mut at = 0;
-    while at < text.len() && text[at].is_ascii_hexdigit() {
-        at += 1;
-    }
-    at
+    past_while(text, 0, |b| b.is_ascii_hexdigit())
 }
 
 // The escape whose text stands after `\u{`.
