@@ -19,7 +19,7 @@ use Rattle.graphql_tokens.specs.declared.lexer.TokenKind.TheVariants.{Fault, End
 abbrev pub token : TokenKind → List ℕ → List ℕ → Token
 token kind front w = record { bare = record { kind = kind; spelling = encode_utf8_all w }; start = length (encode_utf8_all front); pos = place_behind front }
 
--- the text goes on, and no ignored text stands at its front
+-- the text goes on, and neither an ignored character nor a comment is next
 abbrev pub GoesOn : List ℕ → Type 0
 GoesOn [] = ⊥
 GoesOn (c ∷ cs) = (is_ignored c ≡ false) × (c ≢ byte "#")
@@ -28,7 +28,7 @@ GoesOn (c ∷ cs) = (is_ignored c ≡ false) × (c ≢ byte "#")
 abbrev pub HasNoToken : Edition → List ℕ → Type 0
 HasNoToken edition text = (kind : TokenKind) (w rest : List ℕ) → text ≡ w ++ rest → ¬ (Begins edition kind w rest)
 
--- Ignored text stands at the front of the text, and something after it. It may be empty.
+-- Ignored text stands at the front of the text, and a rest after it. Either may be empty.
 pub record IgnoredFront (text : List ℕ) : Type 0 where
   pub pieces : List (List ℕ)
   pub after : List ℕ
