@@ -5,7 +5,7 @@ use Rattle.std.specs.Char.{is_ascii_digit}
 use Rattle.graphql_tokens.specs.tokens.Place.{is_line_end, is_in_line}
 use Rattle.graphql_tokens.specs.tokens.Classes.{is_ignored, is_punct, is_name_start}
 use Rattle.graphql_tokens.specs.tokens.Cuts.{is_last}
-use Rattle.graphql_tokens.specs.inner.Reading.{skip, past_line, past_word, past_points, found, quoted, next}
+use Rattle.graphql_tokens.specs.inner.Reading.{skip, past_line, past_name_chars, past_dots, found, quoted, next}
 use Rattle.graphql_tokens.specs.inner.Running.{BeginsInLine, BeginsInAscii}
 use Rattle.graphql_tokens.specs.inner.Lexing.{IsFirstByte, rest_if}
 use Rattle.graphql_tokens.specs.declared.lexer.TokenKind.{TokenKind}
@@ -141,7 +141,7 @@ pub next_end : (text : List ℕ) → text ≡ [] → next text ≡ (End, [])
 unfolding next
 next_end text e = ap next e
 
-pub next_name : (b c : ℕ) (text rest : List ℕ) → IsFirstByte b text → text ≡ c ∷ rest → is_name_start b ≡ true → next text ≡ (Name, past_word rest)
+pub next_name : (b c : ℕ) (text rest : List ℕ) → IsFirstByte b text → text ≡ c ∷ rest → is_name_start b ≡ true → next text ≡ (Name, past_name_chars rest)
 unfolding next
 next_name b c text rest f is t =
     let n = name_low b t in
@@ -154,9 +154,9 @@ next_punct b c text rest f is t =
     let same = first_low b c text rest f is (punct_low b t).0 in
     ap next (is ∙ ap (λ d. d ∷ rest) same) ∙ rw t refl
 
-pub next_point : (b c : ℕ) (text rest : List ℕ) → IsFirstByte b text → text ≡ c ∷ rest → b ≡ 46 → next text ≡ found Punct text (past_points rest)
+pub next_dot : (b c : ℕ) (text rest : List ℕ) → IsFirstByte b text → text ≡ c ∷ rest → b ≡ 46 → next text ≡ found Punct text (past_dots rest)
 unfolding next
-next_point b c text rest f is e =
+next_dot b c text rest f is e =
     let same : text ≡ 46 ∷ rest = is ∙ ap (λ d. d ∷ rest) (first_low b c text rest f is (omega arith) ∙ e) in
     rw same refl
 

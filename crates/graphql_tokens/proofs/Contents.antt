@@ -12,28 +12,29 @@ use Rattle.std.specs.List.{AllByRecursion, concat, prefix_len}
 use Rattle.std.specs.Str.{chars, IsUtf8, IsAscii, IsCharBoundary, encode_utf8_all}
 use Rattle.graphql_tokens.specs.tokens.Edition.{Former, Current}
 use Rattle.graphql_tokens.specs.tokens.Strings.{is_plain, Escape, quote, backslash, slash, backspace, form_feed, line_feed, carriage_return, tab, AreHexDigits, IsFourDigits, UnitMeans, UnitsMean, StringMeans, IsContent}
-use Rattle.graphql_tokens.specs.inner.Escapes.{escape_at}
+use Rattle.graphql_tokens.specs.calls.Escapes.{escape_at}
 use Rattle.graphql_tokens.proofs.Chars.{chars_split}
 use Rattle.graphql_tokens.proofs.Scan.{ascii_char}
 use Rattle.graphql_tokens.proofs.EscapeUnits.{EscapeMeans, escape_reads, escape_found, pair_scalar}
 
 -- ---- editions
 
-later_unit : (u : List ℕ) (c : ℕ) → UnitMeans Former u c → UnitMeans Current u c
-later_unit u c (inl w) = inl w
-later_unit u c (inr (inl w)) = inr (inl w)
-later_unit u c (inr (inr (inl w))) = inr (inr (inl w))
-later_unit u c (inr (inr (inr w))) = absurd w
+former_unit : (u : List ℕ) (c : ℕ) → UnitMeans Former u c → UnitMeans Current u c
+former_unit u c (inl w) = inl w
+former_unit u c (inr (inl w)) = inr (inl w)
+former_unit u c (inr (inr (inl w))) = inr (inr (inl w))
+former_unit u c (inr (inr (inr w))) = absurd w
 
-later_units : (us : List (List ℕ)) (v : List ℕ) → UnitsMean Former us v → UnitsMean Current us v
-later_units [] [] h = tt
-later_units [] (c ∷ cs) h = absurd h
-later_units (u ∷ us) [] h = absurd h
-later_units (u ∷ us) (c ∷ cs) h = (later_unit u c h.0, later_units us cs h.1)
+-- what units meant in the former edition, they mean now
+pub former_units : (us : List (List ℕ)) (v : List ℕ) → UnitsMean Former us v → UnitsMean Current us v
+former_units [] [] h = tt
+former_units [] (c ∷ cs) h = absurd h
+former_units (u ∷ us) [] h = absurd h
+former_units (u ∷ us) (c ∷ cs) h = (former_unit u c h.0, former_units us cs h.1)
 
 -- what a content meant in the former edition, it means now
 pub former_means : (content value : List ℕ) → StringMeans Former content value → StringMeans Current content value
-former_means content value m = (m.0, m.1, later_units m.0 value m.2)
+former_means content value m = (m.0, m.1, former_units m.0 value m.2)
 
 -- ---- contents joined
 

@@ -1,10 +1,11 @@
--- What the former edition cuts, the current one cuts too. Public: the crates above cite these lemmas.
+-- What the former edition cuts, the current one cuts too, and what it means by a string. Public: the crates above cite
+-- these lemmas.
+pub use Rattle.graphql_tokens.proofs.Contents.{former_units, former_means}
 use Rattle.std.proofs.Common.{◌≡◌, ℕ, true, false, List, [], ◌∷◌, ◌++◌, sym, ap, subst}
 use Rattle.std.specs.Str.{chars}
 use Rattle.graphql_tokens.specs.tokens.Edition.{Former}
 use Rattle.graphql_tokens.specs.tokens.Token.{Token}
-use Rattle.graphql_tokens.specs.tokens.Cuts.{is_last, Cuts, EndsOnce, HasNoFault}
-use Rattle.graphql_tokens.specs.tokens.Proper.{IsCutInto}
+use Rattle.graphql_tokens.specs.tokens.Cuts.{is_last, Cuts, IsCutInto, EndsOnce, HasNoFault}
 use Rattle.graphql_tokens.specs.declared.lexer.TokenKind.TheVariants.{Fault, End}
 use Rattle.graphql_tokens.proofs.Lists.{cuts_ends, cuts_later}
 

@@ -1,19 +1,24 @@
 -- Escapes, read by the function and by the relation.
-use Rattle.std.proofs.Common.{◌≡◌, ◌≢◌, ℕ, ◌+◌, ◌*◌, ◌<◌, Bool, true, false, cond, eqb, ◌&&◌, min, List, [], ◌∷◌, ◌++◌, Some, None, length, take, drop, get_or, refl, ap, ◌∙◌, arith}
+use Rattle.std.proofs.Common.{◌≡◌, ◌≢◌, ℕ, ◌+◌, ◌*◌, ◌^◌, suc, ◌<◌, Bool, true, false, cond, eqb, ◌&&◌, min, List, [], ◌∷◌, ◌++◌, Some, None, length, take, drop, get_or, refl, ap, ◌∙◌, arith, length-append}
+use Rattle.std.proofs.Math.Nat.{pow-suc}
 use Rattle.std.proofs.lemmas.Bool.Decides.{nat_tests}
 use Rattle.std.proofs.lemmas.List.{take_more}
 use Rattle.std.specs.Char.{is_ascii_hexdigit, digit_value}
-use Rattle.graphql_tokens.specs.tokens.Strings.{hex_from, hex_value}
-use Rattle.graphql_tokens.specs.inner.Escapes.{four_digits, scalar_of, braced_at, pair_at, numbered_by, numbered_at, number_at}
+use Rattle.graphql_tokens.specs.tokens.Strings.{hex_value}
+use Rattle.graphql_tokens.specs.calls.Escapes.{four_digits, scalar_of, braced_at, pair_at, numbered_by, numbered_at, number_at}
 
 -- ---- numbers in hexadecimal digits
 
-hex_from-append : (n : ℕ) (xs ys : List ℕ) → hex_from n (xs ++ ys) ≡ hex_from (hex_from n xs) ys
-hex_from-append n [] ys = refl
-hex_from-append n (x ∷ xs) ys = hex_from-append (n * 16 + digit_value x) xs ys
+-- one digit more at the end
+hex_value-push : (ds : List ℕ) (d : ℕ) → hex_value (ds ++ d ∷ []) ≡ hex_value ds * 16 + digit_value d
+hex_value-push [] d = omega arith
+hex_value-push (x ∷ xs) d =
+    let long : length (xs ++ d ∷ []) ≡ suc (length xs) = omega (arith, length-append xs (d ∷ [])) in
+    let weight : 16 ^ length (xs ++ d ∷ []) ≡ 16 ^ length xs * 16 = ap (λ k. 16 ^ k) long ∙ pow-suc 16 (length xs) in
+    omega (arith, ap (λ k. digit_value x * k) weight, hex_value-push xs d)
 
 pub hex_value_more : (ds : List ℕ) (i : ℕ) → i < length ds → hex_value (take (i + 1) ds) ≡ hex_value (take i ds) * 16 + digit_value (get_or ds i 0)
-hex_value_more ds i l = ap hex_value (take_more ds i 0 l) ∙ hex_from-append 0 (take i ds) (get_or ds i 0 ∷ [])
+hex_value_more ds i l = ap hex_value (take_more ds i 0 l) ∙ hex_value-push (take i ds) (get_or ds i 0)
 
 pub capped : (x d m : ℕ) → min (min x m * 16 + d) m ≡ min (x * 16 + d) m
 capped x d m = omega arith

@@ -19,6 +19,7 @@ pub mod Lexes
 pub mod Lists
 pub mod Meanings
 pub mod Nexts
+pub mod NumberTexts
 pub mod Numbers
 pub mod Numerals
 pub mod Options

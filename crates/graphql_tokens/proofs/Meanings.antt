@@ -1,11 +1,12 @@
--- `content_value` gives what `StringMeans` relates to a content, and nothing else.
+-- `content_value` gives what `StringMeans` relates to a content, and nothing else. Public: the crates above cite the
+-- lemmas `content_means`, `means_content` and `content_none`.
 use Rattle.std.proofs.Common.{◌≡◌, ℕ, zero, suc, ◌≤◌, Bool, true, false, cond, List, [], ◌∷◌, ◌++◌, length, drop, Option, Some, None, refl, sym, ap, ◌∙◌, subst, inl, inr, arith, length-append}
 use Rattle.std.proofs.Math.Seq.{drop-append_seam}
 use Rattle.std.specs.List.{concat}
 use Rattle.graphql_tokens.specs.tokens.Edition.{Current}
-use Rattle.graphql_tokens.specs.tokens.Strings.{is_plain, UnitMeans, UnitsMean, StringMeans}
-use Rattle.graphql_tokens.specs.inner.Escapes.{escape_at}
-use Rattle.graphql_tokens.specs.inner.Contents.{onto, behind_escape, content_from, content_value}
+use Rattle.graphql_tokens.specs.tokens.Strings.{is_plain, UnitMeans, UnitsMean, StringMeans, IsContent}
+use Rattle.graphql_tokens.specs.calls.Escapes.{escape_at}
+use Rattle.graphql_tokens.specs.calls.Contents.{onto, with_escape, content_from, content_value}
 use Rattle.graphql_tokens.proofs.EscapeUnits.{EscapeMeans, escape_reads, escape_found}
 use Rattle.graphql_tokens.proofs.Contents.{escape_front}
 
@@ -33,7 +34,7 @@ means_from (suc n) (c ∷ cs) value e = by (is_plain c) refl (λ content value e
     Follows : Type 0
     Follows = (content value : List ℕ) → content_from n content ≡ Some value → StringMeans Current content value
 
-    escaped : (o : Option (ℕ × ℕ)) → escape_at (c ∷ cs) ≡ o → Follows → behind_escape (content_from n) (c ∷ cs) o ≡ Some value → StringMeans Current (c ∷ cs) value
+    escaped : (o : Option (ℕ × ℕ)) → escape_at (c ∷ cs) ≡ o → Follows → with_escape (content_from n) (c ∷ cs) o ≡ Some value → StringMeans Current (c ∷ cs) value
     escaped None g ih e = absurd (cc)
     escaped (Some x) g ih e =
         let f = escape_found (c ∷ cs) x.0 x.1 g in
@@ -42,10 +43,11 @@ means_from (suc n) (c ∷ cs) value e = by (is_plain c) refl (λ content value e
         subst (λ (t : List ℕ). StringMeans Current t value) (sym f.whole)
         (means_onto f.unit f.rest value x.0 (content_from n f.rest) (inr f.means) (ih f.rest) read)
 
-    by : (b : Bool) → is_plain c ≡ b → Follows → cond b (onto c (content_from n cs)) (behind_escape (content_from n) (c ∷ cs) (escape_at (c ∷ cs))) ≡ Some value → StringMeans Current (c ∷ cs) value
+    by : (b : Bool) → is_plain c ≡ b → Follows → cond b (onto c (content_from n cs)) (with_escape (content_from n) (c ∷ cs) (escape_at (c ∷ cs))) ≡ Some value → StringMeans Current (c ∷ cs) value
     by true p ih e = means_onto (c ∷ []) cs value c (content_from n cs) (inl (refl, p)) (ih cs) e
     by false p ih e = escaped (escape_at (c ∷ cs)) refl ih e
 
+-- the value that the function gives is one that the relation has
 pub content_means : (content value : List ℕ) → content_value content ≡ Some value → StringMeans Current content value
 unfolding content_value
 content_means content value e = means_from (length content) content value e
@@ -53,15 +55,15 @@ content_means content value e = means_from (length content) content value e
 -- ---- and what it says is found
 
 plain_step : (n c : ℕ) (cs : List ℕ) → is_plain c ≡ true → content_from (suc n) (c ∷ cs) ≡ onto c (content_from n cs)
-plain_step n c cs p = ap (λ b. cond b (onto c (content_from n cs)) (behind_escape (content_from n) (c ∷ cs) (escape_at (c ∷ cs)))) p
+plain_step n c cs p = ap (λ b. cond b (onto c (content_from n cs)) (with_escape (content_from n) (c ∷ cs) (escape_at (c ∷ cs)))) p
 
 escape_step : (n c : ℕ) (unit rest : List ℕ) → EscapeMeans unit c → content_from (suc n) (unit ++ rest) ≡ onto c (content_from n rest)
 escape_step n c unit rest m =
     let f = escape_front unit c m in
     let begin : unit ++ rest ≡ 92 ∷ (f.0 ++ rest) = ap (λ x. x ++ rest) f.1 in
     ap (content_from (suc n)) begin
-    ∙ ap (λ t. behind_escape (content_from n) t (escape_at t)) (sym begin)
-    ∙ ap (behind_escape (content_from n) (unit ++ rest)) (escape_reads unit rest c m)
+    ∙ ap (λ t. with_escape (content_from n) t (escape_at t)) (sym begin)
+    ∙ ap (with_escape (content_from n) (unit ++ rest)) (escape_reads unit rest c m)
     ∙ ap (λ t. onto c (content_from n t)) (drop-append_seam unit rest)
 
 unit_step : (n c : ℕ) (unit rest : List ℕ) → UnitMeans Current unit c → content_from (suc n) (unit ++ rest) ≡ onto c (content_from n rest)
@@ -81,7 +83,16 @@ from_units (suc n) (u ∷ us) (c ∷ cs) m h =
     let short : length (concat us) ≤ n = omega (arith, unit_some u c m.0, length-append u (concat us)) in
     unit_step n c u (concat us) m.0 ∙ ap (onto c) (from_units n us cs m.1 short)
 
+-- and the one that the relation has is given
 pub means_content : (content value : List ℕ) → StringMeans Current content value → content_value content ≡ Some value
 unfolding content_value
 means_content content value m =
     ap (λ t. content_from (length t) t) m.1 ∙ from_units (length (concat m.0)) m.0 value m.2 (omega arith)
+
+-- where the content has no meaning, none is given
+pub content_none : (content : List ℕ) → ¬ IsContent Current content → content_value content ≡ None
+content_none content none = by (content_value content) refl
+  where
+    by : (o : Option (List ℕ)) → content_value content ≡ o → o ≡ None
+    by None e = refl
+    by (Some value) e = absurd (none (value, content_means content value e))

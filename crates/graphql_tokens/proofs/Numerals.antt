@@ -4,7 +4,7 @@ use Rattle.std.proofs.lemmas.Bool.Decides.{nat_tests}
 use Rattle.std.proofs.lemmas.List.{append-nil}
 use Rattle.std.specs.Char.{is_ascii_digit}
 use Rattle.graphql_tokens.specs.tokens.Numbers.{AllDigits, AreDigits, is_minus, is_sign, is_e, IsOptional, IsWhole, IsFraction, IsExponent, IsNumber}
-use Rattle.graphql_tokens.specs.inner.Numerals.{past_optional, past_all, past_digits, past_whole, past_fraction, past_exponent, then_past, past_numeral, is_nothing, is_numeral}
+use Rattle.graphql_tokens.specs.inner.Numerals.{past_optional, past_any_digits, past_some_digits, past_whole, past_fraction, past_exponent, then_past, past_numeral, is_nothing, is_numeral}
 use Rattle.graphql_tokens.proofs.Options.{some_same}
 
 -- the text is a text of the set, and then the rest
@@ -23,36 +23,36 @@ optional_takes p (c ∷ cs) = by (p c) refl
     by true e = record { part = c ∷ []; is = inr (c, e, refl); whole = refl }
     by false e = record { part = []; is = inl refl; whole = refl }
 
-all_cons : (c : ℕ) (cs : List ℕ) → Takes AllDigits cs (past_all cs) → (b : Bool) → is_ascii_digit c ≡ b → Takes AllDigits (c ∷ cs) (cond b (past_all cs) (c ∷ cs))
+all_cons : (c : ℕ) (cs : List ℕ) → Takes AllDigits cs (past_any_digits cs) → (b : Bool) → is_ascii_digit c ≡ b → Takes AllDigits (c ∷ cs) (cond b (past_any_digits cs) (c ∷ cs))
 all_cons c cs t true e = record { part = c ∷ t.part; is = (e, t.is); whole = ap (λ x. c ∷ x) t.whole }
 all_cons c cs t false e = record { part = []; is = tt; whole = refl }
 
-all_takes : (text : List ℕ) → Takes AllDigits text (past_all text)
+all_takes : (text : List ℕ) → Takes AllDigits text (past_any_digits text)
 all_takes [] = record { part = []; is = tt; whole = refl }
 all_takes (c ∷ cs) = all_cons c cs (all_takes cs) (is_ascii_digit c) refl
 
-digits_takes : (text rest : List ℕ) → past_digits text ≡ Some rest → Takes AreDigits text rest
+digits_takes : (text rest : List ℕ) → past_some_digits text ≡ Some rest → Takes AreDigits text rest
 digits_takes [] rest e = absurd cc
 digits_takes (c ∷ cs) rest e = by (is_ascii_digit c) refl e
   where
-    by : (b : Bool) → is_ascii_digit c ≡ b → cond b (Some (past_all cs)) None ≡ Some rest → Takes AreDigits (c ∷ cs) rest
-    by true d e = let t = all_takes cs in record { part = c ∷ t.part; is = (d, t.is); whole = ap (λ x. c ∷ x) t.whole ∙ ap (λ r. c ∷ (t.part ++ r)) (some_same (past_all cs) rest e) }
+    by : (b : Bool) → is_ascii_digit c ≡ b → cond b (Some (past_any_digits cs)) None ≡ Some rest → Takes AreDigits (c ∷ cs) rest
+    by true d e = let t = all_takes cs in record { part = c ∷ t.part; is = (d, t.is); whole = ap (λ x. c ∷ x) t.whole ∙ ap (λ r. c ∷ (t.part ++ r)) (some_same (past_any_digits cs) rest e) }
     by false d e = absurd cc
 
 whole_takes : (text rest : List ℕ) → past_whole text ≡ Some rest → Takes IsWhole text rest
 whole_takes [] rest e = absurd cc
 whole_takes (c ∷ cs) rest e = by (eqb c 48) refl (is_ascii_digit c) refl e
   where
-    by : (z : Bool) → eqb c 48 ≡ z → (b : Bool) → is_ascii_digit c ≡ b → cond z (Some cs) (cond b (Some (past_all cs)) None) ≡ Some rest → Takes IsWhole (c ∷ cs) rest
+    by : (z : Bool) → eqb c 48 ≡ z → (b : Bool) → is_ascii_digit c ≡ b → cond z (Some cs) (cond b (Some (past_any_digits cs)) None) ≡ Some rest → Takes IsWhole (c ∷ cs) rest
     by true z b d e = record { part = c ∷ []; is = inl (grind (arith, nat_tests), refl); whole = ap (λ r. c ∷ r) (some_same cs rest e) }
-    by false z true d e = let t = all_takes cs in record { part = c ∷ t.part; is = inr (z, d, t.is); whole = ap (λ x. c ∷ x) t.whole ∙ ap (λ r. c ∷ (t.part ++ r)) (some_same (past_all cs) rest e) }
+    by false z true d e = let t = all_takes cs in record { part = c ∷ t.part; is = inr (z, d, t.is); whole = ap (λ x. c ∷ x) t.whole ∙ ap (λ r. c ∷ (t.part ++ r)) (some_same (past_any_digits cs) rest e) }
     by false z false d e = absurd cc
 
 fraction_takes : (text rest : List ℕ) → past_fraction text ≡ Some rest → Takes IsFraction text rest
 fraction_takes [] rest e = record { part = []; is = tt; whole = some_same [] rest e }
 fraction_takes (c ∷ cs) rest e = by (eqb c 46) refl e
   where
-    by : (b : Bool) → eqb c 46 ≡ b → cond b (past_digits cs) (Some (c ∷ cs)) ≡ Some rest → Takes IsFraction (c ∷ cs) rest
+    by : (b : Bool) → eqb c 46 ≡ b → cond b (past_some_digits cs) (Some (c ∷ cs)) ≡ Some rest → Takes IsFraction (c ∷ cs) rest
     by true d e = let t = digits_takes cs rest e in record { part = c ∷ t.part; is = (grind (arith, nat_tests), t.is); whole = ap (λ x. c ∷ x) t.whole }
     by false d e = record { part = []; is = tt; whole = some_same (c ∷ cs) rest e }
 
@@ -60,7 +60,7 @@ exponent_takes : (text rest : List ℕ) → past_exponent text ≡ Some rest →
 exponent_takes [] rest e = record { part = []; is = tt; whole = some_same [] rest e }
 exponent_takes (c ∷ cs) rest e = by (is_e c) refl e
   where
-    by : (b : Bool) → is_e c ≡ b → cond b (past_digits (past_optional is_sign cs)) (Some (c ∷ cs)) ≡ Some rest → Takes IsExponent (c ∷ cs) rest
+    by : (b : Bool) → is_e c ≡ b → cond b (past_some_digits (past_optional is_sign cs)) (Some (c ∷ cs)) ≡ Some rest → Takes IsExponent (c ∷ cs) rest
     by true d e =
         let s = optional_takes is_sign cs in
         let t = digits_takes (past_optional is_sign cs) rest e in
@@ -109,28 +109,28 @@ optional_only : (p : ℕ → Bool) (w rest : List ℕ) → IsOptional p w → He
 optional_only p w rest (inl e) h = ap (λ x. past_optional p (x ++ rest)) e ∙ optional_stays p rest h
 optional_only p w rest (inr s) h = ap (λ x. past_optional p (x ++ rest)) s.2 ∙ ap (λ b. cond b rest (s.0 ∷ rest)) s.1
 
-all_stays : (text : List ℕ) → Heads is_ascii_digit text → past_all text ≡ text
+all_stays : (text : List ℕ) → Heads is_ascii_digit text → past_any_digits text ≡ text
 all_stays [] h = refl
-all_stays (c ∷ cs) h = ap (λ b. cond b (past_all cs) (c ∷ cs)) h
+all_stays (c ∷ cs) h = ap (λ b. cond b (past_any_digits cs) (c ∷ cs)) h
 
-all_only : (w rest : List ℕ) → AllDigits w → Heads is_ascii_digit rest → past_all (w ++ rest) ≡ rest
+all_only : (w rest : List ℕ) → AllDigits w → Heads is_ascii_digit rest → past_any_digits (w ++ rest) ≡ rest
 all_only [] rest a h = all_stays rest h
-all_only (c ∷ cs) rest a h = ap (λ b. cond b (past_all (cs ++ rest)) (c ∷ (cs ++ rest))) a.0 ∙ all_only cs rest a.1 h
+all_only (c ∷ cs) rest a h = ap (λ b. cond b (past_any_digits (cs ++ rest)) (c ∷ (cs ++ rest))) a.0 ∙ all_only cs rest a.1 h
 
-digits_only : (w rest : List ℕ) → AreDigits w → Heads is_ascii_digit rest → past_digits (w ++ rest) ≡ Some rest
+digits_only : (w rest : List ℕ) → AreDigits w → Heads is_ascii_digit rest → past_some_digits (w ++ rest) ≡ Some rest
 digits_only [] rest a h = absurd a
-digits_only (c ∷ cs) rest a h = ap (λ b. cond b (Some (past_all (cs ++ rest))) None) a.0 ∙ ap (λ x. Some x) (all_only cs rest a.1 h)
+digits_only (c ∷ cs) rest a h = ap (λ b. cond b (Some (past_any_digits (cs ++ rest))) None) a.0 ∙ ap (λ x. Some x) (all_only cs rest a.1 h)
 
 whole_only : (w rest : List ℕ) → IsWhole w → Heads is_ascii_digit rest → past_whole (w ++ rest) ≡ Some rest
 whole_only [] rest a h = absurd a
 whole_only (c ∷ cs) rest (inl z) h =
     ap (λ d. past_whole (d ∷ (cs ++ rest))) z.0 ∙ ap (λ x. Some (x ++ rest)) z.1
 whole_only (c ∷ cs) rest (inr n) h =
-    ap (λ b. cond b (Some (cs ++ rest)) (past_digits (c ∷ (cs ++ rest)))) n.0 ∙ digits_only (c ∷ cs) rest (n.1, n.2) h
+    ap (λ b. cond b (Some (cs ++ rest)) (past_some_digits (c ∷ (cs ++ rest)))) n.0 ∙ digits_only (c ∷ cs) rest (n.1, n.2) h
 
 fraction_only : (w rest : List ℕ) → IsFraction w → Heads is_ascii_digit rest → Heads is_point rest → past_fraction (w ++ rest) ≡ Some rest
 fraction_only [] [] a h p = refl
-fraction_only [] (c ∷ cs) a h p = ap (λ b. cond b (past_digits cs) (Some (c ∷ cs))) p
+fraction_only [] (c ∷ cs) a h p = ap (λ b. cond b (past_some_digits cs) (Some (c ∷ cs))) p
 fraction_only (c ∷ cs) rest a h p = ap (λ d. past_fraction (d ∷ (cs ++ rest))) a.0 ∙ digits_only cs rest a.1 h
 
 digits_head : (w rest : List ℕ) → AreDigits w → Heads is_sign (w ++ rest)
@@ -139,15 +139,15 @@ digits_head (c ∷ cs) rest a = let d = a.0 in grind (arith, nat_tests)
 
 exponent_only : (w rest : List ℕ) → IsExponent w → Heads is_ascii_digit rest → Heads is_e rest → past_exponent (w ++ rest) ≡ Some rest
 exponent_only [] [] a h p = refl
-exponent_only [] (c ∷ cs) a h p = ap (λ b. cond b (past_digits (past_optional is_sign cs)) (Some (c ∷ cs))) p
+exponent_only [] (c ∷ cs) a h p = ap (λ b. cond b (past_some_digits (past_optional is_sign cs)) (Some (c ∷ cs))) p
 exponent_only (c ∷ cs) rest a h p =
     let sign = a.1.0 in
     let digits = a.1.1 in
     let after : past_optional is_sign (cs ++ rest) ≡ digits ++ rest =
     ap (λ x. past_optional is_sign (x ++ rest)) a.1.2 ∙ ap (past_optional is_sign) (append_assoc sign digits rest)
     ∙ optional_only is_sign sign (digits ++ rest) a.1.3 (digits_head digits rest a.1.4) in
-    ap (λ b. cond b (past_digits (past_optional is_sign (cs ++ rest))) (Some (c ∷ (cs ++ rest)))) a.0
-    ∙ ap past_digits after ∙ digits_only digits rest a.1.4 h
+    ap (λ b. cond b (past_some_digits (past_optional is_sign (cs ++ rest))) (Some (c ∷ (cs ++ rest)))) a.0
+    ∙ ap past_some_digits after ∙ digits_only digits rest a.1.4 h
 
 exponent_heads : (w rest : List ℕ) → IsExponent w → Heads is_ascii_digit rest → Heads is_point rest → Heads is_ascii_digit (w ++ rest) × Heads is_point (w ++ rest)
 exponent_heads [] rest a h p = (h, p)

@@ -12,7 +12,7 @@ use Rattle.graphql_tokens.specs.tokens.Cuts.{token, Cuts}
 use Rattle.graphql_tokens.specs.tokens.Proper.{IsProper, AreProperButFaults}
 use Rattle.graphql_tokens.specs.declared.lexer.TokenKind.{TokenKind}
 use Rattle.graphql_tokens.specs.declared.lexer.TokenKind.TheVariants.{Punct, Name, Number, String, Block, Fault, End}
-use Rattle.graphql_tokens.proofs.Lists.{Behind}
+use Rattle.graphql_tokens.proofs.Lists.{Stands}
 
 abbrev AreScalars : List ℕ → Type 0
 AreScalars w = AllByRecursion IsScalar w
@@ -43,20 +43,20 @@ token_proper Fault here w rest h b = absurd b.spelled
 token_proper End here w rest h b = absurd b.spelled
 
 proper_step : (here after : List ℕ) (t : Token) (ts : List Token) → AreScalars after → ((f r : List ℕ) → AreScalars r → Cuts Current f r ts → AreProperButFaults ts)
-    → Behind Current here after t ts → AreProperButFaults (t ∷ ts)
+    → Stands Current here after t ts → AreProperButFaults (t ∷ ts)
 proper_step here after t ts h ih (inl b) =
-    let s = scalars_split b.1 b.2 (subst AreScalars b.3 h) in
-    (inr (subst IsProper (sym b.5) (token_proper b.0 here b.1 b.2 s.0 b.4)), ih (here ++ b.1) b.2 s.1 b.6)
+    let s = scalars_split b.0.word b.0.rest (subst AreScalars b.0.whole h) in
+    (inr (subst IsProper (sym b.0.is) (token_proper b.0.kind here b.0.word b.0.rest s.0 b.0.begins)), ih (here ++ b.0.word) b.0.rest s.1 b.1)
 proper_step here after t ts h ih (inr (inl b)) =
-    (inr (subst IsProper (sym b.1) refl), subst AreProperButFaults (sym b.2) tt)
+    (inr (subst IsProper (sym b.0.is) refl), subst AreProperButFaults (sym b.1) tt)
 proper_step here after t ts h ih (inr (inr b)) =
-    (inl (ap (λ x. x.bare.kind) b.2), subst AreProperButFaults (sym b.3) tt)
+    (inl (ap (λ x. x.bare.kind) b.0.is), subst AreProperButFaults (sym b.1) tt)
 
 pub cuts_proper : (front text : List ℕ) (ts : List Token) → AllByRecursion IsScalar text → Cuts Current front text ts → AreProperButFaults ts
 cuts_proper front text [] h c = absurd c
 cuts_proper front text (t ∷ ts) h c =
-    let s = scalars_split (concat c.0) c.1 (subst AreScalars c.2 h) in
-    proper_step (front ++ concat c.0) c.1 t ts s.1 (λ f r k d. cuts_proper f r ts k d) c.4
+    let s = scalars_split (concat c.0.pieces) c.0.after (subst AreScalars c.0.whole h) in
+    proper_step (front ++ concat c.0.pieces) c.0.after t ts s.1 (λ f r k d. cuts_proper f r ts k d) c.1
 
 -- and so is what is left of the list
 pub proper_drop : (n : ℕ) (ts : List Token) → AreProperButFaults ts → AreProperButFaults (drop n ts)

@@ -3,7 +3,6 @@ pub mod Blocks
 pub mod Calculator
 pub mod Contents
 pub mod Cursor
-pub mod Escapes
 pub mod Lexer
 pub mod Lexing
 pub mod NameText

@@ -5,6 +5,7 @@ pub mod Classes
 pub mod Cuts
 pub mod Edition
 pub mod Ignored
+pub mod Kinds
 pub mod Numbers
 pub mod Place
 pub mod Proper

@@ -7,17 +7,17 @@ ghost use Rattle.graphql_tokens.specs.inner.Reading.{next, quoted};
 ghost use Rattle.graphql_tokens.specs.inner.Running.{ahead};
 ghost use Rattle.graphql_tokens.specs.inner.Lexing.{RunsOver, IsFirstByte};
 
-mod class;
-mod number;
+pub(crate) mod class;
+pub(crate) mod number;
 mod quoted;
-mod reading;
+pub(crate) mod reading;
 
 use crate::pos::Pos;
 use crate::pos::running::RunningPlace;
 use class::{is_name_start, is_number_start, is_punct};
 use number::pass_number;
 use quoted::{pass_block, pass_string};
-use reading::{pass_char, pass_ignored, pass_points, pass_word, peek};
+use reading::{pass_char, pass_dots, pass_ignored, pass_name_chars, peek};
 use std::iter::FusedIterator;
 use std::marker::Model;
 
@@ -30,17 +30,68 @@ pub enum TokenKind {
     Name,
     /// A number: an integer or a float.
     Number,
-    /// A string in single quotes, with its quotes.
+    /// A string that is no block string, with its quotes.
     String,
     /// A block string, with its quotes.
     Block,
-    /// The place where no token begins. Nothing is read behind it.
+    /// The place where no token begins. Nothing is read after it.
     Fault,
     /// The end of the text.
     End,
 }
 
 impl TokenKind {
+    ghost use Rattle.graphql_tokens.specs.tokens.Kinds as kinds;
+
+    /// Whether it is a punctuator.
+    #[inline(always)]
+    pub fn is_punct(self) -> bool
+        ensures { result ≡ kinds.is_punct self }
+    {
+        matches!(self, TokenKind::Punct)
+    }
+
+    /// Whether it is a name.
+    #[inline(always)]
+    pub fn is_name(self) -> bool
+        ensures { result ≡ kinds.is_name self }
+    {
+        matches!(self, TokenKind::Name)
+    }
+
+    /// Whether it is a number.
+    #[inline(always)]
+    pub fn is_number(self) -> bool
+        ensures { result ≡ kinds.is_number self }
+    {
+        matches!(self, TokenKind::Number)
+    }
+
+    /// Whether it is a string, and no block string.
+    #[inline(always)]
+    pub fn is_string(self) -> bool
+        ensures { result ≡ kinds.is_string self }
+    {
+        matches!(self, TokenKind::String)
+    }
+
+    /// Whether it is a block string.
+    #[inline(always)]
+    pub fn is_block(self) -> bool
+        ensures { result ≡ kinds.is_block self }
+    {
+        matches!(self, TokenKind::Block)
+    }
+
+    /// Whether it is the end of the text.
+    #[inline(always)]
+    pub fn is_end(self) -> bool
+        ensures { result ≡ kinds.is_end self }
+    {
+        matches!(self, TokenKind::End)
+    }
+
+    // Whether no token comes after it.
     #[inline(always)]
     fn is_last(self) -> bool
         ensures { result ≡ is_last self }
@@ -63,7 +114,7 @@ pub struct Token<'a> {
     pub pos: Pos,
 }
 
-// The kind, where its spelling was found, and otherwise a fault.
+// This kind where its spelling was found, and a fault where it wasn't.
 #[inline(always)]
 fn found(kind: TokenKind, is_found: bool) -> TokenKind
     ensures { result ≡ (if is_found then kind else TokenKind.Fault) }
@@ -71,8 +122,7 @@ fn found(kind: TokenKind, is_found: bool) -> TokenKind
     if is_found { kind } else { TokenKind::Fault }
 }
 
-// The kind of the string or block string of which the first quote is passed, and which is passed too,
-// unless it is a fault.
+// Passes a string or a block string after its first quote, and gives its kind, or a fault.
 #[inline(always)]
 fn pass_quoted(bytes: &[u8], places: &mut RunningPlace) -> TokenKind
     requires { RunsOver bytes.now places.old }
@@ -90,11 +140,15 @@ fn pass_quoted(bytes: &[u8], places: &mut RunningPlace) -> TokenKind
     found(TokenKind::Block, pass_block(bytes, places))
 }
 
-// The kind of the token that is next, where it is neither a name nor a punctuator of one character, and the
-// place behind it. It takes and gives a place by value and is never inlined: so the caller's own place has no
-// address, and stays in registers.
+// Passes a token that is neither a name nor a punctuator of one character, and gives its kind and the place after it.
+// `b` is the token's first byte. It takes and gives a place by value and is never inlined, so that the caller's own
+// place has no address and stays in registers.
 #[inline(never)]
-fn rare_token<'a>(bytes: &[u8], start: RunningPlace<'a>, b: u8) -> (TokenKind, RunningPlace<'a>)
+fn pass_other_token<'a>(
+    bytes: &[u8],
+    start: RunningPlace<'a>,
+    b: u8,
+) -> (TokenKind, RunningPlace<'a>)
     requires runs { RunsOver bytes.now start }
     requires first { IsFirstByte b (ahead start) }
     requires no_name { classes.is_name_start b ≡ false }
@@ -117,14 +171,14 @@ fn rare_token<'a>(bytes: &[u8], start: RunningPlace<'a>, b: u8) -> (TokenKind, R
     }
     if b == b'.' {
         places.pass_ascii();
-        let is_three = pass_points(bytes, &mut places);
+        let is_three = pass_dots(bytes, &mut places);
         let kind = found(TokenKind::Punct, is_three);
         return (kind, places);
     }
     (TokenKind::Fault, places)
 }
 
-// The kind of the token that is next, which is passed, unless it is a fault.
+// Passes the token that is next and gives its kind. After a fault the place may be anywhere ahead.
 #[inline(always)]
 fn pass_token(bytes: &[u8], places: &mut RunningPlace) -> TokenKind
     requires { RunsOver bytes.now places.old }
@@ -138,15 +192,15 @@ fn pass_token(bytes: &[u8], places: &mut RunningPlace) -> TokenKind
     };
     if is_name_start(b) {
         places.pass_ascii();
-        pass_word(bytes, places);
+        pass_name_chars(bytes, places);
         return TokenKind::Name;
     }
     if is_punct(b) {
         places.pass_ascii();
         return TokenKind::Punct;
     }
-    let (kind, behind) = rare_token(bytes, *places, b);
-    *places = behind;
+    let (kind, after) = pass_other_token(bytes, *places, b);
+    *places = after;
     kind
 }
 
@@ -176,8 +230,8 @@ impl<'a> Tokens<'a> {
     ghost use Rattle.std.specs.Str.{chars};
     ghost use Rattle.graphql_tokens.specs.tokens.Token.{Token as SpecToken, left};
     ghost use Rattle.graphql_tokens.specs.tokens.Edition.{Former};
-    ghost use Rattle.graphql_tokens.specs.tokens.Cuts.{Cuts, EndsOnce, HasNoFault};
-    ghost use Rattle.graphql_tokens.specs.tokens.Proper.{IsCutInto, AreProperButFaults};
+    ghost use Rattle.graphql_tokens.specs.tokens.Cuts.{Cuts, IsCutInto, EndsOnce, HasNoFault};
+    ghost use Rattle.graphql_tokens.specs.tokens.Proper.{AreProperButFaults};
     ghost use Rattle.graphql_tokens.specs.tokens.Seen.{seen};
 
     /// The tokens of `text`. Characters between tokens that are ignored are tabs, spaces, commas, line

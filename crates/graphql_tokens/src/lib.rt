@@ -6,7 +6,7 @@
 //! literals; equality and clones of names and numbers are those of their texts.
 //!
 //! What a reader of the contracts has to believe stands in `specs/tokens` and `specs/calls`; `specs/inner` is
-//! inner. Every call that takes memory is handed the allocator and can answer want of it.
+//! inner. Every call that takes memory is handed the allocator, and fails where memory runs out.
 #![tactic(auto)]
 
 pub mod lexer;

@@ -1,4 +1,4 @@
-//! Numbers, as the literal that was written.
+//! Number literals, as they were written.
 ghost use Rattle.std.specs.Prelude.{◌≡◌, ◌↔◌, ◌≤◌, ◌^◌, ℕ, ℤ, pos, Ok, Some, None, IfOk, IfSome, IfNone, IsTrue, FitsSigned, nat_eq};
 ghost use Rattle.std.specs.Int.{w64};
 ghost use Rattle.std.specs.Fmt.{styled_text};
@@ -7,12 +7,24 @@ ghost use Rattle.std.specs.Cmp.Lexicographic.{pointwise, nat_list_eq_equiv};
 ghost use Rattle.std.specs.Cmp.{partial_equiv_from_equiv};
 ghost use Rattle.graphql_tokens.specs.tokens.Numbers.{IsNumber};
 ghost use Rattle.graphql_tokens.specs.calls.Integers.{IsIntegerOf};
+ghost use Rattle.graphql_tokens.specs.inner.Numerals.{is_numeral};
 
-mod numeral;
-
+use crate::lexer::number::pass_number;
+use crate::lexer::reading::has_more;
+use crate::pos::running::RunningPlace;
 use std::alloc::{AllocError, Global};
 use std::fmt;
 use std::marker::Model;
+
+// Whether the text is a number literal, from its first byte to its last. The lexer's reader of numbers tells.
+fn is_number(text: &str) -> bool
+    ensures { result ≡ is_numeral text.now }
+{
+    let bytes = text.as_bytes();
+    let mut places = RunningPlace::new(text);
+    let is_passed = pass_number(bytes, &mut places);
+    is_passed && !has_more(bytes, &places)
+}
 
 /// A number, as the literal that was written: nothing is rounded and nothing rewritten.
 ///
@@ -36,12 +48,12 @@ impl Number {
     /// The number of this literal, or None exactly where the text is no number literal of the
     /// grammar (GraphQL October 2021, sections 2.9.1 and 2.9.2).
     ///
-    /// Fails only where no memory is left for the text of a literal; a refusal takes none.
+    /// It fails only where memory runs out for the text of a literal; a refusal takes none.
     pub fn new(alloc: Global, text: &str) -> Result<Option<Number>, AllocError>
         ensures number { IfOk result (λ number. SomeIff number (IsNumber text.now) text.now) }
         ensures refused { ¬ IsNumber text.now → result ≡ Ok None }
     {
-        if !numeral::is_number(text) {
+        if !is_number(text) {
             return Ok(None);
         }
         Ok(Some(Number(String::from_str(alloc, text)?)))

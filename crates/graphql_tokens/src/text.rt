@@ -1,8 +1,9 @@
 //! What strings and block strings mean.
 
-ghost use Rattle.std.specs.Prelude.{◌≡◌, ◌≤◌, ◌+◌, drop, length, slice_index, IfOk, IfSome, IfNone, List, ℕ, string_bytes};
+ghost use Rattle.std.specs.Prelude.{◌≡◌, ◌≤◌, ◌<◌, Bool, ◌+◌, drop, length, slice_index, IfOk, IfSome, IfNone, Some, List, ℕ, string_bytes};
 ghost use Rattle.std.specs.List.{prefix_len};
 ghost use Rattle.std.specs.Str.{chars};
+ghost use Rattle.graphql_tokens.specs.calls.Contents.{content_value};
 ghost use Rattle.graphql_tokens.specs.tokens.BlockText.{block_value};
 ghost use Rattle.graphql_tokens.specs.tokens.Edition.{Former, Current};
 ghost use Rattle.graphql_tokens.specs.tokens.Strings.{is_plain as is_plain_char, StringMeans, IsContent};
@@ -10,6 +11,7 @@ ghost use Rattle.graphql_tokens.specs.tokens.Strings.{is_plain as is_plain_char,
 mod block;
 pub(crate) mod escape;
 
+use crate::lexer::class::is_plain;
 use block::{first_text, last_text, layout_of, push_lines};
 use escape::escape_at;
 use std::alloc::{AllocError, Global};
@@ -22,11 +24,19 @@ fn byte(bytes: &[u8], at: usize) -> u8
     if at < bytes.len() { bytes[at] } else { 0 }
 }
 
+// Where the first byte from `start` on stands that fails the test, or the end of the bytes.
 #[inline(always)]
-fn is_plain(b: u8) -> bool
-    ensures { result ≡ is_plain_char b }
+fn past_while<F: Fn(u8) -> bool>(bytes: &[u8], start: usize, test: F) -> usize
+    requires from { start ≤ length bytes.now }
+    requires callable { F.IsAlwaysCallable test }
+    ensures value { (p : ℕ → Bool) → ((b : ℕ) (r : Bool) → b < 256 → F.post test b r → r ≡ p b) → result ≡ start + prefix_len p (drop start bytes.now) }
+    ensures within { result ≤ length bytes.now }
 {
-    !matches!(b, b'"' | b'\\' | b'\n' | b'\r')
+    let mut at = start;
+    while at < bytes.len() && test(bytes[at]) {
+        at += 1;
+    }
+    at
 }
 
 // Where the first byte from `start` on stands that isn't plain.
@@ -35,28 +45,28 @@ fn past_plain(bytes: &[u8], start: usize) -> usize
     ensures value { result ≡ start + prefix_len is_plain_char (drop start bytes.now) }
     ensures within { result ≤ length bytes.now }
 {
-    let mut at = start;
-    while at < bytes.len() && is_plain(bytes[at]) {
-        at += 1;
-    }
-    at
+    past_while(bytes, start, is_plain)
 }
 
 /// The value of a string whose text between the quotes is `content`: each character but `"`, `\`, line
 /// feed and carriage return stands for itself, and each escape for the character that it names.
 ///
-/// `None` exactly where the content is no content of a string. An error comes from want of memory alone.
+/// `None` exactly where the content is no content of a string. It fails only where memory runs out.
 ///
-/// The escapes with one letter and those with four digits are from GraphQL October 2021, section 2.9.4;
-/// that `\u{..}` and surrogate pairs are escapes too is this project's choice, in the manner of later
-/// editions.
-#[tactic(auto, using(crate::proofs::Contents::former_means))]
+/// The escapes with one letter and those with four digits are from GraphQL October 2021, section 2.9.4.
+/// It is this project's choice that `\u{..}` and surrogate pairs are escapes too, that an escape which names
+/// half of a pair is none, and that any character may stand in a string.
+#[tactic(auto, using(crate::proofs::Contents::former_means, crate::proofs::Meanings::content_means))]
 pub fn string_value(alloc: Global, content: &str) -> Result<Option<String>, AllocError>
     // What it gives is the value of the content,
     ensures some { IfOk result (λ value. IfSome value (λ s. StringMeans Current (chars content.now) (chars (string_bytes s)))) }
     // and the content has no other.
     ensures only { IfOk result (λ value. IfSome value (λ s. (other : List ℕ) → StringMeans Current (chars content.now) other → other ≡ chars (string_bytes s))) }
     ensures none { IfOk result (λ value. IfNone value (¬ IsContent Current (chars content.now))) }
+    // The function `content_value` gives no value but that of the content,
+    ensures sound { (value : List ℕ) → content_value (chars content.now) ≡ Some value → StringMeans Current (chars content.now) value }
+    // and gives it wherever there is one.
+    ensures complete { (value : List ℕ) → StringMeans Current (chars content.now) value → content_value (chars content.now) ≡ Some value }
     // What a content meant in the former edition, it means now.
     ensures former { (value : List ℕ) → StringMeans Former (chars content.now) value → StringMeans Current (chars content.now) value }
 {
@@ -79,15 +89,15 @@ pub fn string_value(alloc: Global, content: &str) -> Result<Option<String>, Allo
     Ok(Some(value))
 }
 
-/// The value of a block string whose text between the quotes is `raw`: each `\"""` stands for `"""`; the
-/// lines, which end at CR LF, LF or CR, lose their common indent, but for the first; blank lines at the
-/// front and at the end go; the others are joined by line feeds. A line is blank that holds tabs and
-/// spaces alone, or nothing, and the indent is of the lines that aren't.
+/// The value of a block string whose text between the quotes is `raw`. Each `\"""` stands for `"""`. Lines end
+/// at CR LF, LF or CR, and all but the first lose their common indent. Blank lines at the front and at the end
+/// go, and the others are joined by line feeds. A line is blank that holds tabs and spaces alone, or nothing.
+/// The common indent is the least one of the lines after the first that aren't blank.
 ///
-/// Every text has a value. An error comes from want of memory alone.
+/// Every text has a value. It fails only where memory runs out.
 ///
-/// GraphQL October 2021, section 2.9.4, but for a blank line that is shorter than the indent: it stays as
-/// it is, which is this project's choice.
+/// GraphQL October 2021, section 2.9.4. It departs in one thing: a blank line that is shorter than the common
+/// indent stays as it is (this project's choice).
 pub fn block_string_value(alloc: Global, raw: &str) -> Result<String, AllocError>
     ensures { IfOk result (λ value. chars (string_bytes value) ≡ block_value (chars raw.now)) }
 {

@@ -1,6 +1,6 @@
 -- What the code finds in the raw text of a block string, on the way to its value.
 use Rattle.std.specs.Prelude.{◌≡◌, ◌≢◌, ◌≤◌, ◌<◌, ℕ, Bool, true, false, if◌then◌else◌, ◌||◌, ◌==◌, nat_lt, min, List, [], ◌∷◌, length, take, drop, map, slice_index, not, Option, Some, None}
-use Rattle.std.specs.Str.{IsCharBoundary}
+use Rattle.std.specs.Str.{IsCharBoundary, byte}
 use Rattle.graphql_tokens.specs.tokens.Place.{is_line_end}
 use Rattle.graphql_tokens.specs.tokens.BlockText.{begins_quotes, unquoted, lines_of, is_blank_char, is_blank, indent, from_text, to_text, joined}
 
@@ -10,7 +10,7 @@ is_space c = is_blank_char c || is_line_end c
 
 -- how many characters end the line at the front of the text
 abbrev pub end_len : List ℕ → ℕ
-end_len text = if slice_index text 0 == 13 then (if slice_index text 1 == 10 then 2 else 1) else 1
+end_len text = if slice_index text 0 == byte "\r" then (if slice_index text 1 == byte "\n" then 2 else 1) else 1
 
 -- the lines that count for the indent: all, or all but the first
 abbrev pub counted : Bool → List (List ℕ) → List (List ℕ)
@@ -55,7 +55,7 @@ pub record EndsText (text : List ℕ) (at : ℕ) : Type 0 where
 
 -- neither a carriage return nor `\"""` stands at a place from the start up to the end
 abbrev pub IsPlainBetween : List ℕ → ℕ → ℕ → Type 0
-IsPlainBetween text start end = (k : ℕ) → start ≤ k → k < end → (slice_index text k ≢ 13) × (begins_quotes (drop k text) ≡ false)
+IsPlainBetween text start end = (k : ℕ) → start ≤ k → k < end → (slice_index text k ≢ byte "\r") × (begins_quotes (drop k text) ≡ false)
 
 abbrev pub IsUnquotedBetween : List ℕ → ℕ → ℕ → Type 0
 IsUnquotedBetween text start end = (k : ℕ) → start ≤ k → k < end → begins_quotes (drop k text) ≡ false

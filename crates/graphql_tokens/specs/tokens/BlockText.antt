@@ -1,14 +1,16 @@
 -- What the raw text of a block string means.
+-- Source: GraphQL October 2021, section 2.9.4 (String Value), `BlockStringValue`. It departs in one thing, at `dedented`.
 use Rattle.std.specs.Prelude.{ℕ, Bool, not, if◌then◌else◌, ◌||◌, ◌&&◌, ◌==◌, nat_lt, min, List, [], ◌∷◌, length, drop, map, filter, slice_index}
 use Rattle.std.specs.List.{list_all, prefix_len, join_with_byte}
+use Rattle.std.specs.Str.{byte}
 
 -- ---- each `\"""` stands for `"""`
 
 -- `\"""` begins the text
 abbrev pub begins_quotes : List ℕ → Bool
-begins_quotes text = slice_index text 0 == 92 && slice_index text 1 == 34 && slice_index text 2 == 34 && slice_index text 3 == 34
+begins_quotes text = slice_index text 0 == byte "\\" && slice_index text 1 == byte "\"" && slice_index text 2 == byte "\"" && slice_index text 3 == byte "\""
 
--- its backslash goes
+-- the text without the backslash of each `\"""`
 abbrev pub unquoted : List ℕ → List ℕ
 unquoted [] = []
 unquoted (c ∷ cs) = if begins_quotes (c ∷ cs) then unquoted cs else c ∷ unquoted cs
@@ -24,20 +26,21 @@ onto_line c (line ∷ lines) = (c ∷ line) ∷ lines
 abbrev pub lines_of : List ℕ → List (List ℕ)
 lines_of [] = [] ∷ []
 lines_of (c ∷ cs) =
-    if c == 10 then [] ∷ lines_of cs
-    else (if c == 13 then (if slice_index cs 0 == 10 then lines_of cs else [] ∷ lines_of cs)
+    if c == byte "\n" then [] ∷ lines_of cs
+    else (if c == byte "\r" then (if slice_index cs 0 == byte "\n" then lines_of cs else [] ∷ lines_of cs)
     else onto_line c (lines_of cs))
 
--- tab and space
+-- a tab or a space
 abbrev pub is_blank_char : ℕ → Bool
-is_blank_char c = c == 9 || c == 32
+is_blank_char c = c == byte "\t" || c == byte " "
 
--- nothing but these
+-- a line of tabs and spaces alone, or of nothing
 abbrev pub is_blank : List ℕ → Bool
 is_blank line = list_all is_blank_char line
 
 -- ---- the common indent
 
+-- how many tabs and spaces stand at the front of the line
 abbrev pub indent : List ℕ → ℕ
 indent line = prefix_len is_blank_char line
 
@@ -47,11 +50,12 @@ least [] = 0
 least (n ∷ []) = n
 least (n ∷ m ∷ ns) = min n (least (m ∷ ns))
 
--- of the lines that aren't blank
+-- the least indent of the lines that aren't blank
 abbrev pub common_indent : List (List ℕ) → ℕ
 common_indent lines = least (map indent (filter (λ line. not (is_blank line)) lines))
 
--- without so many characters at its front; a shorter line stays as it is
+-- The line without so many characters at its front. A line that is shorter is blank, and stays as it is: this project's
+-- choice, where October 2021 leaves nothing of it.
 abbrev pub dedented : ℕ → List ℕ → List ℕ
 dedented n line = if nat_lt (length line) n then line else drop n line
 
@@ -76,7 +80,8 @@ to_text (line ∷ lines) = if list_all is_blank (line ∷ lines) then [] else li
 
 -- the lines joined by line feeds
 abbrev pub joined : List (List ℕ) → List ℕ
-joined lines = join_with_byte 10 lines
+joined lines = join_with_byte (byte "\n") lines
 
+-- Quotes are unquoted first. Then the lines lose their common indent, then the blank lines at both ends go.
 unfoldable pub block_value : List ℕ → List ℕ
 block_value raw = joined (to_text (from_text (dedent (lines_of (unquoted raw)))))

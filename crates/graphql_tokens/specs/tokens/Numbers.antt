@@ -3,6 +3,7 @@
 use Rattle.std.specs.Prelude.{◌≡◌, ℕ, Bool, true, false, ◌⊎◌, ◌||◌, ◌==◌, List, [], ◌∷◌, ◌++◌}
 use Rattle.std.specs.Char.{is_ascii_digit}
 use Rattle.std.specs.List.{AllByRecursion}
+use Rattle.std.specs.Str.{byte}
 use Rattle.graphql_tokens.specs.tokens.Classes.{is_name_char}
 
 -- any number of digits
@@ -16,15 +17,15 @@ AreDigits (c ∷ cs) = (is_ascii_digit c ≡ true) × AllDigits cs
 
 -- `-`
 abbrev pub is_minus : ℕ → Bool
-is_minus c = c == 45
+is_minus c = c == byte "-"
 
 -- `+` or `-`
 abbrev pub is_sign : ℕ → Bool
-is_sign c = c == 43 || c == 45
+is_sign c = c == byte "+" || c == byte "-"
 
 -- `e` or `E`
 abbrev pub is_e : ℕ → Bool
-is_e c = c == 101 || c == 69
+is_e c = c == byte "e" || c == byte "E"
 
 -- nothing, or one such character
 abbrev pub IsOptional : (ℕ → Bool) → List ℕ → Type 0
@@ -33,19 +34,19 @@ IsOptional p w = (w ≡ []) ⊎ ((c : ℕ) × (p c ≡ true) × (w ≡ c ∷ [])
 -- `0` alone, or digits of which the first is another
 abbrev pub IsWhole : List ℕ → Type 0
 IsWhole [] = ⊥
-IsWhole (c ∷ cs) = ((c ≡ 48) × (cs ≡ [])) ⊎ ((c == 48) ≡ false) × (is_ascii_digit c ≡ true) × AllDigits cs
+IsWhole (c ∷ cs) = ((c ≡ byte "0") × (cs ≡ [])) ⊎ ((c == byte "0") ≡ false) × (is_ascii_digit c ≡ true) × AllDigits cs
 
 -- nothing, or `.` and one digit or more
 abbrev pub IsFraction : List ℕ → Type 0
 IsFraction [] = Unit {0}
-IsFraction (c ∷ cs) = (c ≡ 46) × AreDigits cs
+IsFraction (c ∷ cs) = (c ≡ byte ".") × AreDigits cs
 
--- nothing, or `e` or `E`, then perhaps a sign, then one digit or more
+-- nothing, or `e` or `E`, then an optional sign, then one digit or more
 abbrev pub IsExponent : List ℕ → Type 0
 IsExponent [] = Unit {0}
 IsExponent (c ∷ cs) = (is_e c ≡ true) × ((sign : List ℕ) × (digits : List ℕ) × (cs ≡ sign ++ digits) × IsOptional is_sign sign × AreDigits digits)
 
--- perhaps a minus, then a whole part, a fraction and an exponent, of which the last two may be nothing
+-- an optional minus, a whole part, an optional fraction and an optional exponent
 abbrev pub IsNumber : List ℕ → Type 0
 IsNumber w =
     (sign : List ℕ) × (whole : List ℕ) × (fraction : List ℕ) × (exponent : List ℕ)
@@ -53,4 +54,4 @@ IsNumber w =
 
 -- what may not follow a number: a digit, a letter, `_` or `.`
 abbrev pub forbids_number : ℕ → Bool
-forbids_number c = is_name_char c || c == 46
+forbids_number c = is_name_char c || c == byte "."

@@ -1,18 +1,15 @@
--- Proper tokens, and the token list of a text in one word.
+-- Proper tokens: those whose bytes spell their kind. The word is this project's own.
 use Rattle.std.specs.Prelude.{◌≡◌, ℕ, ◌⊎◌, List, [], ◌∷◌}
-use Rattle.std.specs.Str.{chars, encode_utf8_all}
+use Rattle.std.specs.Str.{encode_utf8_all}
 use Rattle.std.specs.Char.{IsScalar}
 use Rattle.std.specs.List.{AllByRecursion}
 use Rattle.graphql_tokens.specs.tokens.Edition.{Current}
-use Rattle.graphql_tokens.specs.tokens.Cuts.{Cuts}
+-- `IsCutInto` stands beside `Cuts`; from here it is given on to those who still import it by this name.
+pub use Rattle.graphql_tokens.specs.tokens.Cuts.{IsCutInto}
 use Rattle.graphql_tokens.specs.tokens.Spelling.{IsSpelling}
 use Rattle.graphql_tokens.specs.tokens.Token.{Token}
 use Rattle.graphql_tokens.specs.declared.lexer.TokenKind.{TokenKind}
 use Rattle.graphql_tokens.specs.declared.lexer.TokenKind.TheVariants.{Fault, End}
-
--- the text, in UTF-8, is cut into these tokens
-abbrev pub IsCutInto : List ℕ → List Token → Type 0
-IsCutInto text tokens = Cuts Current [] (chars text) tokens
 
 -- these bytes are the UTF-8 of characters that spell the kind
 abbrev pub Spells : TokenKind → List ℕ → Type 0

@@ -1,4 +1,4 @@
--- Tokens as clauses see them.
+-- Tokens as clauses see them. GraphQL October 2021, section 2.1.6, has the kinds; the records are this project's own.
 use Rattle.std.specs.Prelude.{ℕ, List, drop}
 use Rattle.graphql_tokens.specs.declared.pos.Pos.{Pos}
 use Rattle.graphql_tokens.specs.declared.lexer.TokenKind.{TokenKind}

@@ -1,11 +1,12 @@
-//! Classes of bytes, by a table.
+//! Classes of bytes, by a table. A byte of a character that is no ASCII one is in no class but that of plain characters.
 
 ghost use Rattle.std.specs.Prelude.{◌≡◌, ◌||◌, ◌==◌, slice_index};
 ghost use Rattle.std.specs.Char.{is_ascii_digit};
+ghost use Rattle.std.specs.Str.{byte};
 ghost use Rattle.graphql_tokens.specs.tokens.Classes as classes;
 ghost use Rattle.graphql_tokens.specs.tokens.Strings as strings;
 
-const BLANK: u8 = 1;
+const IGNORED: u8 = 1;
 
 const NAME_START: u8 = 2;
 
@@ -34,6 +35,7 @@ static CLASS: [u8; 256] = [
     32, 32, 32, 32, 32, 32, 32, 32, 32, 32, 32, 32, 32, 32, 32, 32, 32, 32, 32,
 ];
 
+// All classes of the byte, a bit for each.
 #[inline(always)]
 fn class(b: u8) -> u8
     ensures { result ≡ slice_index CLASS b }
@@ -43,12 +45,13 @@ fn class(b: u8) -> u8
 
 // Whether an ASCII character is ignored between tokens.
 #[inline(always)]
-pub fn is_blank(b: u8) -> bool
+pub fn is_ignored(b: u8) -> bool
     ensures { result ≡ classes.is_ignored b }
 {
-    class(b) & BLANK != 0
+    class(b) & IGNORED != 0
 }
 
+// Whether a name may begin with it.
 #[inline(always)]
 pub fn is_name_start(b: u8) -> bool
     ensures { result ≡ classes.is_name_start b }
@@ -56,6 +59,7 @@ pub fn is_name_start(b: u8) -> bool
     class(b) & NAME_START != 0
 }
 
+// Whether a name may go on with it.
 #[inline(always)]
 pub fn is_name_char(b: u8) -> bool
     ensures { result ≡ classes.is_name_char b }
@@ -63,6 +67,7 @@ pub fn is_name_char(b: u8) -> bool
     class(b) & NAME_CHAR != 0
 }
 
+// Whether it is a punctuator of its own.
 #[inline(always)]
 pub fn is_punct(b: u8) -> bool
     ensures { result ≡ classes.is_punct b }
@@ -70,13 +75,15 @@ pub fn is_punct(b: u8) -> bool
     class(b) & PUNCT != 0
 }
 
+// Whether a number may begin with it: a digit or a minus.
 #[inline(always)]
 pub fn is_number_start(b: u8) -> bool
-    ensures { result ≡ (is_ascii_digit b || b == 45) }
+    ensures { result ≡ (is_ascii_digit b || b == byte "-") }
 {
     class(b) & NUMBER_START != 0
 }
 
+// Whether it is a decimal digit.
 #[inline(always)]
 pub fn is_digit(b: u8) -> bool
     ensures { result ≡ is_ascii_digit b }

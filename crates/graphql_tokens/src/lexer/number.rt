@@ -1,8 +1,8 @@
-//! Numbers.
+//! Number literals.
 
 ghost use Rattle.std.specs.Prelude.{◌≡◌, ◌≤◌};
 ghost use Rattle.graphql_tokens.specs.tokens.Numbers.{is_sign};
-ghost use Rattle.graphql_tokens.specs.inner.Numerals.{past_optional, past_all, past_digits, past_whole, past_fraction, past_exponent};
+ghost use Rattle.graphql_tokens.specs.inner.Numerals.{past_optional, past_any_digits, past_some_digits, past_whole, past_fraction, past_exponent};
 ghost use Rattle.graphql_tokens.specs.inner.Numbers.{past_number, unless_forbidden};
 ghost use Rattle.graphql_tokens.specs.inner.Running.{ahead};
 ghost use Rattle.graphql_tokens.specs.inner.Lexing.{RunsOver, rest_if};
@@ -11,12 +11,12 @@ use super::class::{is_digit, is_name_char};
 use super::reading::{pass_char, peek};
 use crate::pos::running::RunningPlace;
 
-// All digits that follow.
+// Passes all digits that follow.
 #[inline(always)]
-fn pass_all(bytes: &[u8], places: &mut RunningPlace)
+fn pass_any_digits(bytes: &[u8], places: &mut RunningPlace)
     requires { RunsOver bytes.now places.old }
     ensures runs { RunsOver bytes.now places.new }
-    ensures rest { ahead places.new ≡ past_all (ahead places.old) }
+    ensures rest { ahead places.new ≡ past_any_digits (ahead places.old) }
     ensures forward { places.old.cursor.offset ≤ places.new.cursor.offset }
 {
     while let Some(b) = peek(bytes, places) {
@@ -27,12 +27,12 @@ fn pass_all(bytes: &[u8], places: &mut RunningPlace)
     }
 }
 
-// One digit or more.
+// Passes one digit or more, and tells whether there was one.
 #[inline(always)]
-fn pass_digits(bytes: &[u8], places: &mut RunningPlace) -> bool
+fn pass_some_digits(bytes: &[u8], places: &mut RunningPlace) -> bool
     requires { RunsOver bytes.now places.old }
     ensures runs { RunsOver bytes.now places.new }
-    ensures rest { past_digits (ahead places.old) ≡ rest_if result (ahead places.new) }
+    ensures rest { past_some_digits (ahead places.old) ≡ rest_if result (ahead places.new) }
     ensures forward { places.old.cursor.offset ≤ places.new.cursor.offset }
 {
     let Some(b) = peek(bytes, places) else {
@@ -42,11 +42,11 @@ fn pass_digits(bytes: &[u8], places: &mut RunningPlace) -> bool
         return false;
     }
     places.pass_ascii();
-    pass_all(bytes, places);
+    pass_any_digits(bytes, places);
     true
 }
 
-// A sign, if there is one.
+// Passes an optional sign.
 #[inline(always)]
 fn pass_sign(bytes: &[u8], places: &mut RunningPlace)
     requires { RunsOver bytes.now places.old }
@@ -59,7 +59,7 @@ fn pass_sign(bytes: &[u8], places: &mut RunningPlace)
     }
 }
 
-// `0`, or digits that begin with another.
+// Passes `0`, or digits that begin with another one, and tells whether they were there.
 #[inline(always)]
 fn pass_whole(bytes: &[u8], places: &mut RunningPlace) -> bool
     requires { RunsOver bytes.now places.old }
@@ -70,9 +70,10 @@ fn pass_whole(bytes: &[u8], places: &mut RunningPlace) -> bool
     if pass_char(bytes, places, b'0') {
         return true;
     }
-    pass_digits(bytes, places)
+    pass_some_digits(bytes, places)
 }
 
+// Passes an optional fraction, and tells whether its digits were there.
 #[inline(always)]
 fn pass_fraction(bytes: &[u8], places: &mut RunningPlace) -> bool
     requires { RunsOver bytes.now places.old }
@@ -83,9 +84,10 @@ fn pass_fraction(bytes: &[u8], places: &mut RunningPlace) -> bool
     if !pass_char(bytes, places, b'.') {
         return true;
     }
-    pass_digits(bytes, places)
+    pass_some_digits(bytes, places)
 }
 
+// Passes an optional exponent, and tells whether its digits were there.
 #[inline(always)]
 fn pass_exponent(bytes: &[u8], places: &mut RunningPlace) -> bool
     requires { RunsOver bytes.now places.old }
@@ -99,10 +101,10 @@ fn pass_exponent(bytes: &[u8], places: &mut RunningPlace) -> bool
         }
     }
     pass_sign(bytes, places);
-    pass_digits(bytes, places)
+    pass_some_digits(bytes, places)
 }
 
-// Whether a number may end here.
+// Whether a number may end here: a name character and a dot may not follow it.
 #[inline(always)]
 fn may_end(bytes: &[u8], places: &RunningPlace) -> bool
     requires { RunsOver bytes.now places.now }
@@ -114,7 +116,7 @@ fn may_end(bytes: &[u8], places: &RunningPlace) -> bool
     !(is_name_char(b) || b == b'.')
 }
 
-// A number that may end where it does.
+// Passes a number literal, and tells whether it was there and may end where it does.
 #[inline(always)]
 pub fn pass_number(bytes: &[u8], places: &mut RunningPlace) -> bool
     requires { RunsOver bytes.now places.old }

@@ -1,4 +1,4 @@
-//! Strings and block strings, behind their opening quotes.
+//! Strings and block strings, after their opening quotes.
 
 ghost use Rattle.std.specs.Prelude.{◌≡◌, ◌≤◌};
 ghost use Rattle.graphql_tokens.specs.inner.Quoted.{past_string, past_block, IsRunOfQuotes};
@@ -10,7 +10,7 @@ use super::reading::{pass_char, pass_many, peek};
 use crate::pos::running::RunningPlace;
 use crate::text::escape::escape_at;
 
-// The content of a string and its closing quote. No line end stands in it.
+// Passes the content of a string and its closing quote, and tells whether both were there. No line end stands in it.
 #[inline(always)]
 pub fn pass_string(bytes: &[u8], places: &mut RunningPlace) -> bool
     requires { RunsOver bytes.now places.old }
@@ -34,7 +34,7 @@ pub fn pass_string(bytes: &[u8], places: &mut RunningPlace) -> bool
     false
 }
 
-// Up to three quotes, and how many there were.
+// Passes up to three quotes, and tells how many there were.
 #[inline(always)]
 fn pass_quotes(bytes: &[u8], places: &mut RunningPlace) -> usize
     requires { RunsOver bytes.now places.old }
@@ -54,8 +54,8 @@ fn pass_quotes(bytes: &[u8], places: &mut RunningPlace) -> usize
     3
 }
 
-// The raw text of a block string and its closing quotes. Quotes behind a backslash are text, whether
-// they are three, as in `\"""`, or fewer.
+// Passes the raw text of a block string and its closing quotes, and tells whether both were there. Quotes after a
+// backslash are text, whether they are three, as in `\"""`, or fewer.
 #[inline(always)]
 pub fn pass_block(bytes: &[u8], places: &mut RunningPlace) -> bool
     requires { RunsOver bytes.now places.old }

@@ -1,15 +1,15 @@
-//! Parts of tokens, and what stands between tokens. Each function goes on from a place as far as its part
-//! does; one that gives a `bool` tells whether the part was there.
+//! Parts of tokens, and what stands between tokens. Each function moves the place past its part. One that gives a
+//! `bool` tells whether the part was there.
 
 ghost use Rattle.std.specs.Prelude.{◌≡◌, ◌≢◌, ◌≤◌, ◌<◌, ◌+◌, true, false, [], MatchOption, drop, length};
-ghost use Rattle.graphql_tokens.specs.inner.Reading.{skip, past_line, past_word, past_char, past_points};
+ghost use Rattle.graphql_tokens.specs.inner.Reading.{skip, past_line, past_name_chars, past_char, past_dots};
 ghost use Rattle.graphql_tokens.specs.inner.Running.{ahead, IsRunning};
 ghost use Rattle.graphql_tokens.specs.inner.Lexing.{RunsOver, IsFirstByte, rest_if};
 
-use super::class::{is_blank, is_name_char};
+use super::class::{is_ignored, is_name_char};
 use crate::pos::running::RunningPlace;
 
-// The first byte of what is ahead.
+// The first byte of what is ahead, where the text goes on.
 #[inline(always)]
 pub fn peek(bytes: &[u8], places: &RunningPlace) -> Option<u8>
     requires { RunsOver bytes.now places.now }
@@ -23,8 +23,9 @@ pub fn peek(bytes: &[u8], places: &RunningPlace) -> Option<u8>
     }
 }
 
+// Whether a character is ahead.
 #[inline(always)]
-fn has_more(bytes: &[u8], places: &RunningPlace) -> bool
+pub fn has_more(bytes: &[u8], places: &RunningPlace) -> bool
     requires { RunsOver bytes.now places.now }
     ensures more { result ≡ true → ahead places.now ≢ [] }
     ensures end { result ≡ false → ahead places.now ≡ [] }
@@ -57,28 +58,28 @@ pub fn pass_ignored(bytes: &[u8], places: &mut RunningPlace)
     ensures forward { places.old.cursor.offset ≤ places.new.cursor.offset }
 {
     while let Some(b) = peek(bytes, places) {
-        if is_blank(b) {
+        if is_ignored(b) {
             places.pass_first(b);
         } else if b == b'#' {
             pass_line(bytes, places);
         } else if b < 0x80 {
             break;
         } else {
-            let mut behind = *places;
-            if behind.pass() != '\u{feff}' {
+            let mut after = *places;
+            if after.pass() != '\u{feff}' {
                 break;
             }
-            *places = behind;
+            *places = after;
         }
     }
 }
 
 // Goes past the name characters.
 #[inline(always)]
-pub fn pass_word(bytes: &[u8], places: &mut RunningPlace)
+pub fn pass_name_chars(bytes: &[u8], places: &mut RunningPlace)
     requires { RunsOver bytes.now places.old }
     ensures runs { RunsOver bytes.now places.new }
-    ensures rest { ahead places.new ≡ past_word (ahead places.old) }
+    ensures rest { ahead places.new ≡ past_name_chars (ahead places.old) }
     ensures forward { places.old.cursor.offset ≤ places.new.cursor.offset }
 {
     while let Some(b) = peek(bytes, places) {
@@ -110,12 +111,12 @@ pub fn pass_char(bytes: &[u8], places: &mut RunningPlace, c: u8) -> bool
     true
 }
 
-// Goes past two points.
+// Goes past the second and the third dot of `...`.
 #[inline(always)]
-pub fn pass_points(bytes: &[u8], places: &mut RunningPlace) -> bool
+pub fn pass_dots(bytes: &[u8], places: &mut RunningPlace) -> bool
     requires { RunsOver bytes.now places.old }
     ensures runs { RunsOver bytes.now places.new }
-    ensures rest { past_points (ahead places.old) ≡ rest_if result (ahead places.new) }
+    ensures rest { past_dots (ahead places.old) ≡ rest_if result (ahead places.new) }
     ensures forward { places.old.cursor.offset ≤ places.new.cursor.offset }
 {
     if !pass_char(bytes, places, b'.') {

@@ -7,7 +7,7 @@ ghost use Rattle.graphql_tokens.specs.tokens.Place as place;
 ghost use Rattle.graphql_tokens.specs.tokens.BlockText as spec;
 ghost use Rattle.graphql_tokens.specs.inner.Blocks.{is_space as is_space_char, end_len, counted, indent_with, trimmed, written, first_line, StartsText, EndsText, IsPlainBetween, IsUnquotedBetween};
 
-use super::byte;
+use super::{byte, past_while};
 use std::alloc::AllocError;
 
 #[inline(always)]
@@ -43,7 +43,7 @@ fn begins_quotes(bytes: &[u8], at: usize) -> bool
         && byte(bytes, at + 3) == b'"'
 }
 
-// Where the line ends, and whether neither `\"""` is in it nor a carriage return behind it.
+// Where the line ends, and whether it holds no `\"""` and no carriage return comes after it.
 fn line_at(bytes: &[u8], start: usize) -> (usize, bool)
     requires { start ≤ length bytes.now }
     ensures end { result.0 ≡ start + prefix_len place.is_in_line (drop start bytes.now) }
@@ -70,11 +70,7 @@ fn past_line(bytes: &[u8], start: usize) -> usize
     ensures value { result ≡ start + prefix_len place.is_in_line (drop start bytes.now) }
     ensures within { result ≤ length bytes.now }
 {
-    let mut at = start;
-    while at < bytes.len() && is_in_line(bytes[at]) {
-        at += 1;
-    }
-    at
+    past_while(bytes, start, is_in_line)
 }
 
 // Where the tabs and spaces end.
@@ -83,11 +79,7 @@ fn past_blanks(bytes: &[u8], start: usize) -> usize
     ensures value { result ≡ start + prefix_len spec.is_blank_char (drop start bytes.now) }
     ensures within { result ≤ length bytes.now }
 {
-    let mut at = start;
-    while at < bytes.len() && is_blank(bytes[at]) {
-        at += 1;
-    }
-    at
+    past_while(bytes, start, is_blank)
 }
 
 // Where the next line begins, if a line ends at `end`.

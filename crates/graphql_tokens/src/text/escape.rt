@@ -3,9 +3,9 @@
 ghost use Rattle.std.specs.Prelude.{◌≡◌, ◌<◌};
 ghost use Rattle.std.specs.Char.{is_ascii_hexdigit};
 ghost use Rattle.std.specs.List.{prefix_len};
-ghost use Rattle.graphql_tokens.specs.inner.Escapes as escapes;
+ghost use Rattle.graphql_tokens.specs.calls.Escapes as escapes;
 
-use super::byte;
+use super::{byte, past_while};
 
 // The first number past all characters.
 const PAST_CHARS: u32 = 0x11_0000;
@@ -25,7 +25,8 @@ fn letter_value(letter: u8) -> Option<char>
     }
 }
 
-// The number of hexadecimal digits, where all numbers past the characters are one.
+// The number of these digits, or nothing where one of them is no hexadecimal digit. A number past all characters
+// is given as the first of these.
 fn hex_number(digits: &[u8]) -> Option<u32>
     ensures { result ≡ escapes.hex_number digits.now }
 {
@@ -37,6 +38,7 @@ fn hex_number(digits: &[u8]) -> Option<u32>
     Some(number)
 }
 
+// The number of the four digits at the front.
 fn four_digits(text: &[u8]) -> Option<u32>
     ensures { result ≡ escapes.four_digits text.now }
 {
@@ -46,6 +48,7 @@ fn four_digits(text: &[u8]) -> Option<u32>
     hex_number(&text[..4])
 }
 
+// The character of this number, where it has one.
 fn scalar_of(number: u32) -> Option<char>
     ensures { result ≡ escapes.scalar_of number }
 {
@@ -63,21 +66,18 @@ fn pair_value(high: u32, low: u32) -> Option<char>
     }
 }
 
-fn past_digits(text: &[u8]) -> usize
+// How many hexadecimal digits stand at the front.
+fn past_hex_digits(text: &[u8]) -> usize
     ensures { result ≡ prefix_len is_ascii_hexdigit text.now }
 {
-    let mut at = 0;
-    while at < text.len() && text[at].is_ascii_hexdigit() {
-        at += 1;
-    }
-    at
+    past_while(text, 0, |b| b.is_ascii_hexdigit())
 }
 
-// The escape whose text stands behind `\u{`.
+// The escape whose text stands after `\u{`.
 fn braced_at(text: &[u8]) -> Option<(char, usize)>
     ensures { result ≡ escapes.braced_at text.now }
 {
-    let end = past_digits(text);
+    let end = past_hex_digits(text);
     if end == 0 || byte(text, end) != b'}' {
         return None;
     }
@@ -85,7 +85,7 @@ fn braced_at(text: &[u8]) -> Option<(char, usize)>
     Some((value, end + 4))
 }
 
-// The number of the four digits of an escape.
+// The number of the four digits of the escape at the front.
 fn low_half_at(text: &[u8]) -> Option<u32>
     ensures { result ≡ escapes.low_half_at text.now }
 {
@@ -96,15 +96,15 @@ fn low_half_at(text: &[u8]) -> Option<u32>
     }
 }
 
-// The escape of a surrogate pair, behind the number of its first half.
-fn pair_at(high: u32, behind: &[u8]) -> Option<(char, usize)>
-    ensures { result ≡ escapes.pair_at high behind.now }
+// The escape of a surrogate pair. `rest` is the text after the first half, whose number is `high`.
+fn pair_at(high: u32, rest: &[u8]) -> Option<(char, usize)>
+    ensures { result ≡ escapes.pair_at high rest.now }
 {
-    let low = low_half_at(behind)?;
+    let low = low_half_at(rest)?;
     Some((pair_value(high, low)?, 12))
 }
 
-// The escape whose text stands behind `\u`.
+// The escape whose text stands after `\u`.
 fn number_at(text: &[u8]) -> Option<(char, usize)>
     ensures { result ≡ escapes.number_at text.now }
 {
@@ -119,7 +119,7 @@ fn number_at(text: &[u8]) -> Option<(char, usize)>
 }
 
 // The escape at the text's front: the character for which it stands, and how many bytes it has.
-#[tactic(auto, unfolding(crate::specs::inner::Escapes::escape_at))]
+#[tactic(auto, unfolding(crate::specs::calls::Escapes::escape_at))]
 pub fn escape_at(text: &[u8]) -> Option<(char, usize)>
     ensures { result ≡ escapes.escape_at text.now }
 {

@@ -13,7 +13,7 @@ returns-then-is_name_start-clause-kind c =
 pub returns-then-is_name_start-clause-rest : goal.returns-then-is_name_start-clause-rest
 returns-then-is_name_start-clause-rest c l =
     let p = c.pass_ascii.ensures.passed in
-    ap (λ t. t.1) (next_name c.in-Some.b p.0 _ _ c.in-Some.ensures p.1 (sym c.is_name_start.ensures ∙ c.if-is_name_start.true)) ∙ sym c.pass_word.ensures.rest
+    ap (λ t. t.1) (next_name c.in-Some.b p.0 _ _ c.in-Some.ensures p.1 (sym c.is_name_start.ensures ∙ c.if-is_name_start.true)) ∙ sym c.pass_name_chars.ensures.rest
 
 pub returns-then-is_punct-clause-kind : goal.returns-then-is_punct-clause-kind
 returns-then-is_punct-clause-kind c =

@@ -5,8 +5,9 @@ use Rattle.std.proofs.lemmas.List.{take_all, take_rest}
 use Rattle.std.proofs.lemmas.Str.{IsUtf8-string_bytes, IsUtf8-nil, IsCharBoundary-start}
 use Rattle.graphql_tokens.specs.tokens.Edition.{Current}
 use Rattle.graphql_tokens.specs.tokens.Strings.{StringMeans}
-use Rattle.graphql_tokens.specs.inner.Escapes.{escape_at}
+use Rattle.graphql_tokens.specs.calls.Escapes.{escape_at}
 use Rattle.graphql_tokens.proofs.Contents.{past_run, past_push, no_content, means_once, all_plain, nothing, escape_some}
+use Rattle.graphql_tokens.proofs.Meanings.{means_content}
 use Rattle.graphql_tokens.proofs.text.string_value.Goals as goal
 
 -- ---- a content without escapes
@@ -54,7 +55,7 @@ returns-in_default-clause-none c content =
     no_content bs (string_bytes c.loop-at.value) i c.as_bytes-bytes.ensures.utf8 inv.boundary here inv.means (inv.stops here) none
     (rw c.as_bytes-bytes.ensures.value content)
 
--- ---- an escape, and the run behind it
+-- ---- an escape, and the run after it
 
 pub overflow_add-start : goal.overflow_add-start
 overflow_add-start c =
@@ -113,3 +114,26 @@ returns-clause-some c = whole c
 
 pub returns-clause-only : goal.returns-clause-only
 returns-clause-only c other m = means_once _ _ other (whole c) m
+
+-- ---- the function that is the relation
+
+pub returns-in_err-from_str-clause-complete : goal.returns-in_err-from_str-clause-complete
+returns-in_err-from_str-clause-complete c value m = means_content _ value m
+
+pub returns-then-at-bytes-clause-complete : goal.returns-then-at-bytes-clause-complete
+returns-then-at-bytes-clause-complete c value m = means_content _ value m
+
+pub returns-in_err-value-clause-complete : goal.returns-in_err-value-clause-complete
+returns-in_err-value-clause-complete c value m = means_content _ value m
+
+pub returns-in_default-clause-complete : goal.returns-in_default-clause-complete
+returns-in_default-clause-complete c value m = means_content _ value m
+
+pub returns-in_err-push-clause-complete : goal.returns-in_err-push-clause-complete
+returns-in_err-push-clause-complete c value m = means_content _ value m
+
+pub returns-in_err-push_str-2-clause-complete : goal.returns-in_err-push_str-2-clause-complete
+returns-in_err-push_str-2-clause-complete c value m = means_content _ value m
+
+pub returns-clause-complete : goal.returns-clause-complete
+returns-clause-complete c value m = means_content _ value m

@@ -1,6 +1,7 @@
 use Rattle.std.proofs.Common.{◌+◌, ◌≤◌, ◌∙◌, List, [], length, refl, sym, subst}
 use Rattle.std.specs.Str.{chars}
-use Rattle.graphql_tokens.specs.tokens.Proper.{IsCutInto, AreProperButFaults}
+use Rattle.graphql_tokens.specs.tokens.Cuts.{IsCutInto}
+use Rattle.graphql_tokens.specs.tokens.Proper.{AreProperButFaults}
 use Rattle.graphql_tokens.specs.tokens.Token.{Token}
 use Rattle.graphql_tokens.proofs.Lists.{tokens_cuts, tokens_only, cuts_ends, tokens_short, cuts_later}
 use Rattle.graphql_tokens.proofs.Propers.{cuts_proper, text_scalars}

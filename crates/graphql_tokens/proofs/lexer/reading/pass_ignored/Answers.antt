@@ -4,13 +4,13 @@ use Rattle.graphql_tokens.specs.inner.Running.{ahead}
 use Rattle.graphql_tokens.proofs.Ahead.{skip_blank, skip_hash, hash_shorter, skip_mark, skip_wide, skip_other, skip_nothing}
 use Rattle.graphql_tokens.proofs.lexer.reading.pass_ignored.Goals as goal
 
-pub loop-b-preserved-then-is_blank : goal.loop-b-preserved-then-is_blank
-loop-b-preserved-then-is_blank c =
+pub loop-b-preserved-then-is_ignored : goal.loop-b-preserved-then-is_ignored
+loop-b-preserved-then-is_ignored c =
     let v = c.loop-b.invariant in
     let e = c.pass_first.ensures in
     record {
       runs = record { running = e.running; same = e.same ∙ v.runs.same };
-      same = skip_blank c.in-Some.b c.pass_first.result _ _ c.in-Some.ensures e.passed (sym c.is_blank.ensures ∙ c.if-is_blank.true) ∙ v.same;
+      same = skip_blank c.in-Some.b c.pass_first.result _ _ c.in-Some.ensures e.passed (sym c.is_ignored.ensures ∙ c.if-is_ignored.true) ∙ v.same;
       forward = omega arith;
     }
 
@@ -39,7 +39,7 @@ loop-b-preserved c =
 
 pub returns-then-b-lt128-clause-rest : goal.returns-then-b-lt128-clause-rest
 returns-then-b-lt128-clause-rest c =
-    skip_other c.in-Some.b _ c.in-Some.ensures c.if-b-lt128.true (sym c.is_blank.ensures ∙ c.if-is_blank.false) c.if-b-eq35.false ∙ c.loop-b.invariant.same
+    skip_other c.in-Some.b _ c.in-Some.ensures c.if-b-lt128.true (sym c.is_ignored.ensures ∙ c.if-is_ignored.false) c.if-b-eq35.false ∙ c.loop-b.invariant.same
 
 pub returns-then-pass-ne65279-clause-rest : goal.returns-then-pass-ne65279-clause-rest
 returns-then-pass-ne65279-clause-rest c =

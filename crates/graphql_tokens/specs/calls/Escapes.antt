@@ -1,6 +1,8 @@
--- The escape at the front of a text, as a function: the character for which it stands, and its length.
+-- The escape at the front of a text, as a function: the character for which it stands, and how many characters it has.
+-- `Contents.antt` says what ties it to the relation of `tokens/Strings.antt`.
 use Rattle.std.specs.Prelude.{ℕ, ◌+◌, ◌-◌, ◌*◌, if◌then◌else◌, ◌&&◌, ◌==◌, nat_le, min, List, length, take, drop, slice_index, Option, Some, None}
 use Rattle.std.specs.Char.{is_ascii_hexdigit}
+use Rattle.std.specs.Str.{byte}
 use Rattle.std.specs.List.{list_all, prefix_len}
 use Rattle.graphql_tokens.specs.tokens.Strings.{hex_value}
 use lib.Utf8.{scalar}
@@ -8,8 +10,15 @@ use lib.Utf8.{scalar}
 -- what a backslash and this letter stand for
 abbrev pub letter_value : ℕ → Option ℕ
 letter_value c =
-    if c == 34 then Some 34 else (if c == 92 then Some 92 else (if c == 47 then Some 47 else (if c == 98 then Some 8
-    else (if c == 102 then Some 12 else (if c == 110 then Some 10 else (if c == 114 then Some 13 else (if c == 116 then Some 9 else None)))))))
+    if c == byte "\"" then Some (byte "\"")
+    else (if c == byte "\\" then Some (byte "\\")
+    else (if c == byte "/" then Some (byte "/")
+    else (if c == byte "b" then Some (byte "\u{8}")
+    else (if c == byte "f" then Some (byte "\u{c}")
+    else (if c == byte "n" then Some (byte "\n")
+    else (if c == byte "r" then Some (byte "\r")
+    else (if c == byte "t" then Some (byte "\t")
+    else None)))))))
 
 -- the number of these digits; all past the characters are one, the first
 abbrev pub hex_number : List ℕ → Option ℕ
@@ -30,42 +39,42 @@ abbrev pub with_len : ℕ → Option ℕ → Option (ℕ × ℕ)
 with_len n None = None
 with_len n (Some c) = Some (c, n)
 
--- so many digits behind `\u{`, of this number
+-- so many digits after `\u{`, of this number
 abbrev pub braced_by : ℕ → Option ℕ → Option (ℕ × ℕ)
 braced_by n None = None
 braced_by n (Some number) = with_len (n + 4) (scalar_of number)
 
--- behind `\u{`
+-- after `\u{`
 abbrev pub braced_at : List ℕ → Option (ℕ × ℕ)
 braced_at text =
     let n = prefix_len is_ascii_hexdigit text in
-    if n == 0 then None else (if slice_index text n == 125 then braced_by n (hex_number (take n text)) else None)
+    if n == 0 then None else (if slice_index text n == byte "}" then braced_by n (hex_number (take n text)) else None)
 
--- behind a high half
+-- after a high half
 abbrev pub low_half_at : List ℕ → Option ℕ
-low_half_at text = if slice_index text 0 == 92 && slice_index text 1 == 117 then four_digits (drop 2 text) else None
+low_half_at text = if slice_index text 0 == byte "\\" && slice_index text 1 == byte "u" then four_digits (drop 2 text) else None
 
 abbrev pub pair_with : ℕ → Option ℕ → Option (ℕ × ℕ)
 pair_with high None = None
 pair_with high (Some low) = with_len 12 (pair_value high low)
 
--- behind the first half of a pair
+-- after the first half of a pair
 abbrev pub pair_at : ℕ → List ℕ → Option (ℕ × ℕ)
-pair_at high behind = pair_with high (low_half_at behind)
+pair_at high after = pair_with high (low_half_at after)
 
--- behind `\u` and four digits: their number, and the character of it, if there is one
+-- after `\u` and four digits: their number, and the character of it, if there is one
 abbrev pub numbered_by : ℕ → Option ℕ → List ℕ → Option (ℕ × ℕ)
-numbered_by n None behind = pair_at n behind
-numbered_by n (Some c) behind = Some (c, 6)
+numbered_by n None after = pair_at n after
+numbered_by n (Some c) after = Some (c, 6)
 
 abbrev pub numbered_at : Option ℕ → List ℕ → Option (ℕ × ℕ)
-numbered_at None behind = None
-numbered_at (Some n) behind = numbered_by n (scalar_of n) behind
+numbered_at None after = None
+numbered_at (Some n) after = numbered_by n (scalar_of n) after
 
--- behind `\u`
+-- after `\u`
 abbrev pub number_at : List ℕ → Option (ℕ × ℕ)
-number_at text = if slice_index text 0 == 123 then braced_at (drop 1 text) else numbered_at (four_digits text) (drop 4 text)
+number_at text = if slice_index text 0 == byte "{" then braced_at (drop 1 text) else numbered_at (four_digits text) (drop 4 text)
 
 unfoldable pub escape_at : List ℕ → Option (ℕ × ℕ)
 escape_at text =
-    if slice_index text 0 == 92 then (if slice_index text 1 == 117 then number_at (drop 2 text) else with_len 2 (letter_value (slice_index text 1))) else None
+    if slice_index text 0 == byte "\\" then (if slice_index text 1 == byte "u" then number_at (drop 2 text) else with_len 2 (letter_value (slice_index text 1))) else None

@@ -2,7 +2,7 @@ use Rattle.std.proofs.Common.{◌≡◌, ℕ, ◌<◌, not, eqb, bit_and, get_or
 use Rattle.std.proofs.lemmas.Bool.{agree_below_at}
 use Rattle.graphql_tokens.specs.tokens.Classes as classes
 use Rattle.graphql_tokens.specs.declared.lexer.class.TheConstants.{CLASS}
-use Rattle.graphql_tokens.proofs.lexer.class.is_blank.Goals as goal
+use Rattle.graphql_tokens.proofs.lexer.class.is_ignored.Goals as goal
 
 -- the whole table
 table : (b : ℕ) → b < 256 → not (eqb (bit_and (get_or CLASS b 0) 1) 0) ≡ classes.is_ignored b

@@ -1,0 +1,11 @@
+use Rattle.std.proofs.Common.{◌≡◌, ◌≤◌, length}
+use Rattle.graphql_tokens.specs.inner.Numerals.{past_any_digits}
+use Rattle.graphql_tokens.specs.inner.Running.{ahead}
+use Rattle.graphql_tokens.specs.inner.Lexing.{RunsOver}
+use Rattle.graphql_tokens.proofs.lexer.number.pass_any_digits.Given as goal
+
+abbrev pub invariant-loop-b : goal.invariant-loop-b
+invariant-loop-b l = record { runs : RunsOver l.bytes l.places; same : past_any_digits (ahead l.places) ≡ past_any_digits (ahead l.fn.places); forward : l.fn.places.cursor.offset ≤ l.places.cursor.offset }
+
+abbrev pub decreases-loop-b : goal.decreases-loop-b
+decreases-loop-b l = length (ahead l.places)
