@@ -5,10 +5,11 @@ ghost use Rattle.std.specs.Cmp.{on_equiv, on_total, on_per, on_po};
 ghost use Rattle.std.specs.Cmp.Rules.{hashing};
 ghost use Rattle.std.proofs.Common.{rules};
 
-mod cursor;
+mod counted;
 pub(crate) mod running;
+mod text_walk;
 
-use running::RunningPlace;
+use counted::CountedPlace;
 use serde::{Deserialize, Serialize};
 use std::alloc::AllocError;
 use std::cmp::Ordering;
@@ -177,15 +178,15 @@ impl<T: Hash> Hash for Positioned<T> {
 /// over no character twice.
 #[derive(Debug, Drop)]
 pub struct PositionCalculator<'a> {
-    running: RunningPlace<'a>,
+    counted: CountedPlace<'a>,
 }
 
 impl<'a> Model for PositionCalculator<'a> {
-    ghost use Rattle.graphql_tokens.specs.inner.Calculator.{Calculator};
+    ghost use Rattle.graphql_tokens.specs.tokens.Calculator.{Calculator};
 
     ghost Value = { Calculator };
 
-    ghost use Rattle.graphql_tokens.specs.inner.Running.{shown, IsRight};
+    ghost use Rattle.graphql_tokens.specs.inner.CountedPlace.{shown, IsRight};
 
     ghost view = { shown };
 
@@ -202,7 +203,7 @@ impl<'a> PositionCalculator<'a> {
         ensures start { result.offset ≡ 0 }
     {
         PositionCalculator {
-            running: RunningPlace::new(text),
+            counted: CountedPlace::new(text),
         }
     }
 
@@ -218,18 +219,16 @@ impl<'a> PositionCalculator<'a> {
         ensures place { result ≡ place self.old.text offset }
         ensures moved { self.new ≡ record self.old { offset = offset } }
     {
-        let mut running = self.running;
-        while running.offset() < offset {
-            running.pass();
+        while self.counted.offset() < offset {
+            self.counted.pass();
         }
-        self.running = running;
-        running.pos()
+        self.counted.pos()
     }
 
     /// How many characters were gone over so far: those before the last offset, each once.
     pub fn stepped(&self) -> usize
         ensures { result ≡ length (chars (take self.now.offset self.now.text)) }
     {
-        self.running.count()
+        self.counted.count()
     }
 }
