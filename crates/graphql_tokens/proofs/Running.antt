@@ -24,11 +24,11 @@ walks_at_start a o n u b =
 pub walks_past : (old new : TextWalk) (c : ℕ) → IsWalking old → new.text.now ≡ old.text.now → Passes c old new → IsWalking new
 walks_past old new c r same p =
     let bs = old.text.now in
-    let more : chars (take new.offset bs) ≡ chars (take old.offset bs) ++ c ∷ [] = chars_past bs old.offset new.offset c r.utf8 r.boundary p.here p.behind in
+    let more : chars (take new.offset bs) ≡ chars (take old.offset bs) ++ c ∷ [] = chars_past bs old.offset new.offset c r.utf8 r.boundary p.here p.after in
     let more_here : chars (take new.offset new.text.now) ≡ chars (take old.offset bs) ++ c ∷ [] = ap (λ t. chars (take new.offset t)) same ∙ more in
     record {
       counted = p.counted ∙ ap (λ n. n + 1) r.counted ∙ sym (ap length more_here ∙ length_push (chars (take old.offset bs)) c);
-      boundary = rw same (boundary_past bs old.offset new.offset c r.utf8 r.boundary p.here p.behind);
+      boundary = rw same (boundary_past bs old.offset new.offset c r.utf8 r.boundary p.here p.after);
       utf8 = rw same r.utf8;
       bound = rw same r.bound;
     }
@@ -46,13 +46,13 @@ passes_ascii old new l h o n =
     let i = old.offset in
     let x = get_or bs i 0 in
     let e : drop i bs ≡ encode_utf8 x ++ drop (i + 1) bs = rw (encode_ascii x h, add-one i) (drop-cons bs i 0 l) in
-    record { here = e ∙ ap (λ k. encode_utf8 x ++ drop k bs) (sym o); behind = o ∙ ap (λ k. i + k) (sym (len_utf8_ascii x h)); counted = n }
+    record { here = e ∙ ap (λ k. encode_utf8 x ++ drop k bs) (sym o); after = o ∙ ap (λ k. i + k) (sym (len_utf8_ascii x h)); counted = n }
 
--- a wider one
+-- any character, by its encoding
 pub passes_wide : (old new : TextWalk) (c : ℕ) (rest : List ℕ) → drop old.offset old.text.now ≡ encode_utf8 c ++ rest → new.offset ≡ old.offset + len_utf8 c → new.count ≡ old.count + 1 → Passes c old new
 passes_wide old new c rest e o n =
-    let behind : drop new.offset old.text.now ≡ rest = ap (λ k. drop k old.text.now) o ∙ drop_past_char old.text.now rest old.offset c e in
-    record { here = e ∙ ap (λ x. encode_utf8 c ++ x) (sym behind); behind = o; counted = n }
+    let rest_is : drop new.offset old.text.now ≡ rest = ap (λ k. drop k old.text.now) o ∙ drop_past_char old.text.now rest old.offset c e in
+    record { here = e ∙ ap (λ x. encode_utf8 c ++ x) (sym rest_is); after = o; counted = n }
 
 -- ---- what is ahead
 
@@ -74,10 +74,10 @@ ahead_past old new c k same p =
     ∙ ap (λ t. c ∷ chars (drop new.offset t)) (sym same)
 
 pub one_past : (old new : TextWalk) (c : ℕ) → IsWalking old → Passes c old new → (at : ℕ) → IsCharBoundary old.text.now at → old.offset < at → new.offset ≤ at
-one_past old new c k p at b l = ends_before old.text.now old.offset new.offset at c k.utf8 k.boundary b l p.here p.behind
+one_past old new c k p at b l = ends_before old.text.now old.offset new.offset at c k.utf8 k.boundary b l p.here p.after
 
 pub forward_past : (old new : TextWalk) (c : ℕ) → Passes c old new → old.offset < new.offset
-forward_past old new c p = omega (arith, p.behind, len_utf8_bounds c)
+forward_past old new c p = omega (arith, p.after, len_utf8_bounds c)
 
 -- ---- running places
 
@@ -90,14 +90,14 @@ runs_at_start a r o l b =
       column = omega (arith, b, ap (λ x. (place_behind x).column) none, r.counted, ap length none);
     }
 
--- the line and the column behind one character more
+-- the line and the column after one character more
 line_past : (old new : RunningPlace) (c : ℕ) → IsRunning old → new.cursor.text.now ≡ old.cursor.text.now → Passes c old.cursor new.cursor
     → (place new.cursor.text.now new.cursor.offset).line ≡ old.line + cond (is_line_feed c) 1 0
 line_past old new c r same p =
     let bs = old.cursor.text.now in
     let k = r.reading in
     let more : chars (take new.cursor.offset new.cursor.text.now) ≡ chars (take old.cursor.offset bs) ++ c ∷ [] =
-    ap (λ t. chars (take new.cursor.offset t)) same ∙ chars_past bs old.cursor.offset new.cursor.offset c k.utf8 k.boundary p.here p.behind in
+    ap (λ t. chars (take new.cursor.offset t)) same ∙ chars_past bs old.cursor.offset new.cursor.offset c k.utf8 k.boundary p.here p.after in
     ap (λ x. (place_behind x).line) more ∙ line_push (chars (take old.cursor.offset bs)) c ∙ ap (λ n. n + cond (is_line_feed c) 1 0) (sym r.line)
 
 column_past : (old new : RunningPlace) (c : ℕ) → IsRunning old → new.cursor.text.now ≡ old.cursor.text.now → Passes c old.cursor new.cursor
@@ -106,7 +106,7 @@ column_past old new c r same p =
     let bs = old.cursor.text.now in
     let k = r.reading in
     let more : chars (take new.cursor.offset new.cursor.text.now) ≡ chars (take old.cursor.offset bs) ++ c ∷ [] =
-    ap (λ t. chars (take new.cursor.offset t)) same ∙ chars_past bs old.cursor.offset new.cursor.offset c k.utf8 k.boundary p.here p.behind in
+    ap (λ t. chars (take new.cursor.offset t)) same ∙ chars_past bs old.cursor.offset new.cursor.offset c k.utf8 k.boundary p.here p.after in
     ap (λ x. (place_behind x).column) more ∙ column_push (chars (take old.cursor.offset bs)) c
 
 -- a character within a line

@@ -14,5 +14,5 @@ pub record IsWalking (a : TextWalk) : Type 0 where
 -- the character c stands at the offset of the old walk, and the new one is past it and has counted it
 pub record Passes (c : ℕ) (old new : TextWalk) : Type 0 where
   pub here : drop old.offset old.text.now ≡ encode_utf8 c ++ drop new.offset old.text.now
-  pub behind : new.offset ≡ old.offset + len_utf8 c
+  pub after : new.offset ≡ old.offset + len_utf8 c
   pub counted : new.count ≡ old.count + 1

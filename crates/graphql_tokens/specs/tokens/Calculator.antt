@@ -1,4 +1,4 @@
--- What a position calculator shows (this project's choice; October 2021 speaks of places, and not of how to find them).
+-- What a position calculator shows. This project's choice: GraphQL October 2021 says nothing of how places are found.
 use Rattle.std.specs.Prelude.{ℕ, List}
 
 pub record Calculator : Type 0 where

@@ -9,8 +9,9 @@ use super::Pos;
 use super::running::RunningPlace;
 use std::marker::Model;
 
-// Which walk over a text it is: a number for clauses alone, which takes no memory. As `CountedPlace::new` says
-// nothing of it, nobody can show of two walks that they are one.
+// Which walk over a text it is: a number for clauses alone, which takes no memory. `CountedPlace::new` says
+// nothing of it, so nobody can show that two walks are the same one, or that a walk which began anew is the old
+// one.
 #[derive(Debug, Drop)]
 struct WalkNumber {
     nothing: (),
@@ -25,8 +26,8 @@ impl Model for WalkNumber {
 }
 
 // A running place that is neither `Copy` nor `Clone`. It holds the only text that a calculator has, and hands it
-// out nowhere; and its one changing call passes one character and counts it. So whoever holds a counted place
-// goes over no character without a count, nor back in the text.
+// out nowhere. Its one changing call passes one character and counts it. So whoever holds a counted place can't
+// pass a character without a count, and can't go back in the text.
 #[derive(Debug, Drop)]
 pub struct CountedPlace<'a> {
     place: RunningPlace<'a>,
