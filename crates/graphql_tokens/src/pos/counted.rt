@@ -13,9 +13,7 @@ use std::marker::Model;
 // nothing of it, so nobody can show that two walks are the same one, or that a walk which began anew is the old
 // one.
 #[derive(Debug, Drop)]
-struct WalkNumber {
-    nothing: (),
-}
+struct WalkNumber;
 
 impl Model for WalkNumber {
     ghost use Rattle.std.specs.Prelude.{ℕ};
@@ -31,7 +29,7 @@ impl Model for WalkNumber {
 #[derive(Debug, Drop)]
 pub struct CountedPlace<'a> {
     place: RunningPlace<'a>,
-    walk: WalkNumber,
+    number: WalkNumber,
 }
 
 impl<'a> CountedPlace<'a> {
@@ -43,7 +41,7 @@ impl<'a> CountedPlace<'a> {
     {
         CountedPlace {
             place: RunningPlace::new(text),
-            walk: WalkNumber { nothing: () },
+            number: WalkNumber,
         }
     }
 
@@ -54,7 +52,7 @@ impl<'a> CountedPlace<'a> {
         requires more { ahead self.old.place ≢ [] }
         ensures running { IsRunning self.new.place }
         ensures same { self.new.place.cursor.text.now ≡ self.old.place.cursor.text.now }
-        ensures walk { self.new.walk ≡ self.old.walk }
+        ensures walk { self.new.number ≡ self.old.number }
         ensures passed { ahead self.old.place ≡ result ∷ ahead self.new.place }
         ensures counted { self.new.place.cursor.count ≡ self.old.place.cursor.count + 1 }
         // No place where a character begins is gone over.

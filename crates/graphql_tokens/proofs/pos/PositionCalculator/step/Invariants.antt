@@ -6,7 +6,7 @@ abbrev pub invariant-loop-self : goal.invariant-loop-self
 invariant-loop-self l = record {
   running : IsRunning l.self-inside.counted.place;
   same : l.self-inside.counted.place.cursor.text.now ≡ l.fn.self.text;
-  walk : l.self-inside.counted.walk ≡ l.fn.self.walk;
+  walk : l.self-inside.counted.number ≡ l.fn.self.walk;
   before : l.self-inside.counted.place.cursor.offset ≤ l.offset;
 }
 
