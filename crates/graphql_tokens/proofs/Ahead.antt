@@ -6,7 +6,7 @@ use Rattle.graphql_tokens.specs.tokens.Place.{is_line_end, is_in_line}
 use Rattle.graphql_tokens.specs.tokens.Classes.{is_ignored, is_punct, is_name_start}
 use Rattle.graphql_tokens.specs.tokens.Cuts.{is_last}
 use Rattle.graphql_tokens.specs.inner.Reading.{skip, past_line, past_name_chars, past_dots, found, quoted, next}
-use Rattle.graphql_tokens.specs.inner.Running.{BeginsInLine, BeginsInAscii}
+use Rattle.graphql_tokens.specs.inner.Running.{BeginsInAscii}
 use Rattle.graphql_tokens.specs.inner.Lexing.{IsFirstByte, rest_if}
 use Rattle.graphql_tokens.specs.declared.lexer.TokenKind.{TokenKind}
 use Rattle.graphql_tokens.specs.declared.lexer.TokenKind.TheVariants.{Punct, Name, Number, Fault, End}
@@ -44,10 +44,6 @@ first_not b c d text rest f is l n = by (subst (IsFirstByte b) is f)
     by (inr x) = let wide : 128 ≤ c = x.2 in grind (arith, nat_tests)
 
 -- an ASCII byte that ends no line
-pub low_in_line : (b : ℕ) (text : List ℕ) → IsFirstByte b text → b < 128 → is_in_line b ≡ true → BeginsInLine text
-low_in_line b [] f l h = absurd f
-low_in_line b (c ∷ rest) f l h = ap is_in_line (first_low b c (c ∷ rest) rest f refl l) ∙ h
-
 pub low_ascii : (b : ℕ) (text : List ℕ) → IsFirstByte b text → b < 128 → is_in_line b ≡ true → BeginsInAscii text
 low_ascii b [] f l h = absurd f
 low_ascii b (c ∷ rest) f l h =
@@ -124,12 +120,6 @@ name_low b t = (grind (arith, nat_tests), grind (arith, nat_tests), grind (arith
 
 punct_low : (b : ℕ) → is_punct b ≡ true → (b < 128) × (is_in_line b ≡ true)
 punct_low b t = (grind (arith, nat_tests), grind (arith, nat_tests))
-
-pub name_in_line : (b : ℕ) (text : List ℕ) → IsFirstByte b text → is_name_start b ≡ true → BeginsInLine text
-name_in_line b text f t = let n = name_low b t in low_in_line b text f n.0 n.1
-
-pub punct_in_line : (b : ℕ) (text : List ℕ) → IsFirstByte b text → is_punct b ≡ true → BeginsInLine text
-punct_in_line b text f t = let n = punct_low b t in low_in_line b text f n.0 n.1
 
 pub name_ascii : (b : ℕ) (text : List ℕ) → IsFirstByte b text → is_name_start b ≡ true → BeginsInAscii text
 name_ascii b text f t = let n = name_low b t in low_ascii b text f n.0 n.1

@@ -7,52 +7,52 @@ use Rattle.std.proofs.lemmas.Bool.{cases_lt}
 use Rattle.std.proofs.lemmas.List.{length_push, drop_all}
 use Rattle.std.proofs.lemmas.Str.{IsUtf8-take, IsUtf8-drop, chars-nil, chars_past_char, IsCharBoundary-start, len_utf8_bounds, len_utf8_ascii, encode_ascii, drop_past_char}
 use Rattle.graphql_tokens.specs.tokens.Place.{place, place_behind, is_line_feed, is_in_line}
-use Rattle.graphql_tokens.specs.inner.Cursor.{IsReading, Passes}
-use Rattle.graphql_tokens.specs.inner.Running.{ahead, IsRunning, BeginsInLine}
-use Rattle.graphql_tokens.specs.declared.pos.cursor.Cursor.{Cursor}
+use Rattle.graphql_tokens.specs.inner.TextWalk.{IsWalking, Passes}
+use Rattle.graphql_tokens.specs.inner.Running.{ahead, IsRunning}
+use Rattle.graphql_tokens.specs.declared.pos.text_walk.TextWalk.{TextWalk}
 use Rattle.graphql_tokens.specs.declared.pos.running.RunningPlace.{RunningPlace}
 use Rattle.graphql_tokens.proofs.Chars.{chars_past, boundary_past, ends_before, length-chars}
 use Rattle.graphql_tokens.proofs.Places.{line_push, column_push, line_bound}
 
--- ---- cursors
+-- ---- walks
 
-pub reads_at_start : (a : Cursor) → a.offset ≡ 0 → a.count ≡ 0 → IsUtf8 a.text.now → length a.text.now < 2 ^ 63 → IsReading a
-reads_at_start a o n u b =
+pub walks_at_start : (a : TextWalk) → a.offset ≡ 0 → a.count ≡ 0 → IsUtf8 a.text.now → length a.text.now < 2 ^ 63 → IsWalking a
+walks_at_start a o n u b =
     let none : chars (take a.offset a.text.now) ≡ [] = ap (λ k. chars (take k a.text.now)) o ∙ chars-nil in
     record { counted = n ∙ sym (ap length none); boundary = rw o (IsCharBoundary-start a.text.now u); utf8 = u; bound = b }
 
-pub reads_past : (old new : Cursor) (c : ℕ) → IsReading old → new.text.now ≡ old.text.now → Passes c old new → IsReading new
-reads_past old new c r same p =
+pub walks_past : (old new : TextWalk) (c : ℕ) → IsWalking old → new.text.now ≡ old.text.now → Passes c old new → IsWalking new
+walks_past old new c r same p =
     let bs = old.text.now in
-    let more : chars (take new.offset bs) ≡ chars (take old.offset bs) ++ c ∷ [] = chars_past bs old.offset new.offset c r.utf8 r.boundary p.here p.behind in
+    let more : chars (take new.offset bs) ≡ chars (take old.offset bs) ++ c ∷ [] = chars_past bs old.offset new.offset c r.utf8 r.boundary p.here p.after in
     let more_here : chars (take new.offset new.text.now) ≡ chars (take old.offset bs) ++ c ∷ [] = ap (λ t. chars (take new.offset t)) same ∙ more in
     record {
       counted = p.counted ∙ ap (λ n. n + 1) r.counted ∙ sym (ap length more_here ∙ length_push (chars (take old.offset bs)) c);
-      boundary = rw same (boundary_past bs old.offset new.offset c r.utf8 r.boundary p.here p.behind);
+      boundary = rw same (boundary_past bs old.offset new.offset c r.utf8 r.boundary p.here p.after);
       utf8 = rw same r.utf8;
       bound = rw same r.bound;
     }
 
 -- no more characters than bytes were passed
-pub count_bound : (a : Cursor) → IsReading a → a.count ≤ a.offset
+pub count_bound : (a : TextWalk) → IsWalking a → a.count ≤ a.offset
 count_bound a r =
     omega (arith, r.counted, length-chars (take a.offset a.text.now) (IsUtf8-take a.text.now a.offset r.utf8 r.boundary), length-take a.offset a.text.now)
 
 -- an ASCII character
-pub passes_ascii : (old new : Cursor) → old.offset < length old.text.now → get_or old.text.now old.offset 0 < 128 → new.offset ≡ old.offset + 1 → new.count ≡ old.count + 1
+pub passes_ascii : (old new : TextWalk) → old.offset < length old.text.now → get_or old.text.now old.offset 0 < 128 → new.offset ≡ old.offset + 1 → new.count ≡ old.count + 1
     → Passes (get_or old.text.now old.offset 0) old new
 passes_ascii old new l h o n =
     let bs = old.text.now in
     let i = old.offset in
     let x = get_or bs i 0 in
     let e : drop i bs ≡ encode_utf8 x ++ drop (i + 1) bs = rw (encode_ascii x h, add-one i) (drop-cons bs i 0 l) in
-    record { here = e ∙ ap (λ k. encode_utf8 x ++ drop k bs) (sym o); behind = o ∙ ap (λ k. i + k) (sym (len_utf8_ascii x h)); counted = n }
+    record { here = e ∙ ap (λ k. encode_utf8 x ++ drop k bs) (sym o); after = o ∙ ap (λ k. i + k) (sym (len_utf8_ascii x h)); counted = n }
 
--- a wider one
-pub passes_wide : (old new : Cursor) (c : ℕ) (rest : List ℕ) → drop old.offset old.text.now ≡ encode_utf8 c ++ rest → new.offset ≡ old.offset + len_utf8 c → new.count ≡ old.count + 1 → Passes c old new
+-- any character, by its encoding
+pub passes_wide : (old new : TextWalk) (c : ℕ) (rest : List ℕ) → drop old.offset old.text.now ≡ encode_utf8 c ++ rest → new.offset ≡ old.offset + len_utf8 c → new.count ≡ old.count + 1 → Passes c old new
 passes_wide old new c rest e o n =
-    let behind : drop new.offset old.text.now ≡ rest = ap (λ k. drop k old.text.now) o ∙ drop_past_char old.text.now rest old.offset c e in
-    record { here = e ∙ ap (λ x. encode_utf8 c ++ x) (sym behind); behind = o; counted = n }
+    let rest_is : drop new.offset old.text.now ≡ rest = ap (λ k. drop k old.text.now) o ∙ drop_past_char old.text.now rest old.offset c e in
+    record { here = e ∙ ap (λ x. encode_utf8 c ++ x) (sym rest_is); after = o; counted = n }
 
 -- ---- what is ahead
 
@@ -66,26 +66,22 @@ some_ahead a some = by (cases_lt a.cursor.offset (length a.cursor.text.now))
     by (inl l) = l
     by (inr g) = absurd (some (nothing_ahead a g))
 
-pub some_in_line : (text : List ℕ) → BeginsInLine text → text ≢ []
-some_in_line [] h e = h
-some_in_line (c ∷ cs) h e = cc
-
-pub ahead_past : (old new : Cursor) (c : ℕ) → IsReading old → new.text.now ≡ old.text.now → Passes c old new
+pub ahead_past : (old new : TextWalk) (c : ℕ) → IsWalking old → new.text.now ≡ old.text.now → Passes c old new
     → chars (drop old.offset old.text.now) ≡ c ∷ chars (drop new.offset new.text.now)
 ahead_past old new c k same p =
     let bs = old.text.now in
     chars_past_char (drop old.offset bs) (drop new.offset bs) c (IsUtf8-drop bs old.offset k.utf8 k.boundary) p.here
     ∙ ap (λ t. c ∷ chars (drop new.offset t)) (sym same)
 
-pub one_past : (old new : Cursor) (c : ℕ) → IsReading old → Passes c old new → (at : ℕ) → IsCharBoundary old.text.now at → old.offset < at → new.offset ≤ at
-one_past old new c k p at b l = ends_before old.text.now old.offset new.offset at c k.utf8 k.boundary b l p.here p.behind
+pub one_past : (old new : TextWalk) (c : ℕ) → IsWalking old → Passes c old new → (at : ℕ) → IsCharBoundary old.text.now at → old.offset < at → new.offset ≤ at
+one_past old new c k p at b l = ends_before old.text.now old.offset new.offset at c k.utf8 k.boundary b l p.here p.after
 
-pub forward_past : (old new : Cursor) (c : ℕ) → Passes c old new → old.offset < new.offset
-forward_past old new c p = omega (arith, p.behind, len_utf8_bounds c)
+pub forward_past : (old new : TextWalk) (c : ℕ) → Passes c old new → old.offset < new.offset
+forward_past old new c p = omega (arith, p.after, len_utf8_bounds c)
 
 -- ---- running places
 
-pub runs_at_start : (a : RunningPlace) → IsReading a.cursor → a.cursor.offset ≡ 0 → a.line ≡ 1 → a.before ≡ 0 → IsRunning a
+pub runs_at_start : (a : RunningPlace) → IsWalking a.cursor → a.cursor.offset ≡ 0 → a.line ≡ 1 → a.before ≡ 0 → IsRunning a
 runs_at_start a r o l b =
     let none : chars (take a.cursor.offset a.cursor.text.now) ≡ [] = ap (λ k. chars (take k a.cursor.text.now)) o ∙ chars-nil in
     record {
@@ -94,14 +90,14 @@ runs_at_start a r o l b =
       column = omega (arith, b, ap (λ x. (place_behind x).column) none, r.counted, ap length none);
     }
 
--- the line and the column behind one character more
+-- the line and the column after one character more
 line_past : (old new : RunningPlace) (c : ℕ) → IsRunning old → new.cursor.text.now ≡ old.cursor.text.now → Passes c old.cursor new.cursor
     → (place new.cursor.text.now new.cursor.offset).line ≡ old.line + cond (is_line_feed c) 1 0
 line_past old new c r same p =
     let bs = old.cursor.text.now in
     let k = r.reading in
     let more : chars (take new.cursor.offset new.cursor.text.now) ≡ chars (take old.cursor.offset bs) ++ c ∷ [] =
-    ap (λ t. chars (take new.cursor.offset t)) same ∙ chars_past bs old.cursor.offset new.cursor.offset c k.utf8 k.boundary p.here p.behind in
+    ap (λ t. chars (take new.cursor.offset t)) same ∙ chars_past bs old.cursor.offset new.cursor.offset c k.utf8 k.boundary p.here p.after in
     ap (λ x. (place_behind x).line) more ∙ line_push (chars (take old.cursor.offset bs)) c ∙ ap (λ n. n + cond (is_line_feed c) 1 0) (sym r.line)
 
 column_past : (old new : RunningPlace) (c : ℕ) → IsRunning old → new.cursor.text.now ≡ old.cursor.text.now → Passes c old.cursor new.cursor
@@ -110,11 +106,11 @@ column_past old new c r same p =
     let bs = old.cursor.text.now in
     let k = r.reading in
     let more : chars (take new.cursor.offset new.cursor.text.now) ≡ chars (take old.cursor.offset bs) ++ c ∷ [] =
-    ap (λ t. chars (take new.cursor.offset t)) same ∙ chars_past bs old.cursor.offset new.cursor.offset c k.utf8 k.boundary p.here p.behind in
+    ap (λ t. chars (take new.cursor.offset t)) same ∙ chars_past bs old.cursor.offset new.cursor.offset c k.utf8 k.boundary p.here p.after in
     ap (λ x. (place_behind x).column) more ∙ column_push (chars (take old.cursor.offset bs)) c
 
 -- a character within a line
-pub runs_in_line : (old new : RunningPlace) (c : ℕ) → IsRunning old → IsReading new.cursor → new.cursor.text.now ≡ old.cursor.text.now → Passes c old.cursor new.cursor
+pub runs_in_line : (old new : RunningPlace) (c : ℕ) → IsRunning old → IsWalking new.cursor → new.cursor.text.now ≡ old.cursor.text.now → Passes c old.cursor new.cursor
     → is_in_line c ≡ true → is_line_feed c ≡ false → new.line ≡ old.line → new.before ≡ old.before → IsRunning new
 runs_in_line old new c r k same p i f l b =
     let x = line_past old new c r same p in
@@ -127,7 +123,7 @@ runs_in_line old new c r k same p i f l b =
     }
 
 -- a character that ends a line, or begins its columns anew
-pub runs_anew : (old new : RunningPlace) (c : ℕ) → IsRunning old → IsReading new.cursor → new.cursor.text.now ≡ old.cursor.text.now → Passes c old.cursor new.cursor
+pub runs_anew : (old new : RunningPlace) (c : ℕ) → IsRunning old → IsWalking new.cursor → new.cursor.text.now ≡ old.cursor.text.now → Passes c old.cursor new.cursor
     → is_in_line c ≡ false → new.line ≡ old.line + cond (is_line_feed c) 1 0 → new.before ≡ new.cursor.count → IsRunning new
 runs_anew old new c r k same p i l b =
     let x = line_past old new c r same p in

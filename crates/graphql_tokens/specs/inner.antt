@@ -1,8 +1,7 @@
 -- Inner: what the code keeps and finds, on the way to the public definitions.
 pub mod Blocks
-pub mod Calculator
 pub mod Contents
-pub mod Cursor
+pub mod CountedPlace
 pub mod Lexer
 pub mod Lexing
 pub mod NameText
@@ -11,3 +10,4 @@ pub mod Numerals
 pub mod Quoted
 pub mod Reading
 pub mod Running
+pub mod TextWalk

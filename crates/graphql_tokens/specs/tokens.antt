@@ -1,6 +1,7 @@
 -- Public: places, and the token list of a text.
 pub mod BlockText
 pub mod Blocks
+pub mod Calculator
 pub mod Classes
 pub mod Cuts
 pub mod Edition

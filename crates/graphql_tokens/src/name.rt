@@ -34,11 +34,13 @@ pub struct Name(Text);
 
 impl Model for Name {
     ghost use Rattle.std.specs.Prelude.{ℕ, List};
-    ghost use Rattle.graphql_tokens.specs.inner.NameText.{text_bytes};
+    ghost use Rattle.graphql_tokens.specs.inner.NameText.{text_bytes, IsPlacedByLength};
 
     ghost Value = { List ℕ };
 
     ghost view = { λ n. text_bytes n.0 };
+
+    ghost invariant = { λ n. IsPlacedByLength n.0 };
 }
 
 impl Name {
@@ -80,8 +82,14 @@ impl Name {
     }
 }
 
+/// A clone of a name of at most 16 bytes never fails; that of a longer one fails where no memory is left for its
+/// text.
 impl Clone for Name {
+    ghost use Rattle.std.specs.Prelude.{◌≤◌, length};
+
     ghost is_clone = { λ name copy. copy ≡ name };
+
+    ghost is_infallible = { λ name. length name ≤ 16 };
 
     fn clone(&self) -> Result<Name, AllocError> {
         match &self.0 {

@@ -5,10 +5,11 @@ ghost use Rattle.std.specs.Cmp.{on_equiv, on_total, on_per, on_po};
 ghost use Rattle.std.specs.Cmp.Rules.{hashing};
 ghost use Rattle.std.proofs.Common.{rules};
 
-mod cursor;
+mod counted;
 pub(crate) mod running;
+mod text_walk;
 
-use running::RunningPlace;
+use counted::CountedPlace;
 use serde::{Deserialize, Serialize};
 use std::alloc::AllocError;
 use std::cmp::Ordering;
@@ -173,19 +174,22 @@ impl<T: Hash> Hash for Positioned<T> {
     }
 }
 
-/// Finds the places of byte offsets of one text, each no smaller than the one before it, and goes
-/// over no character twice.
+/// Finds the places of byte offsets of one text, in one pass over it.
+///
+/// The offsets must not fall. Each step goes on where the last one stopped, so no character is passed
+/// twice; `stepped` tells how many were passed. It takes no memory. (This project's choice; how lines
+/// and columns are counted stands at `Pos`.)
 #[derive(Debug, Drop)]
 pub struct PositionCalculator<'a> {
-    running: RunningPlace<'a>,
+    counted: CountedPlace<'a>,
 }
 
 impl<'a> Model for PositionCalculator<'a> {
-    ghost use Rattle.graphql_tokens.specs.inner.Calculator.{Calculator};
+    ghost use Rattle.graphql_tokens.specs.tokens.Calculator.{Calculator};
 
     ghost Value = { Calculator };
 
-    ghost use Rattle.graphql_tokens.specs.inner.Running.{shown, IsRight};
+    ghost use Rattle.graphql_tokens.specs.inner.CountedPlace.{shown, IsRight};
 
     ghost view = { shown };
 
@@ -196,40 +200,39 @@ impl<'a> PositionCalculator<'a> {
     ghost use Rattle.std.specs.Str.{IsCharBoundary, chars};
     ghost use Rattle.graphql_tokens.specs.tokens.Place.{place};
 
-    /// A calculator that stands at the start of `text`.
+    /// A calculator at the start of `text`, which has passed nothing.
     pub fn new(text: &'a str) -> PositionCalculator<'a>
         ensures text { result.text ≡ text.entry.now }
         ensures start { result.offset ≡ 0 }
     {
         PositionCalculator {
-            running: RunningPlace::new(text),
+            counted: CountedPlace::new(text),
         }
     }
 
-    /// The place of the byte `offset`: its line is one more than the line feeds before it, and its
-    /// column one more than the characters behind the last line feed or carriage return before it
-    /// (so a lone carriage return begins the columns anew and no line; this project's choice).
+    /// The place at `offset`, in bytes: its line is one more than the line feeds before it, and its
+    /// column one more than the characters after the last line feed or carriage return before it
+    /// (so a lone carriage return begins the columns anew, and no line; this project's choice).
     ///
-    /// The offset is one where a character begins or the text ends, and no smaller than at the
-    /// call before.
+    /// The caller owes an offset where a character begins or the text ends, and none smaller than at
+    /// the call before.
     pub fn step(&mut self, offset: usize) -> Pos
         requires boundary { IsCharBoundary self.old.text offset }
         requires forward { self.old.offset ≤ offset }
         ensures place { result ≡ place self.old.text offset }
+        // It has gone on with the same walk over the same text, up to this offset.
         ensures moved { self.new ≡ record self.old { offset = offset } }
     {
-        let mut running = self.running;
-        while running.offset() < offset {
-            running.pass();
+        while self.counted.offset() < offset {
+            self.counted.pass();
         }
-        self.running = running;
-        running.pos()
+        self.counted.pos()
     }
 
-    /// How many characters were gone over so far: those before the last offset, each once.
+    /// How many characters were passed so far: those before the last offset, each once.
     pub fn stepped(&self) -> usize
         ensures { result ≡ length (chars (take self.now.offset self.now.text)) }
     {
-        self.running.count()
+        self.counted.count()
     }
 }

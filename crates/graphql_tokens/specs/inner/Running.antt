@@ -2,10 +2,8 @@
 use Rattle.std.specs.Prelude.{◌≡◌, ◌<◌, ℕ, ◌+◌, List, [], ◌∷◌, true, drop}
 use Rattle.std.specs.Str.{chars}
 use Rattle.graphql_tokens.specs.tokens.Place.{place, is_in_line}
-use Rattle.graphql_tokens.specs.inner.Calculator.{Calculator}
-use Rattle.graphql_tokens.specs.inner.Cursor.{IsReading}
+use Rattle.graphql_tokens.specs.inner.TextWalk.{IsWalking}
 use Rattle.graphql_tokens.specs.declared.pos.running.RunningPlace.{RunningPlace}
-use Rattle.graphql_tokens.specs.declared.pos.PositionCalculator.TheInside.{Inside}
 
 -- the characters from the offset on
 abbrev pub ahead : RunningPlace → List ℕ
@@ -13,24 +11,11 @@ ahead a = chars (drop a.cursor.offset a.cursor.text.now)
 
 -- the line is that of the offset, and its column counts from the characters before the line
 pub record IsRunning (a : RunningPlace) : Type 0 where
-  pub reading : IsReading a.cursor
+  pub reading : IsWalking a.cursor
   pub line : a.line ≡ (place a.cursor.text.now a.cursor.offset).line
   pub column : a.before + (place a.cursor.text.now a.cursor.offset).column ≡ a.cursor.count + 1
 
--- the first character is there, and ends no line
-abbrev pub BeginsInLine : List ℕ → Type 0
-BeginsInLine [] = ⊥
-BeginsInLine (c ∷ cs) = is_in_line c ≡ true
-
--- and is an ASCII one
+-- the first character is there, is an ASCII one, and ends no line
 abbrev pub BeginsInAscii : List ℕ → Type 0
 BeginsInAscii [] = ⊥
 BeginsInAscii (c ∷ cs) = (c < 128) × (is_in_line c ≡ true)
-
--- ---- what a position calculator shows
-
-abbrev pub shown : Inside → Calculator
-shown a = record { text = a.running.cursor.text.now; offset = a.running.cursor.offset }
-
-abbrev pub IsRight : Inside → Type 0
-IsRight a = IsRunning a.running

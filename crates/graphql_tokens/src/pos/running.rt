@@ -1,19 +1,19 @@
 //! A place that moves through a text with the characters passed.
 
-ghost use Rattle.std.specs.Prelude.{◌≡◌, ◌≢◌, ◌<◌, ◌≤◌, ℕ, ◌∷◌, []};
+ghost use Rattle.std.specs.Prelude.{◌≡◌, ◌≢◌, ◌<◌, ◌≤◌, ◌+◌, ℕ, ◌∷◌, []};
 ghost use Rattle.std.specs.Str.{IsCharBoundary};
 ghost use Rattle.graphql_tokens.specs.tokens.Place.{place};
-ghost use Rattle.graphql_tokens.specs.inner.Running.{ahead, IsRunning, BeginsInLine, BeginsInAscii};
+ghost use Rattle.graphql_tokens.specs.inner.Running.{ahead, IsRunning, BeginsInAscii};
 ghost use Rattle.graphql_tokens.specs.inner.Lexing.{IsFirstByte};
 
 use super::Pos;
-use super::cursor::Cursor;
+use super::text_walk::TextWalk;
 
-// A cursor, with its line and the number of characters before that line: the column needs no number
-// of its own, so passing a character within a line costs no more than passing it.
+// A walk over a text, with its line and the number of characters before that line: the column needs no
+// number of its own, so passing a character within a line costs no more than passing it.
 #[derive(Clone, Copy, Debug)]
 pub struct RunningPlace<'a> {
-    cursor: Cursor<'a>,
+    cursor: TextWalk<'a>,
     line: usize,
     before: usize,
 }
@@ -25,7 +25,7 @@ impl<'a> RunningPlace<'a> {
         ensures running { IsRunning result }
     {
         RunningPlace {
-            cursor: Cursor::new(text),
+            cursor: TextWalk::new(text),
             line: 1,
             before: 0,
         }
@@ -64,11 +64,12 @@ impl<'a> RunningPlace<'a> {
         ensures running { IsRunning self.new }
         ensures same { self.new.cursor.text.now ≡ self.old.cursor.text.now }
         ensures passed { ahead self.old ≡ result ∷ ahead self.new }
+        ensures counted { self.new.cursor.count ≡ self.old.cursor.count + 1 }
         // No place where a character begins is gone over.
         ensures one { (at : ℕ) → IsCharBoundary self.old.cursor.text.now at → self.old.cursor.offset < at → self.new.cursor.offset ≤ at }
         ensures forward { self.old.cursor.offset < self.new.cursor.offset }
     {
-        let c = self.cursor.next();
+        let c = self.cursor.pass();
         if c <= '\r' {
             if c == '\n' {
                 self.line += 1;
@@ -80,20 +81,7 @@ impl<'a> RunningPlace<'a> {
         c
     }
 
-    // The same where the next character ends no line.
-    #[inline(always)]
-    pub fn pass_in_line(&mut self)
-        requires running { IsRunning self.old }
-        requires in_line { BeginsInLine (ahead self.old) }
-        ensures running { IsRunning self.new }
-        ensures same { self.new.cursor.text.now ≡ self.old.cursor.text.now }
-        ensures passed { (c : ℕ) × (ahead self.old ≡ c ∷ ahead self.new) }
-        ensures forward { self.old.cursor.offset < self.new.cursor.offset }
-    {
-        self.cursor.next();
-    }
-
-    // The same where that character is an ASCII one, without a look at it.
+    // The same where the next character is an ASCII one that ends no line, without a look at it.
     #[inline(always)]
     pub fn pass_ascii(&mut self)
         requires running { IsRunning self.old }

@@ -4,6 +4,7 @@ use Rattle.graphql_tokens.proofs.pos.PositionCalculator.step.Goals as goal
 
 pub pass-requires-clause-more : goal.pass-requires-clause-more
 pass-requires-clause-more c =
-    let v = c.loop-running.invariant in
-    let l : c.loop-running.running.cursor.offset < length c.loop-running.running.cursor.text.now = omega (arith, ap length v.same, c.requires.boundary.0) in
-    ahead_some c.loop-running.running v.running l
+    let v = c.loop-self.invariant in
+    let a = c.loop-self.self-inside.counted.place in
+    let l : a.cursor.offset < length a.cursor.text.now = omega (arith, ap length v.same, c.requires.boundary.0) in
+    ahead_some a v.running l

@@ -2,8 +2,13 @@ use Rattle.std.proofs.Common.{◌≡◌, ◌≤◌, ◌-◌}
 use Rattle.graphql_tokens.specs.inner.Running.{IsRunning}
 use Rattle.graphql_tokens.proofs.pos.PositionCalculator.step.Given as goal
 
-abbrev pub invariant-loop-running : goal.invariant-loop-running
-invariant-loop-running l = record { running : IsRunning l.running; same : l.running.cursor.text.now ≡ l.fn.self.text; before : l.running.cursor.offset ≤ l.offset }
+abbrev pub invariant-loop-self : goal.invariant-loop-self
+invariant-loop-self l = record {
+  running : IsRunning l.self-inside.counted.place;
+  same : l.self-inside.counted.place.cursor.text.now ≡ l.fn.self.text;
+  walk : l.self-inside.counted.number ≡ l.fn.self.walk;
+  before : l.self-inside.counted.place.cursor.offset ≤ l.offset;
+}
 
-abbrev pub decreases-loop-running : goal.decreases-loop-running
-decreases-loop-running l = l.offset - l.running.cursor.offset
+abbrev pub decreases-loop-self : goal.decreases-loop-self
+decreases-loop-self l = l.offset - l.self-inside.counted.place.cursor.offset

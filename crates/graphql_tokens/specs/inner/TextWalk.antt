@@ -1,18 +1,18 @@
--- What a cursor keeps, and what a call of `next` does.
+-- What a walk over a text keeps, and what it does to pass a character.
 use Rattle.std.specs.Prelude.{◌≡◌, ◌<◌, ◌^◌, ℕ, ◌+◌, ◌++◌, length, take, drop}
 use Rattle.std.specs.Char.{encode_utf8, len_utf8}
 use Rattle.std.specs.Str.{chars, IsUtf8, IsCharBoundary}
-use Rattle.graphql_tokens.specs.declared.pos.cursor.Cursor.{Cursor}
+use Rattle.graphql_tokens.specs.declared.pos.text_walk.TextWalk.{TextWalk}
 
 -- the count is that of the characters before the offset
-pub record IsReading (a : Cursor) : Type 0 where
+pub record IsWalking (a : TextWalk) : Type 0 where
   pub counted : a.count ≡ length (chars (take a.offset a.text.now))
   pub boundary : IsCharBoundary a.text.now a.offset
   pub utf8 : IsUtf8 a.text.now
   pub bound : length a.text.now < 2 ^ 63
 
--- the character c stands at the offset of the one, and the other is behind it
-pub record Passes (c : ℕ) (old new : Cursor) : Type 0 where
+-- the character c stands at the offset of the old walk, and the new one is past it and has counted it
+pub record Passes (c : ℕ) (old new : TextWalk) : Type 0 where
   pub here : drop old.offset old.text.now ≡ encode_utf8 c ++ drop new.offset old.text.now
-  pub behind : new.offset ≡ old.offset + len_utf8 c
+  pub after : new.offset ≡ old.offset + len_utf8 c
   pub counted : new.count ≡ old.count + 1

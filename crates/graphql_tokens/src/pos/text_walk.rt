@@ -1,26 +1,26 @@
-//! A text that is gone over once, a character at a time.
+//! A walk over a text, a character at a time.
 
 ghost use Rattle.std.specs.Prelude.{◌≡◌, ◌<◌, ◌++◌, ℕ, List, length, drop, get_or};
 ghost use Rattle.std.specs.Char.{encode_utf8};
 ghost use Rattle.std.specs.Str.{IsCharBoundary};
-ghost use Rattle.graphql_tokens.specs.inner.Cursor.{IsReading, Passes};
+ghost use Rattle.graphql_tokens.specs.inner.TextWalk.{IsWalking, Passes};
 
-// The text, how many of its bytes were passed, and how many characters. It hands the text out
-// nowhere, so whoever holds a cursor alone can't go back in the text, nor over it without a count.
+// The text, how many of its bytes were passed, and how many characters. It hands the text out nowhere. A copy
+// of it goes on by itself, and what a copy passes is counted by that copy alone.
 #[derive(Clone, Copy, Debug)]
-pub struct Cursor<'a> {
+pub struct TextWalk<'a> {
     text: &'a str,
     offset: usize,
     count: usize,
 }
 
-impl<'a> Cursor<'a> {
-    pub fn new(text: &'a str) -> Cursor<'a>
+impl<'a> TextWalk<'a> {
+    pub fn new(text: &'a str) -> TextWalk<'a>
         ensures text { result.text.now ≡ text.entry.now }
         ensures start { result.offset ≡ 0 }
-        ensures reading { IsReading result }
+        ensures walking { IsWalking result }
     {
-        Cursor {
+        TextWalk {
             text,
             offset: 0,
             count: 0,
@@ -29,11 +29,11 @@ impl<'a> Cursor<'a> {
 
     // The character at the offset, which is passed.
     #[inline(always)]
-    pub fn next(&mut self) -> char
-        requires reading { IsReading self.old }
+    pub fn pass(&mut self) -> char
+        requires walking { IsWalking self.old }
         requires more { self.old.offset < length self.old.text.now }
         ensures same { self.new.text.now ≡ self.old.text.now }
-        ensures reading { IsReading self.new }
+        ensures walking { IsWalking self.new }
         ensures passes { Passes result self.old self.new }
     {
         let first = self.text.as_bytes()[self.offset];
@@ -48,14 +48,14 @@ impl<'a> Cursor<'a> {
         c
     }
 
-    // Goes past an ASCII character, without a look at it.
+    // Passes an ASCII character, without a look at it.
     #[inline(always)]
     pub fn pass_ascii(&mut self)
-        requires reading { IsReading self.old }
+        requires walking { IsWalking self.old }
         requires more { self.old.offset < length self.old.text.now }
         requires ascii { get_or self.old.text.now self.old.offset 0 < 128 }
         ensures same { self.new.text.now ≡ self.old.text.now }
-        ensures reading { IsReading self.new }
+        ensures walking { IsWalking self.new }
         ensures passes { Passes (get_or self.old.text.now self.old.offset 0) self.old self.new }
     {
         self.offset += 1;
@@ -78,7 +78,7 @@ impl<'a> Cursor<'a> {
     }
 }
 
-// The character at `offset`. It takes no cursor's address, so that cursors can stay in registers.
+// The character at `offset`. It is handed no walk's address, so that a walk can stay in registers.
 #[cold]
 #[inline(never)]
 fn char_at(text: &str, offset: usize) -> char

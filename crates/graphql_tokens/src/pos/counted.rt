@@ -1,0 +1,89 @@
+//! The place of a position calculator: one that nobody can copy.
+
+ghost use Rattle.std.specs.Prelude.{◌≡◌, ◌≢◌, ◌<◌, ◌≤◌, ◌+◌, ℕ, ◌∷◌, [], length, take};
+ghost use Rattle.std.specs.Str.{IsCharBoundary, chars};
+ghost use Rattle.graphql_tokens.specs.tokens.Place.{place};
+ghost use Rattle.graphql_tokens.specs.inner.Running.{ahead, IsRunning};
+
+use super::Pos;
+use super::running::RunningPlace;
+use std::marker::Model;
+
+// Which walk over a text it is: a number for clauses alone, which takes no memory. `CountedPlace::new` says
+// nothing of it, so nobody can show that two walks are the same one, or that a walk which began anew is the old
+// one.
+#[derive(Debug, Drop)]
+struct WalkNumber;
+
+impl Model for WalkNumber {
+    ghost use Rattle.std.specs.Prelude.{ℕ};
+
+    ghost Value = { ℕ };
+
+    ghost view = { λ _. 0 };
+}
+
+// A running place that is neither `Copy` nor `Clone`. It holds the only text that a calculator has, and hands it
+// out nowhere. Its one changing call passes one character and counts it. So whoever holds a counted place can't
+// pass a character without a count, and can't go back in the text.
+#[derive(Debug, Drop)]
+pub struct CountedPlace<'a> {
+    place: RunningPlace<'a>,
+    number: WalkNumber,
+}
+
+impl<'a> CountedPlace<'a> {
+    // The start of `text`, and of a new walk over it.
+    pub fn new(text: &'a str) -> CountedPlace<'a>
+        ensures text { result.place.cursor.text.now ≡ text.entry.now }
+        ensures start { result.place.cursor.offset ≡ 0 }
+        ensures running { IsRunning result.place }
+    {
+        CountedPlace {
+            place: RunningPlace::new(text),
+            number: WalkNumber,
+        }
+    }
+
+    // The next character, which is passed and counted.
+    #[inline(always)]
+    pub fn pass(&mut self) -> char
+        requires running { IsRunning self.old.place }
+        requires more { ahead self.old.place ≢ [] }
+        ensures running { IsRunning self.new.place }
+        ensures same { self.new.place.cursor.text.now ≡ self.old.place.cursor.text.now }
+        ensures walk { self.new.number ≡ self.old.number }
+        ensures passed { ahead self.old.place ≡ result ∷ ahead self.new.place }
+        ensures counted { self.new.place.cursor.count ≡ self.old.place.cursor.count + 1 }
+        // No place where a character begins is gone over.
+        ensures one { (at : ℕ) → IsCharBoundary self.old.place.cursor.text.now at → self.old.place.cursor.offset < at → self.new.place.cursor.offset ≤ at }
+        ensures forward { self.old.place.cursor.offset < self.new.place.cursor.offset }
+    {
+        self.place.pass()
+    }
+
+    #[inline(always)]
+    pub fn offset(&self) -> usize
+        ensures { result ≡ self.now.place.cursor.offset }
+    {
+        self.place.offset()
+    }
+
+    // How many characters were passed: those before the offset, each once.
+    #[inline(always)]
+    pub fn count(&self) -> usize
+        requires { IsRunning self.now.place }
+        ensures count { result ≡ self.now.place.cursor.count }
+        ensures once { result ≡ length (chars (take self.now.place.cursor.offset self.now.place.cursor.text.now)) }
+    {
+        self.place.count()
+    }
+
+    #[inline(always)]
+    pub fn pos(&self) -> Pos
+        requires { IsRunning self.now.place }
+        ensures { result ≡ place self.now.place.cursor.text.now self.now.place.cursor.offset }
+    {
+        self.place.pos()
+    }
+}
