@@ -1,6 +1,6 @@
 //! The tree of a request: operations and fragments, and the selections in them.
-ghost use Rattle.std.specs.Prelude.{◌≡◌, Some, [], length, option_map, IfSome, IsSome};
-ghost use Rattle.std.specs.Iterator.{YieldsFirstBy, item_count, UpTo, at_most};
+ghost use Rattle.std.specs.Prelude.{◌≡◌, ⊤, Some, [], length, option_map, IfSome, IsSome};
+ghost use Rattle.std.specs.Iterator.{YieldsFirstBy, item_count, UpTo};
 ghost use Rattle.std.specs.Iterator.SizeHint.{IsWithinCount};
 ghost use Rattle.graphql_syntax.specs.calls.Named.{named, argument_named};
 ghost use Rattle.std.specs.Cow.{cow_value, IsBorrowed};
@@ -11,7 +11,7 @@ ghost use Rattle.graphql_syntax.specs.declared.types.executable.InlineFragment.{
 ghost use Rattle.graphql_syntax.specs.calls.Defaults.{default_of, key_of};
 ghost use Rattle.graphql_syntax.specs.declared.types.executable.Field.{out-Field};
 ghost use Rattle.graphql_syntax.specs.declared.types.executable.SelectionSet.{out-SelectionSet};
-ghost use Rattle.graphql_syntax.specs.calls.Operations.{operations_left, operations_list, operation_named, operation_item};
+ghost use Rattle.graphql_syntax.specs.calls.Operations.{operations_list, operation_named, operation_item};
 
 use super::look::{argument, look_up};
 use super::{Directive, OperationType, Type};
@@ -21,6 +21,7 @@ use indexmap::{IndexMap, map};
 use std::alloc::{AllocError, Global};
 use std::borrow::Cow;
 use std::iter::FusedIterator;
+use std::marker::Model;
 
 /// A request (section 2.2): its operations and its fragments.
 #[derive(Debug, Drop)]
@@ -41,13 +42,34 @@ pub enum DocumentOperations {
 }
 
 /// The operations of a request, in source order, each with its name where it has one.
+///
+/// Each operation comes once, and then `None` for good; `len` is how many are left. It takes no memory,
+/// so its clone can't fail. A contract sees it as the list of the operations that it has left.
 #[derive(Debug, Drop)]
-pub struct OperationsIter<'a>(Inner<'a>);
+pub struct OperationsIter<'a> {
+    left: Left<'a>,
+}
 
 #[derive(Debug, Drop)]
-enum Inner<'a> {
+enum Left<'a> {
     Single(Option<&'a Positioned<OperationDefinition>>),
     Multiple(map::Iter<'a, Name, Positioned<OperationDefinition>>),
+}
+
+impl<'a> Model for OperationsIter<'a> {
+    ghost use Rattle.std.specs.Prelude.{List};
+    ghost use Rattle.graphql_syntax.specs.calls.Operations.{NamedOperation};
+    ghost use Rattle.graphql_syntax.specs.inner.OperationsLeft.{operations_left};
+    ghost use Rattle.std.specs.Coded.{coded×, coded_list, coded_option, coded_ℕ};
+    ghost use Rattle.graphql_tokens.specs.contracts.pos.Positioned as positioned;
+    ghost use Rattle.graphql_syntax.specs.contracts.types.executable.OperationDefinition as operation;
+
+    ghost Value = { List NamedOperation };
+
+    // by which a proof tells two lists of operations apart
+    ghost coded = { coded_list (coded× (coded_option (coded_list coded_ℕ)) (positioned.the_row operation.the_row).coded) };
+
+    ghost view = { λ operations. operations_left operations.left };
 }
 
 impl ExecutableDocument {
@@ -62,12 +84,13 @@ impl ExecutableDocument {
 impl DocumentOperations {
     /// The operations in source order, each with its name; the name is None exactly for `Single`.
     pub fn iter(&self) -> OperationsIter<'_>
-        ensures { operations_left result ≡ operations_list self.now }
+        ensures { result ≡ operations_list self.now }
     {
-        OperationsIter(match self {
-            DocumentOperations::Single(operation) => Inner::Single(Some(operation)),
-            DocumentOperations::Multiple(operations) => Inner::Multiple(operations.iter()),
-        })
+        let left = match self {
+            DocumentOperations::Single(operation) => Left::Single(Some(operation)),
+            DocumentOperations::Multiple(operations) => Left::Multiple(operations.iter()),
+        };
+        OperationsIter { left }
     }
 
     /// The operation of this name; None where there is none, and always for `Single`. It walks the
@@ -83,32 +106,33 @@ impl DocumentOperations {
 }
 
 impl<'a> Clone for OperationsIter<'a> {
-    ghost is_clone = { λ operations copy. operations_left copy ≡ operations_left operations };
+    ghost is_clone = { λ operations clone. clone ≡ operations };
+
+    ghost is_infallible = { λ _. ⊤ };
 
     fn clone(&self) -> Result<OperationsIter<'a>, AllocError> {
-        match &self.0 {
-            Inner::Single(operation) => Ok(OperationsIter(Inner::Single(*operation))),
-            Inner::Multiple(operations) => {
-                Ok(OperationsIter(Inner::Multiple(operations.clone()?)))
-            }
-        }
+        let left = match &self.left {
+            Left::Single(operation) => Left::Single(*operation),
+            Left::Multiple(operations) => Left::Multiple(operations.clone()?),
+        };
+        Ok(OperationsIter { left })
     }
 }
 
 impl<'a> Iterator for OperationsIter<'a> {
     type Item = (Option<&'a Name>, &'a Positioned<OperationDefinition>);
 
-    ghost next_gives = { YieldsFirstBy operation_item operations_left };
+    ghost next_gives = { YieldsFirstBy operation_item (λ left. left) };
 
-    ghost remaining = { item_count operations_left };
+    ghost remaining = { item_count (λ left. left) };
 
     fn next(&mut self) -> Option<Self::Item> {
-        match &mut self.0 {
-            Inner::Single(operation) => {
+        match &mut self.left {
+            Left::Single(operation) => {
                 let operation = operation.take()?;
                 Some((None, operation))
             }
-            Inner::Multiple(operations) => {
+            Left::Multiple(operations) => {
                 let (name, operation) = operations.next()?;
                 Some((Some(name), operation))
             }
@@ -116,9 +140,9 @@ impl<'a> Iterator for OperationsIter<'a> {
     }
 
     fn size_hint(&self) -> (usize, Option<usize>)
-        ensures exact { result ≡ (length (operations_left self.now), Some (length (operations_left self.now))) }
-        ensures lower { IsWithinCount result.0 (at_most (length (operations_left self.now))) }
-        ensures upper { IfSome result.1 (UpTo (at_most (length (operations_left self.now)))) }
+        ensures exact { result ≡ (length self.now, Some (length self.now)) }
+        ensures lower { IsWithinCount result.0 (item_count (λ left. left) self.now) }
+        ensures upper { IfSome result.1 (UpTo (item_count (λ left. left) self.now)) }
     {
         let len = self.len();
         (len, Some(len))
@@ -129,9 +153,9 @@ impl FusedIterator for OperationsIter<'_> {}
 
 impl ExactSizeIterator for OperationsIter<'_> {
     fn len(&self) -> usize {
-        match &self.0 {
-            Inner::Single(operation) => usize::from(operation.is_some()),
-            Inner::Multiple(operations) => operations.len(),
+        match &self.left {
+            Left::Single(operation) => usize::from(operation.is_some()),
+            Left::Multiple(operations) => operations.len(),
         }
     }
 }

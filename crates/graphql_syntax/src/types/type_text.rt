@@ -8,8 +8,13 @@ use crate::value::Name;
 use std::alloc::{AllocError, Global};
 use std::fmt;
 
+/// The type as GraphQL writes it (October 2021, section 2.11): `[Int!]`. A width, a precision or another
+/// option of the format changes nothing (this project's choice), since a name that is cut would be that of
+/// another type.
 impl fmt::Display for Type {
     ghost output = { λ t. Some (type_text (type_tree t)) };
+
+    ghost styled_output = { λ t _. Some (type_text (type_tree t)) };
 
     #[cycle(show)]
     #[tactic(auto, using(crate::proofs::TypeTexts::text_of_base))]
@@ -22,13 +27,16 @@ impl fmt::Display for Type {
     }
 }
 
+/// The name, or the list in its brackets; an option of the format changes nothing, as for [`Type`].
 impl fmt::Display for BaseType {
     ghost output = { λ b. Some (base_text b) };
+
+    ghost styled_output = { λ b _. Some (base_text b) };
 
     #[cycle(show)]
     fn fmt<W: fmt::Write>(&self, f: &mut fmt::Formatter<W>) -> fmt::Result {
         match self {
-            BaseType::Named(name) => name.fmt(f),
+            BaseType::Named(name) => f.write_str(name.as_str()),
             BaseType::List(inner) => {
                 f.write_str("[")?;
                 (**inner).fmt(f)?;
