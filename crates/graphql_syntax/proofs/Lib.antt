@@ -1,3 +1,4 @@
+pub mod Constant
 pub mod Copies
 pub mod Requests
 pub mod TreeLists

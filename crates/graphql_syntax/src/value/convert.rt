@@ -7,11 +7,13 @@ use super::{ConstValue, Name, Value};
 use std::alloc::{AllocError, Global};
 
 impl ConstValue {
-    /// The same value as one in which variables may stand: the same cases, names and order.
+    /// The same value as one in which variables may stand: the same cases, names and order. None stands
+    /// in it, so that `into_const` of it gives the value back unless memory runs out.
     ///
     /// Fails only where no memory is left for its lists and objects; the value is then gone.
     pub fn into_value(self, alloc: Global) -> Result<Value, AllocError>
-        ensures { IfOk result (λ value. value_tree value ≡ const_tree self) }
+        ensures value { IfOk result (λ value. value_tree value ≡ const_tree self) }
+        ensures constant { IfOk result (λ value. has_variable (value_tree value) ≡ false) }
     {
         value_of(self, alloc)
     }
