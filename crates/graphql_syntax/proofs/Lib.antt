@@ -1,5 +1,5 @@
 pub mod Constant
-pub mod Copies
+pub mod Clones
 pub mod Requests
 pub mod TreeLists
 pub mod TypeTexts

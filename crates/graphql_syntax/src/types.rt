@@ -3,12 +3,13 @@
 //! A tree keeps each node at its place: a node stands where its first token begins. All fields are
 //! public, and a tree that a caller builds is as good as one that was read.
 mod convert;
-mod copy;
 mod equality;
 mod executable;
-mod look;
-mod request_copy;
+mod lookup;
+mod request_clones;
+mod schema_clones;
 mod service;
+mod type_clones;
 mod type_text;
 
 ghost use Rattle.std.specs.Prelude.{◌≡◌, Some, option_map};
@@ -64,7 +65,7 @@ pub struct Type {
     /// The type without its mark.
     #[serde(recursive)]
     pub base: BaseType,
-    /// Whether null is a value of the type: no `!` stands behind it.
+    /// Whether null is a value of the type: no `!` follows it.
     pub nullable: bool,
 }
 
@@ -84,7 +85,7 @@ pub enum BaseType {
 /// The node stands at its `@`.
 #[derive(Debug, Drop)]
 pub struct ConstDirective {
-    /// The name behind the `@`.
+    /// The name after the `@`.
     pub name: Positioned<Name>,
     /// The arguments, in source order. One name may come twice.
     pub arguments: Vec<(Positioned<Name>, Positioned<ConstValue>)>,
@@ -95,7 +96,7 @@ pub struct ConstDirective {
 /// The node stands at its `@`.
 #[derive(Debug, Drop)]
 pub struct Directive {
-    /// The name behind the `@`.
+    /// The name after the `@`.
     pub name: Positioned<Name>,
     /// The arguments, in source order. One name may come twice.
     pub arguments: Vec<(Positioned<Name>, Positioned<Value>)>,
@@ -106,7 +107,7 @@ impl ConstDirective {
     pub fn get_argument(&self, name: &str) -> Option<&Positioned<ConstValue>>
         ensures { option_map (λ v. v.now) result ≡ argument_named name.now self.now.arguments.items }
     {
-        look::argument(&self.arguments, name)
+        lookup::find_argument(&self.arguments, name)
     }
 }
 
@@ -115,6 +116,6 @@ impl Directive {
     pub fn get_argument(&self, name: &str) -> Option<&Positioned<Value>>
         ensures { option_map (λ v. v.now) result ≡ argument_named name.now self.now.arguments.items }
     {
-        look::argument(&self.arguments, name)
+        lookup::find_argument(&self.arguments, name)
     }
 }

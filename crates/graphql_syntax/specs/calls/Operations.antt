@@ -1,5 +1,6 @@
--- The operations of a request, as a list (October 2021, section 2.3; that they keep their source order and
--- how they are looked up by a name is this project's choice).
+-- The operations of a request, as a list.
+-- Source: GraphQL October 2021, section 2.3 (Operations). That they keep their source order, and how a name finds one, is
+-- this project's choice.
 use Rattle.std.specs.Prelude.{ℕ, List, [], ◌∷◌, Option, Some, None, map, option_map}
 use Rattle.std.specs.Borrow.{Bor}
 use Rattle.graphql_syntax.specs.calls.Named.{named}

@@ -59,6 +59,7 @@ fn arguments_hold(arguments: &Vec<(Positioned<Name>, Positioned<Value>)>) -> boo
     false
 }
 
+// The same arguments as ones in which variables may stand.
 fn arguments_of(
     arguments: Vec<(Positioned<Name>, Positioned<ConstValue>)>,
     alloc: Global,
@@ -74,6 +75,7 @@ fn arguments_of(
     Ok(made)
 }
 
+// The same arguments as ones without variables, where none stands in them.
 fn const_arguments_of(
     arguments: Vec<(Positioned<Name>, Positioned<Value>)>,
     alloc: Global,

@@ -8,12 +8,12 @@ ghost use Rattle.std.specs.Borrow.{sem};
 ghost use Rattle.graphql_syntax.specs.calls.Lending.{LendsDirectives, directives_of};
 ghost use Rattle.graphql_syntax.specs.inner.Loans.{LendsOfField, LendsOfSpread, LendsOfFragment};
 ghost use Rattle.graphql_syntax.specs.declared.types.executable.InlineFragment.{out-InlineFragment};
-ghost use Rattle.graphql_syntax.specs.calls.Defaults.{default_of, key_of};
+ghost use Rattle.graphql_syntax.specs.calls.Defaults.{default_of, response_key};
 ghost use Rattle.graphql_syntax.specs.declared.types.executable.Field.{out-Field};
 ghost use Rattle.graphql_syntax.specs.declared.types.executable.SelectionSet.{out-SelectionSet};
 ghost use Rattle.graphql_syntax.specs.calls.Operations.{operations_list, operation_named, operation_item};
 
-use super::look::{argument, look_up};
+use super::lookup::{find_argument, find_entry};
 use super::{Directive, OperationType, Type};
 use crate::pos::{Pos, Positioned};
 use crate::value::{ConstValue, Name, Value};
@@ -50,6 +50,7 @@ pub struct OperationsIter<'a> {
     left: Left<'a>,
 }
 
+// An operation that stands alone, until it was given, or those of a map that are left.
 #[derive(Debug, Drop)]
 enum Left<'a> {
     Single(Option<&'a Positioned<OperationDefinition>>),
@@ -77,7 +78,7 @@ impl ExecutableDocument {
     pub fn fragment(&self, name: &str) -> Option<&Positioned<FragmentDefinition>>
         ensures { option_map (λ f. f.now) result ≡ named name.now self.now.fragments.entries }
     {
-        look_up(&self.fragments, name)
+        find_entry(&self.fragments, name)
     }
 }
 
@@ -100,7 +101,7 @@ impl DocumentOperations {
     {
         match self {
             DocumentOperations::Single(_) => None,
-            DocumentOperations::Multiple(operations) => look_up(operations, name),
+            DocumentOperations::Multiple(operations) => find_entry(operations, name),
         }
     }
 }
@@ -180,13 +181,13 @@ pub struct OperationDefinition {
 /// The node stands at its `$`.
 #[derive(Debug, Drop)]
 pub struct VariableDefinition {
-    /// The name behind the `$`.
+    /// The name after the `$`.
     pub name: Positioned<Name>,
     /// The type, at its first token.
     pub var_type: Positioned<Type>,
     /// The directives, in source order. Variables may stand in them (this project's choice).
     pub directives: Vec<Positioned<Directive>>,
-    /// The value behind the `=`, at its first token.
+    /// The value after the `=`, at its first token.
     pub default_value: Option<Positioned<ConstValue>>,
 }
 
@@ -267,6 +268,8 @@ impl Selection {
     }
 }
 
+// The list of one case, to be changed. Each case has a function of its own, since what is lent of a selection is
+// said by what is lent of the node in it.
 fn field_directives(field: &mut Positioned<Field>) -> &mut Vec<Positioned<Directive>>
     ensures* writes_back { sem 𝓛 (LendsOfField field.entry result) }
     ensures value { result.now ≡ (out-Field field.old.node).directives }
@@ -310,7 +313,7 @@ pub struct Field {
 impl Field {
     /// The name of the field's value in an answer: the alias where there is one, else the name.
     pub fn response_key(&self) -> &Positioned<Name>
-        ensures { result.now ≡ key_of self.now }
+        ensures { result.now ≡ response_key self.now }
     {
         self.alias.as_ref().unwrap_or(&self.name)
     }
@@ -319,14 +322,14 @@ impl Field {
     pub fn get_argument(&self, name: &str) -> Option<&Positioned<Value>>
         ensures { option_map (λ v. v.now) result ≡ argument_named name.now (out-Field self.now).arguments.items }
     {
-        argument(&self.arguments, name)
+        find_argument(&self.arguments, name)
     }
 }
 
 /// The use of a fragment by its name (section 2.8).
 #[derive(Debug, Drop)]
 pub struct FragmentSpread {
-    /// The name behind the `...`: not `on`.
+    /// The name after the `...`: not `on`.
     pub fragment_name: Positioned<Name>,
     /// The directives, in source order.
     pub directives: Vec<Positioned<Directive>>,
