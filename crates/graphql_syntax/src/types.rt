@@ -42,9 +42,12 @@ pub enum OperationType {
     Subscription,
 }
 
-/// The keyword: `query`, `mutation` or `subscription`.
+/// The keyword: `query`, `mutation` or `subscription` (October 2021, section 2.3). A width, a precision or
+/// another option of the format changes nothing (this project's choice).
 impl fmt::Display for OperationType {
     ghost output = { λ kind. Some (operation_word kind) };
+
+    ghost styled_output = { λ kind _. Some (operation_word kind) };
 
     fn fmt<W: fmt::Write>(&self, f: &mut fmt::Formatter<W>) -> fmt::Result {
         f.write_str(match self {
