@@ -1,4 +1,5 @@
-pub mod Copies
+pub mod Constant
+pub mod Clones
 pub mod Requests
 pub mod TreeLists
 pub mod TypeTexts

@@ -9,23 +9,23 @@ unless_true true f = absurd (f refl)
 unless_true false f = refl
 
 module _ {A : Type 0} where
-  trees_long : (f : A → Tree) (xs ys : List A) → same_trees (trees_of (map f xs)) (trees_of (map f ys)) ≡ true → length xs ≡ length ys
-  trees_long f [] [] e = refl
-  trees_long f [] (y ∷ ys) e = cc
-  trees_long f (x ∷ xs) [] e = cc
-  trees_long f (x ∷ xs) (y ∷ ys) e =
-      ap suc (trees_long f xs ys (second_so (same_tree (f x) (f y)) (same_trees (trees_of (map f xs)) (trees_of (map f ys))) e))
+  length-same_trees : (f : A → Tree) (xs ys : List A) → same_trees (trees_of (map f xs)) (trees_of (map f ys)) ≡ true → length xs ≡ length ys
+  length-same_trees f [] [] e = refl
+  length-same_trees f [] (y ∷ ys) e = cc
+  length-same_trees f (x ∷ xs) [] e = cc
+  length-same_trees f (x ∷ xs) (y ∷ ys) e =
+      ap suc (length-same_trees f xs ys (second_so (same_tree (f x) (f y)) (same_trees (trees_of (map f xs)) (trees_of (map f ys))) e))
 
-  fields_long : (f : A → List ℕ × Tree) (xs ys : List A) → same_fields (fields_of (map f xs)) (fields_of (map f ys)) ≡ true → length xs ≡ length ys
-  fields_long f [] [] e = refl
-  fields_long f [] (y ∷ ys) e = cc
-  fields_long f (x ∷ xs) [] e = cc
-  fields_long f (x ∷ xs) (y ∷ ys) e =
+  length-same_fields : (f : A → List ℕ × Tree) (xs ys : List A) → same_fields (fields_of (map f xs)) (fields_of (map f ys)) ≡ true → length xs ≡ length ys
+  length-same_fields f [] [] e = refl
+  length-same_fields f [] (y ∷ ys) e = cc
+  length-same_fields f (x ∷ xs) [] e = cc
+  length-same_fields f (x ∷ xs) (y ∷ ys) e =
       let rest = second_so (same_tree (f x).1 (f y).1) (same_fields (fields_of (map f xs)) (fields_of (map f ys))) (second_so (same_text (f x).0 (f y).0) (same_tree (f x).1 (f y).1 && same_fields (fields_of (map f xs)) (fields_of (map f ys))) e) in
-      ap suc (fields_long f xs ys rest)
+      ap suc (length-same_fields f xs ys rest)
 
-  pub same_trees-shorter : (f : A → Tree) (xs ys : List A) → length xs ≢ length ys → false ≡ same_trees (trees_of (map f xs)) (trees_of (map f ys))
-  same_trees-shorter f xs ys n = unless_true _ (λ e. n (trees_long f xs ys e))
+  pub same_trees-of_other_length : (f : A → Tree) (xs ys : List A) → length xs ≢ length ys → false ≡ same_trees (trees_of (map f xs)) (trees_of (map f ys))
+  same_trees-of_other_length f xs ys n = unless_true _ (λ e. n (length-same_trees f xs ys e))
 
-  pub same_fields-shorter : (f : A → List ℕ × Tree) (xs ys : List A) → length xs ≢ length ys → false ≡ same_fields (fields_of (map f xs)) (fields_of (map f ys))
-  same_fields-shorter f xs ys n = unless_true _ (λ e. n (fields_long f xs ys e))
+  pub same_fields-of_other_length : (f : A → List ℕ × Tree) (xs ys : List A) → length xs ≢ length ys → false ≡ same_fields (fields_of (map f xs)) (fields_of (map f ys))
+  same_fields-of_other_length f xs ys n = unless_true _ (λ e. n (length-same_fields f xs ys e))

@@ -1,12 +1,17 @@
 -- Types and the texts that show them: the parts of a text, and one proper type for each text.
-use Rattle.std.proofs.Common.{◌≡◌, ℕ, List, ◌∷◌, [], ◌++◌, Bool, true, false, ◌&&◌, nat_eq, refl, sym, ap, ◌∙◌, append_assoc, IsTrue, ◌<◌, lit<, arith}
+use Rattle.std.proofs.Common.{◌≡◌, ◌==◌, ℕ, List, ◌∷◌, [], ◌++◌, Bool, true, false, ◌&&◌, ◌||◌, nat_eq, refl, sym, ap, subst, ◌∙◌, append_assoc, IsTrue, ◌<◌, lit<, arith, Option, Some, None, option_map, MatchOption, Result, Ok, Err, IfOk}
 use Rattle.std.proofs.lemmas.List.{append-nil, append_cancel_right}
+use Rattle.std.specs.declared.alloc.AllocError.{AllocError}
 use Rattle.std.specs.Bool.{beq}
+use Rattle.std.specs.Char.{is_ascii_alphabetic, is_ascii_digit}
 use Rattle.std.specs.Cmp.Lexicographic.{pointwise}
-use Rattle.graphql_syntax.specs.trees.TypeTree.{TypeTree, named, list, base_tree, base_text, type_text, mark}
+use Rattle.std.specs.List.{AllByRecursion}
+use Rattle.graphql_tokens.specs.tokens.Classes.{is_name_start, is_name_char}
+use Rattle.graphql_syntax.specs.trees.TypeTree.{TypeTree, named, list, base_tree, type_tree, base_text, type_text, mark}
 use Rattle.graphql_syntax.specs.trees.TypeEquality.{same_type}
-use Rattle.graphql_syntax.specs.calls.TypeText.{BeginsWith, EndsWith, IsProper, IsTypeOf}
+use Rattle.graphql_syntax.specs.calls.TypeText.{BeginsWith, EndsWith, HasGraphqlName, IsProper, IsTypeOf}
 use Rattle.graphql_syntax.specs.declared.types.BaseType.{BaseType, Named, List'}
+use Rattle.graphql_syntax.specs.declared.types.Type.{«Type» as TypeReference}
 
 -- the text of a type is that of its base, and then its mark
 pub text_of_base : (b : BaseType) (nullable : Bool) → type_text (base_tree b nullable) ≡ base_text b ++ mark nullable
@@ -46,9 +51,9 @@ first : List ℕ → ℕ
 first [] = 0
 first (x ∷ xs) = x
 
-behind_first : List ℕ → List ℕ
-behind_first [] = []
-behind_first (x ∷ xs) = xs
+after_first : List ℕ → List ℕ
+after_first [] = []
+after_first (x ∷ xs) = xs
 
 last : ℕ → List ℕ → ℕ
 last x [] = x
@@ -66,9 +71,9 @@ same_first : (x y : ℕ) (xs ys : List ℕ) → x ∷ xs ≡ y ∷ ys → x ≡ 
 unfolding first
 same_first x y xs ys e = ap first e
 
-same_behind : (x y : ℕ) (xs ys : List ℕ) → x ∷ xs ≡ y ∷ ys → xs ≡ ys
-unfolding behind_first
-same_behind x y xs ys e = ap behind_first e
+same_rest : (x y : ℕ) (xs ys : List ℕ) → x ∷ xs ≡ y ∷ ys → xs ≡ ys
+unfolding after_first
+same_rest x y xs ys e = ap after_first e
 
 apart : (m n : ℕ) → m < n → m ≡ n → ⊥
 apart m n h e = omega arith
@@ -101,7 +106,7 @@ no_type text after nullable begins ends none (named n b) is =
 no_type text after nullable begins ends none (list t b) is =
     none t is.0 (item_text (type_text t) after b nullable
     (λ yes end. ends yes (91 ∷ end.0, begins ∙ ap (λ s. 91 ∷ s) end.1))
-    (same_behind 91 91 (type_text t ++ 93 ∷ mark b) (after ++ mark nullable) (is.1 ∙ ap (λ s. s ++ mark nullable) begins)))
+    (same_rest 91 91 (type_text t ++ 93 ∷ mark b) (after ++ mark nullable) (is.1 ∙ ap (λ s. s ++ mark nullable) begins)))
 
 pub list_type : (text after inside : List ℕ) (nullable : Bool) (t : TypeTree) → text ≡ 91 ∷ after → after ≡ inside ++ 93 ∷ [] →
     IsTypeOf inside t → IsTypeOf (text ++ mark nullable) (list t nullable)
@@ -127,10 +132,48 @@ one (named m a) (named n b) p q e = names m n a b p q e
 one (named m a) (list t b) p q e = absurd (no_list m a (type_text t ++ 93 ∷ mark b) p.0 e)
 one (list s a) (named n b) p q e = absurd (no_list n b (type_text s ++ 93 ∷ mark a) q.0 (sym e))
 one (list s a) (list t b) p q e =
-    let texts = item_texts (type_text s) (type_text t) a b (same_behind 91 91 (type_text s ++ 93 ∷ mark a) (type_text t ++ 93 ∷ mark b) e) in
+    let texts = item_texts (type_text s) (type_text t) a b (same_rest 91 91 (type_text s ++ 93 ∷ mark a) (type_text t ++ 93 ∷ mark b) e) in
     let item = one s t p q texts.0 in
     let nullable : a ≡ b = texts.1 in
     cc
 
 pub one_type : (text : List ℕ) (s t : TypeTree) → IsTypeOf text s → IsTypeOf text t → s ≡ t
 one_type text s t x y = one s t x.0 y.0 (x.1 ∙ sym y.1)
+
+-- ---- the text of a type whose name is a name of GraphQL gives that type back
+
+name_char_of_start : (letter underscore digit : Bool) → (letter || underscore) ≡ true → (letter || underscore || digit) ≡ true
+name_char_of_start true underscore digit e = refl
+name_char_of_start false true digit e = refl
+name_char_of_start false false digit e = cc
+
+no_mark : (name front : List ℕ) → AllByRecursion (λ c. is_name_char c ≡ true) name → name ≡ front ++ 33 ∷ [] → ⊥
+no_mark [] [] all e = cc
+no_mark [] (x ∷ xs) all e = cc
+no_mark (c ∷ cs) [] all e =
+    let is_name_mark : is_name_char 33 ≡ true = subst (λ x. is_name_char x ≡ true) (same_first c 33 cs [] e) all.0 in
+    cc
+no_mark (c ∷ cs) (x ∷ xs) all e = no_mark cs xs all.1 (same_rest c x cs (xs ++ 33 ∷ []) e)
+
+no_bracket : (c : ℕ) (cs rest : List ℕ) → is_name_start c ≡ true → c ∷ cs ≡ 91 ∷ rest → ⊥
+no_bracket c cs rest start e =
+    let is_name_bracket : is_name_start 91 ≡ true = subst (λ x. is_name_start x ≡ true) (same_first c 91 cs rest e) start in
+    cc
+
+proper : (t : TypeTree) → HasGraphqlName t → IsProper t
+proper (named [] nullable) name = absurd name
+proper (named (c ∷ cs) nullable) name = (
+  λ begins. no_bracket c cs begins.0 name.0 begins.1,
+  λ yes ends. no_mark (c ∷ cs) ends.0 (name_char_of_start (is_ascii_alphabetic c) (c == 95) (is_ascii_digit c) name.0, name.1) ends.1,
+)
+proper (list item nullable) name = proper item name
+
+-- what `Type::new` answers of a text
+abbrev pub IsAnswer : List ℕ → Option TypeReference → Type 0
+IsAnswer text answer = MatchOption answer ((t : TypeTree) → ¬ IsTypeOf text t) (λ t. IsTypeOf text (type_tree t))
+
+pub given_back : (text : List ℕ) (result : Result (Option TypeReference) AllocError) → IfOk result (IsAnswer text) →
+    (t : TypeTree) → HasGraphqlName t → type_text t ≡ text → IfOk result (λ answer. option_map type_tree answer ≡ Some t)
+given_back text (Err e) is t name shown = tt
+given_back text (Ok None) is t name shown = absurd (is t (proper t name, shown))
+given_back text (Ok (Some answer)) is t name shown = ap Some (one_type text (type_tree answer) t is (proper t name, shown))

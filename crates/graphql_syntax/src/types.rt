@@ -3,12 +3,13 @@
 //! A tree keeps each node at its place: a node stands where its first token begins. All fields are
 //! public, and a tree that a caller builds is as good as one that was read.
 mod convert;
-mod copy;
 mod equality;
 mod executable;
-mod look;
-mod request_copy;
+mod lookup;
+mod request_clones;
+mod schema_clones;
 mod service;
+mod type_clones;
 mod type_text;
 
 ghost use Rattle.std.specs.Prelude.{◌≡◌, Some, option_map};
@@ -41,9 +42,12 @@ pub enum OperationType {
     Subscription,
 }
 
-/// The keyword: `query`, `mutation` or `subscription`.
+/// The keyword: `query`, `mutation` or `subscription` (October 2021, section 2.3). A width, a precision or
+/// another option of the format changes nothing (this project's choice).
 impl fmt::Display for OperationType {
     ghost output = { λ kind. Some (operation_word kind) };
+
+    ghost styled_output = { λ kind _. Some (operation_word kind) };
 
     fn fmt<W: fmt::Write>(&self, f: &mut fmt::Formatter<W>) -> fmt::Result {
         f.write_str(match self {
@@ -64,7 +68,7 @@ pub struct Type {
     /// The type without its mark.
     #[serde(recursive)]
     pub base: BaseType,
-    /// Whether null is a value of the type: no `!` stands behind it.
+    /// Whether null is a value of the type: no `!` follows it.
     pub nullable: bool,
 }
 
@@ -84,7 +88,7 @@ pub enum BaseType {
 /// The node stands at its `@`.
 #[derive(Debug, Drop)]
 pub struct ConstDirective {
-    /// The name behind the `@`.
+    /// The name after the `@`.
     pub name: Positioned<Name>,
     /// The arguments, in source order. One name may come twice.
     pub arguments: Vec<(Positioned<Name>, Positioned<ConstValue>)>,
@@ -95,7 +99,7 @@ pub struct ConstDirective {
 /// The node stands at its `@`.
 #[derive(Debug, Drop)]
 pub struct Directive {
-    /// The name behind the `@`.
+    /// The name after the `@`.
     pub name: Positioned<Name>,
     /// The arguments, in source order. One name may come twice.
     pub arguments: Vec<(Positioned<Name>, Positioned<Value>)>,
@@ -106,7 +110,7 @@ impl ConstDirective {
     pub fn get_argument(&self, name: &str) -> Option<&Positioned<ConstValue>>
         ensures { option_map (λ v. v.now) result ≡ argument_named name.now self.now.arguments.items }
     {
-        look::argument(&self.arguments, name)
+        lookup::find_argument(&self.arguments, name)
     }
 }
 
@@ -115,6 +119,6 @@ impl Directive {
     pub fn get_argument(&self, name: &str) -> Option<&Positioned<Value>>
         ensures { option_map (λ v. v.now) result ≡ argument_named name.now self.now.arguments.items }
     {
-        look::argument(&self.arguments, name)
+        lookup::find_argument(&self.arguments, name)
     }
 }

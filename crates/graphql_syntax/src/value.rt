@@ -1,6 +1,6 @@
 //! Names, numbers and values.
+mod clones;
 mod convert;
-mod copy;
 mod equality;
 mod literal;
 

@@ -1,4 +1,5 @@
 -- What is lent of a selection: the directives of its own case.
+-- Source: this project's choice.
 use Rattle.std.specs.Prelude.{Vec}
 use Rattle.std.specs.Borrow.{Lends, MutBor, Fml}
 use Rattle.std.specs.declared.alloc.Global.{Global}
@@ -43,6 +44,6 @@ with_directives_in (Selection-F.InlineFragment i) ds = Selection-F.InlineFragmen
 abbrev pub with_directives : Selection → Directives → Selection
 with_directives s ds = roll-Selection (with_directives_in (out-Selection s) ds)
 
--- r is lent of the selection s: in the end s is what it was, with the directives that are then behind r
+-- r is lent of the selection s: in the end s is what it was, with the directives that r then refers to
 abbrev pub LendsDirectives : MutBor Selection → MutBor Directives → Fml
 LendsDirectives s r = Lends the_row directives_row s r (with_directives s.now)

@@ -1,4 +1,6 @@
 -- Request trees: what a request stands for, as plain data with every place.
+-- Source: GraphQL October 2021, sections 2.2 to 2.8 (Document to Fragments), 2.10 (Variables) and 2.12 (Directives).
+-- The places, and that operations and fragments keep their source order, are this project's choice.
 use Rattle.std.specs.Prelude.{ℕ, List, [], ◌∷◌, Option}
 use Rattle.graphql_tokens.specs.declared.pos.Pos.{Pos}
 use Rattle.graphql_tokens.specs.declared.pos.Positioned.{Positioned}

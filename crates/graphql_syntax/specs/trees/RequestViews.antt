@@ -1,4 +1,5 @@
 -- The request trees that the types of a request stand for.
+-- Source: this project's choice; the trees are those of `Request`.
 use Rattle.std.specs.Prelude.{List, map, option_map}
 use Rattle.graphql_tokens.specs.declared.pos.Positioned.{Positioned}
 use Rattle.graphql_syntax.specs.declared.value.ConstValue.{ConstValue}

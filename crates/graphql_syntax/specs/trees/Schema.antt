@@ -1,4 +1,6 @@
 -- Schema trees: what a schema file stands for, as plain data with every place.
+-- Source: GraphQL October 2021, sections 3.1 to 3.10 (Type System Extensions to Input Objects) and 3.13 (Directives).
+-- The places are this project's choice, and so is one kind of node for a definition and its extension.
 use Rattle.std.specs.Prelude.{ℕ, List, Bool, Option}
 use Rattle.graphql_tokens.specs.declared.pos.Positioned.{Positioned}
 use Rattle.graphql_syntax.specs.declared.types.service.DirectiveLocation.{DirectiveLocation}

@@ -1,11 +1,14 @@
 -- The schema trees that the types of a schema file stand for.
+-- Source: this project's choice; the trees are those of `Schema`.
 use Rattle.std.specs.Prelude.{List, Option, map, option_map, string_bytes}
 use Rattle.std.specs.declared.alloc.Global.{Global}
 use Rattle.std.specs.declared.string.String.{String}
 use Rattle.graphql_tokens.specs.declared.pos.Positioned.{Positioned}
 use Rattle.graphql_syntax.specs.declared.types.service.DirectiveDefinition.{DirectiveDefinition}
+use Rattle.graphql_syntax.specs.declared.types.service.EnumType.{EnumType}
 use Rattle.graphql_syntax.specs.declared.types.service.EnumValueDefinition.{EnumValueDefinition}
 use Rattle.graphql_syntax.specs.declared.types.service.FieldDefinition.{FieldDefinition}
+use Rattle.graphql_syntax.specs.declared.types.service.InputObjectType.{InputObjectType}
 use Rattle.graphql_syntax.specs.declared.types.service.InputValueDefinition.{InputValueDefinition}
 use Rattle.graphql_syntax.specs.declared.types.service.InterfaceType.{InterfaceType}
 use Rattle.graphql_syntax.specs.declared.types.service.ObjectType.{ObjectType}
@@ -16,6 +19,7 @@ use Rattle.graphql_syntax.specs.declared.types.service.TypeKind.{TypeKind}
 use Rattle.graphql_syntax.specs.declared.types.service.TypeKind.TheVariants as kinds
 use Rattle.graphql_syntax.specs.declared.types.service.TypeSystemDefinition.{TypeSystemDefinition}
 use Rattle.graphql_syntax.specs.declared.types.service.TypeSystemDefinition.TheVariants as definitions
+use Rattle.graphql_syntax.specs.declared.types.service.UnionType.{UnionType}
 use Rattle.graphql_syntax.specs.trees.Request.{placed}
 use Rattle.graphql_syntax.specs.trees.RequestViews.{const_directives_tree}
 use Rattle.graphql_syntax.specs.trees.Schema as schema
@@ -61,13 +65,22 @@ object_tree o = record { implements = o.implements.items; fields = map (placed f
 abbrev pub interface_tree : InterfaceType → schema.Fields
 interface_tree i = record { implements = i.implements.items; fields = map (placed field_definition_tree) i.fields.items }
 
+abbrev pub union_tree : UnionType → schema.Names
+union_tree u = u.members.items
+
+abbrev pub enum_tree : EnumType → List (Positioned schema.EnumValueDefinition)
+enum_tree e = map (placed enum_value_tree) e.values.items
+
+abbrev pub input_object_tree : InputObjectType → schema.InputValues
+input_object_tree o = input_values_tree o.fields.items
+
 abbrev pub kind_tree : TypeKind → schema.TypeKind
 kind_tree kinds.Scalar = schema.scalar
 kind_tree (kinds.Object o) = schema.object (object_tree o)
 kind_tree (kinds.Interface i) = schema.interface (interface_tree i)
-kind_tree (kinds.Union u) = schema.union u.members.items
-kind_tree (kinds.Enum e) = schema.enumeration (map (placed enum_value_tree) e.values.items)
-kind_tree (kinds.InputObject o) = schema.input_object (input_values_tree o.fields.items)
+kind_tree (kinds.Union u) = schema.union (union_tree u)
+kind_tree (kinds.Enum e) = schema.enumeration (enum_tree e)
+kind_tree (kinds.InputObject o) = schema.input_object (input_object_tree o)
 
 -- ---- definitions and extensions
 

@@ -1,4 +1,5 @@
 -- The test of whether two type trees are equal.
+-- Source: this project's choice.
 use Rattle.std.specs.Prelude.{Bool, false, ◌&&◌, nat_eq}
 use Rattle.std.specs.Bool.{beq}
 use Rattle.std.specs.Cmp.Lexicographic.{pointwise}

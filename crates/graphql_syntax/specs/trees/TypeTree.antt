@@ -1,4 +1,5 @@
 -- Type trees, and the texts that show them.
+-- Source: GraphQL October 2021, section 2.11 (Type References). That a text has no blanks is this project's choice.
 use Rattle.std.specs.Prelude.{ℕ, List, [], ◌++◌, Bool, true, false, codes}
 use Rattle.graphql_syntax.specs.declared.types.Type.{«Type» as TypeReference}
 use Rattle.graphql_syntax.specs.declared.types.BaseType.{BaseType, Named, List'}

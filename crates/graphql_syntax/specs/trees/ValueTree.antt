@@ -1,4 +1,6 @@
 -- Value trees: what a value stands for, whether variables may stand in it or not.
+-- Source: GraphQL October 2021, sections 2.9 (Input Values) and 2.10 (Variables). That a number is kept as its literal,
+-- and that a tree may hold a field's name twice, is this project's choice.
 use Rattle.std.specs.Prelude.{ℕ, List, [], ◌∷◌, Bool, true, false, ◌||◌}
 
 -- Names, numbers and texts are bytes: a variable's name without its `$`, a number's literal, and what

@@ -1,4 +1,5 @@
 -- The tree that each value stands for: the case of its name over the trees of its parts.
+-- Source: this project's choice; the trees are those of `ValueTree`.
 use Rattle.std.specs.Prelude.{ℕ, List, map, string_bytes}
 use Rattle.graphql_syntax.specs.trees.ValueTree.{Tree, variable, null, number, string, boolean, enumeration, list, object, Trees, Fields, trees_of, fields_of}
 use Rattle.graphql_syntax.specs.declared.value.ConstValue.{ConstValue, fold-ConstValue}

@@ -10,10 +10,13 @@ use std::alloc::{AllocError, Global};
 
 impl ConstDirective {
     /// The same directive as one in which variables may stand: the same names, values, order and places.
+    /// None stands in it, so that `into_const` of it gives the directive back unless memory runs out.
     ///
     /// Fails only where no memory is left; the directive is then gone.
+    #[tactic(auto, using(crate::proofs::Constant::constant_arguments))]
     pub fn into_directive(self, alloc: Global) -> Result<Directive, AllocError>
-        ensures { IfOk result (λ directive. directive_tree directive ≡ const_directive_tree self) }
+        ensures value { IfOk result (λ directive. directive_tree directive ≡ const_directive_tree self) }
+        ensures constant { IfOk result (λ directive. directive_has_variable (directive_tree directive) ≡ false) }
     {
         let ConstDirective { name, arguments } = self;
         let arguments = arguments_of(arguments, alloc)?;
@@ -56,6 +59,7 @@ fn arguments_hold(arguments: &Vec<(Positioned<Name>, Positioned<Value>)>) -> boo
     false
 }
 
+// The same arguments as ones in which variables may stand.
 fn arguments_of(
     arguments: Vec<(Positioned<Name>, Positioned<ConstValue>)>,
     alloc: Global,
@@ -71,6 +75,7 @@ fn arguments_of(
     Ok(made)
 }
 
+// The same arguments as ones without variables, where none stands in them.
 fn const_arguments_of(
     arguments: Vec<(Positioned<Name>, Positioned<Value>)>,
     alloc: Global,

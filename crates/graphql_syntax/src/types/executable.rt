@@ -1,6 +1,6 @@
 //! The tree of a request: operations and fragments, and the selections in them.
-ghost use Rattle.std.specs.Prelude.{◌≡◌, Some, [], length, option_map, IfSome, IsSome};
-ghost use Rattle.std.specs.Iterator.{YieldsFirstBy, item_count, UpTo, at_most};
+ghost use Rattle.std.specs.Prelude.{◌≡◌, ⊤, Some, [], length, option_map, IfSome, IsSome};
+ghost use Rattle.std.specs.Iterator.{YieldsFirstBy, item_count, UpTo};
 ghost use Rattle.std.specs.Iterator.SizeHint.{IsWithinCount};
 ghost use Rattle.graphql_syntax.specs.calls.Named.{named, argument_named};
 ghost use Rattle.std.specs.Cow.{cow_value, IsBorrowed};
@@ -8,12 +8,12 @@ ghost use Rattle.std.specs.Borrow.{sem};
 ghost use Rattle.graphql_syntax.specs.calls.Lending.{LendsDirectives, directives_of};
 ghost use Rattle.graphql_syntax.specs.inner.Loans.{LendsOfField, LendsOfSpread, LendsOfFragment};
 ghost use Rattle.graphql_syntax.specs.declared.types.executable.InlineFragment.{out-InlineFragment};
-ghost use Rattle.graphql_syntax.specs.calls.Defaults.{default_of, key_of};
+ghost use Rattle.graphql_syntax.specs.calls.Defaults.{default_of, response_key};
 ghost use Rattle.graphql_syntax.specs.declared.types.executable.Field.{out-Field};
 ghost use Rattle.graphql_syntax.specs.declared.types.executable.SelectionSet.{out-SelectionSet};
-ghost use Rattle.graphql_syntax.specs.calls.Operations.{operations_left, operations_list, operation_named, operation_item};
+ghost use Rattle.graphql_syntax.specs.calls.Operations.{operations_list, operation_named, operation_item};
 
-use super::look::{argument, look_up};
+use super::lookup::{find_argument, find_entry};
 use super::{Directive, OperationType, Type};
 use crate::pos::{Pos, Positioned};
 use crate::value::{ConstValue, Name, Value};
@@ -21,6 +21,7 @@ use indexmap::{IndexMap, map};
 use std::alloc::{AllocError, Global};
 use std::borrow::Cow;
 use std::iter::FusedIterator;
+use std::marker::Model;
 
 /// A request (section 2.2): its operations and its fragments.
 #[derive(Debug, Drop)]
@@ -41,13 +42,35 @@ pub enum DocumentOperations {
 }
 
 /// The operations of a request, in source order, each with its name where it has one.
+///
+/// Each operation comes once, and then `None` for good; `len` is how many are left. It takes no memory,
+/// so its clone can't fail. A contract sees it as the list of the operations that it has left.
 #[derive(Debug, Drop)]
-pub struct OperationsIter<'a>(Inner<'a>);
+pub struct OperationsIter<'a> {
+    left: Left<'a>,
+}
 
+// An operation that stands alone, until it was given, or those of a map that are left.
 #[derive(Debug, Drop)]
-enum Inner<'a> {
+enum Left<'a> {
     Single(Option<&'a Positioned<OperationDefinition>>),
     Multiple(map::Iter<'a, Name, Positioned<OperationDefinition>>),
+}
+
+impl<'a> Model for OperationsIter<'a> {
+    ghost use Rattle.std.specs.Prelude.{List};
+    ghost use Rattle.graphql_syntax.specs.calls.Operations.{NamedOperation};
+    ghost use Rattle.graphql_syntax.specs.inner.OperationsLeft.{operations_left};
+    ghost use Rattle.std.specs.Coded.{coded×, coded_list, coded_option, coded_ℕ};
+    ghost use Rattle.graphql_tokens.specs.contracts.pos.Positioned as positioned;
+    ghost use Rattle.graphql_syntax.specs.contracts.types.executable.OperationDefinition as operation;
+
+    ghost Value = { List NamedOperation };
+
+    // by which a proof tells two lists of operations apart
+    ghost coded = { coded_list (coded× (coded_option (coded_list coded_ℕ)) (positioned.the_row operation.the_row).coded) };
+
+    ghost view = { λ operations. operations_left operations.left };
 }
 
 impl ExecutableDocument {
@@ -55,19 +78,20 @@ impl ExecutableDocument {
     pub fn fragment(&self, name: &str) -> Option<&Positioned<FragmentDefinition>>
         ensures { option_map (λ f. f.now) result ≡ named name.now self.now.fragments.entries }
     {
-        look_up(&self.fragments, name)
+        find_entry(&self.fragments, name)
     }
 }
 
 impl DocumentOperations {
     /// The operations in source order, each with its name; the name is None exactly for `Single`.
     pub fn iter(&self) -> OperationsIter<'_>
-        ensures { operations_left result ≡ operations_list self.now }
+        ensures { result ≡ operations_list self.now }
     {
-        OperationsIter(match self {
-            DocumentOperations::Single(operation) => Inner::Single(Some(operation)),
-            DocumentOperations::Multiple(operations) => Inner::Multiple(operations.iter()),
-        })
+        let left = match self {
+            DocumentOperations::Single(operation) => Left::Single(Some(operation)),
+            DocumentOperations::Multiple(operations) => Left::Multiple(operations.iter()),
+        };
+        OperationsIter { left }
     }
 
     /// The operation of this name; None where there is none, and always for `Single`. It walks the
@@ -77,38 +101,39 @@ impl DocumentOperations {
     {
         match self {
             DocumentOperations::Single(_) => None,
-            DocumentOperations::Multiple(operations) => look_up(operations, name),
+            DocumentOperations::Multiple(operations) => find_entry(operations, name),
         }
     }
 }
 
 impl<'a> Clone for OperationsIter<'a> {
-    ghost is_clone = { λ operations copy. operations_left copy ≡ operations_left operations };
+    ghost is_clone = { λ operations clone. clone ≡ operations };
+
+    ghost is_infallible = { λ _. ⊤ };
 
     fn clone(&self) -> Result<OperationsIter<'a>, AllocError> {
-        match &self.0 {
-            Inner::Single(operation) => Ok(OperationsIter(Inner::Single(*operation))),
-            Inner::Multiple(operations) => {
-                Ok(OperationsIter(Inner::Multiple(operations.clone()?)))
-            }
-        }
+        let left = match &self.left {
+            Left::Single(operation) => Left::Single(*operation),
+            Left::Multiple(operations) => Left::Multiple(operations.clone()?),
+        };
+        Ok(OperationsIter { left })
     }
 }
 
 impl<'a> Iterator for OperationsIter<'a> {
     type Item = (Option<&'a Name>, &'a Positioned<OperationDefinition>);
 
-    ghost next_gives = { YieldsFirstBy operation_item operations_left };
+    ghost next_gives = { YieldsFirstBy operation_item (λ left. left) };
 
-    ghost remaining = { item_count operations_left };
+    ghost remaining = { item_count (λ left. left) };
 
     fn next(&mut self) -> Option<Self::Item> {
-        match &mut self.0 {
-            Inner::Single(operation) => {
+        match &mut self.left {
+            Left::Single(operation) => {
                 let operation = operation.take()?;
                 Some((None, operation))
             }
-            Inner::Multiple(operations) => {
+            Left::Multiple(operations) => {
                 let (name, operation) = operations.next()?;
                 Some((Some(name), operation))
             }
@@ -116,9 +141,9 @@ impl<'a> Iterator for OperationsIter<'a> {
     }
 
     fn size_hint(&self) -> (usize, Option<usize>)
-        ensures exact { result ≡ (length (operations_left self.now), Some (length (operations_left self.now))) }
-        ensures lower { IsWithinCount result.0 (at_most (length (operations_left self.now))) }
-        ensures upper { IfSome result.1 (UpTo (at_most (length (operations_left self.now)))) }
+        ensures exact { result ≡ (length self.now, Some (length self.now)) }
+        ensures lower { IsWithinCount result.0 (item_count (λ left. left) self.now) }
+        ensures upper { IfSome result.1 (UpTo (item_count (λ left. left) self.now)) }
     {
         let len = self.len();
         (len, Some(len))
@@ -129,9 +154,9 @@ impl FusedIterator for OperationsIter<'_> {}
 
 impl ExactSizeIterator for OperationsIter<'_> {
     fn len(&self) -> usize {
-        match &self.0 {
-            Inner::Single(operation) => usize::from(operation.is_some()),
-            Inner::Multiple(operations) => operations.len(),
+        match &self.left {
+            Left::Single(operation) => usize::from(operation.is_some()),
+            Left::Multiple(operations) => operations.len(),
         }
     }
 }
@@ -156,13 +181,13 @@ pub struct OperationDefinition {
 /// The node stands at its `$`.
 #[derive(Debug, Drop)]
 pub struct VariableDefinition {
-    /// The name behind the `$`.
+    /// The name after the `$`.
     pub name: Positioned<Name>,
     /// The type, at its first token.
     pub var_type: Positioned<Type>,
     /// The directives, in source order. Variables may stand in them (this project's choice).
     pub directives: Vec<Positioned<Directive>>,
-    /// The value behind the `=`, at its first token.
+    /// The value after the `=`, at its first token.
     pub default_value: Option<Positioned<ConstValue>>,
 }
 
@@ -243,6 +268,8 @@ impl Selection {
     }
 }
 
+// The list of one case, to be changed. Each case has a function of its own, since what is lent of a selection is
+// said by what is lent of the node in it.
 fn field_directives(field: &mut Positioned<Field>) -> &mut Vec<Positioned<Directive>>
     ensures* writes_back { sem 𝓛 (LendsOfField field.entry result) }
     ensures value { result.now ≡ (out-Field field.old.node).directives }
@@ -286,7 +313,7 @@ pub struct Field {
 impl Field {
     /// The name of the field's value in an answer: the alias where there is one, else the name.
     pub fn response_key(&self) -> &Positioned<Name>
-        ensures { result.now ≡ key_of self.now }
+        ensures { result.now ≡ response_key self.now }
     {
         self.alias.as_ref().unwrap_or(&self.name)
     }
@@ -295,14 +322,14 @@ impl Field {
     pub fn get_argument(&self, name: &str) -> Option<&Positioned<Value>>
         ensures { option_map (λ v. v.now) result ≡ argument_named name.now (out-Field self.now).arguments.items }
     {
-        argument(&self.arguments, name)
+        find_argument(&self.arguments, name)
     }
 }
 
 /// The use of a fragment by its name (section 2.8).
 #[derive(Debug, Drop)]
 pub struct FragmentSpread {
-    /// The name behind the `...`: not `on`.
+    /// The name after the `...`: not `on`.
     pub fragment_name: Positioned<Name>,
     /// The directives, in source order.
     pub directives: Vec<Positioned<Directive>>,

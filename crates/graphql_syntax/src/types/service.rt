@@ -7,14 +7,14 @@ use crate::pos::Positioned;
 use crate::value::{ConstValue, Name};
 
 /// A schema file (section 3.1).
-#[derive(Clone, Debug, Drop)]
+#[derive(Debug, Drop)]
 pub struct ServiceDocument {
     /// The definitions and extensions, in source order.
     pub definitions: Vec<TypeSystemDefinition>,
 }
 
 /// A definition or an extension of a schema file.
-#[derive(Clone, Debug, Drop)]
+#[derive(Debug, Drop)]
 pub enum TypeSystemDefinition {
     /// Of a schema.
     Schema(Positioned<SchemaDefinition>),
@@ -25,7 +25,7 @@ pub enum TypeSystemDefinition {
 }
 
 /// A definition or an extension of a schema (section 3.3).
-#[derive(Clone, Debug, Drop)]
+#[derive(Debug, Drop)]
 pub struct SchemaDefinition {
     /// The text of the description, at its opening quote. An extension has none.
     pub description: Option<Positioned<String>>,
@@ -42,7 +42,7 @@ pub struct SchemaDefinition {
 }
 
 /// A definition or an extension of a type (section 3.4).
-#[derive(Clone, Debug, Drop)]
+#[derive(Debug, Drop)]
 pub struct TypeDefinition {
     /// Whether it is an extension.
     pub extend: bool,
@@ -57,7 +57,7 @@ pub struct TypeDefinition {
 }
 
 /// The kind of a type, and its parts.
-#[derive(Clone, Debug, Drop)]
+#[derive(Debug, Drop)]
 pub enum TypeKind {
     /// `scalar` (section 3.5).
     Scalar,
@@ -74,16 +74,16 @@ pub enum TypeKind {
 }
 
 /// The parts of an object type (section 3.6).
-#[derive(Clone, Debug, Drop)]
+#[derive(Debug, Drop)]
 pub struct ObjectType {
-    /// The names of the interfaces behind `implements`, in source order.
+    /// The names of the interfaces after `implements`, in source order.
     pub implements: Vec<Positioned<Name>>,
     /// The fields, in source order.
     pub fields: Vec<Positioned<FieldDefinition>>,
 }
 
 /// A field of an object type or of an interface.
-#[derive(Clone, Debug, Drop)]
+#[derive(Debug, Drop)]
 pub struct FieldDefinition {
     /// The text of the description, at its opening quote.
     pub description: Option<Positioned<String>>,
@@ -98,30 +98,30 @@ pub struct FieldDefinition {
 }
 
 /// The parts of an interface (section 3.7).
-#[derive(Clone, Debug, Drop)]
+#[derive(Debug, Drop)]
 pub struct InterfaceType {
-    /// The names of the interfaces behind `implements`, in source order.
+    /// The names of the interfaces after `implements`, in source order.
     pub implements: Vec<Positioned<Name>>,
     /// The fields, in source order.
     pub fields: Vec<Positioned<FieldDefinition>>,
 }
 
 /// The parts of a union (section 3.8).
-#[derive(Clone, Debug, Drop)]
+#[derive(Debug, Drop)]
 pub struct UnionType {
     /// The names of its types, in source order.
     pub members: Vec<Positioned<Name>>,
 }
 
 /// The parts of an enum (section 3.9).
-#[derive(Clone, Debug, Drop)]
+#[derive(Debug, Drop)]
 pub struct EnumType {
     /// The values, in source order.
     pub values: Vec<Positioned<EnumValueDefinition>>,
 }
 
 /// A value of an enum.
-#[derive(Clone, Debug, Drop)]
+#[derive(Debug, Drop)]
 pub struct EnumValueDefinition {
     /// The text of the description, at its opening quote.
     pub description: Option<Positioned<String>>,
@@ -132,14 +132,14 @@ pub struct EnumValueDefinition {
 }
 
 /// The parts of an input object (section 3.10).
-#[derive(Clone, Debug, Drop)]
+#[derive(Debug, Drop)]
 pub struct InputObjectType {
     /// The fields, in source order.
     pub fields: Vec<Positioned<InputValueDefinition>>,
 }
 
 /// An argument of a field or of a directive, or a field of an input object.
-#[derive(Clone, Debug, Drop)]
+#[derive(Debug, Drop)]
 pub struct InputValueDefinition {
     /// The text of the description, at its opening quote.
     pub description: Option<Positioned<String>>,
@@ -147,18 +147,18 @@ pub struct InputValueDefinition {
     pub name: Positioned<Name>,
     /// The type.
     pub ty: Positioned<Type>,
-    /// The value behind the `=`, at its first token.
+    /// The value after the `=`, at its first token.
     pub default_value: Option<Positioned<ConstValue>>,
     /// The directives, in source order.
     pub directives: Vec<Positioned<ConstDirective>>,
 }
 
 /// The definition of a directive (section 3.13).
-#[derive(Clone, Debug, Drop)]
+#[derive(Debug, Drop)]
 pub struct DirectiveDefinition {
     /// The text of the description, at its opening quote.
     pub description: Option<Positioned<String>>,
-    /// The name behind the `@`.
+    /// The name after the `@`.
     pub name: Positioned<Name>,
     /// The arguments that it takes, in source order.
     pub arguments: Vec<Positioned<InputValueDefinition>>,

@@ -7,11 +7,13 @@ use super::{ConstValue, Name, Value};
 use std::alloc::{AllocError, Global};
 
 impl ConstValue {
-    /// The same value as one in which variables may stand: the same cases, names and order.
+    /// The same value as one in which variables may stand: the same cases, names and order. None stands
+    /// in it, so that `into_const` of it gives the value back unless memory runs out.
     ///
     /// Fails only where no memory is left for its lists and objects; the value is then gone.
     pub fn into_value(self, alloc: Global) -> Result<Value, AllocError>
-        ensures { IfOk result (λ value. value_tree value ≡ const_tree self) }
+        ensures value { IfOk result (λ value. value_tree value ≡ const_tree self) }
+        ensures constant { IfOk result (λ value. has_variable (value_tree value) ≡ false) }
     {
         value_of(self, alloc)
     }
@@ -37,7 +39,7 @@ impl Value {
     }
 }
 
-// Whether a variable stands in the value at any depth. Takes no memory.
+/// Whether a variable stands in the value at any depth. Takes no memory.
 #[cycle(holds)]
 pub(crate) fn holds_variable(value: &Value) -> bool
     ensures { result ≡ has_variable (value_tree value.now) }
@@ -74,6 +76,7 @@ fn fields_hold(fields: &Vec<(Name, Value)>) -> bool
     false
 }
 
+// The same value as one in which variables may stand.
 #[cycle(value_of)]
 fn value_of(value: ConstValue, alloc: Global) -> Result<Value, AllocError>
     ensures { IfOk result (λ v. value_tree v ≡ const_tree value) }
@@ -114,6 +117,9 @@ fn fields_of(
     Ok(values)
 }
 
+/// The same value as one without variables, where none stands in it.
+///
+/// Fails only where no memory is left for its lists and objects; the value is then gone.
 #[cycle(const_of)]
 pub(crate) fn const_of(value: Value, alloc: Global) -> Result<ConstValue, AllocError>
     requires { has_variable (value_tree value) ≡ false }

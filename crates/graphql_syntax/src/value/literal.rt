@@ -11,9 +11,10 @@ use super::{ConstValue, Name, Number, Value};
 /// the trees of its parts. None of them takes memory. The parsers' reader of values is written once,
 /// over this trait, and makes [`Value`] and [`ConstValue`].
 pub trait Literal: Sized + Drop {
-    // The tree that a value stands for.
+    /// The tree that a value stands for.
     ghost tree: { Self → Tree };
 
+    /// Whether a variable may stand in the values of this type.
     ghost VARIABLES: { Bool };
 
     /// Whether a variable may stand in the values of this type.

@@ -1,16 +1,25 @@
-use Rattle.std.proofs.Common.{◌++◌, ◌∷◌, [], Option, Some, sym, ap, ◌∙◌, IfOk, MatchOption, lit<, subst}
-use Rattle.std.proofs.lemmas.List.{append_cancel_right}
+use Rattle.std.proofs.Common.{◌++◌, ◌∷◌, [], Some, sym, ap, ◌∙◌, IfOk, lit<, subst}
+use Rattle.std.proofs.lemmas.List.{append-nil, append_cancel_right}
 use Rattle.std.proofs.lemmas.Str.Pattern.{strip_prefix_char, strip_suffix_char}
 use Rattle.graphql_syntax.specs.calls.TypeText.{IsTypeOf}
-use Rattle.graphql_syntax.specs.trees.TypeTree.{TypeTree, type_tree, type_text, mark}
-use Rattle.graphql_syntax.specs.declared.types.Type.{«Type» as TypeReference}
-use Rattle.graphql_syntax.proofs.TypeTexts.{no_type, list_type, one_type}
+use Rattle.graphql_syntax.specs.trees.TypeTree.{type_tree, type_text, mark}
+use Rattle.graphql_syntax.proofs.TypeTexts.{IsAnswer, given_back, no_type, list_type, one_type}
 use Rattle.graphql_syntax.proofs.types.+new.Goals as goal
 
 pub Type::new-returns-in-Some-clause-shown : goal.Type::new-returns-in-Some-clause-shown
 Type::new-returns-in-Some-clause-shown t c =
     let suffix = strip_suffix_char 33 c.args.text.now (Some c.in-Some.rest) c.in-Some.ensures.cases (lit< tt) in
-    subst (λ text. IfOk c.type_of.result (λ (answer : Option TypeReference). MatchOption answer ((t' : TypeTree) → ¬ IsTypeOf text t') (λ t'. IsTypeOf text (type_tree t')))) (sym suffix) c.type_of.ensures
+    subst (λ text. IfOk c.type_of.result (IsAnswer text)) (sym suffix) c.type_of.ensures
+
+pub Type::new-returns-in-Some-clause-back : goal.Type::new-returns-in-Some-clause-back
+Type::new-returns-in-Some-clause-back t c =
+    let suffix = strip_suffix_char 33 c.args.text.now (Some c.in-Some.rest) c.in-Some.ensures.cases (lit< tt) in
+    given_back c.args.text.now c.type_of.result (subst (λ text. IfOk c.type_of.result (IsAnswer text)) (sym suffix) c.type_of.ensures)
+
+pub Type::new-returns-in-None-clause-back : goal.Type::new-returns-in-None-clause-back
+Type::new-returns-in-None-clause-back t c =
+    let answer = c.type_of-in-None in
+    given_back c.args.text.now answer.result (subst (λ text. IfOk answer.result (IsAnswer text)) (append-nil c.args.text.now) answer.ensures)
 
 pub Type::new-returns-in-Some-clause-one : goal.Type::new-returns-in-Some-clause-one
 Type::new-returns-in-Some-clause-one t c = one_type c.args.text.now

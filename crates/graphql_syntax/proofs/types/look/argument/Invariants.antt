@@ -1,7 +1,0 @@
-use Rattle.std.proofs.Common.{◌≡◌, drop}
-use Rattle.graphql_syntax.specs.calls.Named.{argument_named}
-use Rattle.graphql_syntax.proofs.types.look.argument.Given as goal
-
-abbrev pub invariant-loop-key : goal.invariant-loop-key
-invariant-loop-key g l =
-    argument_named l.name l.arguments.items ≡ argument_named l.name (drop l.key-index l.key-items)
