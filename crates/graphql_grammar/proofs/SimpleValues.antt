@@ -1,7 +1,7 @@
 -- What the readers of single tokens give.
 use Rattle.std.proofs.Common.{◌≡◌, ℕ, true, false, Option, Some, None, List, ◌∷◌, refl, sym, ap, ◌∙◌, subst}
 use Rattle.std.specs.Str.{chars, encode_utf8_all}
-use Rattle.graphql_tokens.specs.inner.Contents.{content_value}
+use Rattle.graphql_tokens.specs.calls.Contents.{content_value}
 use Rattle.graphql_tokens.specs.tokens.BlockText.{block_value}
 use Rattle.graphql_tokens.specs.tokens.Cuts.{is_last}
 use Rattle.graphql_tokens.specs.tokens.Edition.{Current}
@@ -16,7 +16,7 @@ use Rattle.graphql_tokens.specs.declared.lexer.TokenKind.{TokenKind}
 use Rattle.graphql_tokens.specs.declared.lexer.TokenKind.TheVariants as kinds
 use Rattle.graphql_tokens.proofs.Meanings.{content_means, means_content}
 use Rattle.graphql_reading.specs.grammar.Fronts.{syntax}
-use Rattle.graphql_reading.specs.grammar.Tests.{is_number, is_string, is_block}
+use Rattle.graphql_tokens.specs.tokens.Kinds.{is_number, is_string, is_block}
 use Rattle.graphql_grammar.specs.grammar.Values.{inside}
 use Rattle.graphql_grammar.specs.reading.OpenValues.{node_at}
 use Rattle.graphql_reading.specs.reading.Outcome.{Read, Refused}

@@ -7,7 +7,8 @@ use Rattle.graphql_tokens.specs.tokens.Proper.{Spells}
 use Rattle.graphql_tokens.specs.tokens.Spelling.{IsSpelling}
 use Rattle.graphql_tokens.specs.declared.lexer.TokenKind.{TokenKind}
 use Rattle.graphql_tokens.specs.declared.lexer.TokenKind.TheVariants as kinds
-use Rattle.graphql_reading.specs.grammar.Tests.{Test, is_number, is_string, is_block, punct, any_number, any_string, any_block}
+use Rattle.graphql_reading.specs.grammar.Tests.{Test, punct, any_number, any_string, any_block}
+use Rattle.graphql_tokens.specs.tokens.Kinds.{is_number, is_string, is_block}
 use Rattle.graphql_grammar.specs.grammar.Values.{dollar}
 use Rattle.graphql_reading.proofs.Theory.{Within, IsInner}
 use Rattle.graphql_reading.proofs.TokenTests.{punctuator, punct-is, sample, are-ascii, ascii-scalars, ascii-bytes, HasSample}

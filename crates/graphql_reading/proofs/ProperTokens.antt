@@ -14,7 +14,7 @@ use Rattle.graphql_tokens.specs.tokens.Proper.{IsProper, IsProperBare, Spells}
 use Rattle.graphql_tokens.specs.tokens.Token.{Token}
 use Rattle.graphql_tokens.specs.declared.lexer.TokenKind.{TokenKind}
 use Rattle.graphql_tokens.specs.declared.lexer.TokenKind.TheVariants as kinds
-use Rattle.graphql_reading.specs.grammar.Tests.{is_number, is_string, is_block}
+use Rattle.graphql_tokens.specs.tokens.Kinds.{is_number, is_string, is_block}
 use Rattle.graphql_reading.specs.reading.Spelled.{IsQuoted}
 use Rattle.graphql_reading.proofs.TokenTests.{are-ascii, ascii-bytes}
 

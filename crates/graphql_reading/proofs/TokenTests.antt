@@ -12,7 +12,8 @@ use Rattle.graphql_tokens.specs.tokens.Proper.{IsProper, Spells}
 use Rattle.graphql_tokens.specs.tokens.Spelling.{IsPunct, IsName}
 use Rattle.graphql_tokens.specs.declared.lexer.TokenKind.{TokenKind}
 use Rattle.graphql_tokens.specs.declared.lexer.TokenKind.TheVariants.{Punct, Name, End}
-use Rattle.graphql_reading.specs.grammar.Tests.{Test, is_punct, is_name, is_end, is_among, punct, keyword, any_name, name_but, the_end}
+use Rattle.graphql_reading.specs.grammar.Tests.{Test, is_among, punct, keyword, any_name, name_but, the_end}
+use Rattle.graphql_tokens.specs.tokens.Kinds.{is_punct, is_name, is_end}
 use Rattle.graphql_reading.specs.grammar.Places.{nowhere}
 use Rattle.graphql_reading.proofs.Theory.{Within, anything, IsInner}
 use Prim.Native.String.{String}

@@ -12,7 +12,7 @@ ghost use Rattle.graphql_reading.specs.reading.Given.{Gives, GivesWhole};
 ghost use Rattle.graphql_reading.specs.reading.Outcome.{one_at, take_at};
 ghost use Rattle.graphql_reading.specs.reading.Spelled.{keyword_of, punct_of};
 
-use graphql_tokens::lexer::{Token, TokenKind, Tokens};
+use graphql_tokens::lexer::{Token, Tokens};
 use std::alloc::{AllocError, AllocFailed};
 use std::marker::Model;
 
@@ -45,48 +45,6 @@ impl<T: Drop> From<AllocFailed<T>> for Refusal {
     fn from(_refused: AllocFailed<T>) -> Refusal {
         Refusal::Memory
     }
-}
-
-#[inline(always)]
-pub fn is_punct(kind: TokenKind) -> bool
-    ensures { result ≡ tests.is_punct kind }
-{
-    matches!(kind, TokenKind::Punct)
-}
-
-#[inline(always)]
-fn is_name(kind: TokenKind) -> bool
-    ensures { result ≡ tests.is_name kind }
-{
-    matches!(kind, TokenKind::Name)
-}
-
-#[inline(always)]
-pub fn is_number(kind: TokenKind) -> bool
-    ensures { result ≡ tests.is_number kind }
-{
-    matches!(kind, TokenKind::Number)
-}
-
-#[inline(always)]
-pub fn is_string(kind: TokenKind) -> bool
-    ensures { result ≡ tests.is_string kind }
-{
-    matches!(kind, TokenKind::String)
-}
-
-#[inline(always)]
-pub fn is_block(kind: TokenKind) -> bool
-    ensures { result ≡ tests.is_block kind }
-{
-    matches!(kind, TokenKind::Block)
-}
-
-#[inline(always)]
-fn is_end(kind: TokenKind) -> bool
-    ensures { result ≡ tests.is_end kind }
-{
-    matches!(kind, TokenKind::End)
 }
 
 /// The tokens of a text that are still to be read. The first is in hand; the others are taken
@@ -177,7 +135,7 @@ impl<'a> Cursor<'a> {
     pub fn is_at_punct(&self, text: &str) -> bool
         ensures { result ≡ punct_of text.now self.now.hand.bare }
     {
-        is_punct(self.hand.kind) && self.hand.text == text
+        self.hand.kind.is_punct() && self.hand.text == text
     }
 
     /// Whether a name is in hand.
@@ -185,7 +143,7 @@ impl<'a> Cursor<'a> {
     pub fn is_at_name(&self) -> bool
         ensures { result ≡ tests.any_name self.now.hand.bare }
     {
-        is_name(self.hand.kind)
+        self.hand.kind.is_name()
     }
 
     /// Whether this keyword is in hand.
@@ -193,7 +151,7 @@ impl<'a> Cursor<'a> {
     pub fn is_at_keyword(&self, word: &str) -> bool
         ensures { result ≡ keyword_of word.now self.now.hand.bare }
     {
-        is_name(self.hand.kind) && self.hand.text == word
+        self.hand.kind.is_name() && self.hand.text == word
     }
 
     /// Uses up this punctuator, where it is in hand, and tells whether it was.
@@ -248,7 +206,7 @@ impl<'a> Cursor<'a> {
     pub fn expect_end(&self) -> Reading<()>
         ensures { GivesWhole (λ _. self.now.hand) result self.now self.now (one_at tests.the_end) }
     {
-        if is_end(self.hand.kind) {
+        if self.hand.kind.is_end() {
             Ok(())
         } else {
             Err(Refusal::Syntax)

@@ -15,7 +15,7 @@ ghost use Rattle.std.specs.Prelude.{◌≡◌, ◌≢◌, ◌+◌, ℕ, List, []
 ghost use Rattle.std.specs.Str.{chars};
 ghost use Rattle.graphql_tokens.specs.tokens.Cuts.{Cuts, HasNoFault};
 ghost use Rattle.graphql_tokens.specs.tokens.Edition.{Former, Current};
-ghost use Rattle.graphql_tokens.specs.tokens.Proper.{IsCutInto};
+ghost use Rattle.graphql_tokens.specs.tokens.Cuts.{IsCutInto};
 ghost use Rattle.graphql_tokens.specs.tokens.Token.{Token as SpecToken, left};
 ghost use Rattle.graphql_grammar.specs.answers.Answers.{Answers, AreTheDefinitions, HasOneTree, IsDecided, TakenFor};
 ghost use Rattle.graphql_grammar.specs.answers.Language.{grammar};

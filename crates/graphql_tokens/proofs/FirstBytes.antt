@@ -27,29 +27,29 @@ first_byte bs u some fits = by u.0 u.1.1
         low (inr h) (inl k) = absurd (omega (arith, byte_from_char bs (encode_utf8_all cs) c (sym e) k))
         low (inr h) (inr k) = inr (h, fits, k)
 
-pub byte_ahead : (a : RunningPlace) → IsRunning a → a.cursor.offset < length a.cursor.text.now → get_or a.cursor.text.now a.cursor.offset 0 < 256 → IsFirstByte (get_or a.cursor.text.now a.cursor.offset 0) (ahead a)
+pub byte_ahead : (a : RunningPlace) → IsRunning a → a.walk.offset < length a.walk.text.now → get_or a.walk.text.now a.walk.offset 0 < 256 → IsFirstByte (get_or a.walk.text.now a.walk.offset 0) (ahead a)
 byte_ahead a r l fits =
-    let bs = a.cursor.text.now in
-    let i = a.cursor.offset in
+    let bs = a.walk.text.now in
+    let i = a.walk.offset in
     let at : get_or (drop i bs) 0 0 ≡ get_or bs i 0 = get_or-drop i bs 0 0 ∙ ap (λ k. get_or bs k 0) (add-zero i) in
     subst (λ (b : ℕ). IsFirstByte b (ahead a)) at (first_byte (drop i bs) (IsUtf8-drop bs i r.reading.utf8 r.reading.boundary) (omega (arith, length-drop i bs)) (rw at fits))
 
-pub peek_some : (bytes : List ℕ) (a : RunningPlace) (i : ℕ) → RunsOver bytes a → i ≡ a.cursor.offset → i < length bytes → get_or bytes i 0 < 256 → IsFirstByte (get_or bytes i 0) (ahead a)
+pub peek_some : (bytes : List ℕ) (a : RunningPlace) (i : ℕ) → RunsOver bytes a → i ≡ a.walk.offset → i < length bytes → get_or bytes i 0 < 256 → IsFirstByte (get_or bytes i 0) (ahead a)
 peek_some bytes a i r is l fits =
     let P : List ℕ → ℕ → Type 0 = λ bs k. k < length bs → get_or bs k 0 < 256 → IsFirstByte (get_or bs k 0) (ahead a) in
-    subst (λ (bs : List ℕ). P bs i) r.same (subst (P a.cursor.text.now) (sym is) (byte_ahead a r.running)) l fits
+    subst (λ (bs : List ℕ). P bs i) r.same (subst (P a.walk.text.now) (sym is) (byte_ahead a r.running)) l fits
 
-pub peek_none : (bytes : List ℕ) (a : RunningPlace) (i : ℕ) → RunsOver bytes a → i ≡ a.cursor.offset → length bytes ≤ i → ahead a ≡ []
+pub peek_none : (bytes : List ℕ) (a : RunningPlace) (i : ℕ) → RunsOver bytes a → i ≡ a.walk.offset → length bytes ≤ i → ahead a ≡ []
 peek_none bytes a i r is h = nothing_ahead a (omega (arith, is, ap length r.same))
 
-pub ascii_ahead : (a : RunningPlace) → IsRunning a → BeginsInAscii (ahead a) → get_or a.cursor.text.now a.cursor.offset 0 < 128
+pub ascii_ahead : (a : RunningPlace) → IsRunning a → BeginsInAscii (ahead a) → get_or a.walk.text.now a.walk.offset 0 < 128
 ascii_ahead a r h = by (ahead a) refl h
   where
-    by : (cs : List ℕ) → ahead a ≡ cs → BeginsInAscii cs → get_or a.cursor.text.now a.cursor.offset 0 < 128
+    by : (cs : List ℕ) → ahead a ≡ cs → BeginsInAscii cs → get_or a.walk.text.now a.walk.offset 0 < 128
     by [] e k = absurd k
     by (c ∷ cs) e k =
-        let bs = a.cursor.text.now in
-        let i = a.cursor.offset in
+        let bs = a.walk.text.now in
+        let i = a.walk.offset in
         let is : drop i bs ≡ encode_utf8_all (c ∷ cs) = sym (encodes-chars (drop i bs) (IsUtf8-drop bs i r.reading.utf8 r.reading.boundary)) ∙ ap encode_utf8_all e in
         let at : get_or bs i 0 ≡ c = ap (λ n. get_or bs n 0) (sym (add-zero i)) ∙ sym (get_or-drop i bs 0 0) ∙ byte_from_char (drop i bs) (encode_utf8_all cs) c is k.0 in
         omega (arith, at, k.0)
@@ -58,9 +58,9 @@ pub some_ascii : (text : List ℕ) → BeginsInAscii text → text ≢ []
 some_ascii [] h e = h
 some_ascii (c ∷ cs) h e = cc
 
-pub ahead_some : (a : RunningPlace) → IsRunning a → a.cursor.offset < length a.cursor.text.now → ahead a ≢ []
+pub ahead_some : (a : RunningPlace) → IsRunning a → a.walk.offset < length a.walk.text.now → ahead a ≢ []
 ahead_some a r l e =
-    let bs = a.cursor.text.now in
+    let bs = a.walk.text.now in
     let k = r.reading in
-    let same : drop a.cursor.offset bs ≡ [] = sym (encodes-chars (drop a.cursor.offset bs) (IsUtf8-drop bs a.cursor.offset k.utf8 k.boundary)) ∙ ap encode_utf8_all e in
-    omega (arith, ap length same, length-drop a.cursor.offset bs)
+    let same : drop a.walk.offset bs ≡ [] = sym (encodes-chars (drop a.walk.offset bs) (IsUtf8-drop bs a.walk.offset k.utf8 k.boundary)) ∙ ap encode_utf8_all e in
+    omega (arith, ap length same, length-drop a.walk.offset bs)

@@ -123,25 +123,25 @@ pub record Passed (bs : List ℕ) (before start behind : RunningPlace) (kind : T
   pub at_before : RunsOver bs before
   pub at_start : RunsOver bs start
   pub at_behind : RunsOver bs behind
-  pub skips : before.cursor.offset ≤ start.cursor.offset
-  pub goes : start.cursor.offset ≤ behind.cursor.offset
+  pub skips : before.walk.offset ≤ start.walk.offset
+  pub goes : start.walk.offset ≤ behind.walk.offset
   pub skipped : ahead start ≡ skip (ahead before)
   pub is : (next (ahead start)).0 ≡ kind
   pub rest : is_last kind ≡ false → (next (ahead start)).1 ≡ ahead behind
-  pub last_end : is_last kind ≡ true → end ≡ start.cursor.offset
-  pub other_end : is_last kind ≡ false → end ≡ behind.cursor.offset
+  pub last_end : is_last kind ≡ true → end ≡ start.walk.offset
+  pub other_end : is_last kind ≡ false → end ≡ behind.walk.offset
 
-ahead_is : (bs : List ℕ) (a : RunningPlace) → RunsOver bs a → ahead a ≡ chars (drop a.cursor.offset bs)
-ahead_is bs a r = ap (λ t. chars (drop a.cursor.offset t)) r.same
+ahead_is : (bs : List ℕ) (a : RunningPlace) → RunsOver bs a → ahead a ≡ chars (drop a.walk.offset bs)
+ahead_is bs a r = ap (λ t. chars (drop a.walk.offset t)) r.same
 
-boundary_is : (bs : List ℕ) (a : RunningPlace) → RunsOver bs a → IsCharBoundary bs a.cursor.offset
-boundary_is bs a r = subst (λ (t : List ℕ). IsCharBoundary t a.cursor.offset) r.same r.running.reading.boundary
+boundary_is : (bs : List ℕ) (a : RunningPlace) → RunsOver bs a → IsCharBoundary bs a.walk.offset
+boundary_is bs a r = subst (λ (t : List ℕ). IsCharBoundary t a.walk.offset) r.same r.running.reading.boundary
 
 steps_of : (bs : List ℕ) (before start behind : RunningPlace) (kind : TokenKind) (end : ℕ) → Passed bs before start behind kind end
-    → Steps bs before.cursor.offset start.cursor.offset end kind
+    → Steps bs before.walk.offset start.walk.offset end kind
 steps_of bs before start behind kind end p =
-    let i = before.cursor.offset in
-    let s = start.cursor.offset in
+    let i = before.walk.offset in
+    let s = start.walk.offset in
     let skipped : chars (drop s bs) ≡ skip (chars (drop i bs)) = sym (ahead_is bs start p.at_start) ∙ p.skipped ∙ ap skip (ahead_is bs before p.at_before) in
     let utf8 : IsUtf8 bs = subst IsUtf8 p.at_start.same p.at_start.running.reading.utf8 in
     let end_is = by (is_last kind) refl in
@@ -156,7 +156,7 @@ steps_of bs before start behind kind end p =
       is = end_is.2;
     }
   where
-    by : (b : Bool) → is_last kind ≡ b → IsCharBoundary bs end × (start.cursor.offset ≤ end) × (next (chars (drop start.cursor.offset bs)) ≡ (kind, chars (drop end bs)))
+    by : (b : Bool) → is_last kind ≡ b → IsCharBoundary bs end × (start.walk.offset ≤ end) × (next (chars (drop start.walk.offset bs)) ≡ (kind, chars (drop end bs)))
     by true l =
         let e = p.last_end l in
         let n : next (ahead start) ≡ (kind, ahead start) = next_last (ahead start) kind p.is l in
@@ -168,23 +168,23 @@ steps_of bs before start behind kind end p =
         rw e (boundary_is bs behind p.at_behind, p.goes, ap next (sym (ahead_is bs start p.at_start)) ∙ n ∙ ap (λ r. (kind, r)) (ahead_is bs behind p.at_behind))
 
 pub pass_gives : (bs : List ℕ) (before start behind : RunningPlace) (kind : TokenKind) (end : ℕ) → Passed bs before start behind kind end
-    → tokens_at bs before.cursor.offset ≡ record { bare = record { kind = kind; spelling = slice_range bs start.cursor.offset end }; start = start.cursor.offset; pos = place bs start.cursor.offset }
-    ∷ cond (is_last kind) [] (tokens_at bs behind.cursor.offset)
+    → tokens_at bs before.walk.offset ≡ record { bare = record { kind = kind; spelling = slice_range bs start.walk.offset end }; start = start.walk.offset; pos = place bs start.walk.offset }
+    ∷ cond (is_last kind) [] (tokens_at bs behind.walk.offset)
 pass_gives bs before start behind kind end p =
-    lex_step bs before.cursor.offset start.cursor.offset end kind (steps_of bs before start behind kind end p)
-    ∙ ap (λ x. record { bare = record { kind = kind; spelling = slice_range bs start.cursor.offset end }; start = start.cursor.offset; pos = place bs start.cursor.offset } ∷ x) (by (is_last kind) refl)
+    lex_step bs before.walk.offset start.walk.offset end kind (steps_of bs before start behind kind end p)
+    ∙ ap (λ x. record { bare = record { kind = kind; spelling = slice_range bs start.walk.offset end }; start = start.walk.offset; pos = place bs start.walk.offset } ∷ x) (by (is_last kind) refl)
   where
-    by : (b : Bool) → is_last kind ≡ b → cond b [] (tokens_at bs end) ≡ cond b [] (tokens_at bs behind.cursor.offset)
+    by : (b : Bool) → is_last kind ≡ b → cond b [] (tokens_at bs end) ≡ cond b [] (tokens_at bs behind.walk.offset)
     by true l = refl
     by false l = ap (tokens_at bs) (p.other_end l)
 
 -- a token that isn't the last has bytes
 pub pass_moves : (bs : List ℕ) (before start behind : RunningPlace) (kind : TokenKind) (end : ℕ) → Passed bs before start behind kind end → is_last kind ≡ false
-    → before.cursor.offset < behind.cursor.offset
+    → before.walk.offset < behind.walk.offset
 pass_moves bs before start behind kind end p l =
     let k = steps_of bs before start behind kind end p in
     let e = p.other_end l in
-    let m = lex_moves bs start.cursor.offset end kind k.is l k.goes in
+    let m = lex_moves bs start.walk.offset end kind k.is l k.goes in
     omega (arith, p.skips)
 
 -- tokens are left until the last was given

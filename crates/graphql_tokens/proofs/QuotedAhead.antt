@@ -14,12 +14,12 @@ use Rattle.graphql_tokens.proofs.Contents.{escape_some}
 use Rattle.graphql_tokens.proofs.StringTokens.{string_plain, string_quote, string_stuck, string_escape, escape_chars}
 
 -- the rest of the bytes, as a slice, from the place on
-pub escape_ahead : (bytes : List ℕ) (a : RunningPlace) (i : ℕ) → RunsOver bytes a → i ≡ a.cursor.offset → escape_at (take (length bytes - i) (drop i bytes)) ≡ escape_at (ahead a)
+pub escape_ahead : (bytes : List ℕ) (a : RunningPlace) (i : ℕ) → RunsOver bytes a → i ≡ a.walk.offset → escape_at (take (length bytes - i) (drop i bytes)) ≡ escape_at (ahead a)
 escape_ahead bytes a i r is =
     let k = r.running.reading in
     let all : take (length bytes - i) (drop i bytes) ≡ drop i bytes = ap (λ n. take n (drop i bytes)) (sym (length-drop i bytes)) ∙ take-length (drop i bytes) in
-    ap escape_at all ∙ ap (λ k. escape_at (drop k bytes)) is ∙ ap (λ t. escape_at (drop a.cursor.offset t)) (sym r.same)
-    ∙ escape_chars (drop a.cursor.offset a.cursor.text.now) (IsUtf8-drop a.cursor.text.now a.cursor.offset k.utf8 k.boundary)
+    ap escape_at all ∙ ap (λ k. escape_at (drop k bytes)) is ∙ ap (λ t. escape_at (drop a.walk.offset t)) (sym r.same)
+    ∙ escape_chars (drop a.walk.offset a.walk.text.now) (IsUtf8-drop a.walk.text.now a.walk.offset k.utf8 k.boundary)
 
 plain_first : (b c : ℕ) (text rest : List ℕ) → IsFirstByte b text → text ≡ c ∷ rest → is_plain b ≡ true → is_plain c ≡ true
 plain_first b c text rest f is p = by c (subst_first f)

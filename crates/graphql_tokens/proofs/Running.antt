@@ -56,13 +56,13 @@ passes_wide old new c rest e o n =
 
 -- ---- what is ahead
 
-pub nothing_ahead : (a : RunningPlace) → length a.cursor.text.now ≤ a.cursor.offset → ahead a ≡ []
-nothing_ahead a h = ap chars (drop_all a.cursor.offset a.cursor.text.now h) ∙ chars-nil
+pub nothing_ahead : (a : RunningPlace) → length a.walk.text.now ≤ a.walk.offset → ahead a ≡ []
+nothing_ahead a h = ap chars (drop_all a.walk.offset a.walk.text.now h) ∙ chars-nil
 
-pub some_ahead : (a : RunningPlace) → ahead a ≢ [] → a.cursor.offset < length a.cursor.text.now
-some_ahead a some = by (cases_lt a.cursor.offset (length a.cursor.text.now))
+pub some_ahead : (a : RunningPlace) → ahead a ≢ [] → a.walk.offset < length a.walk.text.now
+some_ahead a some = by (cases_lt a.walk.offset (length a.walk.text.now))
   where
-    by : (a.cursor.offset < length a.cursor.text.now) ⊎ (length a.cursor.text.now ≤ a.cursor.offset) → a.cursor.offset < length a.cursor.text.now
+    by : (a.walk.offset < length a.walk.text.now) ⊎ (length a.walk.text.now ≤ a.walk.offset) → a.walk.offset < length a.walk.text.now
     by (inl l) = l
     by (inr g) = absurd (some (nothing_ahead a g))
 
@@ -81,9 +81,9 @@ forward_past old new c p = omega (arith, p.after, len_utf8_bounds c)
 
 -- ---- running places
 
-pub runs_at_start : (a : RunningPlace) → IsWalking a.cursor → a.cursor.offset ≡ 0 → a.line ≡ 1 → a.before ≡ 0 → IsRunning a
+pub runs_at_start : (a : RunningPlace) → IsWalking a.walk → a.walk.offset ≡ 0 → a.line ≡ 1 → a.before ≡ 0 → IsRunning a
 runs_at_start a r o l b =
-    let none : chars (take a.cursor.offset a.cursor.text.now) ≡ [] = ap (λ k. chars (take k a.cursor.text.now)) o ∙ chars-nil in
+    let none : chars (take a.walk.offset a.walk.text.now) ≡ [] = ap (λ k. chars (take k a.walk.text.now)) o ∙ chars-nil in
     record {
       reading = r;
       line = l ∙ sym (ap (λ x. (place_behind x).line) none);
@@ -91,26 +91,26 @@ runs_at_start a r o l b =
     }
 
 -- the line and the column after one character more
-line_past : (old new : RunningPlace) (c : ℕ) → IsRunning old → new.cursor.text.now ≡ old.cursor.text.now → Passes c old.cursor new.cursor
-    → (place new.cursor.text.now new.cursor.offset).line ≡ old.line + cond (is_line_feed c) 1 0
+line_past : (old new : RunningPlace) (c : ℕ) → IsRunning old → new.walk.text.now ≡ old.walk.text.now → Passes c old.walk new.walk
+    → (place new.walk.text.now new.walk.offset).line ≡ old.line + cond (is_line_feed c) 1 0
 line_past old new c r same p =
-    let bs = old.cursor.text.now in
+    let bs = old.walk.text.now in
     let k = r.reading in
-    let more : chars (take new.cursor.offset new.cursor.text.now) ≡ chars (take old.cursor.offset bs) ++ c ∷ [] =
-    ap (λ t. chars (take new.cursor.offset t)) same ∙ chars_past bs old.cursor.offset new.cursor.offset c k.utf8 k.boundary p.here p.after in
-    ap (λ x. (place_behind x).line) more ∙ line_push (chars (take old.cursor.offset bs)) c ∙ ap (λ n. n + cond (is_line_feed c) 1 0) (sym r.line)
+    let more : chars (take new.walk.offset new.walk.text.now) ≡ chars (take old.walk.offset bs) ++ c ∷ [] =
+    ap (λ t. chars (take new.walk.offset t)) same ∙ chars_past bs old.walk.offset new.walk.offset c k.utf8 k.boundary p.here p.after in
+    ap (λ x. (place_behind x).line) more ∙ line_push (chars (take old.walk.offset bs)) c ∙ ap (λ n. n + cond (is_line_feed c) 1 0) (sym r.line)
 
-column_past : (old new : RunningPlace) (c : ℕ) → IsRunning old → new.cursor.text.now ≡ old.cursor.text.now → Passes c old.cursor new.cursor
-    → (place new.cursor.text.now new.cursor.offset).column ≡ cond (is_in_line c) ((place old.cursor.text.now old.cursor.offset).column + 1) 1
+column_past : (old new : RunningPlace) (c : ℕ) → IsRunning old → new.walk.text.now ≡ old.walk.text.now → Passes c old.walk new.walk
+    → (place new.walk.text.now new.walk.offset).column ≡ cond (is_in_line c) ((place old.walk.text.now old.walk.offset).column + 1) 1
 column_past old new c r same p =
-    let bs = old.cursor.text.now in
+    let bs = old.walk.text.now in
     let k = r.reading in
-    let more : chars (take new.cursor.offset new.cursor.text.now) ≡ chars (take old.cursor.offset bs) ++ c ∷ [] =
-    ap (λ t. chars (take new.cursor.offset t)) same ∙ chars_past bs old.cursor.offset new.cursor.offset c k.utf8 k.boundary p.here p.after in
-    ap (λ x. (place_behind x).column) more ∙ column_push (chars (take old.cursor.offset bs)) c
+    let more : chars (take new.walk.offset new.walk.text.now) ≡ chars (take old.walk.offset bs) ++ c ∷ [] =
+    ap (λ t. chars (take new.walk.offset t)) same ∙ chars_past bs old.walk.offset new.walk.offset c k.utf8 k.boundary p.here p.after in
+    ap (λ x. (place_behind x).column) more ∙ column_push (chars (take old.walk.offset bs)) c
 
 -- a character within a line
-pub runs_in_line : (old new : RunningPlace) (c : ℕ) → IsRunning old → IsWalking new.cursor → new.cursor.text.now ≡ old.cursor.text.now → Passes c old.cursor new.cursor
+pub runs_in_line : (old new : RunningPlace) (c : ℕ) → IsRunning old → IsWalking new.walk → new.walk.text.now ≡ old.walk.text.now → Passes c old.walk new.walk
     → is_in_line c ≡ true → is_line_feed c ≡ false → new.line ≡ old.line → new.before ≡ old.before → IsRunning new
 runs_in_line old new c r k same p i f l b =
     let x = line_past old new c r same p in
@@ -119,27 +119,27 @@ runs_in_line old new c r k same p i f l b =
     record {
       reading = k;
       line = l ∙ omega (arith, x, line_stays);
-      column = omega (arith, y, ap (λ v. cond v ((place old.cursor.text.now old.cursor.offset).column + 1) 1) i, b, r.column, p.counted);
+      column = omega (arith, y, ap (λ v. cond v ((place old.walk.text.now old.walk.offset).column + 1) 1) i, b, r.column, p.counted);
     }
 
 -- a character that ends a line, or begins its columns anew
-pub runs_anew : (old new : RunningPlace) (c : ℕ) → IsRunning old → IsWalking new.cursor → new.cursor.text.now ≡ old.cursor.text.now → Passes c old.cursor new.cursor
-    → is_in_line c ≡ false → new.line ≡ old.line + cond (is_line_feed c) 1 0 → new.before ≡ new.cursor.count → IsRunning new
+pub runs_anew : (old new : RunningPlace) (c : ℕ) → IsRunning old → IsWalking new.walk → new.walk.text.now ≡ old.walk.text.now → Passes c old.walk new.walk
+    → is_in_line c ≡ false → new.line ≡ old.line + cond (is_line_feed c) 1 0 → new.before ≡ new.walk.count → IsRunning new
 runs_anew old new c r k same p i l b =
     let x = line_past old new c r same p in
     let y = column_past old new c r same p in
     record {
       reading = k;
       line = l ∙ sym x;
-      column = omega (arith, y, ap (λ v. cond v ((place old.cursor.text.now old.cursor.offset).column + 1) 1) i, b);
+      column = omega (arith, y, ap (λ v. cond v ((place old.walk.text.now old.walk.offset).column + 1) 1) i, b);
     }
 
 pub running_bound : (a : RunningPlace) → IsRunning a → a.line < 2 ^ 63 + 1
 running_bound a r =
-    let bs = a.cursor.text.now in
+    let bs = a.walk.text.now in
     let k = r.reading in
-    omega (arith, r.line, line_bound (chars (take a.cursor.offset bs)), length-chars (take a.cursor.offset bs) (IsUtf8-take bs a.cursor.offset k.utf8 k.boundary), length-take a.cursor.offset bs, k.bound)
+    omega (arith, r.line, line_bound (chars (take a.walk.offset bs)), length-chars (take a.walk.offset bs) (IsUtf8-take bs a.walk.offset k.utf8 k.boundary), length-take a.walk.offset bs, k.bound)
 
 -- the column of the place is at least one, so that the number of characters before the line isn't above the count
-pub before_bound : (a : RunningPlace) → IsRunning a → a.before ≤ a.cursor.count
+pub before_bound : (a : RunningPlace) → IsRunning a → a.before ≤ a.walk.count
 before_bound a r = omega (arith, r.column)

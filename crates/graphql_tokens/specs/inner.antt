@@ -1,6 +1,5 @@
 -- Inner: what the code keeps and finds, on the way to the public definitions.
 pub mod Blocks
-pub mod Contents
 pub mod CountedPlace
 pub mod Lexer
 pub mod Lexing

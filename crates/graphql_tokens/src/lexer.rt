@@ -129,7 +129,7 @@ fn pass_quoted(bytes: &[u8], places: &mut RunningPlace) -> TokenKind
     ensures runs { RunsOver bytes.now places.new }
     ensures kind { (quoted (ahead places.old)).0 ≡ result }
     ensures rest { is_last result ≡ false → (quoted (ahead places.old)).1 ≡ ahead places.new }
-    ensures forward { places.old.cursor.offset ≤ places.new.cursor.offset }
+    ensures forward { places.old.walk.offset ≤ places.new.walk.offset }
 {
     if !pass_char(bytes, places, b'"') {
         return found(TokenKind::String, pass_string(bytes, places));
@@ -156,7 +156,7 @@ fn pass_other_token<'a>(
     ensures runs { RunsOver bytes.now result.1 }
     ensures kind { (next (ahead start.entry)).0 ≡ result.0 }
     ensures rest { is_last result.0 ≡ false → (next (ahead start.entry)).1 ≡ ahead result.1 }
-    ensures forward { start.entry.cursor.offset ≤ result.1.cursor.offset }
+    ensures forward { start.entry.walk.offset ≤ result.1.walk.offset }
 {
     let mut places = start;
     if b == b'"' {
@@ -185,7 +185,7 @@ fn pass_token(bytes: &[u8], places: &mut RunningPlace) -> TokenKind
     ensures runs { RunsOver bytes.now places.new }
     ensures kind { (next (ahead places.old)).0 ≡ result }
     ensures rest { is_last result ≡ false → (next (ahead places.old)).1 ≡ ahead places.new }
-    ensures forward { places.old.cursor.offset ≤ places.new.cursor.offset }
+    ensures forward { places.old.walk.offset ≤ places.new.walk.offset }
 {
     let Some(b) = peek(bytes, places) else {
         return TokenKind::End;

@@ -6,7 +6,7 @@ ghost use Rattle.graphql_reading.specs.reading.Given.{Gives};
 ghost use Rattle.graphql_reading.specs.reading.Spelled.{IsQuoted};
 ghost use Rattle.graphql_grammar.specs.reading.Values.{simple_at, word_at, number_at, string_at, block_at, variable_at};
 
-use graphql_reading::cursor::{Cursor, Reading, Refusal, is_block, is_number, is_string};
+use graphql_reading::cursor::{Cursor, Reading, Refusal};
 use graphql_syntax::lexer::TokenKind;
 use graphql_syntax::text::{block_string_value, string_value};
 use graphql_syntax::value::{Literal, Name, Number};
@@ -38,7 +38,7 @@ fn read_number<V: Literal>(alloc: Global, cursor: &mut Cursor) -> Reading<V>
     ensures { Gives V.tree result cursor.old cursor.new (node_at number_at) }
 {
     let token = cursor.hand();
-    if !is_number(token.kind) {
+    if !token.kind.is_number() {
         return Err(Refusal::Syntax);
     }
     let Some(number) = Number::new(alloc, token.text)? else {
@@ -61,7 +61,7 @@ fn read_string<V: Literal>(alloc: Global, cursor: &mut Cursor) -> Reading<V>
     ensures { Gives V.tree result cursor.old cursor.new (node_at string_at) }
 {
     let token = cursor.hand();
-    if !is_string(token.kind) {
+    if !token.kind.is_string() {
         return Err(Refusal::Syntax);
     }
     let Some(text) = string_value(alloc, inside(token.text, 1))? else {
@@ -75,7 +75,7 @@ fn read_block<V: Literal>(alloc: Global, cursor: &mut Cursor) -> Reading<V>
     ensures { Gives V.tree result cursor.old cursor.new (node_at block_at) }
 {
     let token = cursor.hand();
-    if !is_block(token.kind) {
+    if !token.kind.is_block() {
         return Err(Refusal::Syntax);
     }
     let text = block_string_value(alloc, inside(token.text, 3))?;

@@ -1,38 +1,12 @@
 -- Tests of one token. They look at its kind and its spelling, and never at its place.
 use Rattle.std.specs.Prelude.{ℕ, Bool, true, false, not, ◌&&◌, ◌||◌, List, [], ◌∷◌, codes}
 use Rattle.std.specs.Str.{bytes_eq}
+use Rattle.graphql_tokens.specs.tokens.Kinds.{is_punct, is_name, is_number, is_string, is_block, is_end}
 use Rattle.graphql_tokens.specs.tokens.Token.{Bare}
-use Rattle.graphql_tokens.specs.declared.lexer.TokenKind.{TokenKind}
-use Rattle.graphql_tokens.specs.declared.lexer.TokenKind.TheVariants as kinds
-use Rattle.graphql_tokens.specs.declared.lexer.TokenKind.TheVariants.{Punct, Name, End}
 use Prim.Native.String.{String}
 
 abbrev pub Test : Type 0
 Test = Bare → Bool
-
-abbrev pub is_punct : TokenKind → Bool
-is_punct Punct = true
-is_punct other = false
-
-abbrev pub is_name : TokenKind → Bool
-is_name Name = true
-is_name other = false
-
-abbrev pub is_number : TokenKind → Bool
-is_number kinds.Number = true
-is_number other = false
-
-abbrev pub is_string : TokenKind → Bool
-is_string kinds.String = true
-is_string other = false
-
-abbrev pub is_block : TokenKind → Bool
-is_block kinds.Block = true
-is_block other = false
-
-abbrev pub is_end : TokenKind → Bool
-is_end End = true
-is_end other = false
 
 -- the spelling is one of these words
 abbrev pub is_among : List ℕ → List String → Bool

@@ -1,7 +1,8 @@
 -- Tests of a token by bytes that the code hands in.
 use Rattle.std.specs.Prelude.{◌≡◌, ℕ, ◌&&◌, List, ◌++◌, replicate}
 use Rattle.std.specs.Str.{bytes_eq}
-use Rattle.graphql_reading.specs.grammar.Tests.{Test, is_punct, is_name}
+use Rattle.graphql_reading.specs.grammar.Tests.{Test}
+use Rattle.graphql_tokens.specs.tokens.Kinds.{is_punct, is_name}
 
 -- `punct` of the text that has these bytes
 abbrev pub punct_of : List ℕ → Test

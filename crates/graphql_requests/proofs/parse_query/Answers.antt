@@ -1,6 +1,6 @@
 use Rattle.std.proofs.Common.{sym, subst}
 use Rattle.graphql_tokens.specs.tokens.Edition.{Former}
-use Rattle.graphql_tokens.specs.tokens.Proper.{IsCutInto}
+use Rattle.graphql_tokens.specs.tokens.Cuts.{IsCutInto}
 use Rattle.graphql_grammar.specs.answers.Answers.{AreTheDefinitions}
 use Rattle.graphql_grammar.specs.answers.Language.{grammar}
 use Rattle.graphql_reading.specs.grammar.Limits.{Limits}

@@ -4,7 +4,7 @@ use Rattle.graphql_tokens.specs.inner.Running.{IsRunning}
 use Rattle.graphql_tokens.specs.declared.pos.PositionCalculator.TheInside.{Inside}
 
 abbrev pub shown : Inside → Calculator
-shown a = record { text = a.counted.place.cursor.text.now; offset = a.counted.place.cursor.offset; walk = a.counted.number }
+shown a = record { text = a.counted.place.walk.text.now; offset = a.counted.place.walk.offset; walk = a.counted.number }
 
 abbrev pub IsRight : Inside → Type 0
 IsRight a = IsRunning a.counted.place

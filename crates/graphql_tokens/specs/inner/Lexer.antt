@@ -16,6 +16,6 @@ shown a = record { whole = tokens_at a.text.now 0; taken = a.taken }
 pub record IsLexing (a : Inside) : Type 0 where
   pub runs : RunsOver a.text.now a.places
   -- so many tokens are before the offset, and all where the last was given
-  pub given : drop a.taken (tokens_at a.text.now 0) ≡ (if a.is_ended then [] else tokens_at a.text.now a.places.cursor.offset)
-  pub counted : a.is_ended ≡ false → a.taken ≤ a.places.cursor.offset
+  pub given : drop a.taken (tokens_at a.text.now 0) ≡ (if a.is_ended then [] else tokens_at a.text.now a.places.walk.offset)
+  pub counted : a.is_ended ≡ false → a.taken ≤ a.places.walk.offset
   pub within : a.taken ≤ length (tokens_at a.text.now 0)

@@ -6,7 +6,7 @@ use Rattle.graphql_tokens.specs.declared.pos.running.RunningPlace.{RunningPlace}
 -- the place runs over this text
 pub record RunsOver (bytes : List ℕ) (a : RunningPlace) : Type 0 where
   pub running : IsRunning a
-  pub same : a.cursor.text.now ≡ bytes
+  pub same : a.walk.text.now ≡ bytes
 
 -- the byte b is the first of these characters
 abbrev pub IsFirstByte : ℕ → List ℕ → Type 0
@@ -16,8 +16,8 @@ IsFirstByte b (c ∷ cs) = ((b < 128) × (c ≡ b)) ⊎ ((128 ≤ b) × (b < 256
 -- from the one place to the other, in the same text
 pub record Goes (old new : RunningPlace) : Type 0 where
   pub running : IsRunning new
-  pub same : new.cursor.text.now ≡ old.cursor.text.now
-  pub forward : old.cursor.offset ≤ new.cursor.offset
+  pub same : new.walk.text.now ≡ old.walk.text.now
+  pub forward : old.walk.offset ≤ new.walk.offset
 
 -- The new place is where the reader leaves off, and the result tells whether it does.
 abbrev pub rest_if : Bool → List ℕ → Option (List ℕ)

@@ -17,7 +17,7 @@ fn pass_any_digits(bytes: &[u8], places: &mut RunningPlace)
     requires { RunsOver bytes.now places.old }
     ensures runs { RunsOver bytes.now places.new }
     ensures rest { ahead places.new ≡ past_any_digits (ahead places.old) }
-    ensures forward { places.old.cursor.offset ≤ places.new.cursor.offset }
+    ensures forward { places.old.walk.offset ≤ places.new.walk.offset }
 {
     while let Some(b) = peek(bytes, places) {
         if !is_digit(b) {
@@ -33,7 +33,7 @@ fn pass_some_digits(bytes: &[u8], places: &mut RunningPlace) -> bool
     requires { RunsOver bytes.now places.old }
     ensures runs { RunsOver bytes.now places.new }
     ensures rest { past_some_digits (ahead places.old) ≡ rest_if result (ahead places.new) }
-    ensures forward { places.old.cursor.offset ≤ places.new.cursor.offset }
+    ensures forward { places.old.walk.offset ≤ places.new.walk.offset }
 {
     let Some(b) = peek(bytes, places) else {
         return false;
@@ -52,7 +52,7 @@ fn pass_sign(bytes: &[u8], places: &mut RunningPlace)
     requires { RunsOver bytes.now places.old }
     ensures runs { RunsOver bytes.now places.new }
     ensures rest { ahead places.new ≡ past_optional is_sign (ahead places.old) }
-    ensures forward { places.old.cursor.offset ≤ places.new.cursor.offset }
+    ensures forward { places.old.walk.offset ≤ places.new.walk.offset }
 {
     if !pass_char(bytes, places, b'+') {
         pass_char(bytes, places, b'-');
@@ -65,7 +65,7 @@ fn pass_whole(bytes: &[u8], places: &mut RunningPlace) -> bool
     requires { RunsOver bytes.now places.old }
     ensures runs { RunsOver bytes.now places.new }
     ensures rest { past_whole (ahead places.old) ≡ rest_if result (ahead places.new) }
-    ensures forward { places.old.cursor.offset ≤ places.new.cursor.offset }
+    ensures forward { places.old.walk.offset ≤ places.new.walk.offset }
 {
     if pass_char(bytes, places, b'0') {
         return true;
@@ -79,7 +79,7 @@ fn pass_fraction(bytes: &[u8], places: &mut RunningPlace) -> bool
     requires { RunsOver bytes.now places.old }
     ensures runs { RunsOver bytes.now places.new }
     ensures rest { past_fraction (ahead places.old) ≡ rest_if result (ahead places.new) }
-    ensures forward { places.old.cursor.offset ≤ places.new.cursor.offset }
+    ensures forward { places.old.walk.offset ≤ places.new.walk.offset }
 {
     if !pass_char(bytes, places, b'.') {
         return true;
@@ -93,7 +93,7 @@ fn pass_exponent(bytes: &[u8], places: &mut RunningPlace) -> bool
     requires { RunsOver bytes.now places.old }
     ensures runs { RunsOver bytes.now places.new }
     ensures rest { past_exponent (ahead places.old) ≡ rest_if result (ahead places.new) }
-    ensures forward { places.old.cursor.offset ≤ places.new.cursor.offset }
+    ensures forward { places.old.walk.offset ≤ places.new.walk.offset }
 {
     if !pass_char(bytes, places, b'e') {
         if !pass_char(bytes, places, b'E') {
@@ -122,7 +122,7 @@ pub fn pass_number(bytes: &[u8], places: &mut RunningPlace) -> bool
     requires { RunsOver bytes.now places.old }
     ensures runs { RunsOver bytes.now places.new }
     ensures rest { past_number (ahead places.old) ≡ rest_if result (ahead places.new) }
-    ensures forward { places.old.cursor.offset ≤ places.new.cursor.offset }
+    ensures forward { places.old.walk.offset ≤ places.new.walk.offset }
 {
     pass_char(bytes, places, b'-');
     if !pass_whole(bytes, places) {

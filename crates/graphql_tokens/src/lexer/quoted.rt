@@ -16,7 +16,7 @@ pub fn pass_string(bytes: &[u8], places: &mut RunningPlace) -> bool
     requires { RunsOver bytes.now places.old }
     ensures runs { RunsOver bytes.now places.new }
     ensures rest { past_string (ahead places.old) ≡ rest_if result (ahead places.new) }
-    ensures forward { places.old.cursor.offset ≤ places.new.cursor.offset }
+    ensures forward { places.old.walk.offset ≤ places.new.walk.offset }
 {
     while let Some(b) = peek(bytes, places) {
         if is_plain(b) {
@@ -40,7 +40,7 @@ fn pass_quotes(bytes: &[u8], places: &mut RunningPlace) -> usize
     requires { RunsOver bytes.now places.old }
     ensures runs { RunsOver bytes.now places.new }
     ensures quotes { IsRunOfQuotes result (ahead places.old) (ahead places.new) }
-    ensures forward { places.old.cursor.offset ≤ places.new.cursor.offset }
+    ensures forward { places.old.walk.offset ≤ places.new.walk.offset }
 {
     if !pass_char(bytes, places, b'"') {
         return 0;
@@ -61,7 +61,7 @@ pub fn pass_block(bytes: &[u8], places: &mut RunningPlace) -> bool
     requires { RunsOver bytes.now places.old }
     ensures runs { RunsOver bytes.now places.new }
     ensures rest { past_block (ahead places.old) ≡ rest_if result (ahead places.new) }
-    ensures forward { places.old.cursor.offset ≤ places.new.cursor.offset }
+    ensures forward { places.old.walk.offset ≤ places.new.walk.offset }
 {
     while let Some(b) = peek(bytes, places) {
         if b == b'"' {

@@ -39,7 +39,7 @@ fn pass_line(bytes: &[u8], places: &mut RunningPlace)
     requires { RunsOver bytes.now places.old }
     ensures runs { RunsOver bytes.now places.new }
     ensures rest { ahead places.new ≡ past_line (ahead places.old) }
-    ensures forward { places.old.cursor.offset ≤ places.new.cursor.offset }
+    ensures forward { places.old.walk.offset ≤ places.new.walk.offset }
 {
     while has_more(bytes, places) {
         let c = places.pass();
@@ -55,7 +55,7 @@ pub fn pass_ignored(bytes: &[u8], places: &mut RunningPlace)
     requires { RunsOver bytes.now places.old }
     ensures runs { RunsOver bytes.now places.new }
     ensures rest { ahead places.new ≡ skip (ahead places.old) }
-    ensures forward { places.old.cursor.offset ≤ places.new.cursor.offset }
+    ensures forward { places.old.walk.offset ≤ places.new.walk.offset }
 {
     while let Some(b) = peek(bytes, places) {
         if is_ignored(b) {
@@ -80,7 +80,7 @@ pub fn pass_name_chars(bytes: &[u8], places: &mut RunningPlace)
     requires { RunsOver bytes.now places.old }
     ensures runs { RunsOver bytes.now places.new }
     ensures rest { ahead places.new ≡ past_name_chars (ahead places.old) }
-    ensures forward { places.old.cursor.offset ≤ places.new.cursor.offset }
+    ensures forward { places.old.walk.offset ≤ places.new.walk.offset }
 {
     while let Some(b) = peek(bytes, places) {
         if !is_name_char(b) {
@@ -99,7 +99,7 @@ pub fn pass_char(bytes: &[u8], places: &mut RunningPlace, c: u8) -> bool
     ensures runs { RunsOver bytes.now places.new }
     ensures rest { past_char c (ahead places.old) ≡ rest_if result (ahead places.new) }
     ensures stays { result ≡ false → ahead places.new ≡ ahead places.old }
-    ensures forward { places.old.cursor.offset ≤ places.new.cursor.offset }
+    ensures forward { places.old.walk.offset ≤ places.new.walk.offset }
 {
     let Some(b) = peek(bytes, places) else {
         return false;
@@ -117,7 +117,7 @@ pub fn pass_dots(bytes: &[u8], places: &mut RunningPlace) -> bool
     requires { RunsOver bytes.now places.old }
     ensures runs { RunsOver bytes.now places.new }
     ensures rest { past_dots (ahead places.old) ≡ rest_if result (ahead places.new) }
-    ensures forward { places.old.cursor.offset ≤ places.new.cursor.offset }
+    ensures forward { places.old.walk.offset ≤ places.new.walk.offset }
 {
     if !pass_char(bytes, places, b'.') {
         return false;
@@ -130,9 +130,9 @@ pub fn pass_many(places: &mut RunningPlace, count: usize)
     requires running { IsRunning places.old }
     requires more { count ≤ length (ahead places.old) }
     ensures running { IsRunning places.new }
-    ensures same { places.new.cursor.text.now ≡ places.old.cursor.text.now }
+    ensures same { places.new.walk.text.now ≡ places.old.walk.text.now }
     ensures rest { ahead places.new ≡ drop count (ahead places.old) }
-    ensures forward { places.old.cursor.offset ≤ places.new.cursor.offset }
+    ensures forward { places.old.walk.offset ≤ places.new.walk.offset }
 {
     let mut left = count;
     while left > 0 {

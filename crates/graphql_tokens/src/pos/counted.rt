@@ -35,8 +35,8 @@ pub struct CountedPlace<'a> {
 impl<'a> CountedPlace<'a> {
     // The start of `text`, and of a new walk over it.
     pub fn new(text: &'a str) -> CountedPlace<'a>
-        ensures text { result.place.cursor.text.now ≡ text.entry.now }
-        ensures start { result.place.cursor.offset ≡ 0 }
+        ensures text { result.place.walk.text.now ≡ text.entry.now }
+        ensures start { result.place.walk.offset ≡ 0 }
         ensures running { IsRunning result.place }
     {
         CountedPlace {
@@ -51,20 +51,20 @@ impl<'a> CountedPlace<'a> {
         requires running { IsRunning self.old.place }
         requires more { ahead self.old.place ≢ [] }
         ensures running { IsRunning self.new.place }
-        ensures same { self.new.place.cursor.text.now ≡ self.old.place.cursor.text.now }
+        ensures same { self.new.place.walk.text.now ≡ self.old.place.walk.text.now }
         ensures walk { self.new.number ≡ self.old.number }
         ensures passed { ahead self.old.place ≡ result ∷ ahead self.new.place }
-        ensures counted { self.new.place.cursor.count ≡ self.old.place.cursor.count + 1 }
+        ensures counted { self.new.place.walk.count ≡ self.old.place.walk.count + 1 }
         // No place where a character begins is gone over.
-        ensures one { (at : ℕ) → IsCharBoundary self.old.place.cursor.text.now at → self.old.place.cursor.offset < at → self.new.place.cursor.offset ≤ at }
-        ensures forward { self.old.place.cursor.offset < self.new.place.cursor.offset }
+        ensures one { (at : ℕ) → IsCharBoundary self.old.place.walk.text.now at → self.old.place.walk.offset < at → self.new.place.walk.offset ≤ at }
+        ensures forward { self.old.place.walk.offset < self.new.place.walk.offset }
     {
         self.place.pass()
     }
 
     #[inline(always)]
     pub fn offset(&self) -> usize
-        ensures { result ≡ self.now.place.cursor.offset }
+        ensures { result ≡ self.now.place.walk.offset }
     {
         self.place.offset()
     }
@@ -73,8 +73,8 @@ impl<'a> CountedPlace<'a> {
     #[inline(always)]
     pub fn count(&self) -> usize
         requires { IsRunning self.now.place }
-        ensures count { result ≡ self.now.place.cursor.count }
-        ensures once { result ≡ length (chars (take self.now.place.cursor.offset self.now.place.cursor.text.now)) }
+        ensures count { result ≡ self.now.place.walk.count }
+        ensures once { result ≡ length (chars (take self.now.place.walk.offset self.now.place.walk.text.now)) }
     {
         self.place.count()
     }
@@ -82,7 +82,7 @@ impl<'a> CountedPlace<'a> {
     #[inline(always)]
     pub fn pos(&self) -> Pos
         requires { IsRunning self.now.place }
-        ensures { result ≡ place self.now.place.cursor.text.now self.now.place.cursor.offset }
+        ensures { result ≡ place self.now.place.walk.text.now self.now.place.walk.offset }
     {
         self.place.pos()
     }

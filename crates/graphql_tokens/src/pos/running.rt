@@ -13,19 +13,19 @@ use super::text_walk::TextWalk;
 // number of its own, so passing a character within a line costs no more than passing it.
 #[derive(Clone, Copy, Debug)]
 pub struct RunningPlace<'a> {
-    cursor: TextWalk<'a>,
+    walk: TextWalk<'a>,
     line: usize,
     before: usize,
 }
 
 impl<'a> RunningPlace<'a> {
     pub fn new(text: &'a str) -> RunningPlace<'a>
-        ensures text { result.cursor.text.now ≡ text.entry.now }
-        ensures start { result.cursor.offset ≡ 0 }
+        ensures text { result.walk.text.now ≡ text.entry.now }
+        ensures start { result.walk.offset ≡ 0 }
         ensures running { IsRunning result }
     {
         RunningPlace {
-            cursor: TextWalk::new(text),
+            walk: TextWalk::new(text),
             line: 1,
             before: 0,
         }
@@ -33,26 +33,26 @@ impl<'a> RunningPlace<'a> {
 
     #[inline(always)]
     pub fn offset(&self) -> usize
-        ensures { result ≡ self.now.cursor.offset }
+        ensures { result ≡ self.now.walk.offset }
     {
-        self.cursor.offset()
+        self.walk.offset()
     }
 
     #[inline(always)]
     pub fn count(&self) -> usize
-        ensures { result ≡ self.now.cursor.count }
+        ensures { result ≡ self.now.walk.count }
     {
-        self.cursor.count()
+        self.walk.count()
     }
 
     #[inline(always)]
     pub fn pos(&self) -> Pos
         requires { IsRunning self.now }
-        ensures { result ≡ place self.now.cursor.text.now self.now.cursor.offset }
+        ensures { result ≡ place self.now.walk.text.now self.now.walk.offset }
     {
         Pos {
             line: self.line,
-            column: self.cursor.count() - self.before + 1,
+            column: self.walk.count() - self.before + 1,
         }
     }
 
@@ -62,20 +62,20 @@ impl<'a> RunningPlace<'a> {
         requires running { IsRunning self.old }
         requires more { ahead self.old ≢ [] }
         ensures running { IsRunning self.new }
-        ensures same { self.new.cursor.text.now ≡ self.old.cursor.text.now }
+        ensures same { self.new.walk.text.now ≡ self.old.walk.text.now }
         ensures passed { ahead self.old ≡ result ∷ ahead self.new }
-        ensures counted { self.new.cursor.count ≡ self.old.cursor.count + 1 }
+        ensures counted { self.new.walk.count ≡ self.old.walk.count + 1 }
         // No place where a character begins is gone over.
-        ensures one { (at : ℕ) → IsCharBoundary self.old.cursor.text.now at → self.old.cursor.offset < at → self.new.cursor.offset ≤ at }
-        ensures forward { self.old.cursor.offset < self.new.cursor.offset }
+        ensures one { (at : ℕ) → IsCharBoundary self.old.walk.text.now at → self.old.walk.offset < at → self.new.walk.offset ≤ at }
+        ensures forward { self.old.walk.offset < self.new.walk.offset }
     {
-        let c = self.cursor.pass();
+        let c = self.walk.pass();
         if c <= '\r' {
             if c == '\n' {
                 self.line += 1;
-                self.before = self.cursor.count();
+                self.before = self.walk.count();
             } else if c == '\r' {
-                self.before = self.cursor.count();
+                self.before = self.walk.count();
             }
         }
         c
@@ -87,11 +87,11 @@ impl<'a> RunningPlace<'a> {
         requires running { IsRunning self.old }
         requires ascii { BeginsInAscii (ahead self.old) }
         ensures running { IsRunning self.new }
-        ensures same { self.new.cursor.text.now ≡ self.old.cursor.text.now }
+        ensures same { self.new.walk.text.now ≡ self.old.walk.text.now }
         ensures passed { (c : ℕ) × (ahead self.old ≡ c ∷ ahead self.new) }
-        ensures forward { self.old.cursor.offset < self.new.cursor.offset }
+        ensures forward { self.old.walk.offset < self.new.walk.offset }
     {
-        self.cursor.pass_ascii();
+        self.walk.pass_ascii();
     }
 
     // The next character, of which the caller has the first byte: as `pass`, without a second look at a
@@ -101,9 +101,9 @@ impl<'a> RunningPlace<'a> {
         requires running { IsRunning self.old }
         requires first { IsFirstByte b (ahead self.old) }
         ensures running { IsRunning self.new }
-        ensures same { self.new.cursor.text.now ≡ self.old.cursor.text.now }
+        ensures same { self.new.walk.text.now ≡ self.old.walk.text.now }
         ensures passed { ahead self.old ≡ result ∷ ahead self.new }
-        ensures forward { self.old.cursor.offset < self.new.cursor.offset }
+        ensures forward { self.old.walk.offset < self.new.walk.offset }
     {
         if b > b'\r' && b < 0x80 {
             self.pass_ascii();

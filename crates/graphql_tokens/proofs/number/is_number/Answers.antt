@@ -7,8 +7,8 @@ use Rattle.graphql_tokens.proofs.NumberTexts.{number_passed, number_missed}
 use Rattle.graphql_tokens.proofs.number.is_number.Goals as goal
 
 -- at the start all is ahead
-all_ahead : (text : List ℕ) (a : RunningPlace) → a.cursor.text.now ≡ text → a.cursor.offset ≡ 0 → chars text ≡ ahead a
-all_ahead text a same start = sym (ap (λ k. chars (drop k a.cursor.text.now)) start ∙ ap (λ t. chars (drop 0 t)) same)
+all_ahead : (text : List ℕ) (a : RunningPlace) → a.walk.text.now ≡ text → a.walk.offset ≡ 0 → chars text ≡ ahead a
+all_ahead text a same start = sym (ap (λ k. chars (drop k a.walk.text.now)) start ∙ ap (λ t. chars (drop 0 t)) same)
 
 pub returns-then-is_passed : goal.returns-then-is_passed
 returns-then-is_passed c =

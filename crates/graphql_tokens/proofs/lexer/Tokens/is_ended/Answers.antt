@@ -16,7 +16,7 @@ rest c = sym (ap left c.self.view_is) ∙ ap (drop c.self.inside.taken) (at_star
 
 pub returns-clause-ended : goal.returns-clause-ended
 returns-clause-ended c =
-    rw (← c.self.view_is, c.self.invariant.given) (tokens_left c.self.inside.text.now c.self.inside.places.cursor.offset c.self.inside.is_ended)
+    rw (← c.self.view_is, c.self.invariant.given) (tokens_left c.self.inside.text.now c.self.inside.places.walk.offset c.self.inside.is_ended)
 
 pub returns-clause-ends : goal.returns-clause-ends
 returns-clause-ends c some =

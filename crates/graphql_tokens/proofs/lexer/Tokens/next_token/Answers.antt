@@ -42,14 +42,14 @@ not_ended c = by c.self.inside.is_ended refl
     by : (b : Bool) → c.self.inside.is_ended ≡ b → c.self.inside.is_ended ≡ false
     by false e = e
     by true e =
-        absurd (c.requires (sym (ap left c.self.view_is) ∙ c.self.invariant.given ∙ ap (λ b. cond b [] (tokens_at c.self.inside.text.now c.self.inside.places.cursor.offset)) e))
+        absurd (c.requires (sym (ap left c.self.view_is) ∙ c.self.invariant.given ∙ ap (λ b. cond b [] (tokens_at c.self.inside.text.now c.self.inside.places.walk.offset)) e))
 
 -- the tokens still to come, by the place that is reached
-still : (c : goal.After-t21-1) → drop c.self.inside.taken (tokens_at c.self.inside.text.now 0) ≡ tokens_at c.self.inside.text.now c.self.inside.places.cursor.offset
-still c = c.self.invariant.given ∙ ap (λ b. cond b [] (tokens_at c.self.inside.text.now c.self.inside.places.cursor.offset)) (not_ended c)
+still : (c : goal.After-t21-1) → drop c.self.inside.taken (tokens_at c.self.inside.text.now 0) ≡ tokens_at c.self.inside.text.now c.self.inside.places.walk.offset
+still c = c.self.invariant.given ∙ ap (λ b. cond b [] (tokens_at c.self.inside.text.now c.self.inside.places.walk.offset)) (not_ended c)
 
 -- without the token that is passed
-behind : (c : goal.After-t21-1) → drop (c.self.inside.taken + 1) (tokens_at c.self.inside.text.now 0) ≡ cond (is_last c.pass_token-kind.result) [] (tokens_at c.self.inside.text.now c.pass_token-kind.new.places.cursor.offset)
+behind : (c : goal.After-t21-1) → drop (c.self.inside.taken + 1) (tokens_at c.self.inside.text.now 0) ≡ cond (is_last c.pass_token-kind.result) [] (tokens_at c.self.inside.text.now c.pass_token-kind.new.places.walk.offset)
 behind c =
     sym (drop-drop 1 c.self.inside.taken (tokens_at c.self.inside.text.now 0))
     ∙ ap (drop 1) (still c ∙ pass_gives _ _ _ _ _ _ (passed c))
@@ -57,7 +57,7 @@ behind c =
 pub invariant_of-self : goal.invariant_of-self
 invariant_of-self c = record {
   runs = (passed c).at_behind;
-  given = behind c ∙ ap (λ b. cond b [] (tokens_at c.self.inside.text.now c.pass_token-kind.new.places.cursor.offset)) (sym c.is_last-is_last.ensures);
+  given = behind c ∙ ap (λ b. cond b [] (tokens_at c.self.inside.text.now c.pass_token-kind.new.places.walk.offset)) (sym c.is_last-is_last.ensures);
   counted = λ l.
       (let m = pass_moves _ _ _ _ _ _ (passed c) (sym c.is_last-is_last.ensures ∙ l) in
       let n = c.self.invariant.counted (not_ended c) in
@@ -73,15 +73,15 @@ returns-clause-token c =
     let kind = c.pass_token-kind.result in
     let start = c.pass_ignored.new.places in
     let end = c.if-is_last.end in
-    let more = tokens_at bs c.pass_token-kind.new.places.cursor.offset in
-    let shown : left c.args.self.now ≡ tokens_at bs c.self.inside.places.cursor.offset = sym (ap left c.self.view_is) ∙ still c in
-    let word : slice_range bs start.cursor.offset end ≡ c.range.result.now =
+    let more = tokens_at bs c.pass_token-kind.new.places.walk.offset in
+    let shown : left c.args.self.now ≡ tokens_at bs c.self.inside.places.walk.offset = sym (ap left c.self.view_is) ∙ still c in
+    let word : slice_range bs start.walk.offset end ≡ c.range.result.now =
     ap (λ s. slice_range bs s end) (sym c.offset-start.ensures) ∙ sym c.range.ensures.value in
-    let pos : place bs start.cursor.offset ≡ c.pos-pos.result =
-    ap (λ t. place t start.cursor.offset) (sym (passed c).at_start.same) ∙ sym c.pos-pos.ensures in
+    let pos : place bs start.walk.offset ≡ c.pos-pos.result =
+    ap (λ t. place t start.walk.offset) (sym (passed c).at_start.same) ∙ sym c.pos-pos.ensures in
     shown ∙ pass_gives _ _ _ _ _ _ (passed c)
-    ∙ ap (λ x. record { bare = record { kind = kind; spelling = x }; start = start.cursor.offset; pos = place bs start.cursor.offset } ∷ cond (is_last kind) [] more) word
-    ∙ ap (λ x. record { bare = record { kind = kind; spelling = c.range.result.now }; start = x; pos = place bs start.cursor.offset } ∷ cond (is_last kind) [] more) (sym c.offset-start.ensures)
+    ∙ ap (λ x. record { bare = record { kind = kind; spelling = x }; start = start.walk.offset; pos = place bs start.walk.offset } ∷ cond (is_last kind) [] more) word
+    ∙ ap (λ x. record { bare = record { kind = kind; spelling = c.range.result.now }; start = x; pos = place bs start.walk.offset } ∷ cond (is_last kind) [] more) (sym c.offset-start.ensures)
     ∙ ap (λ x. record { bare = record { kind = kind; spelling = c.range.result.now }; start = c.offset-start.result; pos = x } ∷ cond (is_last kind) [] more) pos
     ∙ ap (λ l. seen (record { kind = kind; text = c.range.result; start = c.offset-start.result; pos = c.pos-pos.result }) ∷ l) (sym (behind c))
 

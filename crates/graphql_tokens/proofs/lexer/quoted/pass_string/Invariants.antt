@@ -5,7 +5,7 @@ use Rattle.graphql_tokens.specs.inner.Lexing.{RunsOver}
 use Rattle.graphql_tokens.proofs.lexer.quoted.pass_string.Given as goal
 
 abbrev pub invariant-loop-b : goal.invariant-loop-b
-invariant-loop-b l = record { runs : RunsOver l.bytes l.places; same : past_string (ahead l.places) ≡ past_string (ahead l.fn.places); forward : l.fn.places.cursor.offset ≤ l.places.cursor.offset }
+invariant-loop-b l = record { runs : RunsOver l.bytes l.places; same : past_string (ahead l.places) ≡ past_string (ahead l.fn.places); forward : l.fn.places.walk.offset ≤ l.places.walk.offset }
 
 abbrev pub decreases-loop-b : goal.decreases-loop-b
 decreases-loop-b l = length (ahead l.places)

@@ -39,25 +39,25 @@ returns-else-c-le13-clause-running c =
     runs_in_line c.args.self.now _ c.pass-c.result c.requires.running e.walking e.same e.passes i f refl refl
 
 pub returns-then-c-eq10-clause-passed : goal.returns-then-c-eq10-clause-passed
-returns-then-c-eq10-clause-passed c = ahead_past c.args.self.now.cursor c.pass-c.new.self c.pass-c.result c.requires.running.reading c.pass-c.ensures.same c.pass-c.ensures.passes
+returns-then-c-eq10-clause-passed c = ahead_past c.args.self.now.walk c.pass-c.new.self c.pass-c.result c.requires.running.reading c.pass-c.ensures.same c.pass-c.ensures.passes
 
 pub returns-then-c-eq13-clause-passed : goal.returns-then-c-eq13-clause-passed
-returns-then-c-eq13-clause-passed c = ahead_past c.args.self.now.cursor c.pass-c.new.self c.pass-c.result c.requires.running.reading c.pass-c.ensures.same c.pass-c.ensures.passes
+returns-then-c-eq13-clause-passed c = ahead_past c.args.self.now.walk c.pass-c.new.self c.pass-c.result c.requires.running.reading c.pass-c.ensures.same c.pass-c.ensures.passes
 
 pub returns-else-c-eq13-clause-passed : goal.returns-else-c-eq13-clause-passed
-returns-else-c-eq13-clause-passed c = ahead_past c.args.self.now.cursor c.pass-c.new.self c.pass-c.result c.requires.running.reading c.pass-c.ensures.same c.pass-c.ensures.passes
+returns-else-c-eq13-clause-passed c = ahead_past c.args.self.now.walk c.pass-c.new.self c.pass-c.result c.requires.running.reading c.pass-c.ensures.same c.pass-c.ensures.passes
 
 pub returns-else-c-le13-clause-passed : goal.returns-else-c-le13-clause-passed
-returns-else-c-le13-clause-passed c = ahead_past c.args.self.now.cursor c.pass-c.new.self c.pass-c.result c.requires.running.reading c.pass-c.ensures.same c.pass-c.ensures.passes
+returns-else-c-le13-clause-passed c = ahead_past c.args.self.now.walk c.pass-c.new.self c.pass-c.result c.requires.running.reading c.pass-c.ensures.same c.pass-c.ensures.passes
 
 pub returns-then-c-eq10-clause-one : goal.returns-then-c-eq10-clause-one
-returns-then-c-eq10-clause-one c = one_past c.args.self.now.cursor c.pass-c.new.self c.pass-c.result c.requires.running.reading c.pass-c.ensures.passes
+returns-then-c-eq10-clause-one c = one_past c.args.self.now.walk c.pass-c.new.self c.pass-c.result c.requires.running.reading c.pass-c.ensures.passes
 
 pub returns-then-c-eq13-clause-one : goal.returns-then-c-eq13-clause-one
-returns-then-c-eq13-clause-one c = one_past c.args.self.now.cursor c.pass-c.new.self c.pass-c.result c.requires.running.reading c.pass-c.ensures.passes
+returns-then-c-eq13-clause-one c = one_past c.args.self.now.walk c.pass-c.new.self c.pass-c.result c.requires.running.reading c.pass-c.ensures.passes
 
 pub returns-else-c-eq13-clause-one : goal.returns-else-c-eq13-clause-one
-returns-else-c-eq13-clause-one c = one_past c.args.self.now.cursor c.pass-c.new.self c.pass-c.result c.requires.running.reading c.pass-c.ensures.passes
+returns-else-c-eq13-clause-one c = one_past c.args.self.now.walk c.pass-c.new.self c.pass-c.result c.requires.running.reading c.pass-c.ensures.passes
 
 pub returns-else-c-le13-clause-one : goal.returns-else-c-le13-clause-one
-returns-else-c-le13-clause-one c = one_past c.args.self.now.cursor c.pass-c.new.self c.pass-c.result c.requires.running.reading c.pass-c.ensures.passes
+returns-else-c-le13-clause-one c = one_past c.args.self.now.walk c.pass-c.new.self c.pass-c.result c.requires.running.reading c.pass-c.ensures.passes

@@ -18,8 +18,8 @@ no_feed c h = grind (arith, nat_tests)
 pub returns-clause-running : goal.returns-clause-running
 returns-clause-running c =
     let e = c.pass_ascii.ensures in
-    let i = (subst BeginsInAscii (ahead_past c.args.self.now.cursor c.pass_ascii.new.self _ c.requires.running.reading e.same e.passes) c.requires.ascii).1 in
+    let i = (subst BeginsInAscii (ahead_past c.args.self.now.walk c.pass_ascii.new.self _ c.requires.running.reading e.same e.passes) c.requires.ascii).1 in
     runs_in_line c.args.self.now _ _ c.requires.running e.walking e.same e.passes i (no_feed _ i) refl refl
 
 pub returns-clause-passed : goal.returns-clause-passed
-returns-clause-passed c = (_, ahead_past c.args.self.now.cursor c.pass_ascii.new.self _ c.requires.running.reading c.pass_ascii.ensures.same c.pass_ascii.ensures.passes)
+returns-clause-passed c = (_, ahead_past c.args.self.now.walk c.pass_ascii.new.self _ c.requires.running.reading c.pass_ascii.ensures.same c.pass_ascii.ensures.passes)
