@@ -23,7 +23,7 @@ impl Read for FailingReader<'_> {
     }
 }
 
-/// Keeps what it is given, a few bytes at each call, and fails once no call is left.
+/// Keeps what it is given, a few bytes at each call, and fails once no call is left. A flush is a call too.
 #[derive(Drop)]
 pub struct FailingWriter {
     pub held: Vec<u8>,
@@ -43,6 +43,10 @@ impl Write for FailingWriter {
     }
 
     fn flush(&mut self) -> Result<()> {
+        if self.calls_left == 0 {
+            return Err(Error::from(ErrorKind::Other));
+        }
+        self.calls_left -= 1;
         Ok(())
     }
 }

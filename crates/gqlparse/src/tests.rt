@@ -1,3 +1,4 @@
-//! Tests of the program's work.
+//! Tests of the program's work, and of the README's example.
 mod memory;
+mod readme;
 mod runs;

@@ -1,21 +1,15 @@
 //! How deep a request may nest: 64 sets in a definition's own set, 64 lists and objects in a value, 64 lists in a type.
-use super::{Accepted, Request};
-use crate::rows::hold;
-use std::test::Fail;
 
-#[test]
-fn nested_fields(rt: HostRuntime) -> Result<(), Fail> {
-    hold(&rt, rt.alloc(), &Accepted, NESTED_FIELDS)
-}
-
-const NESTED_FIELDS: &str = r"
+/// Requests that nest as deep as is allowed, or one deeper.
+pub const NESTED: &str = r"
+-- Nested fields.
 {⟨64×a{⟩b⟨65×}⟩ ⇒ accepted
 {⟨65×a{⟩b⟨66×}⟩ ⇒ recursion limit exceeded
 query { ⟨64×a {⟩b⟨64×}⟩ } ⇒ accepted
 query { ⟨65×a {⟩b⟨65×}⟩ } ⇒ recursion limit exceeded
 query A{b}fragment F on T{⟨64×a{⟩b⟨65×}⟩ ⇒ accepted
 query A{b}fragment F on T{⟨65×a{⟩b⟨66×}⟩ ⇒ recursion limit exceeded
--- The limit is told at the token that opens too much, whatever stands behind it.
+-- The limit is told at the token that opens too much, whatever comes after it.
 {⟨65×a{⟩? ⇒ recursion limit exceeded
 {⟨65×a{⟩} ⇒ recursion limit exceeded
 {⟨65×a{⟩ ⇒ recursion limit exceeded
@@ -29,14 +23,7 @@ query A{b}fragment F on T{⟨65×a{⟩b⟨66×}⟩ ⇒ recursion limit exceeded
 -- What is closed counts no longer.
 {⟨64×a{⟩b⟨64×}⟩⟨64×c{⟩d⟨65×}⟩ ⇒ accepted
 {⟨200×a{b}⟩} ⇒ accepted
-";
-
-#[test]
-fn nested_inline_fragments(rt: HostRuntime) -> Result<(), Fail> {
-    hold(&rt, rt.alloc(), &Accepted, NESTED_INLINE_FRAGMENTS)
-}
-
-const NESTED_INLINE_FRAGMENTS: &str = r"
+-- Nested inline fragments.
 {⟨64×...{⟩b⟨65×}⟩ ⇒ accepted
 {⟨65×...{⟩b⟨66×}⟩ ⇒ recursion limit exceeded
 {⟨32×a{...on T{⟩b⟨65×}⟩ ⇒ accepted
@@ -51,14 +38,7 @@ const NESTED_INLINE_FRAGMENTS: &str = r"
 {⟨64×a{⟩...F⟨65×}⟩ ⇒ accepted
 {⟨64×a{⟩...F@d⟨65×}⟩ ⇒ accepted
 {⟨64×a{⟩...F{ ⇒ syntax 1:134
-";
-
-#[test]
-fn nested_values(rt: HostRuntime) -> Result<(), Fail> {
-    hold(&rt, rt.alloc(), &Accepted, NESTED_VALUES)
-}
-
-const NESTED_VALUES: &str = r"
+-- Nested values.
 {a(b:⟨64×[⟩⟨64×]⟩)} ⇒ accepted
 {a(b:⟨65×[⟩⟨65×]⟩)} ⇒ recursion limit exceeded
 {a(b:⟨64×{x:⟩1⟨64×}⟩)} ⇒ accepted
@@ -81,14 +61,7 @@ query($v:T=⟨65×[⟩⟨65×]⟩){a} ⇒ recursion limit exceeded
 query($v:T@d(x:⟨65×[⟩⟨65×]⟩)){a} ⇒ recursion limit exceeded
 {⟨64×a{⟩b(c:⟨64×[⟩⟨64×]⟩)⟨65×}⟩ ⇒ accepted
 {⟨64×a{⟩b(c:⟨65×[⟩⟨65×]⟩)⟨65×}⟩ ⇒ recursion limit exceeded
-";
-
-#[test]
-fn nested_types(rt: HostRuntime) -> Result<(), Fail> {
-    hold(&rt, rt.alloc(), &Accepted, NESTED_TYPES)
-}
-
-const NESTED_TYPES: &str = r"
+-- Nested types.
 query($a:⟨64×[⟩Int⟨64×]⟩){a} ⇒ accepted
 query($a:⟨65×[⟩Int⟨65×]⟩){a} ⇒ recursion limit exceeded
 query($a:⟨64×[⟩Int!⟨64×]!⟩){a} ⇒ accepted
@@ -98,15 +71,12 @@ query($a:⟨64×[⟩Int⟨64×]⟩=⟨64×[⟩⟨64×]⟩ $b:⟨64×[⟩Int⟨64
 query($a:Int $b:⟨65×[⟩Int⟨65×]⟩){a} ⇒ recursion limit exceeded
 ";
 
-#[test]
-fn deep_values_and_types_are_kept(rt: HostRuntime) -> Result<(), Fail> {
-    hold(&rt, rt.alloc(), &Request, DEEP_TREES)
-}
-
-const DEEP_TREES: &str = r"
-{a(b:⟨64×[⟩⟨64×]⟩)} ⇒ single (query 1:1 {1:1 (field 1:2 a@1:2 b@1:4=⟨64×[ ⟩⟨63×] ⟩]@1:6 {0:0})})
-{a(b:⟨64×{x:⟩$v⟨64×}⟩)} ⇒ single (query 1:1 {1:1 (field 1:2 a@1:2 b@1:4=⟨64×{ x=⟩$v⟨64× }⟩@1:6 {0:0})})
-{a(b:{x:⟨63×[⟩⟨63×]⟩ x:1})} ⇒ single (query 1:1 {1:1 (field 1:2 a@1:2 b@1:4={ x=1 }@1:6 {0:0})})
+/// Requests that nest as deep as is allowed, and their trees.
+pub const DEEP_TREES: &str = r"
+-- Deep values and types are kept.
+{a(b:⟨64×[⟩⟨64×]⟩)} ⇒ single (query 1:1 {1:1 (field 1:2 a@1:2 b@1:4=⟨64×[ ⟩⟨63×] ⟩]@1:6)})
+{a(b:⟨64×{x:⟩$v⟨64×}⟩)} ⇒ single (query 1:1 {1:1 (field 1:2 a@1:2 b@1:4=⟨64×{ x=⟩$v⟨64× }⟩@1:6)})
+{a(b:{x:⟨63×[⟩⟨63×]⟩ x:1})} ⇒ single (query 1:1 {1:1 (field 1:2 a@1:2 b@1:4={ x=1 }@1:6)})
 query($a:⟨64×[⟩Int⟨64×]⟩){a} ⇒ single (query 1:1 (variable 1:7 a@1:8 ⟨64×[⟩Int⟨64×]⟩@1:10)
-  {1:142 (field 1:143 a@1:143 {0:0})})
+  {1:142 (field 1:143 a@1:143)})
 ";

@@ -32,7 +32,7 @@ fn take_all(alloc: Global, blocks: &mut Blocks) -> Result<bool, AllocError> {
     Ok(true)
 }
 
-// Blocks of growing sizes, and behind each of them a small one in `between`, so that what is given back
+// Blocks of growing sizes, and after each of them a small one in `between`, so that what is given back
 // of them is not joined into larger pieces.
 fn pieces(alloc: Global, between: &mut Blocks) -> Result<Blocks, AllocError> {
     let mut pieces = Vec::with_capacity(alloc, 300)?;
@@ -59,7 +59,7 @@ const OUTSIDE_THE_PARSER: Outcome<'static> = (2, "", "error: out of memory\n");
 const INSIDE_THE_PARSER: Outcome<'static> = (1, "", "error: out of memory\nat []\n");
 
 // Runs the program on a text again and again, with a piece of memory more each time. Each run must end as
-// `told`, or for want of memory, and some as each of the three.
+// `told`, or because memory runs out, and some as each of the three.
 fn run_with_more_and_more(
     rt: &impl Abort,
     alloc: Global,

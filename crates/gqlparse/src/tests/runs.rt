@@ -153,7 +153,7 @@ fn each_error_is_told_with_its_places(rt: HostRuntime) -> Result<(), Fail> {
     Ok(())
 }
 
-// One text nests a set too deep, and in the other a fault stands behind such a set.
+// One text nests a set too deep, and in the other a fault comes after such a set.
 #[test]
 fn what_nests_too_deep_is_told_without_a_place(rt: HostRuntime) -> Result<(), Fail> {
     let alloc = rt.alloc();
@@ -219,7 +219,8 @@ fn input_that_is_not_text(rt: HostRuntime) -> Result<(), Fail> {
 #[test]
 fn output_that_cannot_be_written(rt: HostRuntime) -> Result<(), Fail> {
     let line = "error: cannot write standard output\n";
-    for (writes, out) in [(0, ""), (2, "query ")] {
+    // After four calls all is written, and the flush fails.
+    for (writes, out) in [(0, ""), (2, "query "), (4, "query 1:1\n")] {
         let row = Row {
             writes,
             ..query(b"{a}", 2, out, line)

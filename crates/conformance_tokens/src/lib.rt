@@ -1,0 +1,18 @@
+//! Tables of cases with expected answers: tokens, places, names, numbers, and what strings mean. The answers
+//! were worked out by hand from the rules of `docs/GRAMMAR.md`, and never taken from what the crates print.
+#![tactic(auto)]
+
+#[cfg(test)]
+mod calls;
+#[cfg(test)]
+mod meanings;
+#[cfg(test)]
+mod names;
+#[cfg(test)]
+mod nodes;
+#[cfg(test)]
+mod numbers;
+#[cfg(test)]
+mod places;
+#[cfg(test)]
+mod tokens;

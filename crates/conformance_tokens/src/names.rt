@@ -1,0 +1,69 @@
+//! Names: their texts, copies, hashes and order.
+use graphql_tokens::name::Name;
+use std::alloc::{AllocError, Global};
+use std::cmp::Ordering;
+use std::hash::{DefaultHasher, Hash, Hasher};
+
+/// The hash of a value, by the default hasher.
+pub fn hash_of<T: Hash>(value: &T) -> u64 {
+    let mut state = DefaultHasher::new();
+    value.hash(&mut state);
+    state.finish()
+}
+
+/// What a name gives as text, and prints plain, after blanks and for a developer; and whether a copy is equal and has
+/// one hash with it.
+pub fn printed(alloc: Global, name: &Name) -> Result<String, AllocError> {
+    let (text, copy) = (name.as_str(), name.clone()?);
+    let of_copy = if copy == *name && hash_of(&copy) == hash_of(name) {
+        ""
+    } else {
+        " with another copy"
+    };
+    format!(in alloc; "'{text}' '{name}' '{name:>6}' {name:?}{of_copy}")
+}
+
+/// The word for how two names are ordered.
+pub fn ordered(alloc: Global, one: &Name, other: &Name) -> Result<String, AllocError> {
+    let order = one.cmp(other);
+    let word = match order {
+        _ if (one == other) != (order == Ordering::Equal) || (one < other) != (other > one) => {
+            "not in order"
+        }
+        Ordering::Less => "less",
+        Ordering::Equal => "equal",
+        Ordering::Greater => "more",
+    };
+    String::from_str(alloc, word)
+}
+
+/// Texts, and what their names print.
+pub const NAMES: &str = r#"
+-- Any text is a name.
+abc ⇒ 'abc' 'abc' '␠␠␠abc' Name("abc")
+ ⇒ '' '' '␠␠␠␠␠␠' Name("")
+0 é␊ ⇒ '0 é␊' '0 é␊' '␠␠0 é␊' Name("0 é\n")
+query ⇒ 'query' 'query' ' query' Name("query")
+abcdefghijklmnop ⇒ 'abcdefghijklmnop' 'abcdefghijklmnop' 'abcdefghijklmnop' Name("abcdefghijklmnop")
+abcdefghijklmnopq ⇒ 'abcdefghijklmnopq' 'abcdefghijklmnopq' 'abcdefghijklmnopq' Name("abcdefghijklmnopq")
+éééééééé ⇒ 'éééééééé' 'éééééééé' 'éééééééé' Name("éééééééé")
+aéééééééé ⇒ 'aéééééééé' 'aéééééééé' 'aéééééééé' Name("aéééééééé")
+"#;
+
+/// Pairs of names, and how they are ordered.
+pub const ORDER: &str = r"
+-- Names are ordered by their bytes.
+ and a ⇒ less
+B and a ⇒ less
+a and B ⇒ more
+a and a0 ⇒ less
+a0 and a_ ⇒ less
+z and é ⇒ less
+é and z ⇒ more
+a and a ⇒ equal
+abcdefghijklmnop and abcdefghijklmnopq ⇒ less
+abcdefghijklmnopq and abcdefghijklmnop ⇒ more
+abcdefghijklmnopq and abcdefghijklmnopr ⇒ less
+abcdefghijklmnopq and abcdefghijklmnopq ⇒ equal
+b and abcdefghijklmnopq ⇒ more
+";

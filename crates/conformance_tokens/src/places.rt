@@ -1,0 +1,38 @@
+//! Places: what a calculator gives for offsets that never fall.
+use graphql_tokens::pos::PositionCalculator;
+use rows::Shown;
+use std::alloc::Global;
+use std::test::Fail;
+
+/// The places of offsets that never fall, and after each how many characters were gone over for it.
+pub fn shown(alloc: Global, offsets: &str, text: &str) -> Result<String, Fail> {
+    let mut shown = Shown::new(alloc, true);
+    let mut calculator = PositionCalculator::new(text);
+    let mut last = 0usize;
+    for word in offsets.split_whitespace() {
+        let offset: usize = word.parse()?;
+        if offset < last || !text.is_char_boundary(offset) {
+            return Err(Fail::new("no offset to step to"));
+        }
+        shown.place(" ", &calculator.step(offset));
+        shown.item(" after ", &calculator.stepped());
+        last = offset;
+    }
+    Ok(shown.finish()?)
+}
+
+#[test]
+fn nothing_is_gone_over_at_first(rt: HostRuntime) {
+    assert_eq!(rt; PositionCalculator::new("a").stepped(), 0);
+}
+
+/// Offsets in a text, and their places.
+pub const OFFSETS_IN_ORDER: &str = r"
+-- Offsets in order.
+0 0 0 in ⟨0×a⟩ ⇒ 1:1 after 0 1:1 after 0 1:1 after 0
+2 5 5 in ␍␊{a ?} ⇒ 2:1 after 2 2:4 after 5 2:4 after 5
+7 7 9 in #⟨1F600⟩␍{?} ⇒ 1:2 after 4 1:2 after 4 1:4 after 6
+0 1 7 in ␍␊{a ?} ⇒ 1:1 after 0 1:1 after 1 2:6 after 7
+2 5 8 in a␊␊b␍c␍␊ ⇒ 2:1 after 2 3:1 after 5 4:1 after 8
+2 5 9 in é⟨FEFF⟩⟨1F600⟩ ⇒ 1:2 after 1 1:3 after 2 1:4 after 3
+";

@@ -1,0 +1,92 @@
+//! Values of each type that are made by callers of the contracts, and what no clause says.
+ghost use Rattle.std.specs.Prelude.{◌≡◌, ◌∷◌, [], IsTrue, IfOk};
+ghost use Rattle.graphql_syntax.specs.trees.ValueTree.{null, boolean, list, object, trees_of, fields_of};
+
+use graphql_syntax::value::{ConstValue, Literal, Name, Value};
+use rows::Shown;
+use std::alloc::{AllocError, Global};
+use std::test::Fail;
+use tree_text::Written;
+use tree_text::plain::Plain;
+
+// `{name: [boolean, null]}`, at any type of values.
+fn example<V: Literal>(alloc: Global, name: Name, b: bool) -> Result<V, AllocError>
+    ensures { IfOk result (λ v. V.tree v
+        ≡ object (fields_of ((name, list (trees_of (boolean b ∷ null ∷ []))) ∷ []))) }
+{
+    let mut items = Vec::new(alloc);
+    items.push(V::boolean(b))?;
+    items.push(V::null())?;
+    let mut fields = Vec::new(alloc);
+    fields.push((name, V::list(items)))?;
+    Ok(V::object(fields))
+}
+
+// A variable, where the type has them, and else its name as a value of an enum.
+fn variable_or_enum<V: Literal>(name: Name, again: Name) -> V {
+    match V::variable(name) {
+        Some(value) => value,
+        None => V::enumeration(again),
+    }
+}
+
+// A clone is equal to its source.
+fn equals_its_clone(value: &ConstValue) -> Result<bool, AllocError>
+    ensures { IfOk result IsTrue }
+{
+    let copy = value.clone()?;
+    Ok(copy == *value)
+}
+
+// What the two generic functions make at a type.
+fn shown<V: Literal + Written>(alloc: Global, what: &str) -> Result<String, AllocError> {
+    let name = Name::new(alloc, "a")?;
+    let value: V = match what {
+        "example" => example(alloc, name, true)?,
+        _ => variable_or_enum(name, Name::new(alloc, "b")?),
+    };
+    let mut shown = Shown::new(alloc, true);
+    value.write(&mut shown);
+    shown.finish()
+}
+
+/// The same, where the type stands after ` of `.
+pub fn made(alloc: Global, text: &str) -> Result<String, AllocError> {
+    match text.split_once(" of ") {
+        Some((what, "Value")) => shown::<Value>(alloc, what),
+        Some((what, "ConstValue")) => shown::<ConstValue>(alloc, what),
+        Some((what, "Plain")) => shown::<Plain>(alloc, what),
+        _ => String::from_str(alloc, "no such value"),
+    }
+}
+
+/// What is made, and at which type.
+pub const VALUES: &str = r"
+-- One reader makes each type.
+example of Value ⇒ { a=[ true null ] }
+example of ConstValue ⇒ { a=[ true null ] }
+example of Plain ⇒ { a=[ Yes Null ] }
+variable of Value ⇒ $a
+variable of ConstValue ⇒ .b
+variable of Plain ⇒ .b
+";
+
+#[test]
+fn a_constant_equals_its_clone(rt: HostRuntime) -> Result<(), Fail> {
+    let alloc = rt.alloc();
+    let example: ConstValue = example(alloc, Name::new(alloc, "a")?, true)?;
+    assert!(rt; equals_its_clone(&example)?);
+    assert!(rt;
+        equals_its_clone(&variable_or_enum(Name::new(alloc, "a")?, Name::new(alloc, "b")?))?
+    );
+    Ok(())
+}
+
+#[test]
+fn a_third_type_has_two_booleans(rt: HostRuntime) -> Result<(), Fail> {
+    let (no, yes) = (Plain::boolean(false), Plain::boolean(true));
+    assert!(rt; matches!(&no, Plain::No) && matches!(&yes, Plain::Yes));
+    let text = Plain::string(String::from_str(rt.alloc(), "a")?);
+    assert!(rt; matches!(&text, Plain::Text(_)));
+    Ok(())
+}

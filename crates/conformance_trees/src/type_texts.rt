@@ -1,0 +1,80 @@
+//! Types that are read from a text, and shown again.
+use graphql_syntax::types::{BaseType, Type};
+use rows::Shown;
+use std::alloc::{AllocError, Global};
+
+/// What `Type::new` gives: a name between `'`, a list in brackets, and after each whether null may stand; or
+/// `none`. That the type prints as its text, and that a copy is equal, is looked at too.
+pub fn shown(alloc: Global, text: &str, ty: Option<Type>) -> Result<String, AllocError> {
+    let mut shown = Shown::new(alloc, true);
+    match ty {
+        None => shown.word("none"),
+        Some(ty) => {
+            write_type(&mut shown, &ty);
+            if ty.clone()? != ty {
+                shown.word(" with another copy");
+            }
+            if format!(in alloc; "{ty}")?.as_str() != text {
+                shown.word(" as another text");
+            }
+        }
+    }
+    shown.finish()
+}
+
+fn write_type(shown: &mut Shown, ty: &Type) {
+    match &ty.base {
+        BaseType::Named(name) => {
+            shown.item("'", name);
+            shown.word("'");
+        }
+        BaseType::List(item) => {
+            shown.word("[");
+            write_type(shown, item);
+            shown.word("]");
+        }
+    }
+    shown.word(if ty.nullable { "?" } else { "!" });
+}
+
+/// Texts, and the types that they are.
+pub const TEXTS: &str = r"
+-- Texts of types.
+Int ⇒ 'Int'?
+Int! ⇒ 'Int'!
+[Int] ⇒ ['Int'?]?
+[Int!]! ⇒ ['Int'!]!
+[[a]!] ⇒ [['a'?]!]?
+-- A name's text is not tested.
+ ⇒ ''?
+! ⇒ ''!
+Int!! ⇒ 'Int!'!
+a]b ⇒ 'a]b'?
+[] ⇒ [''?]?
+[!] ⇒ [''!]?
+[a]] ⇒ ['a]'?]?
+␠[a] ⇒ '␠[a]'?
+[ a ] ⇒ ['␠a␠'?]?
+⟨1F600⟩! ⇒ '⟨1F600⟩'!
+-- Texts that are no types.
+[ ⇒ none
+[! ⇒ none
+[Int ⇒ none
+[a]b ⇒ none
+[a]!! ⇒ none
+[[a] ⇒ none
+[[a]!!] ⇒ none
+[a]␠ ⇒ none
+";
+
+/// Pairs of types, and how they compare.
+pub const EQUALITY: &str = r"
+-- Types that are equal.
+a and a ⇒ equal
+a! and a ⇒ different
+[a] and a ⇒ different
+b and a ⇒ different
+[a!]! and [a!]! ⇒ equal
+[a!]! and [a]! ⇒ different
+[[a]] and [a] ⇒ different
+";

@@ -1,0 +1,60 @@
+//! Texts that are written part by part.
+use std::alloc::{AllocError, Global};
+use std::fmt;
+
+/// A text that is being written. A part for which there is no memory is left out, and `finish` tells.
+#[derive(Drop)]
+pub struct Shown {
+    text: String,
+    has_places: bool,
+    is_cut: bool,
+}
+
+impl Shown {
+    /// An empty text.
+    pub fn new(alloc: Global, has_places: bool) -> Shown {
+        Shown {
+            text: String::new(alloc),
+            has_places,
+            is_cut: false,
+        }
+    }
+
+    /// Adds these characters.
+    pub fn word(&mut self, text: &str) {
+        if self.text.push_str(text).is_err() {
+            self.is_cut = true;
+        }
+    }
+
+    /// Adds anything that writes itself, after what stands before it.
+    pub fn item<T: fmt::Display>(&mut self, before: &str, item: &T) {
+        if write!(self.text, "{before}{item}").is_err() {
+            self.is_cut = true;
+        }
+    }
+
+    /// Adds anything as a developer sees it, after what stands before it.
+    pub fn debugged<T: fmt::Debug>(&mut self, before: &str, item: &T) {
+        if write!(self.text, "{before}{item:?}").is_err() {
+            self.is_cut = true;
+        }
+    }
+
+    /// Adds a place, after what stands before it. A text without places has only that.
+    pub fn place<P: fmt::Display>(&mut self, before: &str, place: &P) {
+        if self.has_places {
+            self.item(before, place);
+        } else {
+            self.word(before);
+        }
+    }
+
+    /// The whole text.
+    pub fn finish(self) -> Result<String, AllocError> {
+        if self.is_cut {
+            return Err(AllocError);
+        }
+        Ok(self.text)
+    }
+}

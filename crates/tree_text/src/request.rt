@@ -1,0 +1,101 @@
+//! The tree of a request, as text.
+use crate::parts::{write_arguments, write_default, write_directives, write_node, write_places};
+use graphql_syntax::pos::{Pos, Positioned};
+use graphql_syntax::types::{
+    DocumentOperations, ExecutableDocument, Field, InlineFragment, OperationDefinition, Selection,
+    SelectionSet, TypeCondition,
+};
+use rows::Shown;
+
+/// The tree of a request: its operations, and then its fragments, each after its name.
+pub fn write_request(shown: &mut Shown, document: &ExecutableDocument) {
+    shown.word(match &document.operations {
+        DocumentOperations::Single(_) => "single",
+        DocumentOperations::Multiple(_) => "multiple",
+    });
+    for (name, operation) in document.operations.iter() {
+        if let Some(name) = name {
+            shown.item(" ", name);
+        }
+        write_operation(shown, operation);
+    }
+    for (name, fragment) in document.fragments.iter() {
+        shown.item(" ", name);
+        shown.place(" (fragment ", &fragment.pos);
+        write_condition(shown, &fragment.node.type_condition);
+        write_directives(shown, &fragment.node.directives);
+        write_set(shown, &fragment.node.selection_set);
+        shown.word(")");
+    }
+}
+
+fn write_operation(shown: &mut Shown, operation: &Positioned<OperationDefinition>) {
+    shown.item(" (", &operation.node.ty);
+    shown.place(" ", &operation.pos);
+    for variable in &operation.node.variable_definitions {
+        shown.place(" (variable ", &variable.pos);
+        write_node(shown, " ", &variable.node.name);
+        write_node(shown, " ", &variable.node.var_type);
+        write_default(shown, &variable.node.default_value);
+        write_directives(shown, &variable.node.directives);
+        shown.word(")");
+    }
+    write_directives(shown, &operation.node.directives);
+    write_set(shown, &operation.node.selection_set);
+    shown.word(")");
+}
+
+fn write_condition(shown: &mut Shown, condition: &Positioned<TypeCondition>) {
+    shown.place(" (on ", &condition.pos);
+    write_node(shown, " ", &condition.node.on);
+    shown.word(")");
+}
+
+// Nothing is written for a set that a text leaves out.
+#[cycle(set)]
+fn write_set(shown: &mut Shown, set: &Positioned<SelectionSet>) {
+    if set.node.items.is_empty() && set.pos == Pos::default() {
+        return;
+    }
+    shown.place(" {", &set.pos);
+    for item in &set.node.items {
+        match &item.node {
+            Selection::Field(field) => write_field(shown, item.pos, field),
+            Selection::InlineFragment(fragment) => write_inline(shown, item.pos, fragment),
+            Selection::FragmentSpread(spread) => {
+                shown.word(" (spread");
+                write_places(shown, item.pos, spread.pos);
+                write_node(shown, " ", &spread.node.fragment_name);
+                write_directives(shown, &spread.node.directives);
+                shown.word(")");
+            }
+        }
+    }
+    shown.word("}");
+}
+
+#[cycle(set)]
+fn write_field(shown: &mut Shown, outer: Pos, field: &Positioned<Field>) {
+    shown.word(" (field");
+    write_places(shown, outer, field.pos);
+    if let Some(alias) = &field.node.alias {
+        write_node(shown, " alias ", alias);
+    }
+    write_node(shown, " ", &field.node.name);
+    write_arguments(shown, &field.node.arguments);
+    write_directives(shown, &field.node.directives);
+    write_set(shown, &field.node.selection_set);
+    shown.word(")");
+}
+
+#[cycle(set)]
+fn write_inline(shown: &mut Shown, outer: Pos, fragment: &Positioned<InlineFragment>) {
+    shown.word(" (inline");
+    write_places(shown, outer, fragment.pos);
+    if let Some(condition) = &fragment.node.type_condition {
+        write_condition(shown, condition);
+    }
+    write_directives(shown, &fragment.node.directives);
+    write_set(shown, &fragment.node.selection_set);
+    shown.word(")");
+}

@@ -1,0 +1,265 @@
+//! What the calls of a request's tree give, as text.
+use crate::parts::{write_directives, write_value};
+use crate::request::write_request;
+use crate::values::Written;
+use graphql_syntax::pos::Positioned;
+use graphql_syntax::types::{
+    Directive, ExecutableDocument, Field, OperationDefinition, OperationsIter, Selection,
+};
+use graphql_syntax::value::{Name, Value};
+use rows::Shown;
+use std::alloc::{AllocError, Global};
+use std::borrow::Cow;
+
+/// What is looked at in the tree of a request.
+#[derive(Clone, Copy)]
+pub enum View {
+    /// The whole tree.
+    Whole,
+    /// The whole tree without places.
+    Placeless,
+    /// The word `accepted`.
+    Acceptance,
+    /// How long the name of the first field and its first argument are, and the value of a whole number there.
+    Sizes,
+    /// The argument of a name in the first field, in its first directive, and in that as one without variables.
+    Argument,
+    /// The key of the first field in a response.
+    ResponseKey,
+    /// The defaults of the variables of the first operation: `lent` where the request writes them, `made` where the
+    /// type is nullable.
+    Defaults,
+    /// The directives of the first selection, and again when a copy of the first of them was put after them.
+    Directives,
+    /// The operations: all of them, and what is left when one more was given.
+    Operations,
+    /// The operation and the fragment of a name, also in a copy.
+    Named,
+    /// The first argument as a value without variables, and that as a value again.
+    IntoConst,
+    /// How the first two arguments compare, as values and as values without variables.
+    Equality,
+    /// The first directive of the first field as one without variables, and that as one with them again.
+    DirectiveIntoConst,
+}
+
+// What a call that writes can answer besides: that memory was refused.
+type Outcome = Result<(), AllocError>;
+
+impl View {
+    /// What is seen of a document, which is let go; `asked` is the name that is looked up in it.
+    pub fn of_document(
+        self,
+        alloc: Global,
+        asked: &str,
+        document: ExecutableDocument,
+    ) -> Result<String, AllocError> {
+        let mut shown = Shown::new(alloc, !matches!(self, View::Placeless));
+        match self {
+            View::Whole | View::Placeless => write_request(&mut shown, &document),
+            View::Acceptance => shown.word("accepted"),
+            View::Operations => write_operations(&mut shown, document.operations.iter())?,
+            View::Named => {
+                write_named(&mut shown, asked, &document);
+                shown.word(", copied");
+                write_named(&mut shown, asked, &document.clone()?);
+            }
+            _ => {
+                if let Some((_, operation)) = document.operations.iter().next() {
+                    self.write_first(alloc, &mut shown, asked, &operation.node)?;
+                }
+            }
+        }
+        shown.finish()
+    }
+
+    // What is seen of the first operation.
+    fn write_first(
+        self,
+        alloc: Global,
+        shown: &mut Shown,
+        asked: &str,
+        operation: &OperationDefinition,
+    ) -> Outcome {
+        if matches!(self, View::Defaults) {
+            write_defaults(shown, operation);
+        } else if let Some(selection) = operation.selection_set.node.items.first() {
+            match &selection.node {
+                selection if matches!(self, View::Directives) => {
+                    write_grown(shown, selection)?;
+                }
+                Selection::Field(field) => self.write_field(alloc, shown, asked, &field.node)?,
+                _ => {}
+            }
+        }
+        Ok(())
+    }
+
+    // What is seen of the first field.
+    fn write_field(self, alloc: Global, shown: &mut Shown, asked: &str, field: &Field) -> Outcome {
+        match (self, field.arguments.as_slice(), field.directives.first()) {
+            (View::Argument, _, directive) => {
+                write_found(shown, field.get_argument(asked));
+                if let Some(directive) = directive {
+                    write_argument(alloc, shown, asked, &directive.node)?;
+                }
+            }
+            (View::ResponseKey, _, _) => {
+                let key = field.response_key();
+                shown.item("", &key.node);
+                shown.place("@", &key.pos);
+            }
+            (View::Sizes, arguments, _) => {
+                shown.item("name of ", &field.name.node.as_str().len());
+                if let Some(argument) = arguments.first() {
+                    write_size(shown, &argument.1.node);
+                }
+            }
+            (View::IntoConst, [argument, ..], _) => {
+                write_there_and_back(alloc, shown, argument.1.node.clone()?)?;
+            }
+            (View::Equality, [one, other], _) => {
+                write_equality(alloc, shown, &one.1.node, &other.1.node)?;
+            }
+            (View::DirectiveIntoConst, _, Some(directive)) => {
+                write_directive(alloc, shown, directive.node.clone()?)?;
+            }
+            _ => {}
+        }
+        Ok(())
+    }
+}
+
+fn write_found<V: Written>(shown: &mut Shown, value: Option<&Positioned<V>>) {
+    match value {
+        Some(value) => write_value(shown, "", value),
+        None => shown.word("none"),
+    }
+}
+
+fn write_argument(alloc: Global, shown: &mut Shown, asked: &str, directive: &Directive) -> Outcome {
+    shown.word(", ");
+    write_found(shown, directive.get_argument(asked));
+    shown.word(", ");
+    match directive.clone()?.into_const(alloc)? {
+        Some(directive) => write_found(shown, directive.get_argument(asked)),
+        None => shown.word("not constant"),
+    }
+    Ok(())
+}
+
+fn write_size(shown: &mut Shown, value: &Value) {
+    match value {
+        Value::String(text) => shown.item(", string of ", &text.len()),
+        Value::Number(number) => {
+            shown.item(", number of ", &number.as_str().len());
+            match number.as_i64() {
+                Some(value) => shown.item(" with the value ", &value),
+                None if number.as_u64().is_some() => shown.word(" with an unsigned value"),
+                None => {}
+            }
+        }
+        _ => shown.word(", another value"),
+    }
+}
+
+fn write_defaults(shown: &mut Shown, operation: &OperationDefinition) {
+    for variable in &operation.variable_definitions {
+        shown.item("", &variable.node.name.node);
+        match variable.node.default_value() {
+            None => shown.word(" none "),
+            Some(Cow::Borrowed(value)) => {
+                shown.word(" lent ");
+                value.write(shown);
+            }
+            Some(Cow::Owned(value)) => {
+                shown.word(" made ");
+                value.write(shown);
+            }
+        }
+        shown.word(";");
+    }
+}
+
+fn write_grown(shown: &mut Shown, selection: &Selection) -> Outcome {
+    write_directives(shown, selection.directives());
+    shown.word(" then");
+    let mut selection = selection.clone()?;
+    if let Some(directive) = selection.directives().first() {
+        let copy = directive.clone()?;
+        selection.directives_mut().push(copy)?;
+    }
+    write_directives(shown, selection.directives());
+    Ok(())
+}
+
+fn write_operations(shown: &mut Shown, mut left: OperationsIter<'_>) -> Outcome {
+    write_left(shown, &left)?;
+    for _ in 0..4 {
+        shown.word(match left.next() {
+            Some(_) => ", then",
+            None => ", none",
+        });
+        write_left(shown, &left)?;
+    }
+    Ok(())
+}
+
+// What is left, by a copy, and whether its number is told.
+fn write_left(shown: &mut Shown, operations: &OperationsIter<'_>) -> Outcome {
+    let mut count = 0usize;
+    for (name, operation) in operations.clone()? {
+        shown.word(" ");
+        shown.word(name.map(Name::as_str).unwrap_or("unnamed"));
+        shown.place("@", &operation.pos);
+        count = count.wrapping_add(1);
+    }
+    if operations.len() != count || operations.size_hint() != (count, Some(count)) {
+        shown.word(" (not counted)");
+    }
+    Ok(())
+}
+
+fn write_named(shown: &mut Shown, asked: &str, document: &ExecutableDocument) {
+    match document.operations.get(asked) {
+        Some(operation) => shown.place(" operation ", &operation.pos),
+        None => shown.word(" no operation"),
+    }
+    match document.fragment(asked) {
+        Some(fragment) => shown.place(" fragment ", &fragment.pos),
+        None => shown.word(" no fragment"),
+    }
+}
+
+fn write_there_and_back(alloc: Global, shown: &mut Shown, value: Value) -> Outcome {
+    match value.into_const(alloc)? {
+        Some(constant) => {
+            constant.write(shown);
+            shown.word(" and ");
+            constant.into_value(alloc)?.write(shown);
+        }
+        None => shown.word("none"),
+    }
+    Ok(())
+}
+
+fn write_equality(alloc: Global, shown: &mut Shown, one: &Value, other: &Value) -> Outcome {
+    let is_same = one == other;
+    let is_same_constant = one.clone()?.into_const(alloc)? == other.clone()?.into_const(alloc)?;
+    for is_same in [is_same, is_same_constant] {
+        shown.word(if is_same { " equal" } else { " different" });
+    }
+    Ok(())
+}
+
+fn write_directive(alloc: Global, shown: &mut Shown, directive: Directive) -> Outcome {
+    match directive.into_const(alloc)? {
+        Some(constant) => {
+            constant.write(shown);
+            shown.word(" and");
+            constant.into_directive(alloc)?.write(shown);
+        }
+        None => shown.word("none"),
+    }
+    Ok(())
+}
