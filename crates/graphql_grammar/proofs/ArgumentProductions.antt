@@ -45,7 +45,7 @@ has-argument vars = has-map (has-pair (has-token name-sample) (has-pair has-colo
 pub blind-argument : (vars : Bool) → Blind (λ c. an_argument Current vars c.values) placeless_argument
 blind-argument vars = blind-mapped (λ x. refl) (blind-then (blind-one any_name) (blind-then (blind-one (punct ":")) (blind-value vars)))
 
--- nothing is looked ahead at behind `)`
+-- nothing is looked ahead at after `)`
 pub good-arguments : (vars : Bool) {b : Limits} {f : Test} → Good (λ c. arguments Current vars c.values) b f (arguments_at vars b.values)
 good-arguments vars =
     good-mapped (good-next (has-pair (has-plus (has-argument vars)) has-close) (good-punct "(")
@@ -77,7 +77,7 @@ blind-maybe_arguments vars = blind-opt (blind-arguments vars)
 
 -- ---- directives
 
--- a `(` behind the name belongs to the directive
+-- a `(` after the name belongs to the directive
 pub good-directive : (vars : Bool) {b : Limits} {f : Test} → Within f (outside (punct "(")) → Good (λ c. a_directive Current vars c.values) b f (directive_at vars b.values)
 good-directive vars away = good-mapped (good-next (has-pair (has-token name-sample) (has-maybe_arguments vars)) (good-punct "@") (good-next (has-maybe_arguments vars) good-name (good-maybe_arguments vars away)))
 

@@ -40,7 +40,7 @@ kept-first tree vars most initial fs o some none = record {
 }
 
 module _ {V : Type 0} {tree : V → Tree} {vars : Bool} {most : ℕ} {whole : Reader Tree} {initial now : Ahead} {fs : List (Frame V)} {o : Open V} (k : Kept tree vars most whole initial now fs o) where
-  -- the budget behind the frames
+  -- the budget after the frames
   left-is : (left : ℕ) → left + length fs + 1 ≡ most → left ≡ k.left
   left-is left h = omega (arith, h, k.shared)
 

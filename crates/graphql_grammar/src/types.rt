@@ -44,7 +44,9 @@ impl Depth {
     }
 }
 
-// A list of the type opens at each `[`.
+/// A list of the type opens at each `[`.
+///
+/// `'['*`
 fn open_lists(cursor: &mut Cursor, limit: usize) -> Reading<Depth>
     ensures { Gives (λ depth. depth.opened) result cursor.old cursor.new (opens_at 0 limit) }
 {
@@ -56,7 +58,9 @@ fn open_lists(cursor: &mut Cursor, limit: usize) -> Reading<Depth>
     Ok(depth)
 }
 
-// Whether a type may be null: no `!` follows.
+/// Whether a type may be null: no `!` follows.
+///
+/// `'!'?`
 fn read_nullable(cursor: &mut Cursor) -> bool
     ensures { Gives (λ nullable. nullable) (Ok result) cursor.old cursor.new nullable_at }
 {
@@ -67,6 +71,7 @@ fn read_nullable(cursor: &mut Cursor) -> bool
     true
 }
 
+/// `Name '!'?`
 fn read_named(alloc: Global, cursor: &mut Cursor) -> Reading<Type>
     ensures { Gives type_tree result cursor.old cursor.new named_at }
 {
@@ -79,6 +84,7 @@ fn read_named(alloc: Global, cursor: &mut Cursor) -> Reading<Type>
     })
 }
 
+/// `']' '!'?`
 fn close_list(alloc: Global, cursor: &mut Cursor, item: Type) -> Reading<Type>
     ensures { Gives type_tree result cursor.old cursor.new (close_at (type_tree item)) }
 {
@@ -91,7 +97,9 @@ fn close_list(alloc: Global, cursor: &mut Cursor, item: Type) -> Reading<Type>
     })
 }
 
-// So many lists close; the inmost is a list of this item.
+/// So many lists close; the inmost is a list of this item.
+///
+/// `(']' '!'?)*`
 fn close_lists(alloc: Global, cursor: &mut Cursor, item: Type, depth: Depth) -> Reading<Type>
     ensures { Gives type_tree result cursor.old cursor.new (closes_at depth.opened (type_tree item)) }
 {
@@ -103,6 +111,8 @@ fn close_lists(alloc: Global, cursor: &mut Cursor, item: Type, depth: Depth) -> 
 }
 
 /// Reads a type reference (GraphQL October 2021, section 2.11) whose lists nest at most `limit` deep.
+///
+/// `Type : Name '!'? | '[' Type ']' '!'?`
 pub fn read_type(alloc: Global, cursor: &mut Cursor, limit: usize) -> Reading<Positioned<Type>>
     ensures { Gives (request.placed type_tree) result cursor.old cursor.new (type_at limit) }
 {

@@ -19,7 +19,7 @@ use graphql_syntax::value::Literal;
 use simple::read_simple;
 use std::alloc::Global;
 
-/// Where the reading of a list or an object stops: at its end, or behind the first token of one inside it.
+/// Where the reading of a list or an object stops: at its end, or after the first token of one inside it.
 #[derive(Drop)]
 enum Stop<V> {
     Closed(V),
@@ -47,7 +47,7 @@ fn go_on<V: Literal>(
     }
 }
 
-/// The rest of a list or an object behind its first token.
+/// The rest of a list or an object after its first token.
 fn read_open<V: Literal>(
     alloc: Global,
     cursor: &mut Cursor,
@@ -84,6 +84,8 @@ fn read_node<V: Literal>(alloc: Global, cursor: &mut Cursor, limit: usize) -> Re
 
 /// Reads a value (GraphQL October 2021, section 2.9) whose lists and objects nest at most `limit` deep, with
 /// variables where the type has them. It stands at its first token.
+///
+/// `Value : Variable | Number | String | Boolean | Null | Enum | List | Object`
 pub fn read_value<V: Literal>(
     alloc: Global,
     cursor: &mut Cursor,

@@ -115,7 +115,7 @@ has-plus {p = p} h = has-map (has-pair h (has-star {p = p}))
 pub has-first : {A : Type 0} {p q : Limits → Rel A} → Has p → Has (λ c. p c ∪ q c)
 has-first {p = p} {q = q} h = record { some = has-left p q h.some }
 
--- a phrase that begins with one token can be completed behind it
+-- a phrase that begins with one token can be completed after it
 pub opens : {A B : Type 0} {f : Token × A → B} {q : Limits → Rel A} (test : Test) → Has q → (c : Limits) (t : Token) → IsTrue (test t.bare) → Extends (mapped f (one test ⨾ q c)) (t ∷ [])
 opens {f = f} test has c t e =
     let m = has.some c in

@@ -56,7 +56,7 @@ pub many-nothing : {A : Type 0} (first : Test) (r : Reader A) → many_at first 
 unfolding many_at
 many-nothing first r = refl
 
--- what is read behind front, and then closed
+-- what is read after front, and then closed
 abbrev pub rest-of : {A B : Type 0} → (Test) → Reader A → (List A → Reader B) → List A → List Token → Outcome B
 rest-of first r close front ts = with_front front (many_at first r ts) >>= close
 

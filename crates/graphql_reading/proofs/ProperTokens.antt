@@ -106,7 +106,7 @@ proper-string t e h = string-bytes t.bare.spelling (as-string t.bare.kind t.bare
 pub proper-block : (t : Token) → is_block t.bare.kind ≡ true → IsProper t → IsQuoted 3 t.bare.spelling
 proper-block t e h = block-bytes t.bare.spelling (as-block t.bare.kind t.bare.spelling e h)
 
--- a character begins behind the first quotes
+-- a character begins after the first quotes
 pub behind-quotes : (quotes : ℕ) (text : List ℕ) → IsQuoted quotes text → IsUtf8 (take (length text - quotes) text) → 0 < quotes → IsCharBoundary (take (length text - quotes) text) quotes
 behind-quotes quotes text q utf8 some =
     let marks : List ℕ = replicate quotes 34 in

@@ -1,4 +1,4 @@
--- What a reader of the code gives, from what it gives behind a step.
+-- What a reader of the code gives, from what it gives after a step.
 use Rattle.std.proofs.Common.{◌≡◌, Result, Ok, Err, ◌∙◌}
 use Rattle.graphql_reading.specs.declared.cursor.Refusal.{Refusal}
 use Rattle.graphql_reading.specs.declared.cursor.Refusal.TheVariants.{Memory, Syntax, Limit}

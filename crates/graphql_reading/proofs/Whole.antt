@@ -15,7 +15,7 @@ use Rattle.graphql_reading.proofs.TokenTests.{the_end-is, ended, sample, end-sam
 use Rattle.graphql_reading.proofs.Good.{Good, Has, has-token, has-map, has-pair}
 use Rattle.graphql_reading.proofs.Blind.{Blind, blind-one, blind-mapped, blind-then}
 
--- a refusal, told by the refused token and what stands behind it; and no tree
+-- a refusal, told by the refused token and what stands after it; and no tree
 pub record Refuses {A : Type 0} (g : Grammar A) (limits : Limits) (tokens : List Token) (v : Verdict) (t : Token) (after : List Token) : Type 0 where
   pub before : List Token
   pub split : tokens ≡ before ++ t ∷ after
@@ -136,7 +136,7 @@ viable-completes {p = p} blind c front m =
 shorter : {A : Type 0} {p : Rel A} (u rest front : List Token) → u ≡ front ++ rest → AreProper rest → Extends p u → Completes p front
 shorter {p = p} u rest front e h m = record { begun = front; behind = rest ++ m.tail; tree = m.tree; alike = refl; proper = proper-append rest m.tail h m.proper; holds = subst (λ (l : List Token). p l m.tree) (ap (λ (l : List Token). l ++ m.tail) e ∙ append_assoc front rest m.tail) m.holds }
 
--- any token, which stands behind a whole phrase
+-- any token, which stands after a whole phrase
 marker : Token
 marker = sample (ended [])
 

@@ -27,7 +27,7 @@ pub enum Refusal {
     Limit,
 }
 
-/// What a reader gives: what stands at the cursor, which then is behind it; or why there is no such thing,
+/// What a reader gives: what stands at the cursor, which then is after it; or why there is no such thing,
 /// with the refused token in hand. Where memory ran out, the cursor is somewhere in between.
 pub type Reading<T> = Result<T, Refusal>;
 
@@ -81,7 +81,7 @@ impl<'a> Cursor<'a> {
         Cursor { tokens, hand }
     }
 
-    /// The tokens that are still to come, behind the one in hand.
+    /// The tokens that are still to come, after the one in hand.
     pub fn into_tokens(self) -> Tokens<'a>
         ensures left { left result ≡ self.entry.behind }
         ensures whole { result.whole ≡ self.entry.whole }

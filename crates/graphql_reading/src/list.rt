@@ -3,7 +3,7 @@ ghost use Rattle.std.specs.Prelude.{◌≡◌, ◌++◌, ◌∷◌, [], IfOk};
 
 use std::alloc::AllocError;
 
-/// Puts an item behind the others. Fails only where memory was refused; the item is then gone.
+/// Puts an item after the others. Fails only where memory was refused; the item is then gone.
 // The room is made first: a push that may fail can give its item back, and large items are moved to and
 // fro for that.
 #[inline(always)]

@@ -21,6 +21,8 @@ pub fn name_in(alloc: Global, token: Token) -> Result<Positioned<Name>, AllocErr
 }
 
 /// Reads a name (GraphQL October 2021, section 2.1.9).
+///
+/// `Name`
 #[inline(always)]
 pub fn read_name(alloc: Global, cursor: &mut Cursor) -> Reading<Positioned<Name>>
     ensures { Gives (λ name. name) result cursor.old cursor.new (mapped_at name_of (one_at any_name)) }

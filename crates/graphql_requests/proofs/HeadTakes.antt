@@ -206,6 +206,6 @@ head-nests values false front items place ts rest e = absurd (subst (Holds found
     found : List (Positioned Selection) × Option Pos → Type 0
     found x = HasNoSet x.1
 
--- a selection that is put behind others takes as much
+-- a selection that is put after others takes as much
 pub onto-takes : (values : ℕ) (nests : Bool) (front : List (Positioned Selection)) → Takes (onto front (head_at values nests))
 onto-takes values nests front ts x rest e = subst (Below (length ts)) e (below-then (length ts) (head_at values nests ts) _ (below-head values nests ts) (λ y rest h. h))

@@ -139,7 +139,7 @@ field-law values s ts = first (aliased_at ts) ∙ ap (λ (o : Outcome Names). ((
     first (Refused v rest) = refl
     first (Read a rest) = second a (maybe_arguments_at true values rest)
 
--- ---- what stands behind `...`
+-- ---- what stands after `...`
 
 abbrev inline-read : Token → Inline → List Token → Outcome (Positioned Selection)
 inline-read dots x rest = Read (inline_of (dots, x)) rest

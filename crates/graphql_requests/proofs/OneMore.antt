@@ -1,4 +1,4 @@
--- What is known of definitions that break no rule, with one more behind them.
+-- What is known of definitions that break no rule, with one more after them.
 use Rattle.std.proofs.Common.{◌≡◌, Bool, true, false, cond, Option, Some, None, option_map, List, [], ◌∷◌, ◌++◌, map, refl, sym, ap, ◌∙◌}
 use Rattle.std.specs.Map.{lookup}
 use Rattle.std.specs.Str.{bytes_eq}

@@ -41,7 +41,7 @@ drop-fill_last (suc n) [] set h = refl
 drop-fill_last (suc n) (x ∷ []) set h = absurd (omega (arith, h))
 drop-fill_last (suc n) (x ∷ y ∷ ys) set h = drop-fill_last n (y ∷ ys) set (omega (arith, h))
 
--- ---- a selection that is put behind others
+-- ---- a selection that is put after others
 
 abbrev put : Trees → Heading → Trees × Option Pos
 put xs x = (xs ++ x.0 ∷ [], x.1)
@@ -99,7 +99,7 @@ pub record Wanted (values selections : ℕ) (start now : Ahead) (n : Nest) (own 
   pub within : own.first ≤ length xs
   pub waits : Waits n.outer (take own.first xs)
 
--- and behind one
+-- and after one
 pub record Behind (values selections most : ℕ) (start now : Ahead) (n : Nest) (own : OpenSet) (xs : Trees) : Type 0 where
   pub kept : sets.Behind values selections most start now n.left (parts n.outer (take own.first xs)) (part own xs)
   pub waits : Waits (own ∷ n.outer) xs

@@ -21,7 +21,7 @@ use Rattle.graphql_reading.proofs.Loops.{go-on}
 
 -- ---- an open set, step by step
 
--- what a set does behind a selection that it was given up to that one's set
+-- what a set does after a selection that it was given up to that one's set
 abbrev head-rest : ℕ → ℕ → Opened → Heading → List Token → Outcome Set
 head-rest values s o (x, None) rest = behind_rest values s (more o x) rest
 head-rest values s o (x, Some at) rest = filled values s (more o x) (wanted_rest values (pred s) (begun at) rest)
@@ -67,7 +67,7 @@ pub record Wanted (values selections : ℕ) (start now : Ahead) (left : ℕ) (os
   pub told : selection_set_at values selections (tokens start) ≡ resume values left os (wanted_rest values left own (tokens now))
   pub on : GoesOn start now
 
--- the same, behind a selection
+-- the same, after a selection
 pub record Behind (values selections most : ℕ) (start now : Ahead) (left : ℕ) (os : List Opened) (own : Opened) : Type 0 where
   pub told : selection_set_at values selections (tokens start) ≡ resume values left os (behind_rest values left own (tokens now))
   pub on : GoesOn start now

@@ -77,7 +77,7 @@ has-short_operation = has-map has-own_set
 pub blind-short_operation : Blind (a_short_operation Current) placeless_definition
 blind-short_operation = blind-mapped (λ set. refl) blind-own_set
 
--- variable definitions, where there are any, and what is behind them
+-- variable definitions, where there are any, and what is after them
 abbrev with-variables : Limits → Rel (Option (List (Positioned VariableDefinition)) × (Directives × Set))
 with-variables c = opt (variable_definitions Current c.values c.types) ⨾ with-set c
 

@@ -23,7 +23,7 @@ use Rattle.graphql_grammar.proofs.ArgumentProductions.{good-maybe_arguments, ope
 
 -- ---- names and aliases
 
--- a name, and perhaps `:` and a name behind it
+-- a name, and perhaps `:` and a name after it
 abbrev second-name : Rel Token
 second-name = mapped (λ x. x.1) (one (punct ":") ⨾ one any_name)
 
@@ -102,7 +102,7 @@ after_directives t = punct "{" t || after_selection t
 nothing-or-set : Within after_selection after_directives
 nothing-or-set = after-within (any_name-within (λ w. refl)) (punct-within "..." refl) (punct-within "}" refl)
 
--- ---- fields, from behind
+-- ---- fields, from their last part on
 
 abbrev behind-arguments : (Limits → Rel Set) → Limits → Rel (Directives × Option Set)
 behind-arguments set c = directives Current true c.values ⨾ opt (set c)

@@ -66,7 +66,7 @@ pub operation-breaks : (ds : List Definition) (s : Sorted) (name : Name) (o : Po
 operation-breaks ds s name o place h e =
     ap (λ (x : Option Pos). or_else (option_map (λ anonymous. MultipleOperations anonymous o.pos) x) (option_map (λ first. OperationDuplicated name first o.pos) (first_operation_named name ds))) (anonymous-found ds s h ∙ e)
 
--- behind operations with names, only an operation of the name breaks a rule
+-- after operations with names, only an operation of the name breaks a rule
 pub named-breach : (ds : List Definition) (s : Sorted) (name : Name) (o : Positioned request.OperationDefinition) → IsSorted ds s → s.anonymous ≡ None → breach_of ds (operation (Some name) o) ≡ option_map (λ first. OperationDuplicated name first o.pos) (option_map (λ o. o.pos) (lookup (bytes_eq name) s.operations.entries))
 named-breach ds s name o h e =
     ap (λ (x : Option Pos). or_else (option_map (λ anonymous. MultipleOperations anonymous o.pos) x) (option_map (λ first. OperationDuplicated name first o.pos) (first_operation_named name ds))) (anonymous-found ds s h ∙ ap place-of e)

@@ -188,7 +188,7 @@ good-next-definition = good-variable_definition (follows refl refl) (follows ref
 pub takes-variable_definition : (values types : ℕ) → Takes (variable_definition_at values types)
 takes-variable_definition values types = takes-one {b = budget values types} good-next-definition led-variable_definition
 
--- nothing is looked ahead at behind `)`
+-- nothing is looked ahead at after `)`
 pub good-variable_definitions : {b : Limits} {f : Test} → Good (λ c. variable_definitions Current c.values c.types) b f (variable_definitions_at b.values b.types)
 good-variable_definitions =
     good-mapped (good-next (has-pair (has-plus has-variable_definition) has-close) (good-punct "(")

@@ -16,6 +16,8 @@ use std::alloc::Global;
 
 /// A selection set in which sets nest at most `selections` deep, and whose values nest at most
 /// `values` deep.
+///
+/// `SelectionSet : '{' Selection+ '}'` (GraphQL October 2021, section 2.4)
 pub fn read_selection_set(
     alloc: Global,
     cursor: &mut Cursor,
@@ -35,7 +37,7 @@ pub fn read_selection_set(
     loop {
         let nests = frames.may_nest();
         if let Some(place) = heads::read_head(alloc, cursor, values, nests, &mut items)? {
-            // Its set is read before what stands behind it.
+            // Its set is read before what stands after it.
             frames.enter(own)?;
             own = OpenSet {
                 place,

@@ -64,7 +64,7 @@ abbrev pub met : {V : Type 0} → (V → Tree) → Stop V → Met
 met tree (stops.Closed v) = closes (tree v)
 met tree (stops.Entered f o) = enters (waiting tree f) (opened tree o)
 
--- ---- the rest of a list or an object, behind what it holds so far
+-- ---- the rest of a list or an object, after what it holds so far
 
 abbrev pub list_tree : List Tree → Tree
 list_tree items = list (trees_of items)
@@ -97,12 +97,12 @@ add (object_waits front name) t = in_object (front ++ (name, t) ∷ [])
 abbrev pub filled : Bool → ℕ → Waiting → Outcome Tree → Outcome Tree
 filled vars b w read = read >>= λ t rest. open_rest vars b (add w t) rest
 
--- those that wait, the outermost first, each with the budget inside it; behind the last there is b left
+-- those that wait, the outermost first, each with the budget inside it; after the last there is b left
 abbrev pub resume : Bool → ℕ → List Waiting → Outcome Tree → Outcome Tree
 resume vars b [] read = read
 resume vars b (f ∷ fs) read = filled vars (b + length fs) f (resume vars b fs read)
 
--- what is made of what is met, and of the tokens behind it
+-- what is made of what is met, and of the tokens after it
 abbrev pub goes_on : Bool → ℕ → Met → List Token → Outcome Tree
 goes_on vars b (closes t) rest = Read t rest
 goes_on vars b (enters w o) rest = filled vars b w (open_rest vars (pred b) o rest)
@@ -141,7 +141,7 @@ abbrev pub HasRoom : ℕ → Met → Type 0
 HasRoom b (closes t) = Unit {0}
 HasRoom b (enters w o) = 0 < b
 
--- what the reader gives comes of what is met and the tokens behind it; some were read
+-- what the reader gives comes of what is met and the tokens after it; some were read
 pub record MeetsAt (vars : Bool) (b : ℕ) (met : Met) (old new : Ahead) (r : Reader Tree) : Type 0 where
   pub told : r (tokens old) ≡ goes_on vars b met (tokens new)
   pub less : length (tokens new) < length (tokens old)

@@ -10,6 +10,8 @@ use graphql_syntax::value::{Literal, Name};
 use std::alloc::Global;
 
 /// A list or an object that begins here, where so many levels are left.
+///
+/// `('[' | '{')?`
 pub fn enter<V: Literal>(
     alloc: Global,
     cursor: &mut Cursor,
@@ -32,6 +34,8 @@ pub fn enter<V: Literal>(
 }
 
 /// The end of an object, or else the name of its next value.
+///
+/// `'}' | Name ':'`
 fn read_key(alloc: Global, cursor: &mut Cursor) -> Reading<Option<Name>>
     ensures { Gives (λ key. key) result cursor.old cursor.new key_at }
 {
@@ -45,6 +49,8 @@ fn read_key(alloc: Global, cursor: &mut Cursor) -> Reading<Option<Name>>
 }
 
 /// Gives what begins inside the list, or None at its end.
+///
+/// `List : '[' Value* ']'` (GraphQL October 2021, section 2.9.7)
 pub fn fill_list<V: Literal>(
     alloc: Global,
     cursor: &mut Cursor,
@@ -63,6 +69,8 @@ pub fn fill_list<V: Literal>(
 }
 
 /// Gives what begins inside the object, with its name, or None at its end.
+///
+/// `Object : '{' (Name ':' Value)* '}'` (GraphQL October 2021, section 2.9.8)
 pub fn fill_object<V: Literal>(
     alloc: Global,
     cursor: &mut Cursor,

@@ -27,6 +27,7 @@ fn word_of<V: Literal>(alloc: Global, text: &str) -> Result<V, AllocError>
     Ok(V::enumeration(Name::new(alloc, text)?))
 }
 
+/// `'true' | 'false' | 'null' | EnumName` (GraphQL October 2021, sections 2.9.3, 2.9.5 and 2.9.6)
 fn read_word<V: Literal>(alloc: Global, cursor: &mut Cursor) -> Reading<V>
     ensures { Gives V.tree result cursor.old cursor.new (node_at word_at) }
 {
@@ -34,6 +35,7 @@ fn read_word<V: Literal>(alloc: Global, cursor: &mut Cursor) -> Reading<V>
     Ok(word_of(alloc, token.text)?)
 }
 
+/// `IntValue | FloatValue` (GraphQL October 2021, sections 2.9.1 and 2.9.2)
 fn read_number<V: Literal>(alloc: Global, cursor: &mut Cursor) -> Reading<V>
     ensures { Gives V.tree result cursor.old cursor.new (node_at number_at) }
 {
@@ -57,6 +59,7 @@ fn inside(text: &str, quotes: usize) -> &str
     &front[quotes..]
 }
 
+/// `StringValue` between single quotes (GraphQL October 2021, section 2.9.4)
 fn read_string<V: Literal>(alloc: Global, cursor: &mut Cursor) -> Reading<V>
     ensures { Gives V.tree result cursor.old cursor.new (node_at string_at) }
 {
@@ -71,6 +74,7 @@ fn read_string<V: Literal>(alloc: Global, cursor: &mut Cursor) -> Reading<V>
     Ok(V::string(text))
 }
 
+/// `StringValue` between triple quotes, a block string (GraphQL October 2021, section 2.9.4)
 fn read_block<V: Literal>(alloc: Global, cursor: &mut Cursor) -> Reading<V>
     ensures { Gives V.tree result cursor.old cursor.new (node_at block_at) }
 {
@@ -83,6 +87,7 @@ fn read_block<V: Literal>(alloc: Global, cursor: &mut Cursor) -> Reading<V>
     Ok(V::string(text))
 }
 
+/// `'$' Name` (GraphQL October 2021, section 2.10)
 fn read_variable<V: Literal>(alloc: Global, cursor: &mut Cursor) -> Reading<V>
     ensures { Gives V.tree result cursor.old cursor.new (node_at (variable_at V.VARIABLES)) }
 {
@@ -98,6 +103,8 @@ fn read_variable<V: Literal>(alloc: Global, cursor: &mut Cursor) -> Reading<V>
 }
 
 /// A value that is neither a list nor an object.
+///
+/// `Variable | Number | String | Boolean | Null | Enum`
 pub fn read_simple<V: Literal>(alloc: Global, cursor: &mut Cursor) -> Reading<V>
     ensures { Gives V.tree result cursor.old cursor.new (node_at (simple_at V.VARIABLES)) }
 {

@@ -25,7 +25,7 @@ whole p limits = mapped (λ x. x.0) (p limits ⨾ one the_end)
 abbrev pub bares : List Token → List Bare
 bares tokens = map (λ t. t.bare) tokens
 
--- Some tokens with the bare tokens of the front, at whatever places, have proper tokens behind them,
+-- Some tokens with the bare tokens of the front, at whatever places, have proper tokens after them,
 -- and with these a tree.
 pub record Completes {A : Type 0} (p : Rel A) (front : List Token) : Type 0 where
   pub begun : List Token

@@ -15,7 +15,7 @@ one test used t = (used ≡ t ∷ []) × IsTrue (test t.bare)
 abbrev pub meaning : {A : Type 0} → Test → (Bare → A → Type 0) → Rel (Token × A)
 meaning test means used x = (used ≡ x.0 ∷ []) × IsTrue (test x.0.bare) × means x.0.bare x.1
 
--- a phrase of p, and behind it one of q
+-- a phrase of p, and after it one of q
 pub record Then {A B : Type 0} (p : Rel A) (q : Rel B) (used : List Token) (a : A) (b : B) : Type 0 where
   pub front : List Token
   pub back : List Token

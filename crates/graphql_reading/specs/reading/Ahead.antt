@@ -2,7 +2,7 @@
 use Rattle.std.specs.Prelude.{ℕ, List, ◌∷◌}
 use Rattle.graphql_tokens.specs.tokens.Token.{Token}
 
--- the tokens of the text, the token in hand, those behind it, and how many were taken from the lexer
+-- the tokens of the text, the token in hand, those after it, and how many were taken from the lexer
 pub record Ahead : Type 0 where
   pub whole : List Token
   pub hand : Token

@@ -13,7 +13,7 @@ Refuses Memory old new r = Unit {0}
 Refuses Syntax old new r = r (tokens old) ≡ Refused syntax (tokens new)
 Refuses Limit old new r = r (tokens old) ≡ Refused limit (tokens new)
 
--- the tree and the tokens behind it, or a refusal
+-- the tree and the tokens after it, or a refusal
 abbrev pub Told : {X Y : Type 0} → (X → Y) → Result X Refusal → Ahead → Ahead → Reader Y → Type 0
 Told view (Ok x) old new r = r (tokens old) ≡ Read (view x) (tokens new)
 Told view (Err refusal) old new r = Refuses refusal old new r

@@ -5,7 +5,7 @@ use Rattle.graphql_reading.specs.grammar.Tests.{Test, the_end}
 use Rattle.graphql_reading.specs.grammar.Relations.{cons, between_of, after_of}
 use Rattle.graphql_reading.specs.grammar.Fronts.{Verdict, syntax, limit}
 
--- a tree and the tokens behind it, or the tokens from the refused one on
+-- a tree and the tokens after it, or the tokens from the refused one on
 pub data Outcome (A : Type 0) : Type 0 where
   Read : A → List Token → Outcome A
   Refused : Verdict → List Token → Outcome A

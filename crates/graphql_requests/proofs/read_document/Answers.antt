@@ -28,7 +28,7 @@ ends c = subst EndsOnce (sym c.new-cursor.ensures.left) c.new-cursor.ensures.end
 proper : (c : goal.After-into_tokens) → AreProperButFaults (tokens c.new-cursor.result)
 proper c = subst AreProperButFaults (sym c.new-cursor.ensures.left) c.new-cursor.ensures.proper
 
--- so many tokens are taken up to those behind the one in hand
+-- so many tokens are taken up to those after the one in hand
 abbrev count : (c : goal.After-into_tokens) → ℕ
 count c = c.into_tokens.result.taken - c.args.tokens.now.taken
 

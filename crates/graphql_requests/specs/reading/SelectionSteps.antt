@@ -48,7 +48,7 @@ as_names first (Some name) = (Some first, name)
 abbrev pub name_at : Reader (Positioned Name)
 name_at = mapped_at name_of (one_at any_name)
 
--- the name behind a `:`, if there is one
+-- the name after a `:`, if there is one
 abbrev pub behind_colon_at : Reader (Option (Positioned Name))
 behind_colon_at = choose_at (punct ":") (mapped_at (λ x. Some x.1) (then_at (one_at (punct ":")) name_at)) (none_at None)
 
@@ -81,7 +81,7 @@ abbrev pub next_at : Reader Token
 next_at [] = Refused syntax []
 next_at (t ∷ ts) = Read t ts
 
--- behind the name of a spread
+-- after the name of a spread
 abbrev pub spread_at : ℕ → Pos → Token → Reader Heading
 spread_at values dots name = mapped_at (λ directives. (bare_spread dots (name_of name) directives, None)) (directives_at true values)
 
@@ -106,7 +106,7 @@ dots_head_at values nests ts = next_at ts >>= λ dots rest. behind_dots_at value
 abbrev pub head_at : ℕ → Bool → Reader Heading
 head_at values nests = choose_at (punct "...") (dots_head_at values nests) (field_head_at values nests)
 
--- the same, behind the selections that a set holds so far
+-- the same, after the selections that a set holds so far
 abbrev pub onto : List (Positioned Selection) → Reader Heading → Reader (List (Positioned Selection) × Option Pos)
 onto front head = mapped_at (λ x. (front ++ x.0 ∷ [], x.1)) head
 
@@ -136,7 +136,7 @@ closed o = record { pos = o.place; node = set_of o.items }
 abbrev pub close_at : Pos → List (Positioned Selection) → Reader Set
 close_at place items ts = one_at (punct "}") ts >>= λ _ rest. Read (closed (record { place = place; items = items })) rest
 
--- behind a selection, and where one has to follow
+-- after a selection, and where one has to follow
 unfoldable pub behind_rest : ℕ → ℕ → Opened → Reader Set
 behind_rest values s o ts = with_front o.items (many_at selection_first (item_at values s) ts) >>= close_at o.place
 

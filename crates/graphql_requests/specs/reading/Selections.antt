@@ -10,7 +10,7 @@ use Rattle.graphql_reading.specs.reading.Outcome.{Reader, one_at, then_at, mappe
 
 -- ---- fields
 
--- a name, and the name behind its `:`, if there is one
+-- a name, and the name after its `:`, if there is one
 abbrev pub as_alias : Token → Option Token → Option Token × Token
 as_alias first None = (None, first)
 as_alias first (Some name) = (Some first, name)

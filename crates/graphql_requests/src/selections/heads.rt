@@ -58,6 +58,8 @@ fn push(items: &mut Selections, selection: Positioned<Selection>) -> Result<(), 
 }
 
 /// An alias, if there is one, and a name.
+///
+/// `(Name ':')? Name`
 #[inline(always)]
 fn read_names(alloc: Global, cursor: &mut Cursor) -> Reading<Names>
     ensures { Gives (λ names. names) result cursor.old cursor.new names_at }
@@ -110,6 +112,9 @@ fn bare_field(
     Positioned::new(Selection::Field(Positioned::new(field, pos)), pos)
 }
 
+/// A field up to its set.
+///
+/// `Field : (Name ':')? Name Arguments? Directives? SelectionSet?` (GraphQL October 2021, section 2.5)
 fn read_field(
     alloc: Global,
     cursor: &mut Cursor,
@@ -127,7 +132,9 @@ fn read_field(
     Ok(place)
 }
 
-/// The rest of a spread behind its name. It has no set.
+/// The rest of a spread after its name. It has no set.
+///
+/// `Spread : '...' FragmentName Directives?` (GraphQL October 2021, section 2.8)
 fn read_spread(
     alloc: Global,
     cursor: &mut Cursor,
@@ -150,6 +157,8 @@ fn read_spread(
 }
 
 /// `on` and the name of a type.
+///
+/// `TypeCondition : 'on' Name` (GraphQL October 2021, section 2.8)
 pub fn read_type_condition(alloc: Global, cursor: &mut Cursor) -> Reading<Positioned<TypeCondition>>
     ensures { Gives (request.placed type_condition_tree) result cursor.old cursor.new type_condition_at }
 {
@@ -158,6 +167,7 @@ pub fn read_type_condition(alloc: Global, cursor: &mut Cursor) -> Reading<Positi
     Ok(Positioned::new(TypeCondition { on }, word.pos))
 }
 
+/// `TypeCondition?`
 fn read_maybe_condition(
     alloc: Global,
     cursor: &mut Cursor,
@@ -190,6 +200,9 @@ fn bare_inline(
     )
 }
 
+/// An inline fragment up to its set, after its `...`.
+///
+/// `Inline : '...' TypeCondition? Directives? SelectionSet` (GraphQL October 2021, section 2.8)
 fn read_inline(
     alloc: Global,
     cursor: &mut Cursor,
@@ -206,7 +219,9 @@ fn read_inline(
     Ok(brace.pos)
 }
 
-/// The rest of a spread or of an inline fragment behind its `...`.
+/// The rest of a spread or of an inline fragment after its `...`.
+///
+/// `FragmentName Directives? | TypeCondition? Directives? SelectionSet`
 fn read_behind_dots(
     alloc: Global,
     cursor: &mut Cursor,
@@ -232,8 +247,10 @@ fn read_behind_dots(
     Ok(Some(place))
 }
 
-/// Puts a selection behind the others, without its set. If that follows, it gives the place of its `{`,
+/// Puts a selection after the others, without its set. If that follows, it gives the place of its `{`,
 /// which is read.
+///
+/// `Selection : Field | Spread | Inline` (GraphQL October 2021, section 2.4)
 pub(super) fn read_head(
     alloc: Global,
     cursor: &mut Cursor,
