@@ -1,7 +1,6 @@
 -- Arguments, directives and default values are read exactly, at every budget; and their places don't matter.
-use Rattle.std.proofs.Common.{◌≡◌, ℕ, Bool, true, false, cond, ◌&&◌, ◌||◌, IsTrue, Option, Some, None, List, [], ◌∷◌, ◌++◌, map, option_map, ◌↔◌, inl, inr, refl, sym, ap, ◌∙◌, subst, append-nil}
+use Rattle.std.proofs.Common.{◌≡◌, ℕ, Bool, false, IsTrue, Option, Some, None, map, refl, ap}
 use Rattle.graphql_tokens.specs.tokens.Edition.{Current}
-use Rattle.graphql_tokens.specs.tokens.Token.{Token}
 use Rattle.graphql_syntax.specs.trees.Request.{Argument, Directive, Directives}
 use Rattle.graphql_syntax.specs.trees.Request as trees
 use Rattle.graphql_grammar.specs.grammar.Arguments.{an_argument, arguments, a_directive, directives, a_default}
@@ -10,22 +9,16 @@ use Rattle.graphql_reading.specs.grammar.Fronts.{without_place}
 use Rattle.graphql_reading.specs.grammar.Limits.{Limits}
 use Rattle.graphql_grammar.specs.grammar.Placeless.{unplaced, bare_node, placeless_argument, placeless_directive, placeless_directives}
 use Rattle.graphql_reading.specs.grammar.Places.{at, name_of}
-use Rattle.graphql_reading.specs.grammar.Relations.{Rel, ◌⨾◌, ◌∪◌, mapped, star, plus, opt}
+use Rattle.graphql_reading.specs.grammar.Relations.{opt}
 use Rattle.graphql_reading.specs.grammar.Tests.{Test, punct, any_name}
-use Rattle.graphql_grammar.specs.grammar.Types.{type_reference}
-use Rattle.graphql_grammar.specs.grammar.Values.{Value}
-use Rattle.graphql_grammar.specs.reading.Arguments.{argument_at, arguments_at, maybe_arguments_at, directive_at, directives_at, default_at, maybe_default_at}
-use Rattle.graphql_reading.specs.reading.Outcome.{Outcome, Read, Reader, ◌>>=◌, then_at, mapped_at, choose_at, none_at, plus_at}
-use Rattle.graphql_reading.proofs.Parts.{none}
+use Rattle.graphql_grammar.specs.reading.Arguments.{argument_at, arguments_at, maybe_arguments_at, directive_at, directives_at, default_at}
 use Rattle.graphql_reading.proofs.Theory.{Within, outside, anything}
-use Rattle.graphql_reading.proofs.TokenTests.{punctuator, itself, punct-within, within-both, within-first, within-second, within-either, name-sample}
-use Rattle.graphql_reading.proofs.PunctSamples.{has-equals, has-open, has-close, has-colon, has-at, has-dollar}
-use Rattle.graphql_reading.proofs.Good.{Good, Has, Led, good-punct, good-name, good-mapped, good-next, good-led, good-plus, good-same, led-one, led-mapped, led-then, has-token, has-pair, has-map, has-star, has-plus, has-first}
-use Rattle.graphql_reading.proofs.Extra.{Opens, good-seq, opens-led, opens-star, opens-opt, opens-then, good-many-ahead, good-plus-ahead, good-opt, has-opt}
-use Rattle.graphql_reading.proofs.Optional.{good-choose_ahead, good-none, good-reader, opens-none, opens-either, opt-left, with-some, opt-then, plus-star, star-plus}
-use Rattle.graphql_reading.proofs.Blind.{Blind, on-option, blind-one, blind-then, blind-mapped, blind-either, blind-star, blind-plus, blind-opt}
-use Rattle.graphql_reading.proofs.Loop.{Takes, takes-one, many-plus, many-stops}
-use Rattle.graphql_grammar.proofs.TypeProductions.{good-type, has-type, blind-type}
+use Rattle.graphql_reading.proofs.TokenTests.{punctuator, itself, punct-within, name-sample}
+use Rattle.graphql_reading.proofs.PunctSamples.{has-equals, has-open, has-close, has-colon, has-at}
+use Rattle.graphql_reading.proofs.Good.{Good, Has, Led, good-punct, good-name, good-mapped, good-next, good-led, good-plus, led-one, led-mapped, led-then, has-token, has-pair, has-map, has-star, has-plus}
+use Rattle.graphql_reading.proofs.Extra.{Opens, opens-star, opens-opt, good-many-ahead, good-opt, has-opt}
+use Rattle.graphql_reading.proofs.Blind.{Blind, on-option, blind-one, blind-then, blind-mapped, blind-star, blind-plus, blind-opt}
+use Rattle.graphql_reading.proofs.Loop.{Takes, takes-one}
 use Rattle.graphql_grammar.proofs.ValueProductions.{good-value, has-value, blind-value}
 
 abbrev pub budget : ℕ → ℕ → Limits

@@ -1,20 +1,18 @@
 -- A language whose reader follows its grammar exactly: the answers of its parser, and how many tokens are taken for
 -- them, from what the readers and the rules of the code give. Proved once, for each language.
-use Rattle.std.proofs.Common.{◌≡◌, ℕ, suc, ◌+◌, ◌-◌, ◌≤◌, ◌⊎◌, inl, inr, Option, Some, None, Result, Ok, Err, List, [], ◌∷◌, ◌++◌, length, drop, refl, sym, ap, ◌∙◌, subst, length-drop, length-append, arith}
-use Rattle.graphql_tokens.specs.declared.lexer.TokenKind.{TokenKind}
+use Rattle.std.proofs.Common.{◌≡◌, ℕ, suc, ◌+◌, ◌-◌, ◌≤◌, ◌⊎◌, inl, inr, Result, Ok, Err, List, [], ◌∷◌, ◌++◌, length, drop, refl, sym, ap, ◌∙◌, subst, length-drop, length-append, arith}
 use Rattle.graphql_tokens.specs.declared.lexer.TokenKind.TheVariants.{End}
 use Rattle.graphql_tokens.specs.tokens.Cuts.{EndsOnce}
 use Rattle.graphql_tokens.specs.tokens.Edition.{Former, Current}
 use Rattle.graphql_tokens.specs.tokens.Proper.{AreProperButFaults}
 use Rattle.graphql_tokens.specs.tokens.Token.{Bare, Token}
-use Rattle.graphql_grammar.specs.answers.Answers.{Answers, TakenFor, AreTheDefinitions, AreUnbroken, FirstBreach, HasOneTree, IsDecided}
+use Rattle.graphql_grammar.specs.answers.Answers.{Answers, TakenFor, AreTheDefinitions, AreUnbroken, HasOneTree, IsDecided}
 use Rattle.graphql_grammar.specs.answers.Language.{Language, grammar}
 use Rattle.graphql_grammar.specs.declared.error.Error.{Error}
 use Rattle.graphql_grammar.specs.declared.error.Error.TheVariants as errors
 use Rattle.graphql_grammar.specs.reading.DocumentOf.{IsDocumentOf, TellsBreach, TellsOf}
 use Rattle.graphql_grammar.specs.reading.Errors.{IsErrorOf}
 use Rattle.graphql_reading.specs.declared.cursor.Refusal.{Refusal}
-use Rattle.graphql_reading.specs.declared.cursor.Refusal.TheVariants.{Memory, Syntax, Limit}
 use Rattle.graphql_reading.specs.grammar.Fronts.{IsRefused, RefusedToken, Verdict, syntax, limit, without_places, whole}
 use Rattle.graphql_reading.specs.grammar.Limits.{Limits}
 use Rattle.graphql_reading.specs.grammar.Relations.{Rel}

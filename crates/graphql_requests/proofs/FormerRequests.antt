@@ -1,5 +1,5 @@
 -- A request of the former grammar is one of the current grammar, with the same tree.
-use Rattle.std.proofs.Common.{ℕ, zero, suc, true, List}
+use Rattle.std.proofs.Common.{ℕ, zero, suc, true}
 use Rattle.graphql_tokens.specs.tokens.Edition.{Former, Current}
 use Rattle.graphql_grammar.specs.grammar.Operations.{operation_type}
 use Rattle.graphql_grammar.specs.grammar.Types.{type_reference}
@@ -7,7 +7,7 @@ use Rattle.graphql_grammar.proofs.Former.{includes-arguments, includes-directive
 use Rattle.graphql_reading.specs.grammar.Limits.{Limits}
 use Rattle.graphql_reading.specs.grammar.Relations.{Rel, one, never, opt}
 use Rattle.graphql_reading.specs.grammar.Tests.{punct, keyword, any_name}
-use Rattle.graphql_reading.proofs.Includes.{Includes, includes-same, includes-then, includes-either, includes-mapped, includes-opt, includes-star, includes-plus}
+use Rattle.graphql_reading.proofs.Includes.{Includes, includes-same, includes-then, includes-either, includes-mapped, includes-opt, includes-plus}
 use Rattle.graphql_requests.specs.grammar.Request.{definitions, a_definition, own_set}
 use Rattle.graphql_requests.specs.grammar.Selections.{Set, aliased, fragment_name, a_type_condition, a_selection, selection_set}
 use Rattle.graphql_requests.specs.grammar.Variables.{default_and_directives, a_variable_definition, variable_definitions}

@@ -1,11 +1,11 @@
 -- The names in a document that breaks no rule are distinct.
-use Rattle.std.proofs.Common.{◌≡◌, ◌≢◌, Option, Some, None, option_map, List, [], ◌∷◌, ◌++◌, Result, Ok, Err, IfOk, refl, sym, ap, ◌∙◌, subst}
+use Rattle.std.proofs.Common.{◌≡◌, Option, Some, None, option_map, List, [], ◌∷◌, ◌++◌, Result, Ok, Err, IfOk, refl, sym, ap, ◌∙◌, subst}
 use Rattle.std.specs.Map.{lookup}
 use Rattle.std.specs.Str.{bytes_eq}
 use Rattle.graphql_tokens.specs.declared.pos.Pos.{Pos}
 use Rattle.graphql_tokens.specs.declared.pos.Positioned.{Positioned}
 use Rattle.graphql_syntax.specs.declared.types.executable.ExecutableDocument.{ExecutableDocument}
-use Rattle.graphql_syntax.specs.trees.Request.{Name, OperationDefinition, FragmentDefinition, Operations, single, multiple, Document}
+use Rattle.graphql_syntax.specs.trees.Request.{Name, OperationDefinition, FragmentDefinition, Operations, single, multiple}
 use Rattle.graphql_syntax.specs.trees.RequestViews.{document_tree}
 use Rattle.graphql_grammar.specs.answers.Answers.{AreUnbroken, IsDocument}
 use Rattle.graphql_grammar.specs.declared.error.Error.{Error}

@@ -7,7 +7,7 @@ use Rattle.graphql_tokens.specs.tokens.Token.{Token}
 use Rattle.graphql_syntax.specs.trees.Request.{Directives, VariableDefinition}
 use Rattle.graphql_reading.specs.grammar.Tests.{Test, punct, keyword, any_name, the_end}
 use Rattle.graphql_reading.specs.grammar.Limits.{Limits}
-use Rattle.graphql_reading.specs.grammar.Relations.{Rel, one, ◌⨾◌, ◌∪◌, mapped, opt}
+use Rattle.graphql_reading.specs.grammar.Relations.{Rel, one, ◌⨾◌, ◌∪◌, opt}
 use Rattle.graphql_grammar.specs.grammar.Arguments.{a_directive, directives}
 use Rattle.graphql_grammar.specs.grammar.Operations.{operation_type}
 use Rattle.graphql_requests.specs.grammar.Variables.{variable_definitions}
@@ -18,11 +18,10 @@ use Rattle.graphql_requests.specs.grammar.Selections.{Set, fragment_name, a_type
 use Rattle.graphql_requests.specs.grammar.Request.{own_set, a_short_operation, operation_of, a_full_operation, fragment_of, a_fragment, a_definition, definitions}
 use Rattle.graphql_reading.specs.reading.Outcome.{then_at, choose_at, opt_at}
 use Rattle.graphql_grammar.specs.reading.Arguments.{directives_at}
-use Rattle.graphql_grammar.specs.reading.Operations.{operation_type_at}
 use Rattle.graphql_requests.specs.reading.Variables.{variable_definitions_at}
 use Rattle.graphql_requests.specs.reading.Request.{own_set_at, short_operation_at, full_operation_at, fragment_at, definition_first, definition_at, definitions_at}
 use Rattle.graphql_reading.proofs.Theory.{Within, outside, anything}
-use Rattle.graphql_reading.proofs.TokenTests.{word_of, itself, punct-within, keyword-within, the_end-within, HasSample, keyword-sample}
+use Rattle.graphql_reading.proofs.TokenTests.{word_of, itself, punct-within, keyword-within, the_end-within, keyword-sample}
 use Rattle.graphql_reading.proofs.Good.{Good, Has, Led, good-keyword, good-name, good-name_but, good-mapped, good-next, good-led, good-choose, good-same, good-plus, led-one, led-within, led-mapped, led-then, led-either, has-token, has-pair, has-map, has-plus, has-first}
 use Rattle.graphql_reading.proofs.Extra.{has-opt, good-opt, led-opt, led-star, either-way}
 use Rattle.graphql_reading.proofs.Blind.{Blind, blind-one, blind-then, blind-mapped, blind-either, blind-plus, blind-opt, on-option}

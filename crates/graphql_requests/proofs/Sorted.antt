@@ -11,9 +11,9 @@ use Rattle.graphql_syntax.specs.declared.types.executable.DocumentOperations.{Do
 use Rattle.graphql_syntax.specs.declared.types.executable.DocumentOperations.TheVariants.{Single, Multiple}
 use Rattle.graphql_syntax.specs.trees.Request.{Name, placed, multiple}
 use Rattle.graphql_syntax.specs.trees.Request as request
-use Rattle.graphql_syntax.specs.trees.RequestViews.{operation_tree, fragment_tree, entry_tree, operations_tree, document_tree}
+use Rattle.graphql_syntax.specs.trees.RequestViews.{operation_tree, fragment_tree, entry_tree, operations_tree}
 use Rattle.graphql_requests.specs.declared.rules.Sorted.{Sorted}
-use Rattle.graphql_requests.specs.grammar.Documents.{named_operations, fragments, operations_beside, document_of}
+use Rattle.graphql_requests.specs.grammar.Documents.{named_operations, fragments, operations_beside}
 use Rattle.graphql_requests.specs.grammar.Request.{Definition, operation, fragment}
 use Rattle.graphql_requests.specs.grammar.Requests.{requests}
 use Rattle.graphql_requests.specs.grammar.Rules.{breach_of, missing_operation, or_else, first_operation, first_anonymous, first_operation_named, first_fragment_named}

@@ -4,7 +4,7 @@ use Rattle.std.proofs.Common.{◌≡◌, ℕ, Bool, true, false, cond, ◌&&◌,
 use Rattle.graphql_tokens.specs.tokens.Token.{Token}
 use Rattle.graphql_syntax.specs.trees.Request.{Directives, VariableDefinition}
 use Rattle.graphql_grammar.specs.grammar.Arguments.{a_directive, directives, a_default}
-use Rattle.graphql_requests.specs.grammar.Variables.{default_behind, default_and_directives, a_variable_definition, variable_definitions}
+use Rattle.graphql_requests.specs.grammar.Variables.{default_and_directives, a_variable_definition, variable_definitions}
 use Rattle.graphql_reading.specs.grammar.Fronts.{without_place}
 use Rattle.graphql_reading.specs.grammar.Limits.{Limits}
 use Rattle.graphql_grammar.specs.grammar.Placeless.{unplaced, bare_node, placeless_directives}
@@ -18,16 +18,16 @@ use Rattle.graphql_grammar.specs.reading.Arguments.{directive_at, directives_at,
 use Rattle.graphql_requests.specs.reading.Variables.{turned, default_and_directives_at, variable_definition_at, variable_definitions_at}
 use Rattle.graphql_reading.specs.reading.Outcome.{Outcome, Read, Reader, ◌>>=◌, then_at, mapped_at, choose_at, none_at, plus_at}
 use Rattle.graphql_reading.proofs.Parts.{none}
-use Rattle.graphql_reading.proofs.Theory.{Within, outside, anything}
+use Rattle.graphql_reading.proofs.Theory.{Within, outside}
 use Rattle.graphql_reading.proofs.TokenTests.{punctuator, itself, punct-within, within-both, within-first, within-second, within-either, name-sample}
-use Rattle.graphql_reading.proofs.PunctSamples.{has-equals, has-open, has-close, has-colon, has-at, has-dollar}
-use Rattle.graphql_reading.proofs.Good.{Good, Has, Led, good-punct, good-name, good-mapped, good-next, good-led, good-plus, good-same, led-one, led-mapped, led-then, has-token, has-pair, has-map, has-star, has-plus, has-first}
-use Rattle.graphql_reading.proofs.Extra.{Opens, good-seq, opens-led, opens-star, opens-opt, opens-then, good-many-ahead, good-plus-ahead, good-opt, has-opt}
+use Rattle.graphql_reading.proofs.PunctSamples.{has-open, has-close, has-colon, has-dollar}
+use Rattle.graphql_reading.proofs.Good.{Good, Has, Led, good-punct, good-name, good-mapped, good-next, good-led, good-same, led-one, led-mapped, led-then, has-token, has-pair, has-map, has-plus, has-first}
+use Rattle.graphql_reading.proofs.Extra.{Opens, good-seq, opens-led, opens-opt, opens-then, good-plus-ahead, good-opt, has-opt}
 use Rattle.graphql_reading.proofs.Optional.{good-choose_ahead, good-none, good-reader, opens-none, opens-either, opt-left, with-some, opt-then, plus-star, star-plus}
-use Rattle.graphql_reading.proofs.Blind.{Blind, on-option, blind-one, blind-then, blind-mapped, blind-either, blind-star, blind-plus, blind-opt}
+use Rattle.graphql_reading.proofs.Blind.{Blind, on-option, blind-one, blind-then, blind-mapped, blind-either, blind-plus, blind-opt}
 use Rattle.graphql_reading.proofs.Loop.{Takes, takes-one, many-plus, many-stops}
 use Rattle.graphql_grammar.proofs.TypeProductions.{good-type, has-type, blind-type}
-use Rattle.graphql_grammar.proofs.ArgumentProductions.{budget, good-directive, led-directive, good-directives, opens-directives, has-directives, blind-directive, blind-directives, good-default, led-default, has-default, blind-default, takes-directive}
+use Rattle.graphql_grammar.proofs.ArgumentProductions.{budget, good-directive, led-directive, good-directives, opens-directives, has-directives, blind-directive, blind-directives, good-default, led-default, blind-default, takes-directive}
 
 -- ---- a default and directives, in either order
 

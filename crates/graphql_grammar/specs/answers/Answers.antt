@@ -1,5 +1,5 @@
 -- What the answer of a parser says of the tokens of its text, whichever language it reads.
-use Rattle.std.specs.Prelude.{◌≡◌, ◌⊎◌, ℕ, ◌≤◌, length, Option, Some, None, Result, Ok, Err, List, ◌∷◌, ◌++◌, string_bytes}
+use Rattle.std.specs.Prelude.{◌≡◌, ◌⊎◌, ℕ, ◌≤◌, length, Some, None, Result, Ok, Err, List, ◌∷◌, ◌++◌, string_bytes}
 use Rattle.graphql_tokens.specs.tokens.Edition.{Current}
 use Rattle.graphql_tokens.specs.tokens.Token.{Token}
 use Rattle.graphql_grammar.specs.answers.Language.{Language, grammar}

@@ -1,6 +1,5 @@
-use Rattle.std.proofs.Common.{◌≡◌, List, sym, subst}
-use Rattle.std.specs.Str.{chars}
-use Rattle.graphql_tokens.specs.tokens.Token.{Token, left}
+use Rattle.std.proofs.Common.{◌≡◌, sym, subst}
+use Rattle.graphql_tokens.specs.tokens.Token.{left}
 use Rattle.graphql_tokens.proofs.Editions.{former-cuts}
 use Rattle.graphql_grammar.specs.answers.Answers.{AreTheDefinitions}
 use Rattle.graphql_grammar.specs.answers.Language.{grammar}

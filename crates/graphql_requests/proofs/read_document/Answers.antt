@@ -2,7 +2,7 @@ use Rattle.std.proofs.Common.{IfOk, ◌≡◌, ℕ, ◌≤◌, ◌+◌, ◌-◌,
 use Rattle.graphql_tokens.specs.tokens.Cuts.{EndsOnce}
 use Rattle.graphql_tokens.specs.tokens.Proper.{AreProperButFaults}
 use Rattle.graphql_tokens.specs.tokens.Token.{Token, left}
-use Rattle.graphql_grammar.specs.answers.Answers.{Answers, TakenFor, HasOneTree, IsDecided, AreTheDefinitions}
+use Rattle.graphql_grammar.specs.answers.Answers.{Answers, TakenFor, IsDecided, AreTheDefinitions}
 use Rattle.graphql_grammar.specs.answers.Language.{grammar}
 use Rattle.graphql_tokens.specs.tokens.Edition.{Current}
 use Rattle.graphql_syntax.specs.trees.RequestViews.{document_tree}

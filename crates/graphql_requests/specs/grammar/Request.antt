@@ -12,7 +12,7 @@ use Rattle.graphql_grammar.specs.grammar.Operations.{operation_type}
 use Rattle.graphql_requests.specs.grammar.Variables.{variable_definitions}
 use Rattle.graphql_reading.specs.grammar.Fronts.{Grammar}
 use Rattle.graphql_reading.specs.grammar.Places.{at}
-use Rattle.graphql_reading.specs.grammar.Relations.{Rel, one, ◌⨾◌, ◌∪◌, mapped, plus, opt}
+use Rattle.graphql_reading.specs.grammar.Relations.{one, ◌⨾◌, ◌∪◌, mapped, plus, opt}
 use Rattle.graphql_requests.specs.grammar.Selections.{Set, fragment_name, a_type_condition, selection_set}
 use Rattle.graphql_reading.specs.grammar.Tests.{keyword, any_name}
 
