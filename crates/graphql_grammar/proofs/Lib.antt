@@ -14,3 +14,4 @@ pub mod Former
 pub mod Languages
 pub mod OperationKinds
 pub mod Unbroken
+pub mod DistinctValues

@@ -14,3 +14,4 @@ pub mod Meaning
 pub mod PunctSamples
 pub mod Optional
 pub mod Includes
+pub mod Keeps

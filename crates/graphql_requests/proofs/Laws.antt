@@ -1,5 +1,6 @@
 -- The names in a document that breaks no rule are distinct.
 use Rattle.std.proofs.Common.{◌≡◌, Option, Some, None, option_map, List, [], ◌∷◌, ◌++◌, Result, Ok, Err, IfOk, refl, sym, ap, ◌∙◌, subst}
+use Rattle.std.specs.List.{AllByRecursion}
 use Rattle.std.specs.Map.{lookup}
 use Rattle.std.specs.Str.{bytes_eq}
 use Rattle.graphql_tokens.specs.declared.pos.Pos.{Pos}
@@ -16,6 +17,7 @@ use Rattle.graphql_requests.specs.grammar.Laws.{HasDistinctNames, AreDistinct, I
 use Rattle.graphql_requests.specs.grammar.Request.{Definition, operation, fragment}
 use Rattle.graphql_requests.specs.grammar.Requests.{requests}
 use Rattle.graphql_requests.specs.grammar.Rules.{breach_of, lack_of, missing_operation, or_else, first_operation, first_anonymous, first_operation_named, first_fragment_named}
+use Rattle.graphql_requests.proofs.DistinctObjects.{OfDefinition, in-operations, in-fragments, in-beside}
 use Rattle.graphql_requests.proofs.OneMore.{operation-place, fragment-place, none-inside}
 
 heads : {A : Type 0} (x y : A) (xs ys : List A) → x ∷ xs ≡ y ∷ ys → x ≡ y
@@ -148,9 +150,14 @@ beside ds rest unbroken complete (multiple es) e =
     named (operation (Some name) o ∷ l) xs es e = named l xs es e
     named (fragment name f ∷ l) xs es e = named l xs es e
 
-pub lawful : (ds : List Definition) (document : ExecutableDocument) → IsDocument requests ds document → IsLawful (document_tree document)
-lawful ds document h = subst IsLawful (sym h.made) (record { operations = beside ds [] h.unbroken h.complete (document_of ds).operations refl; fragments = distinct-fragments ds h.unbroken })
+pub lawful : (ds : List Definition) (document : ExecutableDocument) → AllByRecursion OfDefinition ds → IsDocument requests ds document → IsLawful (document_tree document)
+lawful ds document distinct h = subst IsLawful (sym h.made) (record {
+  operations = beside ds [] h.unbroken h.complete (document_of ds).operations refl;
+  fragments = distinct-fragments ds h.unbroken;
+  in_operations = in-beside (named_operations ds) ds (in-operations ds distinct) distinct;
+  in_fragments = in-fragments ds distinct;
+})
 
-pub lawful-answer : (ds : List Definition) (result : Result ExecutableDocument Error) → IsDocumentOf requests ds result → IfOk result (λ document. IsLawful (document_tree document))
-lawful-answer ds (Ok document) is = lawful ds document is
-lawful-answer ds (Err error) is = tt
+pub lawful-answer : (ds : List Definition) (result : Result ExecutableDocument Error) → AllByRecursion OfDefinition ds → IsDocumentOf requests ds result → IfOk result (λ document. IsLawful (document_tree document))
+lawful-answer ds (Ok document) distinct is = lawful ds document distinct is
+lawful-answer ds (Err error) distinct is = tt

@@ -11,4 +11,5 @@ pub mod HeadTakes
 pub mod OpenSets
 pub mod OpenParts
 pub mod Operations
+pub mod DistinctObjects
 pub mod Laws

@@ -87,7 +87,8 @@ pub fn parse_query(alloc: Global, text: &str) -> Result<ExecutableDocument>
     // These two hold of each text, also where memory runs out.
     ensures one_tree { (tokens : List SpecToken) → IsCutInto text.now tokens → HasOneTree requests tokens }
     ensures decided { (tokens : List SpecToken) → IsCutInto text.now tokens → IsDecided requests default_limits tokens }
-    // Operations have distinct names, or there is one without a name; and fragments have distinct names.
+    // Operations have distinct names, or there is one without a name; fragments have distinct names; and so have the
+    // fields of each object.
     ensures lawful { IfOk result (λ document. IsLawful (document_tree document)) }
 {
     parse_query_limited(alloc, text, Limits::default())

@@ -8,6 +8,7 @@ use Rattle.graphql_tokens.specs.tokens.Edition.{Current}
 use Rattle.graphql_syntax.specs.trees.RequestViews.{document_tree}
 use Rattle.graphql_requests.specs.grammar.Laws.{IsLawful}
 use Rattle.graphql_requests.specs.grammar.Requests.{requests}
+use Rattle.graphql_requests.proofs.DistinctObjects.{all-distinct}
 use Rattle.graphql_requests.proofs.Laws.{lawful-answer}
 use Rattle.graphql_requests.specs.reading.Request.{definitions_at}
 use Rattle.graphql_reading.specs.reading.Ahead.{tokens}
@@ -98,6 +99,6 @@ returns-clause-only c ds h =
 pub returns-clause-lawful : goal.returns-clause-lawful
 returns-clause-lawful c =
     elim c.match-read_request.branch [
-      | in-Ok w ↦ subst (λ answer. IfOk answer (λ document. IsLawful (document_tree document))) (sym w.answer-is) (lawful-answer (in_definitions w.in-Ok.definitions) _ w.document_of-answer.ensures)
+      | in-Ok w ↦ subst (λ answer. IfOk answer (λ document. IsLawful (document_tree document))) (sym w.answer-is) (lawful-answer (in_definitions w.in-Ok.definitions) _ (all-distinct c.args.limits (tokens c.new-cursor.result) (in_definitions w.in-Ok.definitions) (accepted requests definitions_at requests-are-read c.args.limits (tokens c.new-cursor.result) _ (in_definitions w.in-Ok.definitions) (ends c) (proper c) w.in-Ok.ensures.0).within) w.document_of-answer.ensures)
       | in-Err w ↦ subst (λ answer. IfOk answer (λ document. IsLawful (document_tree document))) (sym w.answer-is) tt
     ]
