@@ -20,8 +20,8 @@ use Rattle.graphql_reading.specs.grammar.Tests.{the_end}
 use Rattle.graphql_reading.specs.reading.Ahead.{Ahead, tokens}
 use Rattle.graphql_reading.specs.reading.Given.{Refuses}
 use Rattle.graphql_reading.specs.reading.Outcome.{Outcome, Read, Refused, Reader, whole_at}
-use Rattle.graphql_reading.proofs.Blind.{Blind}
-use Rattle.graphql_reading.proofs.Good.{Good, Has}
+use Rattle.graphql_reading.proofs.IgnoresPlaces.{IgnoresPlaces}
+use Rattle.graphql_reading.proofs.ReadsExactly.{ReadsExactly, HasPhrase}
 use Rattle.graphql_reading.proofs.Includes.{Includes, includes-whole}
 use Rattle.graphql_reading.proofs.TokenTests.{the_end-is}
 use Rattle.graphql_reading.proofs.Whole.{Says, whole-answers, one-tree}
@@ -29,9 +29,9 @@ use Rattle.graphql_reading.proofs.Whole.{Says, whole-answers, one-tree}
 -- What is known of a language and of the reader of its definitions: each budget has a phrase, places don't matter,
 -- the reader follows the current grammar exactly up to the end of the text, and the former grammar is part of it.
 pub record IsRead {D Document : Type 0} (language : Language D Document) (reader : Limits → Reader (List D)) : Type 0 where
-  pub has : Has (language.definitions Current)
-  pub blind : Blind (language.definitions Current) language.placeless
-  pub good : (b : Limits) → Good (language.definitions Current) b the_end (reader b)
+  pub has : HasPhrase (language.definitions Current)
+  pub blind : IgnoresPlaces (language.definitions Current) language.placeless
+  pub good : (b : Limits) → ReadsExactly (language.definitions Current) b the_end (reader b)
   pub includes : (b : Limits) → Includes (language.definitions Former b) (language.definitions Current b)
 
 says : {D Document : Type 0} (language : Language D Document) (reader : Limits → Reader (List D)) → IsRead language reader → (limits : Limits) (ts : List Token) (o : Outcome (List D)) → EndsOnce ts → AreProperButFaults ts → whole_at (reader limits) ts ≡ o → Says (grammar language Current) language.placeless limits ts o

@@ -334,32 +334,32 @@ taken test ts rest e = subst (TakesWithin (length ts)) e (takes-within test ts)
 pub not-taken : (test : Test) (ts rest : List Token) → take_at test ts ≡ Read false rest → length rest ≤ length ts
 not-taken test ts rest e = subst (TakesWithin (length ts)) e (takes-within test ts)
 
-abbrev Within : {A : Type 0} → ℕ → Outcome A → Type 0
-Within n (Read a rest) = length rest < n
-Within n (Refused v rest) = Unit {0}
+abbrev IsSubset : {A : Type 0} → ℕ → Outcome A → Type 0
+IsSubset n (Read a rest) = length rest < n
+IsSubset n (Refused v rest) = Unit {0}
 
-key-within : (ts : List Token) → Within (length ts) (key_at ts)
+key-within : (ts : List Token) → IsSubset (length ts) (key_at ts)
 key-within [] = tt
 key-within (t ∷ ts) = go (punct "}" t.bare) (any_name t.bare) refl refl
   where
     size : ℕ
     size = length (t ∷ ts)
 
-    by-colon : (w : Bool) (c : Token) (ts : List Token) → length (c ∷ ts) < size → Within size (keys (with-colon t (cond w (Read c ts) (Refused syntax (c ∷ ts)))))
+    by-colon : (w : Bool) (c : Token) (ts : List Token) → length (c ∷ ts) < size → IsSubset size (keys (with-colon t (cond w (Read c ts) (Refused syntax (c ∷ ts)))))
     by-colon true c ts less = omega (arith, less)
     by-colon false c ts less = tt
 
-    colon : (ts : List Token) → length ts < size → Within size (keys (with-colon t (one_at (punct ":") ts)))
+    colon : (ts : List Token) → length ts < size → IsSubset size (keys (with-colon t (one_at (punct ":") ts)))
     colon [] less = tt
     colon (c ∷ ts) less = by-colon (punct ":" c.bare) c ts less
 
-    go : (w v : Bool) → punct "}" t.bare ≡ w → any_name t.bare ≡ v → Within size (key_at (t ∷ ts))
+    go : (w v : Bool) → punct "}" t.bare ≡ w → any_name t.bare ≡ v → IsSubset size (key_at (t ∷ ts))
     go true v e k = rw e (omega arith)
     go false true e k = rw (e, k) (colon ts (omega arith))
     go false false e k = rw (e, k) tt
 
 pub takes-key : Takes key_at
-takes-key ts key rest e = subst (Within (length ts)) e (key-within ts)
+takes-key ts key rest e = subst (IsSubset (length ts)) e (key-within ts)
 
 -- ---- what waits outside
 

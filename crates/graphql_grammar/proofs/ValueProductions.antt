@@ -15,14 +15,14 @@ use Rattle.graphql_grammar.specs.grammar.Values.{Value, true_of, enumeration_of,
 use Rattle.graphql_reading.specs.reading.Outcome.{Reader}
 use Rattle.graphql_grammar.specs.reading.Values.{word_at, number_at, string_at, block_at, variable_at, simple_at, simple_first, value_first, list_at, field_at, object_at, by_first, value_at}
 use Rattle.graphql_reading.proofs.Parts.{nested, below, of_values}
-use Rattle.graphql_reading.proofs.Theory.{Extends, Within, outside, anything}
+use Rattle.graphql_reading.proofs.Theory.{Extends, IsSubset, outside, anything}
 use Rattle.graphql_reading.proofs.TokenTests.{punctuator, named, punct-within, keyword-within, any_name-within, name_but-within, keyword-sample, name-sample}
 use Rattle.graphql_grammar.proofs.ValueTests.{number, quoted, block, any_number-within, any_string-within, any_block-within, dollar-within, any_number-inner, any_string-inner, any_block-inner, dollar-inner}
 use Rattle.graphql_reading.proofs.PunctSamples.{has-close_list, has-close_object, has-colon}
-use Rattle.graphql_reading.proofs.Good.{Good, Has, Led, good-one, good-punct, good-keyword, good-name, good-name_but, good-mapped, good-next, good-led, good-many, good-choose, good-nested, good-deep, good-same, led-one, led-within, led-same, led-mapped, led-then, led-either, led-nested, has-token, has-pair, has-map, has-star, has-first, opens}
+use Rattle.graphql_reading.proofs.ReadsExactly.{ReadsExactly, HasPhrase, BeginsWith, good-one, good-punct, good-keyword, good-name, good-name_but, good-mapped, good-next, good-led, good-many, good-choose, good-nested, good-deep, good-same, led-one, led-within, led-same, led-mapped, led-then, led-either, led-nested, has-token, has-pair, has-map, has-star, has-first, opens}
 use Rattle.graphql_reading.proofs.Meaning.{good-meaning, led-meaning, blind-meaning}
 use Rattle.graphql_grammar.proofs.Strings.{string-decides, block-decides}
-use Rattle.graphql_reading.proofs.Blind.{Blind, blind-one, blind-then, blind-mapped, blind-either, blind-star}
+use Rattle.graphql_reading.proofs.IgnoresPlaces.{IgnoresPlaces, blind-one, blind-then, blind-mapped, blind-either, blind-star}
 use Rattle.graphql_reading.proofs.Loop.{Takes, takes-one}
 use Prim.Native.String.{String}
 
@@ -44,17 +44,17 @@ is-other spelling = go (bytes_eq spelling (codes "true")) (bytes_eq spelling (co
     go false false true e = absurd cc
     go false false false e = (refl, refl, refl)
 
-led-word : Led (λ c. a_word) any_name
+led-word : BeginsWith (λ c. a_word) any_name
 led-word =
     led-either (led-mapped (led-within (keyword-within "true" refl) led-one))
     (led-either (led-mapped (led-within (keyword-within "false" refl) led-one))
     (led-either (led-mapped (led-within (keyword-within "null" refl) led-one))
     (led-mapped (led-within (name_but-within words (λ spelling h. refl)) led-one))))
 
-led-enumeration : {g : Test} → ((spelling : List ℕ) → IsTrue (not (is_among spelling words)) → IsTrue (g (named spelling))) → Led (λ c. mapped enumeration_of (one (name_but words))) g
+led-enumeration : {g : Test} → ((spelling : List ℕ) → IsTrue (not (is_among spelling words)) → IsTrue (g (named spelling))) → BeginsWith (λ c. mapped enumeration_of (one (name_but words))) g
 led-enumeration h = led-mapped (led-within (name_but-within words h) led-one)
 
-good-word : {b : Limits} {f : Test} → Good (λ c. a_word) b f word_at
+good-word : {b : Limits} {f : Test} → ReadsExactly (λ c. a_word) b f word_at
 good-word =
     good-choose (led-mapped led-one)
     (led-either (led-mapped (led-within (keyword-within "false" refl) led-one)) (led-either (led-mapped (led-within (keyword-within "null" refl) led-one)) (led-enumeration (λ spelling h. (is-other spelling h).0))))
@@ -67,10 +67,10 @@ good-word =
     (good-mapped (good-keyword "null"))
     (good-mapped (good-name_but words))))
 
-has-word : Has (λ c. a_word)
+has-word : HasPhrase (λ c. a_word)
 has-word = has-first {p = λ c. mapped true_of (one (keyword "true"))} (has-map (has-token (keyword-sample "true" refl (refl, (refl, (refl, (refl, tt)))))))
 
-blind-word : Blind (λ c. a_word) bare_node
+blind-word : IgnoresPlaces (λ c. a_word) bare_node
 blind-word =
     blind-either (blind-mapped (λ t. refl) (blind-one (keyword "true")))
     (blind-either (blind-mapped (λ t. refl) (blind-one (keyword "false")))
@@ -79,40 +79,40 @@ blind-word =
 
 -- ---- numbers, strings and variables
 
-led-number : {g : Test} → ((spelling : List ℕ) → IsTrue (g (number spelling))) → Led (λ c. a_number) g
+led-number : {g : Test} → ((spelling : List ℕ) → IsTrue (g (number spelling))) → BeginsWith (λ c. a_number) g
 led-number h = led-mapped (led-within (any_number-within h) led-one)
 
-led-string : {g : Test} → ((spelling : List ℕ) → IsTrue (g (quoted spelling))) → Led (λ c. a_string Current) g
+led-string : {g : Test} → ((spelling : List ℕ) → IsTrue (g (quoted spelling))) → BeginsWith (λ c. a_string Current) g
 led-string h = led-mapped (led-within (any_string-within h) (led-meaning any_string (StringStands Current)))
 
-led-block : {g : Test} → ((spelling : List ℕ) → IsTrue (g (block spelling))) → Led (λ c. a_block) g
+led-block : {g : Test} → ((spelling : List ℕ) → IsTrue (g (block spelling))) → BeginsWith (λ c. a_block) g
 led-block h = led-mapped (led-within (any_block-within h) (led-meaning any_block BlockStands))
 
-led-variable : (vars : Bool) {g : Test} → (vars ≡ true → IsTrue (g (punctuator "$"))) → Led (λ c. a_variable vars) g
+led-variable : (vars : Bool) {g : Test} → (vars ≡ true → IsTrue (g (punctuator "$"))) → BeginsWith (λ c. a_variable vars) g
 led-variable vars h = led-mapped (led-then (led-within (dollar-within vars h) led-one))
 
-good-number : {b : Limits} {f : Test} → Good (λ c. a_number) b f number_at
+good-number : {b : Limits} {f : Test} → ReadsExactly (λ c. a_number) b f number_at
 good-number = good-mapped (good-one any_number-inner)
 
-good-string : {b : Limits} {f : Test} → Good (λ c. a_string Current) b f string_at
+good-string : {b : Limits} {f : Test} → ReadsExactly (λ c. a_string Current) b f string_at
 good-string = good-mapped (good-meaning any_string-inner string-decides)
 
-good-block : {b : Limits} {f : Test} → Good (λ c. a_block) b f block_at
+good-block : {b : Limits} {f : Test} → ReadsExactly (λ c. a_block) b f block_at
 good-block = good-mapped (good-meaning any_block-inner block-decides)
 
-good-variable : (vars : Bool) {b : Limits} {f : Test} → Good (λ c. a_variable vars) b f (variable_at vars)
+good-variable : (vars : Bool) {b : Limits} {f : Test} → ReadsExactly (λ c. a_variable vars) b f (variable_at vars)
 good-variable vars = good-mapped (good-next (has-token name-sample) (good-one (dollar-inner vars)) good-name)
 
 -- ---- what is neither a list nor an object
 
-led-simple : (vars : Bool) → Led (λ c. a_simple_value Current vars) (simple_first vars)
+led-simple : (vars : Bool) → BeginsWith (λ c. a_simple_value Current vars) (simple_first vars)
 led-simple vars =
     led-either (led-within (any_name-within (λ spelling. refl)) led-word)
     (led-either (led-number (λ spelling. refl))
     (led-either (led-string (λ spelling. refl))
     (led-either (led-block (λ spelling. refl)) (led-variable vars (λ allowed. allowed)))))
 
-good-simple : (vars : Bool) {b : Limits} {f : Test} → Good (λ c. a_simple_value Current vars) b f (simple_at vars)
+good-simple : (vars : Bool) {b : Limits} {f : Test} → ReadsExactly (λ c. a_simple_value Current vars) b f (simple_at vars)
 good-simple vars =
     good-choose led-word
     (led-either (led-number (λ spelling. refl)) (led-either (led-string (λ spelling. refl)) (led-either (led-block (λ spelling. refl)) (led-variable vars (λ allowed. refl)))))
@@ -125,10 +125,10 @@ good-simple vars =
     good-string
     (good-choose {first = any_block} (led-block (λ spelling. refl)) (led-variable vars (λ allowed. refl)) good-block (good-variable vars))))
 
-has-simple : (vars : Bool) → Has (λ c. a_simple_value Current vars)
+has-simple : (vars : Bool) → HasPhrase (λ c. a_simple_value Current vars)
 has-simple vars = has-first {p = λ c. a_word} has-word
 
-blind-simple : (vars : Bool) → Blind (λ c. a_simple_value Current vars) bare_node
+blind-simple : (vars : Bool) → IgnoresPlaces (λ c. a_simple_value Current vars) bare_node
 blind-simple vars =
     blind-either blind-word
     (blind-either (blind-mapped (λ t. refl) (blind-one any_number))
@@ -138,10 +138,10 @@ blind-simple vars =
 
 -- ---- lists and objects
 
-led-list : {v : Limits → Rel Value} → Led (λ c. a_list (v c)) (punct "[")
+led-list : {v : Limits → Rel Value} → BeginsWith (λ c. a_list (v c)) (punct "[")
 led-list = led-mapped (led-then led-one)
 
-good-list : (vars : Bool) {v : Limits → Rel Value} {b : Limits} {f : Test} {r : Reader Value} → Led v (value_first vars) → Good v b anything r → Good (λ c. a_list (v c)) b f (list_at vars r)
+good-list : (vars : Bool) {v : Limits → Rel Value} {b : Limits} {f : Test} {r : Reader Value} → BeginsWith v (value_first vars) → ReadsExactly v b anything r → ReadsExactly (λ c. a_list (v c)) b f (list_at vars r)
 good-list vars {v = v} led h =
     good-mapped (good-next (has-pair (has-star {p = v}) has-close_list) (good-punct "[")
     (good-led led-one has-close_list (good-many led (punct-within "]" refl) h)
@@ -151,18 +151,18 @@ nodes-same : (l : List Value) → map (λ v. v.node) (map bare_node l) ≡ map (
 nodes-same [] = refl
 nodes-same (v ∷ l) = ap (λ (more : List Tree). v.node ∷ more) (nodes-same l)
 
-blind-list : {v : Limits → Rel Value} → Blind v bare_node → Blind (λ c. a_list (v c)) bare_node
+blind-list : {v : Limits → Rel Value} → IgnoresPlaces v bare_node → IgnoresPlaces (λ c. a_list (v c)) bare_node
 blind-list h =
     blind-mapped (λ x. ap (λ (l : List Tree). at {A = Tree} (without_place x.0) (list (trees_of l))) (sym (nodes-same x.1.0)))
     (blind-then (blind-one (punct "[")) (blind-then (blind-star h) (blind-one (punct "]"))))
 
-pub led-field : {v : Limits → Rel Value} → Led (λ c. a_field (v c)) any_name
+pub led-field : {v : Limits → Rel Value} → BeginsWith (λ c. a_field (v c)) any_name
 led-field = led-mapped (led-then led-one)
 
-pub good-field : {v : Limits → Rel Value} {b : Limits} {f : Test} {r : Reader Value} → Has v → Good v b f r → Good (λ c. a_field (v c)) b f (field_at r)
+pub good-field : {v : Limits → Rel Value} {b : Limits} {f : Test} {r : Reader Value} → HasPhrase v → ReadsExactly v b f r → ReadsExactly (λ c. a_field (v c)) b f (field_at r)
 good-field has h = good-mapped (good-next (has-pair has-colon has) good-name (good-next has (good-punct ":") h))
 
-pub has-field : {v : Limits → Rel Value} → Has v → Has (λ c. a_field (v c))
+pub has-field : {v : Limits → Rel Value} → HasPhrase v → HasPhrase (λ c. a_field (v c))
 has-field has = has-map (has-pair (has-token name-sample) (has-pair has-colon has))
 
 -- a name and a tree of a value hold no places
@@ -173,19 +173,19 @@ map-as-is : {A : Type 0} (l : List A) → map as-is l ≡ l
 map-as-is [] = refl
 map-as-is (a ∷ l) = ap (λ (more : List _). a ∷ more) (map-as-is l)
 
-pub blind-field : {v : Limits → Rel Value} → Blind v bare_node → Blind (λ c. a_field (v c)) as-is
+pub blind-field : {v : Limits → Rel Value} → IgnoresPlaces v bare_node → IgnoresPlaces (λ c. a_field (v c)) as-is
 blind-field h = blind-mapped (λ x. refl) (blind-then (blind-one any_name) (blind-then (blind-one (punct ":")) h))
 
-led-object : {v : Limits → Rel Value} → Led (λ c. an_object (v c)) (punct "{")
+led-object : {v : Limits → Rel Value} → BeginsWith (λ c. an_object (v c)) (punct "{")
 led-object = led-mapped (led-then led-one)
 
-good-object : {v : Limits → Rel Value} {b : Limits} {f : Test} {r : Reader Value} → Has v → Good v b anything r → Good (λ c. an_object (v c)) b f (object_at r)
+good-object : {v : Limits → Rel Value} {b : Limits} {f : Test} {r : Reader Value} → HasPhrase v → ReadsExactly v b anything r → ReadsExactly (λ c. an_object (v c)) b f (object_at r)
 good-object {v} has h =
     good-mapped (good-next (has-pair (has-star {p = λ c. a_field (v c)}) has-close_object) (good-punct "{")
     (good-led led-one has-close_object (good-many (led-field {v = v}) (punct-within "}" refl) (good-field has h))
     (good-punct "}")))
 
-blind-object : {v : Limits → Rel Value} → Blind v bare_node → Blind (λ c. an_object (v c)) bare_node
+blind-object : {v : Limits → Rel Value} → IgnoresPlaces v bare_node → IgnoresPlaces (λ c. an_object (v c)) bare_node
 blind-object h =
     blind-mapped (λ x. ap (λ (l : List (List ℕ × Tree)). at {A = Tree} (without_place x.0) (object (fields_of (merged l)))) (sym (map-as-is x.1.0)))
     (blind-then (blind-one (punct "{")) (blind-then (blind-star (blind-field h)) (blind-one (punct "}"))))
@@ -213,7 +213,7 @@ is-value vars c x t = go c.values
     go (suc n) = (λ h. h, λ h. h)
 
 -- a value begins as what is simple does, or with one of the two brackets
-within-simple : (vars : Bool) → Within (simple_first vars) (value_first vars)
+within-simple : (vars : Bool) → IsSubset (simple_first vars) (value_first vars)
 within-simple vars = record { by = λ t e. first-of-three (simple_first vars t) (punct "[" t) (punct "{" t) e }
   where
     first-of-three : (u v w : Bool) → IsTrue u → IsTrue (u || v || w)
@@ -226,38 +226,38 @@ list-begins vars = refl
 object-begins : (vars : Bool) → IsTrue (value_first vars (punctuator "{"))
 object-begins vars = refl
 
-led-by-first : (vars : Bool) {l o : Limits → Rel Value} → Led l (punct "[") → Led o (punct "{") → Led (by-first vars l o) (value_first vars)
+led-by-first : (vars : Bool) {l o : Limits → Rel Value} → BeginsWith l (punct "[") → BeginsWith o (punct "{") → BeginsWith (by-first vars l o) (value_first vars)
 led-by-first vars led-l led-o =
     led-either (led-within (within-simple vars) (led-simple vars))
     (led-either (led-within (punct-within "[" (list-begins vars)) led-l) (led-within (punct-within "{" (object-begins vars)) led-o))
 
-good-by-first : (vars : Bool) {l o : Limits → Rel Value} {b : Limits} {f : Test} {r s : Reader Value} → Led l (punct "[") → Led o (punct "{") → Good l b f r → Good o b f s → Good (by-first vars l o) b f (by_first vars r s)
+good-by-first : (vars : Bool) {l o : Limits → Rel Value} {b : Limits} {f : Test} {r s : Reader Value} → BeginsWith l (punct "[") → BeginsWith o (punct "{") → ReadsExactly l b f r → ReadsExactly o b f s → ReadsExactly (by-first vars l o) b f (by_first vars r s)
 good-by-first vars led-l led-o l o =
     good-choose (led-simple vars)
     (led-either (led-within (punct-within "[" refl) led-l) (led-within (punct-within "{" refl) led-o))
     (good-simple vars)
     (good-choose led-l (led-within (punct-within "{" refl) led-o) l o)
 
-led-lists : (vars : Bool) → Led (nested of_values (lists vars)) (punct "[")
+led-lists : (vars : Bool) → BeginsWith (nested of_values (lists vars)) (punct "[")
 led-lists vars = led-nested of_values (led-list {v = values vars})
 
-led-objects : (vars : Bool) → Led (nested of_values (objects vars)) (punct "{")
+led-objects : (vars : Bool) → BeginsWith (nested of_values (objects vars)) (punct "{")
 led-objects vars = led-nested of_values (led-object {v = values vars})
 
-pub led-value : (vars : Bool) → Led (λ c. value Current vars c.values) (value_first vars)
+pub led-value : (vars : Bool) → BeginsWith (λ c. value Current vars c.values) (value_first vars)
 led-value vars = led-same (is-value vars) (led-by-first vars (led-lists vars) (led-objects vars))
 
-pub has-value : (vars : Bool) → Has (λ c. value Current vars c.values)
+pub has-value : (vars : Bool) → HasPhrase (λ c. value Current vars c.values)
 has-value vars = record { some = λ c. some c c.values }
   where
     some : (c : Limits) (n : ℕ) → Extends (value Current vars n) []
     some c zero = (has-simple vars).some c
     some c (suc n) = (has-first {p = λ c. a_simple_value Current vars} {q = λ c. a_list (value Current vars n) ∪ an_object (value Current vars n)} (has-simple vars)).some c
 
-good-either : (vars : Bool) {b : Limits} {f : Test} {r s : Reader Value} → Good (nested of_values (lists vars)) b f r → Good (nested of_values (objects vars)) b f s → Good (values vars) b f (by_first vars r s)
+good-either : (vars : Bool) {b : Limits} {f : Test} {r s : Reader Value} → ReadsExactly (nested of_values (lists vars)) b f r → ReadsExactly (nested of_values (objects vars)) b f s → ReadsExactly (values vars) b f (by_first vars r s)
 good-either vars l o = good-same (is-value vars) (good-by-first vars (led-lists vars) (led-objects vars) l o)
 
-good-within : (vars : Bool) (n : ℕ) (b : Limits) {f : Test} → b.values ≡ n → Good (values vars) b f (value_at vars n)
+good-within : (vars : Bool) (n : ℕ) (b : Limits) {f : Test} → b.values ≡ n → ReadsExactly (values vars) b f (value_at vars n)
 unfolding value_at
 good-within vars zero b e =
     good-either vars
@@ -265,22 +265,22 @@ good-within vars zero b e =
     (good-deep of_values e (opens (punct "{") (has-pair (has-star {p = λ c. a_field (value Current vars c.values)}) has-close_object)) (led-object {v = values vars}))
 good-within vars (suc n) b {f} e =
     let inner : Limits = record b { values = n } in
-    subst (λ (k : ℕ). Good (values vars) (record b { values = k }) f (value_at vars (suc n))) (sym e)
+    subst (λ (k : ℕ). ReadsExactly (values vars) (record b { values = k }) f (value_at vars (suc n))) (sym e)
     (good-either vars {b = record b { values = suc n }}
     (good-nested of_values {b = inner} (good-list vars (led-value vars) (good-within vars n inner refl)))
     (good-nested of_values {b = inner} (good-object (has-value vars) (good-within vars n inner refl))))
 
 -- Nothing is looked ahead at: a value is one token, ends with a closing bracket, or is a variable.
-pub good-value : (vars : Bool) {b : Limits} {f : Test} → Good (λ c. value Current vars c.values) b f (value_at vars b.values)
+pub good-value : (vars : Bool) {b : Limits} {f : Test} → ReadsExactly (λ c. value Current vars c.values) b f (value_at vars b.values)
 good-value vars {b} = good-within vars b.values b refl
 
 -- ---- places
 
-blind-within : (vars : Bool) (n : ℕ) → Blind (λ c. value Current vars n) bare_node
+blind-within : (vars : Bool) (n : ℕ) → IgnoresPlaces (λ c. value Current vars n) bare_node
 blind-within vars zero = blind-simple vars
 blind-within vars (suc n) = blind-either (blind-simple vars) (blind-either (blind-list (blind-within vars n)) (blind-object (blind-within vars n)))
 
-pub blind-value : (vars : Bool) → Blind (λ c. value Current vars c.values) bare_node
+pub blind-value : (vars : Bool) → IgnoresPlaces (λ c. value Current vars c.values) bare_node
 blind-value vars = record { by = λ c. (blind-within vars c.values).by c; fixed = λ c. (blind-within vars c.values).fixed c }
 
 -- ---- a token at least

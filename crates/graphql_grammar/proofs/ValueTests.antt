@@ -10,7 +10,7 @@ use Rattle.graphql_tokens.specs.declared.lexer.TokenKind.TheVariants as kinds
 use Rattle.graphql_reading.specs.grammar.Tests.{Test, punct, any_number, any_string, any_block}
 use Rattle.graphql_tokens.specs.tokens.Kinds.{is_number, is_string, is_block}
 use Rattle.graphql_grammar.specs.grammar.Values.{dollar}
-use Rattle.graphql_reading.proofs.Theory.{Within, IsInner}
+use Rattle.graphql_reading.proofs.Theory.{IsSubset, IsInner}
 use Rattle.graphql_reading.proofs.TokenTests.{punctuator, punct-is, sample, are-ascii, ascii-scalars, ascii-bytes, HasSample}
 
 -- ---- kinds
@@ -59,16 +59,16 @@ dollar-is vars t e =
 
 -- ---- one test within another
 
-pub any_number-within : {g : Test} → ((spelling : List ℕ) → IsTrue (g (number spelling))) → Within any_number g
+pub any_number-within : {g : Test} → ((spelling : List ℕ) → IsTrue (g (number spelling))) → IsSubset any_number g
 any_number-within {g} h = record { by = λ t e. subst (λ (t : Bare). IsTrue (g t)) (sym (any_number-is t e)) (h t.spelling) }
 
-pub any_string-within : {g : Test} → ((spelling : List ℕ) → IsTrue (g (quoted spelling))) → Within any_string g
+pub any_string-within : {g : Test} → ((spelling : List ℕ) → IsTrue (g (quoted spelling))) → IsSubset any_string g
 any_string-within {g} h = record { by = λ t e. subst (λ (t : Bare). IsTrue (g t)) (sym (any_string-is t e)) (h t.spelling) }
 
-pub any_block-within : {g : Test} → ((spelling : List ℕ) → IsTrue (g (block spelling))) → Within any_block g
+pub any_block-within : {g : Test} → ((spelling : List ℕ) → IsTrue (g (block spelling))) → IsSubset any_block g
 any_block-within {g} h = record { by = λ t e. subst (λ (t : Bare). IsTrue (g t)) (sym (any_block-is t e)) (h t.spelling) }
 
-pub dollar-within : (vars : Bool) {g : Test} → (vars ≡ true → IsTrue (g (punctuator "$"))) → Within (dollar vars) g
+pub dollar-within : (vars : Bool) {g : Test} → (vars ≡ true → IsTrue (g (punctuator "$"))) → IsSubset (dollar vars) g
 dollar-within vars {g} h = record { by = λ t e. let is = dollar-is vars t e in subst (λ (t : Bare). IsTrue (g t)) (sym is.0) (h is.1) }
 
 -- ---- tests that no last token passes

@@ -6,8 +6,8 @@ use Rattle.graphql_reading.specs.grammar.Limits.{Limits}
 use Rattle.graphql_reading.specs.grammar.Relations.{Rel, ◌⨾◌, ◌∪◌, mapped, star, plus, opt}
 use Rattle.graphql_reading.specs.reading.Outcome.{Reader, then_at, mapped_at, none_at, many_at, plus_at, opt_at}
 use Rattle.graphql_reading.proofs.Parts.{none, nested, below, Nesting, of_selections, left}
-use Rattle.graphql_reading.proofs.Theory.{Starts, Within, outside, within-begins, then-exact, none-exact, star-starts, leads-starts, choose-exact, Begins, many-exact, plus-exact}
-use Rattle.graphql_reading.proofs.Good.{Good, Has, Led, good-mapped, good-same, led-mapped}
+use Rattle.graphql_reading.proofs.Theory.{Starts, IsSubset, outside, within-begins, then-exact, none-exact, star-starts, leads-starts, choose-exact, Begins, many-exact, plus-exact}
+use Rattle.graphql_reading.proofs.ReadsExactly.{ReadsExactly, HasPhrase, BeginsWith, good-mapped, good-same, led-mapped}
 
 abbrev nothing : {A : Type 0} → Option A
 nothing = None
@@ -17,16 +17,16 @@ pub record Opens {A : Type 0} (q : Limits → Rel A) (f g : Test) : Type 0 where
   pub by : Starts q f g
 
 -- a part, and any other
-pub good-seq : {A B : Type 0} {p : Limits → Rel A} {q : Limits → Rel B} {b : Limits} {f g : Test} {r : Reader A} {s : Reader B} → Opens q f g → Has q → Good p b g r → Good q b f s → Good (λ c. p c ⨾ q c) b f (then_at r s)
+pub good-seq : {A B : Type 0} {p : Limits → Rel A} {q : Limits → Rel B} {b : Limits} {f g : Test} {r : Reader A} {s : Reader B} → Opens q f g → HasPhrase q → ReadsExactly p b g r → ReadsExactly q b f s → ReadsExactly (λ c. p c ⨾ q c) b f (then_at r s)
 good-seq {p = p} {q = q} {b = b} {f = f} {g = g} {r = r} {s = s} opens has h k = record { at = λ ts. then-exact p q b f g r s ts opens.by has.some (h.at ts) (λ a rest _. k.at rest) }
 
-pub opens-led : {A : Type 0} {p : Limits → Rel A} {f first g : Test} → Led p first → Within first g → Opens p f g
+pub opens-led : {A : Type 0} {p : Limits → Rel A} {f first g : Test} → BeginsWith p first → IsSubset first g → Opens p f g
 opens-led {p = p} {first = first} {g = g} led h = record { by = λ c x y a m begins. within-begins first g h (x ++ y) (led.by c x y a m) }
 
-pub opens-star : {A : Type 0} {p : Limits → Rel A} {f first g : Test} → Led p first → Within first g → Within f g → Opens (λ c. star (p c)) f g
+pub opens-star : {A : Type 0} {p : Limits → Rel A} {f first g : Test} → BeginsWith p first → IsSubset first g → IsSubset f g → Opens (λ c. star (p c)) f g
 opens-star {p = p} {f = f} {first = first} {g = g} led h k = record { by = star-starts p f first g led.by h k }
 
-pub opens-opt : {A : Type 0} {p : Limits → Rel A} {f first g : Test} → Led p first → Within first g → Within f g → Opens (λ c. opt (p c)) f g
+pub opens-opt : {A : Type 0} {p : Limits → Rel A} {f first g : Test} → BeginsWith p first → IsSubset first g → IsSubset f g → Opens (λ c. opt (p c)) f g
 opens-opt {A} {p} {f} {first} {g} led h k = record { by = by }
   where
     by : Starts (λ c. opt (p c)) f g
@@ -37,15 +37,15 @@ pub opens-then : {A B : Type 0} {p : Limits → Rel A} {q : Limits → Rel B} {f
 opens-then {p = p} {q = q} {f = f} {g = g} {h = h} o n = record { by = λ c x y a m begins. subst (λ (l : List Token). Begins h l) (sym (append_assoc m.front m.back y) ∙ ap (λ (l : List Token). l ++ y) (sym m.joined)) (o.by c m.front (m.back ++ y) a.0 m.first (n.by c m.back y a.1 m.second begins)) }
 
 -- any number of parts that look ahead
-pub good-many-ahead : {A : Type 0} {p : Limits → Rel A} {b : Limits} {f first g : Test} {r : Reader A} → Led p first → Within first g → Within f g → Within f (outside first) → Good p b g r → Good (λ c. star (p c)) b f (many_at first r)
+pub good-many-ahead : {A : Type 0} {p : Limits → Rel A} {b : Limits} {f first g : Test} {r : Reader A} → BeginsWith p first → IsSubset first g → IsSubset f g → IsSubset f (outside first) → ReadsExactly p b g r → ReadsExactly (λ c. star (p c)) b f (many_at first r)
 good-many-ahead {p = p} {b = b} {f = f} {first = first} {g = g} {r = r} led h k away good = record { at = many-exact p b f first g r led.by h k away good.at }
 
-pub good-plus-ahead : {A : Type 0} {p : Limits → Rel A} {b : Limits} {f first g : Test} {r : Reader A} → Led p first → Within first g → Within f g → Within f (outside first) → Good p b g r → Good (λ c. plus (p c)) b f (plus_at first r)
+pub good-plus-ahead : {A : Type 0} {p : Limits → Rel A} {b : Limits} {f first g : Test} {r : Reader A} → BeginsWith p first → IsSubset first g → IsSubset f g → IsSubset f (outside first) → ReadsExactly p b g r → ReadsExactly (λ c. plus (p c)) b f (plus_at first r)
 good-plus-ahead {p = p} {b = b} {f = f} {first = first} {g = g} {r = r} led h k away good = record { at = plus-exact p b f first g r led.by h k away good.at }
 
 -- ---- optional parts
 
-pub has-opt : {A : Type 0} {p : Limits → Rel A} → Has (λ c. opt (p c))
+pub has-opt : {A : Type 0} {p : Limits → Rel A} → HasPhrase (λ c. opt (p c))
 has-opt {p = p} = record { some = λ c. record { tail = []; tree = None; holds = refl; proper = tt } }
 
 is-opt : {A : Type 0} (p : Rel A) (x : List Token) (t : Option A) → (mapped Some p ∪ none None) x t ↔ opt p x t
@@ -59,7 +59,7 @@ is-opt {A} p x t = (to t, from t)
     from None e = inr (e, refl)
     from (Some a) e = inl (record { value = a; holds = e; is = refl })
 
-pub good-opt : {A : Type 0} {p : Limits → Rel A} {b : Limits} {f first : Test} {r : Reader A} → Led p first → Within f (outside first) → Good p b f r → Good (λ c. opt (p c)) b f (opt_at first r)
+pub good-opt : {A : Type 0} {p : Limits → Rel A} {b : Limits} {f first : Test} {r : Reader A} → BeginsWith p first → IsSubset f (outside first) → ReadsExactly p b f r → ReadsExactly (λ c. opt (p c)) b f (opt_at first r)
 unfolding opt_at
 good-opt {A} {p} {b} {f} {first} {r} led away h = good-same {p = λ c. mapped Some (p c) ∪ none None} (λ c. is-opt (p c)) (record { at = λ ts. choose-exact (λ c. mapped Some (p c)) (λ c. none None) b f first (mapped_at Some r) (none_at None) ts (leads-starts _ f first (led-mapped {f = Some} led).by) starts ((good-mapped {g = Some} h).at ts) (none-exact None b f ts) })
   where
@@ -67,7 +67,7 @@ good-opt {A} {p} {b} {f} {first} {r} led away h = good-same {p = λ c. mapped So
     starts c x y t m begins = within-begins f (outside first) away (x ++ y) (subst (λ (l : List Token). Begins f (l ++ y)) (sym m.0) begins)
 
 -- an optional part and another
-pub led-opt : {A B : Type 0} {p : Limits → Rel A} {q : Limits → Rel B} {g : Test} → Led p g → Led q g → Led (λ c. opt (p c) ⨾ q c) g
+pub led-opt : {A B : Type 0} {p : Limits → Rel A} {q : Limits → Rel B} {g : Test} → BeginsWith p g → BeginsWith q g → BeginsWith (λ c. opt (p c) ⨾ q c) g
 led-opt {A} {B} {p} {q} {g} h k = record { by = λ c x y a m. subst (λ (l : List Token). Begins g l) (sym (append_assoc m.front m.back y) ∙ ap (λ (l : List Token). l ++ y) (sym m.joined)) (go c m.front (m.back ++ y) a.0 m.first (k.by c m.back y a.1 m.second)) }
   where
     go : (c : Limits) (x y : List Token) (o : Option A) → opt (p c) x o → Begins g y → Begins g (x ++ y)
@@ -75,7 +75,7 @@ led-opt {A} {B} {p} {q} {g} h k = record { by = λ c x y a m. subst (λ (l : Lis
     go c x y (Some a) e begins = h.by c x y a e
 
 -- any number of parts and another
-pub led-star : {A B : Type 0} {p : Limits → Rel A} {q : Limits → Rel B} {g : Test} → Led p g → Led q g → Led (λ c. star (p c) ⨾ q c) g
+pub led-star : {A B : Type 0} {p : Limits → Rel A} {q : Limits → Rel B} {g : Test} → BeginsWith p g → BeginsWith q g → BeginsWith (λ c. star (p c) ⨾ q c) g
 led-star {A} {B} {p} {q} {g} h k = record { by = λ c x y a m. subst (λ (l : List Token). Begins g l) (sym (append_assoc m.front m.back y) ∙ ap (λ (l : List Token). l ++ y) (sym m.joined)) (go c m.front (m.back ++ y) a.0 m.first (k.by c m.back y a.1 m.second)) }
   where
     go : (c : Limits) (x y : List Token) (l : List A) → star (p c) x l → Begins g y → Begins g (x ++ y)

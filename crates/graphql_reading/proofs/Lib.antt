@@ -2,8 +2,8 @@ pub mod Parts
 pub mod ProperTokens
 pub mod Theory
 pub mod TokenTests
-pub mod Good
-pub mod Blind
+pub mod ReadsExactly
+pub mod IgnoresPlaces
 pub mod Extra
 pub mod Whole
 pub mod Loop

@@ -8,9 +8,9 @@ use Rattle.graphql_reading.specs.grammar.Fronts.{Verdict, syntax}
 use Rattle.graphql_reading.specs.reading.Outcome.{Outcome, Read, Refused, Reader, ◌>>=◌, repeat_at, many_at, plus_at, with_front}
 pub use Rattle.graphql_reading.specs.reading.Outcome.{Takes}
 use Rattle.graphql_reading.proofs.Theory.{Exact, shrinks}
-use Rattle.graphql_reading.proofs.Good.{Good, Led}
+use Rattle.graphql_reading.proofs.ReadsExactly.{ReadsExactly, BeginsWith}
 
-pub takes-one : {A : Type 0} {p : Limits → Rel A} {b : Limits} {f first : Test} {r : Reader A} → Good p b f r → Led p first → (ts : List Token) (a : A) (rest : List Token) → r ts ≡ Read a rest → length rest < length ts
+pub takes-one : {A : Type 0} {p : Limits → Rel A} {b : Limits} {f first : Test} {r : Reader A} → ReadsExactly p b f r → BeginsWith p first → (ts : List Token) (a : A) (rest : List Token) → r ts ≡ Read a rest → length rest < length ts
 takes-one {p = p} {b = b} {f = f} {first = first} {r = r} good led ts a rest e = shrinks p first b f ts a rest led.by (subst (Exact p b f ts) e (good.at ts))
 
 abbrev pub pair-read : {A : Type 0} → A → List A → List Token → Outcome (A × List A)

@@ -6,19 +6,19 @@ use Rattle.graphql_reading.specs.grammar.Limits.{Limits}
 use Rattle.graphql_reading.specs.grammar.Relations.{Rel, ◌∪◌, star, plus}
 use Rattle.graphql_reading.specs.reading.Outcome.{Outcome, Read, Refused, Reader, ◌>>=◌, then_at, mapped_at, choose_at, none_at, opt_at}
 use Rattle.graphql_reading.proofs.Parts.{none}
-use Rattle.graphql_reading.proofs.Theory.{Begins, Exact, Starts, Within, outside, within-begins, leads-starts, choose-exact, none-exact}
-use Rattle.graphql_reading.proofs.Good.{Good, Led}
+use Rattle.graphql_reading.proofs.Theory.{Begins, Exact, Starts, IsSubset, outside, within-begins, leads-starts, choose-exact, none-exact}
+use Rattle.graphql_reading.proofs.ReadsExactly.{ReadsExactly, BeginsWith}
 use Rattle.graphql_reading.proofs.Extra.{Opens}
 
 -- ---- alternatives of which the second may be empty
 
-pub good-choose_ahead : {A : Type 0} {p q : Limits → Rel A} {b : Limits} {f first : Test} {r s : Reader A} → Led p first → Opens q f (outside first) → Good p b f r → Good q b f s → Good (λ c. p c ∪ q c) b f (choose_at first r s)
+pub good-choose_ahead : {A : Type 0} {p q : Limits → Rel A} {b : Limits} {f first : Test} {r s : Reader A} → BeginsWith p first → Opens q f (outside first) → ReadsExactly p b f r → ReadsExactly q b f s → ReadsExactly (λ c. p c ∪ q c) b f (choose_at first r s)
 good-choose_ahead {p = p} {q = q} {b = b} {f = f} {first = first} {r = r} {s = s} led out h k = record { at = λ ts. choose-exact p q b f first r s ts (leads-starts p f first led.by) out.by (h.at ts) (k.at ts) }
 
-pub good-none : {A : Type 0} {a : A} {b : Limits} {f : Test} → Good (λ c. none a) b f (none_at a)
+pub good-none : {A : Type 0} {a : A} {b : Limits} {f : Test} → ReadsExactly (λ c. none a) b f (none_at a)
 good-none {a = a} {b = b} {f = f} = record { at = none-exact a b f }
 
-pub opens-none : {A : Type 0} {a : A} {f g : Test} → Within f g → Opens (λ c. none a) f g
+pub opens-none : {A : Type 0} {a : A} {f g : Test} → IsSubset f g → Opens (λ c. none a) f g
 opens-none {f = f} {g = g} h = record { by = λ c x y t m begins. within-begins f g h (x ++ y) (subst (λ (l : List Token). Begins f (l ++ y)) (sym m.0) begins) }
 
 pub opens-either : {A : Type 0} {p q : Limits → Rel A} {f g : Test} → Opens p f g → Opens q f g → Opens (λ c. p c ∪ q c) f g
@@ -29,7 +29,7 @@ opens-either {p = p} {q = q} {f = f} {g = g} h k = record { by = by }
     by c x y a (inr m) begins = k.by c x y a m begins
 
 -- one reader in place of another
-pub good-reader : {A : Type 0} {p : Limits → Rel A} {b : Limits} {f : Test} {r s : Reader A} → ((ts : List Token) → r ts ≡ s ts) → Good p b f r → Good p b f s
+pub good-reader : {A : Type 0} {p : Limits → Rel A} {b : Limits} {f : Test} {r s : Reader A} → ((ts : List Token) → r ts ≡ s ts) → ReadsExactly p b f r → ReadsExactly p b f s
 good-reader {p = p} {b = b} {f = f} e h = record { at = λ ts. subst (Exact p b f ts) (e ts) (h.at ts) }
 
 -- ---- optional parts by the token in sight

@@ -453,14 +453,14 @@ abbrev pub Leads : {A : Type 0} → (Limits → Rel A) → Test → Type 0
 Leads {A} p g = (c : Limits) (x y : List Token) (a : A) → p c x a → Begins g (x ++ y)
 
 -- what passes f passes g
-pub record Within (f g : Test) : Type 0 where
+pub record IsSubset (f g : Test) : Type 0 where
   pub by : (t : Bare) → IsTrue (f t) → IsTrue (g t)
 
-pub within-begins : (f g : Test) → Within f g → (l : List Token) → Begins f l → Begins g l
+pub within-begins : (f g : Test) → IsSubset f g → (l : List Token) → Begins f l → Begins g l
 within-begins f g h [] e = e
 within-begins f g h (t ∷ l) e = h.by t.bare e
 
-pub star-starts : {A : Type 0} (p : Limits → Rel A) (f first g : Test) → Leads p first → Within first g → Within f g → Starts (λ c. star (p c)) f g
+pub star-starts : {A : Type 0} (p : Limits → Rel A) (f first g : Test) → Leads p first → IsSubset first g → IsSubset f g → Starts (λ c. star (p c)) f g
 star-starts p f first g leads in-first in-follow c x y [] h begins = within-begins f g in-follow (x ++ y) (subst (λ (l : List Token). Begins f (l ++ y)) (sym h) begins)
 star-starts p f first g leads in-first in-follow c x y (a ∷ more) h begins =
     within-begins first g in-first (x ++ y) (subst (λ (l : List Token). Begins first l) (sym (append_assoc h.front h.back y) ∙ ap (λ (l : List Token). l ++ y) (sym h.joined)) (leads c h.front (h.back ++ y) a h.first))
@@ -475,7 +475,7 @@ shrinks p first b g ts a rest leads r = go r.used (leads b r.used [] a (r.holds 
     go [] h e = absurd h
     go (t ∷ u) h e = rw (e, length-append u rest) (omega arith)
 
-pub repeat-exact : {A : Type 0} (p : Limits → Rel A) (b : Limits) (f first g : Test) (r : Reader A) → Leads p first → Within first g → Within f g → Within f (outside first) → ((ts : List Token) → Exact p b g ts (r ts)) → (n : ℕ) (ts : List Token) → length ts < n → Exact (λ c. star (p c)) b f ts (repeat_at n first r ts)
+pub repeat-exact : {A : Type 0} (p : Limits → Rel A) (b : Limits) (f first g : Test) (r : Reader A) → Leads p first → IsSubset first g → IsSubset f g → IsSubset f (outside first) → ((ts : List Token) → Exact p b g ts (r ts)) → (n : ℕ) (ts : List Token) → length ts < n → Exact (λ c. star (p c)) b f ts (repeat_at n first r ts)
 repeat-exact p b f first g r leads in-first in-follow apart good zero ts lt = absurd (omega arith)
 repeat-exact {A} p b f first g r leads in-first in-follow apart good (suc n) ts lt =
     same-exact (λ c. mapped cons (p c ⨾ star (p c)) ∪ none []) (λ c. star (p c)) b f ts (repeat_at (suc n) first r ts) to from
@@ -495,7 +495,7 @@ repeat-exact {A} p b f first g r leads in-first in-follow apart good (suc n) ts 
     from c x [] h = inr (h, refl)
     from c x (a ∷ more) h = inl (record { value = (a, more); holds = record { front = h.front; back = h.back; joined = h.joined; first = h.first; second = h.second }; is = refl })
 
-pub many-exact : {A : Type 0} (p : Limits → Rel A) (b : Limits) (f first g : Test) (r : Reader A) → Leads p first → Within first g → Within f g → Within f (outside first) → ((ts : List Token) → Exact p b g ts (r ts)) → (ts : List Token) → Exact (λ c. star (p c)) b f ts (many_at first r ts)
+pub many-exact : {A : Type 0} (p : Limits → Rel A) (b : Limits) (f first g : Test) (r : Reader A) → Leads p first → IsSubset first g → IsSubset f g → IsSubset f (outside first) → ((ts : List Token) → Exact p b g ts (r ts)) → (ts : List Token) → Exact (λ c. star (p c)) b f ts (many_at first r ts)
 unfolding many_at
 many-exact p b f first g r leads in-first in-follow apart good ts = repeat-exact p b f first g r leads in-first in-follow apart good (suc (length ts)) ts (omega arith)
 
@@ -510,7 +510,7 @@ Leads-then p q g leads c x y a h = subst (λ (l : List Token). Begins g l) (sym 
 pub Leads-mapped : {A B : Type 0} (f : A → B) (p : Limits → Rel A) (g : Test) → Leads p g → Leads (λ c. mapped f (p c)) g
 Leads-mapped f p g leads c x y a h = leads c x y h.value h.holds
 
-pub Leads-within : {A : Type 0} (p : Limits → Rel A) (f g : Test) → Within f g → Leads p f → Leads p g
+pub Leads-within : {A : Type 0} (p : Limits → Rel A) (f g : Test) → IsSubset f g → Leads p f → Leads p g
 Leads-within p f g h leads c x y a k = within-begins f g h (x ++ y) (leads c x y a k)
 
 pub Leads-either : {A : Type 0} (p q : Limits → Rel A) (g : Test) → Leads p g → Leads q g → Leads (λ c. p c ∪ q c) g
@@ -547,7 +547,7 @@ has-mapped f p h c = let m = h c in record { tail = m.tail; tree = f m.tree; hol
 pub has-left : {A : Type 0} (p q : Limits → Rel A) → HasPhrases p → HasPhrases (λ c. p c ∪ q c)
 has-left p q h c = let m = h c in record { tail = m.tail; tree = m.tree; holds = inl m.holds; proper = m.proper }
 
-pub plus-exact : {A : Type 0} (p : Limits → Rel A) (b : Limits) (f first g : Test) (r : Reader A) → Leads p first → Within first g → Within f g → Within f (outside first) → ((ts : List Token) → Exact p b g ts (r ts)) → (ts : List Token) → Exact (λ c. plus (p c)) b f ts (plus_at first r ts)
+pub plus-exact : {A : Type 0} (p : Limits → Rel A) (b : Limits) (f first g : Test) (r : Reader A) → Leads p first → IsSubset first g → IsSubset f g → IsSubset f (outside first) → ((ts : List Token) → Exact p b g ts (r ts)) → (ts : List Token) → Exact (λ c. plus (p c)) b f ts (plus_at first r ts)
 unfolding plus_at
 plus-exact p b f first g r leads in-first in-follow apart good ts =
     mapped-exact cons (λ c. p c ⨾ star (p c)) b f (then_at r (many_at first r)) ts

@@ -15,7 +15,7 @@ use Rattle.graphql_tokens.specs.declared.lexer.TokenKind.TheVariants.{Punct, Nam
 use Rattle.graphql_reading.specs.grammar.Tests.{Test, is_among, punct, keyword, any_name, name_but, the_end}
 use Rattle.graphql_tokens.specs.tokens.Kinds.{is_punct, is_name, is_end}
 use Rattle.graphql_reading.specs.grammar.Places.{nowhere}
-use Rattle.graphql_reading.proofs.Theory.{Within, anything, IsInner}
+use Rattle.graphql_reading.proofs.Theory.{IsSubset, anything, IsInner}
 use Prim.Native.String.{String}
 
 -- ---- kinds
@@ -81,25 +81,25 @@ name_but-not words t e = second-part (is_name t.kind) (not (is_among t.spelling 
 
 -- ---- one test within another
 
-pub itself : {f : Test} → Within f f
+pub itself : {f : Test} → IsSubset f f
 itself = record { by = λ t e. e }
 
-pub within-anything : {f : Test} → Within f anything
+pub within-anything : {f : Test} → IsSubset f anything
 within-anything = record { by = λ t e. refl }
 
-pub punct-within : (word : String) {g : Test} → IsTrue (g (punctuator word)) → Within (punct word) g
+pub punct-within : (word : String) {g : Test} → IsTrue (g (punctuator word)) → IsSubset (punct word) g
 punct-within word {g} h = record { by = λ t e. subst (λ (t : Bare). IsTrue (g t)) (sym (punct-is word t e)) h }
 
-pub keyword-within : (word : String) {g : Test} → IsTrue (g (word_of word)) → Within (keyword word) g
+pub keyword-within : (word : String) {g : Test} → IsTrue (g (word_of word)) → IsSubset (keyword word) g
 keyword-within word {g} h = record { by = λ t e. subst (λ (t : Bare). IsTrue (g t)) (sym (keyword-is word t e)) h }
 
-pub any_name-within : {g : Test} → ((spelling : List ℕ) → IsTrue (g (named spelling))) → Within any_name g
+pub any_name-within : {g : Test} → ((spelling : List ℕ) → IsTrue (g (named spelling))) → IsSubset any_name g
 any_name-within {g} h = record { by = λ t e. subst (λ (t : Bare). IsTrue (g t)) (sym (any_name-is t e)) (h t.spelling) }
 
-pub name_but-within : (words : List String) {g : Test} → ((spelling : List ℕ) → IsTrue (not (is_among spelling words)) → IsTrue (g (named spelling))) → Within (name_but words) g
+pub name_but-within : (words : List String) {g : Test} → ((spelling : List ℕ) → IsTrue (not (is_among spelling words)) → IsTrue (g (named spelling))) → IsSubset (name_but words) g
 name_but-within words {g} h = record { by = λ t e. subst (λ (t : Bare). IsTrue (g t)) (sym (name_but-is words t e)) (h t.spelling (name_but-not words t e)) }
 
-pub the_end-within : {g : Test} → ((spelling : List ℕ) → IsTrue (g (ended spelling))) → Within the_end g
+pub the_end-within : {g : Test} → ((spelling : List ℕ) → IsTrue (g (ended spelling))) → IsSubset the_end g
 the_end-within {g} h = record { by = λ t e. subst (λ (t : Bare). IsTrue (g t)) (sym (the_end-is t e)) (h t.spelling) }
 
 -- both of two tests, and either of two
@@ -112,19 +112,19 @@ one-passes : (w v : Bool) → IsTrue (w || v) → IsTrue w ⊎ IsTrue v
 one-passes true v e = inl refl
 one-passes false v e = inr e
 
-pub within-then : {f g h : Test} → Within f g → Within g h → Within f h
+pub within-then : {f g h : Test} → IsSubset f g → IsSubset g h → IsSubset f h
 within-then m n = record { by = λ t e. n.by t (m.by t e) }
 
-pub within-both : {f g h : Test} → Within f g → Within f h → Within f (λ t. g t && h t)
+pub within-both : {f g h : Test} → IsSubset f g → IsSubset f h → IsSubset f (λ t. g t && h t)
 within-both {f} {g} {h} m n = record { by = λ t e. both-pass (g t) (h t) (m.by t e) (n.by t e) }
 
-pub within-first : (g h : Test) → Within (λ t. g t && h t) g
+pub within-first : (g h : Test) → IsSubset (λ t. g t && h t) g
 within-first g h = record { by = λ t e. first-part (g t) (h t) e }
 
-pub within-second : (g h : Test) → Within (λ t. g t && h t) h
+pub within-second : (g h : Test) → IsSubset (λ t. g t && h t) h
 within-second g h = record { by = λ t e. second-part (g t) (h t) e }
 
-pub within-either : {f g h : Test} → Within f h → Within g h → Within (λ t. f t || g t) h
+pub within-either : {f g h : Test} → IsSubset f h → IsSubset g h → IsSubset (λ t. f t || g t) h
 within-either {f} {g} {h} m n = record { by = λ t e. elim (one-passes (f t) (g t) e) [ inl k ↦ m.by t k | inr k ↦ n.by t k ] }
 
 -- ---- tests that no last token passes

@@ -12,8 +12,8 @@ use Rattle.graphql_reading.specs.grammar.Fronts.{bares, without_place, without_p
 use Rattle.graphql_reading.specs.reading.Outcome.{Outcome, Read, Refused, Reader, ◌>>=◌, one_at, whole_at}
 use Rattle.graphql_reading.proofs.Theory.{Extends, proper-append, Exact, IsRead, IsStopped, IsDead, Dead, Quiet, Begins, peek, anything, one-refused, Then-refused-first, Then-refused-second, IsStopped-map, leads-starts, Leads-one}
 use Rattle.graphql_reading.proofs.TokenTests.{the_end-is, ended, sample, end-sample}
-use Rattle.graphql_reading.proofs.Good.{Good, Has, has-token, has-map, has-pair}
-use Rattle.graphql_reading.proofs.Blind.{Blind, blind-one, blind-mapped, blind-then}
+use Rattle.graphql_reading.proofs.ReadsExactly.{ReadsExactly, HasPhrase, has-token, has-map, has-pair}
+use Rattle.graphql_reading.proofs.IgnoresPlaces.{IgnoresPlaces, blind-one, blind-mapped, blind-then}
 
 -- a refusal, told by the refused token and what stands after it; and no tree
 pub record Refuses {A : Type 0} (g : Grammar A) (limits : Limits) (tokens : List Token) (v : Verdict) (t : Token) (after : List Token) : Type 0 where
@@ -128,7 +128,7 @@ completes-viable : {A : Type 0} {p : Rel A} (front : List Token) → Extends p f
 completes-viable front m = record { begun = front; behind = m.tail; tree = m.tree; alike = refl; proper = m.proper; holds = m.holds }
 
 -- and back: to a relation that is blind to places, a front's own places do
-pub viable-completes : {A : Type 0} {p : Limits → Rel A} {placeless : A → A} → Blind p placeless → (c : Limits) (front : List Token) → Completes (p c) front → Extends (p c) front
+pub viable-completes : {A : Type 0} {p : Limits → Rel A} {placeless : A → A} → IgnoresPlaces p placeless → (c : Limits) (front : List Token) → Completes (p c) front → Extends (p c) front
 viable-completes {p = p} blind c front m =
     let s = blind.by c (m.begun ++ m.behind) (front ++ m.behind) m.tree m.holds (bares-append m.begun m.behind ∙ ap (λ (l : List Bare). l ++ bares m.behind) m.alike ∙ sym (bares-append front m.behind)) in
     record { tail = m.behind; tree = s.tree; holds = s.holds; proper = m.proper }
@@ -143,14 +143,14 @@ marker = sample (ended [])
 dead-phrase : {A : Type 0} (p : Rel A) (front tail : List Token) (a : A) → IsDead p anything front → p (front ++ tail) a → ⊥
 dead-phrase p front tail a dead h = dead (front ++ tail) (marker ∷ []) (tail ++ marker ∷ []) a h refl (append_assoc front tail (marker ∷ []))
 
-dead-viable : {A : Type 0} (p : Limits → Rel A) (placeless : A → A) → Blind p placeless → (c : Limits) (front : List Token) → IsDead (p c) anything front → Completes (p c) front → ⊥
+dead-viable : {A : Type 0} (p : Limits → Rel A) (placeless : A → A) → IgnoresPlaces p placeless → (c : Limits) (front : List Token) → IsDead (p c) anything front → Completes (p c) front → ⊥
 dead-viable p placeless blind c front dead m =
     let n = viable-completes blind c front m in
     dead-phrase (p c) front n.tail n.tree dead n.holds
 
 -- ---- refusals
 
-refused : {A : Type 0} (p : Limits → Rel A) (placeless : A → A) (b : Limits) (ts : List Token) (v : Verdict) (rest : List Token) → Has p → Blind p placeless → EndsOnce ts → AreProperButFaults ts → IsStopped p b anything ts v rest → Says p placeless b ts (Refused v rest)
+refused : {A : Type 0} (p : Limits → Rel A) (placeless : A → A) (b : Limits) (ts : List Token) (v : Verdict) (rest : List Token) → HasPhrase p → IgnoresPlaces p placeless → EndsOnce ts → AreProperButFaults ts → IsStopped p b anything ts v rest → Says p placeless b ts (Refused v rest)
 refused {A} p placeless b ts v [] has blind ends cuts r = quiet-ends ts (subst Quiet (sym (r.split ∙ append-nil r.before)) r.quiet) ends
 refused {A} p placeless b ts v (t ∷ after) has blind ends cuts r = record {
   before = r.before;
@@ -183,7 +183,7 @@ refused {A} p placeless b ts v (t ∷ after) has blind ends cuts r = record {
 
 -- ---- trees
 
-accepts : {A : Type 0} (p : Limits → Rel A) (placeless : A → A) (b : Limits) (ts : List Token) (a : A) → Blind p placeless → AreProper ts → p b ts a → ((c : Limits) (other : A) → p c ts other → other ≡ a) → ((c : Limits) (other another : A) → p b (without_places ts) another → p c (without_places ts) other → other ≡ another) → Accepts p placeless b ts a
+accepts : {A : Type 0} (p : Limits → Rel A) (placeless : A → A) (b : Limits) (ts : List Token) (a : A) → IgnoresPlaces p placeless → AreProper ts → p b ts a → ((c : Limits) (other : A) → p c ts other → other ≡ a) → ((c : Limits) (other another : A) → p b (without_places ts) another → p c (without_places ts) other → other ≡ another) → Accepts p placeless b ts a
 accepts p placeless b ts a blind proper holds only only-bare = record {
   tree = record { within = holds; only = λ other h. only h.0 other h.1; within_placeless = bare-holds; only_placeless = λ other h. only-bare h.0 other (placeless a) bare-holds h.1 };
   none = λ k v r. r.not_viable (record { begun = take k ts; behind = drop k ts; tree = a; alike = refl; proper = proper-drop k ts proper; holds = subst (λ (l : List Token). p b l a) (sym (take-append-drop k ts)) holds });
@@ -205,10 +205,10 @@ first-of o = o >>= λ x rest. Read x.0 rest
 abbrev after-body : {A : Type 0} → Outcome A → Outcome A
 after-body o = first-of (o >>= λ d rest. one_at the_end rest >>= pair-up d)
 
-pub has-whole : {A : Type 0} {p : Limits → Rel A} → Has p → Has (whole p)
+pub has-whole : {A : Type 0} {p : Limits → Rel A} → HasPhrase p → HasPhrase (whole p)
 has-whole has = has-map (has-pair has (has-token end-sample))
 
-pub blind-whole : {A : Type 0} {p : Limits → Rel A} {placeless : A → A} → Blind p placeless → Blind (whole p) placeless
+pub blind-whole : {A : Type 0} {p : Limits → Rel A} {placeless : A → A} → IgnoresPlaces p placeless → IgnoresPlaces (whole p) placeless
 blind-whole h = blind-mapped (λ a. refl) (blind-then h (blind-one the_end))
 
 -- a list with a tree has one end and no fault
@@ -217,7 +217,7 @@ quiet-then-end [] e q c = c
 quiet-then-end (t ∷ []) e q c = (q.0, c)
 quiet-then-end (t ∷ s ∷ u) e q c = (q.0, quiet-then-end (s ∷ u) e q.1 c)
 
-pub whole-ends : {A : Type 0} (p : Limits → Rel A) (c : Limits) (r : Reader A) → Good p c the_end r → (ts : List Token) (x : A) → whole p c ts x → EndsOnce ts
+pub whole-ends : {A : Type 0} (p : Limits → Rel A) (c : Limits) (r : Reader A) → ReadsExactly p c the_end r → (ts : List Token) (x : A) → whole p c ts x → EndsOnce ts
 whole-ends {A} p c r good ts x h = go (r ts) (good.at ts)
   where
     ended : is_last h.value.1.bare.kind ≡ true
@@ -246,7 +246,7 @@ whole-ends {A} p c r good ts x h = go (r ts) (good.at ts)
         dead-here limit d = kill d.0
 
 -- all trees of a list that ends are equal
-pub one-tree : {A : Type 0} (p : Limits → Rel A) (b : Limits) (r : Reader A) → Good p b the_end r → (ts : List Token) (c : Limits) (x y : A) → whole p b ts x → whole p c ts y → y ≡ x
+pub one-tree : {A : Type 0} (p : Limits → Rel A) (b : Limits) (r : Reader A) → ReadsExactly p b the_end r → (ts : List Token) (c : Limits) (x y : A) → whole p b ts x → whole p c ts y → y ≡ x
 one-tree {A} p b r good ts c x y h k = go (r ts) (good.at ts)
   where
     behind : (n : List Token) (e : Token) → one the_end n e → Begins the_end n
@@ -274,7 +274,7 @@ one-tree {A} p b r good ts c x y h k = go (r ts) (good.at ts)
         dead-here syntax d = kill (d b)
         dead-here limit d = kill d.0
 
-pub whole-answers : {A : Type 0} {p : Limits → Rel A} {placeless : A → A} {b : Limits} {r : Reader A} → Has p → Blind p placeless → Good p b the_end r → (ts : List Token) → EndsOnce ts → AreProperButFaults ts → Says (whole p) placeless b ts (whole_at r ts)
+pub whole-answers : {A : Type 0} {p : Limits → Rel A} {placeless : A → A} {b : Limits} {r : Reader A} → HasPhrase p → IgnoresPlaces p placeless → ReadsExactly p b the_end r → (ts : List Token) → EndsOnce ts → AreProperButFaults ts → Says (whole p) placeless b ts (whole_at r ts)
 whole-answers {A} {p} {placeless} {b} {r} has blind good ts ends cuts = go (r ts) (good.at ts)
   where
     as-whole : (v : Verdict) (rest : List Token) → IsStopped (λ c. p c ⨾ one the_end) b anything ts v rest → Says (whole p) placeless b ts (Refused v rest)
@@ -339,7 +339,7 @@ refusal-bare {A} g limits ts us k v e r = record {
     told limit m = viable-bare (take k ts) (take k us) (same k) m
 
 -- and so do trees, up to places
-pub trees-bare : {A : Type 0} {g : Limits → Rel A} {placeless : A → A} {limits : Limits} {ts us : List Token} {a b : A} → Blind g placeless → bares ts ≡ bares us → IsTheTree g placeless limits ts a → IsTheTree g placeless limits us b → placeless a ≡ placeless b
+pub trees-bare : {A : Type 0} {g : Limits → Rel A} {placeless : A → A} {limits : Limits} {ts us : List Token} {a b : A} → IgnoresPlaces g placeless → bares ts ≡ bares us → IsTheTree g placeless limits ts a → IsTheTree g placeless limits us b → placeless a ≡ placeless b
 trees-bare {A} {g} {placeless} {limits} {ts} {us} {a} {b} blind e h k =
     let s = blind.by limits ts us a h.within e in
     sym s.same ∙ ap placeless (k.only s.tree (limits, s.holds))
@@ -355,7 +355,7 @@ pub record HasRefusal {A : Type 0} (g : Grammar A) (limits : Limits) (ts : List 
   pub is : IsRefused g limits ts k verdict
   pub none : (tree : A) → g limits ts tree → ⊥
 
-pub decided : {A : Type 0} {p : Limits → Rel A} {placeless : A → A} {b : Limits} {r : Reader A} → Has p → Blind p placeless → Good p b the_end r → (ts : List Token) → EndsOnce ts → AreProperButFaults ts → HasTree (whole p) placeless b ts ⊎ HasRefusal (whole p) b ts
+pub decided : {A : Type 0} {p : Limits → Rel A} {placeless : A → A} {b : Limits} {r : Reader A} → HasPhrase p → IgnoresPlaces p placeless → ReadsExactly p b the_end r → (ts : List Token) → EndsOnce ts → AreProperButFaults ts → HasTree (whole p) placeless b ts ⊎ HasRefusal (whole p) b ts
 decided {A} {p} {placeless} {b} {r} has blind good ts ends cuts = go (whole_at r ts) (whole-answers has blind good ts ends cuts)
   where
     go : (o : Outcome A) → Says (whole p) placeless b ts o → HasTree (whole p) placeless b ts ⊎ HasRefusal (whole p) b ts

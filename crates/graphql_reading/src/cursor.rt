@@ -173,9 +173,7 @@ impl<'a> Cursor<'a> {
         if !self.is_at_punct(text) {
             return Err(Refusal::Syntax);
         }
-        let token = self.hand;
-        self.advance();
-        Ok(token)
+        Ok(self.take())
     }
 
     /// Uses up a name and gives it; anything else in hand is refused with `Syntax`.
@@ -186,9 +184,7 @@ impl<'a> Cursor<'a> {
         if !self.is_at_name() {
             return Err(Refusal::Syntax);
         }
-        let token = self.hand;
-        self.advance();
-        Ok(token)
+        Ok(self.take())
     }
 
     /// Uses up this keyword and gives it; anything else in hand is refused with `Syntax`.

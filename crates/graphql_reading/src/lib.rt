@@ -3,7 +3,7 @@
 //! readers that follow a production exactly.
 //!
 //! Proved of it: the cursor shows the tokens that are left of the lexer's list and takes one only when the one in
-//! hand is used up. Proved of any grammar whose reader keeps the laws of `proofs/Good`, `proofs/Blind` and
+//! hand is used up. Proved of any grammar whose reader keeps the laws of `proofs/ReadsExactly`, `proofs/IgnoresPlaces` and
 //! `proofs/Extra`: what the reader gives is the one tree, and what it refuses is the refused token, as
 //! `specs/grammar/Fronts` defines both.
 //!

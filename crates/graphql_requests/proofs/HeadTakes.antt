@@ -14,7 +14,7 @@ use Rattle.graphql_reading.specs.reading.Outcome.{Outcome, Read, Refused, Reader
 use Rattle.graphql_requests.specs.reading.Selections.{inline_first, type_condition_at}
 use Rattle.graphql_reading.proofs.Theory.{Exact}
 use Rattle.graphql_reading.proofs.TokenTests.{punct-within}
-use Rattle.graphql_reading.proofs.Good.{Good}
+use Rattle.graphql_reading.proofs.ReadsExactly.{ReadsExactly}
 use Rattle.graphql_reading.proofs.Loop.{Takes}
 use Rattle.graphql_grammar.proofs.ArgumentProductions.{good-maybe_arguments, good-directives}
 use Rattle.graphql_requests.proofs.SelectionProductions.{takes-selection}
@@ -55,7 +55,7 @@ below-deep A n test [] = tt
 below-deep A n test (t ∷ ts) = below-cond n (test t.bare) _ _ tt tt
 
 -- what is read exactly is a beginning
-below-good : {A : Type 0} {p : Limits → Rel A} {b : Limits} {f : Test} {r : Reader A} → Good p b f r → (n : ℕ) (ts : List Token) → length ts < n → Below n (r ts)
+below-good : {A : Type 0} {p : Limits → Rel A} {b : Limits} {f : Test} {r : Reader A} → ReadsExactly p b f r → (n : ℕ) (ts : List Token) → length ts < n → Below n (r ts)
 below-good {A} {p} {b} {f} {r} good n ts lt = go (r ts) (good.at ts)
   where
     go : (o : Outcome A) → Exact p b f ts o → Below n o

@@ -48,17 +48,17 @@ pub record Breaks {D Document : Type 0} (language : Language D Document) (limits
   pub broken : FirstBreach language definitions error ⊎ Lacks language definitions error
 
 -- what an error says
-abbrev pub Tells : {D Document : Type 0} → Language D Document → Limits → List Token → Error → Type 0
-Tells language limits tokens (Syntax message start end) =
+abbrev pub ErrorMeans : {D Document : Type 0} → Language D Document → Limits → List Token → Error → Type 0
+ErrorMeans language limits tokens (Syntax message start end) =
     (refused : RefusedToken (grammar language Current) limits tokens syntax) × (start ≡ refused.token.pos) × (end ≡ None) × (string_bytes message ≡ syntax_message start)
-Tells language limits tokens RecursionLimitExceeded = RefusedToken (grammar language Current) limits tokens limit
-Tells language limits tokens OutOfMemory = Unit {0}
-Tells language limits tokens broken = Breaks language limits tokens broken
+ErrorMeans language limits tokens RecursionLimitExceeded = RefusedToken (grammar language Current) limits tokens limit
+ErrorMeans language limits tokens OutOfMemory = Unit {0}
+ErrorMeans language limits tokens broken = Breaks language limits tokens broken
 
 -- what an answer says
 abbrev pub Answers : {D Document : Type 0} → Language D Document → Limits → List Token → Result Document Error → Type 0
 Answers {D} language limits tokens (Ok document) = (ds : List D) × AreTheDefinitions language limits tokens ds × IsDocument language ds document
-Answers language limits tokens (Err error) = Tells language limits tokens error
+Answers language limits tokens (Err error) = ErrorMeans language limits tokens error
 
 -- So many tokens are taken for an answer: those up to the refused one and that one, or all where there
 -- is a tree; where memory runs out, no more than there are.

@@ -69,10 +69,18 @@ abbrev pub given : {A : Type 0} → Option (List A) → List A
 given None = []
 given (Some xs) = xs
 
+-- a phrase of p, and after it what is as it has to be
+pub record Further {A : Type 0} (p : Rel A) (rest : List Token → Type 0) (used : List Token) (a : A) : Type 0 where
+  pub front : List Token
+  pub back : List Token
+  pub joined : used ≡ front ++ back
+  pub first : p front a
+  pub second : rest back
+
 -- any number of phrases of p
 abbrev pub star : {A : Type 0} → Rel A → Rel (List A)
 star p used [] = used ≡ []
-star p used (x ∷ xs) = Then {B = Unit {0}} p (λ back _. star p back xs) used x tt
+star p used (x ∷ xs) = Further p (λ back. star p back xs) used x
 
 abbrev pub cons : {A : Type 0} → A × List A → List A
 cons x = x.0 ∷ x.1
