@@ -25,7 +25,7 @@ use std::marker::PhantomData;
 type Arguments<V> = Vec<(Positioned<Name>, Positioned<V>)>;
 
 /// A directive whose values are of the type `V`.
-struct Applied<V> {
+struct DirectiveOf<V> {
     pos: Pos,
     name: Positioned<Name>,
     arguments: Arguments<V>,
@@ -97,18 +97,19 @@ pub fn read_maybe_arguments<V: Literal>(
     read_arguments(alloc, cursor, values)
 }
 
-fn read_applied<V: Literal>(
+/// `'@' Name Arguments?`
+fn read_directive_of<V: Literal>(
     alloc: Global,
     cursor: &mut Cursor,
     values: usize,
-) -> Reading<Applied<V>>
+) -> Reading<DirectiveOf<V>>
     ensures { Gives (in_directive V.tree) result cursor.old cursor.new (directive_at V.VARIABLES values) }
 {
     let sign = cursor.expect_punct("@")?;
     let token = cursor.expect_name()?;
     let name = name_in(alloc, token)?;
     let arguments = read_maybe_arguments(alloc, cursor, values)?;
-    Ok(Applied {
+    Ok(DirectiveOf {
         pos: sign.pos,
         name,
         arguments,
@@ -138,11 +139,11 @@ impl Production for DirectivePhrase {
 
     #[inline(never)]
     fn read(alloc: Global, cursor: &mut Cursor, values: usize) -> Reading<Positioned<Directive>> {
-        let Applied {
+        let DirectiveOf {
             pos,
             name,
             arguments,
-        } = read_applied::<Value>(alloc, cursor, values)?;
+        } = read_directive_of::<Value>(alloc, cursor, values)?;
         Ok(Positioned::new(Directive { name, arguments }, pos))
     }
 }
@@ -188,11 +189,11 @@ impl Production for ConstDirectivePhrase {
         cursor: &mut Cursor,
         values: usize,
     ) -> Reading<Positioned<ConstDirective>> {
-        let Applied {
+        let DirectiveOf {
             pos,
             name,
             arguments,
-        } = read_applied::<ConstValue>(alloc, cursor, values)?;
+        } = read_directive_of::<ConstValue>(alloc, cursor, values)?;
         Ok(Positioned::new(ConstDirective { name, arguments }, pos))
     }
 }

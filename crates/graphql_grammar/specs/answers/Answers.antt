@@ -1,4 +1,5 @@
 -- What the answer of a parser says of the tokens of its text, whichever language it reads.
+-- Source: this project's choice.
 use Rattle.std.specs.Prelude.{◌≡◌, ◌⊎◌, ℕ, ◌≤◌, length, Some, None, Result, Ok, Err, List, ◌∷◌, ◌++◌, string_bytes}
 use Rattle.graphql_tokens.specs.tokens.Edition.{Current}
 use Rattle.graphql_tokens.specs.tokens.Token.{Token}

@@ -1,4 +1,5 @@
 -- The language of a parser: its grammar, what its rules forbid, and the documents that it makes.
+-- Source: this project's choice.
 use Rattle.std.specs.Prelude.{Option, List}
 use Rattle.graphql_tokens.specs.tokens.Edition.{Edition}
 use Rattle.graphql_grammar.specs.declared.error.Error.{Error}

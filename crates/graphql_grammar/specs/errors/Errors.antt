@@ -1,4 +1,5 @@
 -- What an error says, and the places that it names.
+-- Source: this project's choice, with the texts and places of the Rust crate.
 use Rattle.std.specs.Prelude.{ℕ, List, [], ◌∷◌, ◌++◌, Option, Some, None, codes, string_bytes}
 use Rattle.std.specs.Fmt.{decimal}
 use Rattle.graphql_tokens.specs.declared.pos.Pos.{Pos}

@@ -1,4 +1,6 @@
 -- The fields of an object, from the pairs of names and values as they are written.
+-- Source: this project's choice, as the Rust crate's. GraphQL October 2021, section 5.6.3 forbids a repeated name, as
+-- a rule of validation; here it has the value with which it comes last.
 use Rattle.std.specs.Prelude.{ℕ, Bool, cond, List, [], ◌∷◌}
 use Rattle.std.specs.Str.{bytes_eq}
 

@@ -1,4 +1,5 @@
 -- Trees without their places: each place is 0:0.
+-- Source: this project's choice.
 use Rattle.std.specs.Prelude.{List, map}
 use Rattle.graphql_tokens.specs.declared.pos.Positioned.{Positioned}
 use Rattle.graphql_syntax.specs.trees.Request.{Argument, Directive}

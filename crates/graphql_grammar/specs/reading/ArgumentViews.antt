@@ -4,11 +4,11 @@ use Rattle.graphql_tokens.specs.declared.pos.Positioned.{Positioned}
 use Rattle.graphql_syntax.specs.trees.Request as request
 use Rattle.graphql_syntax.specs.trees.Request.{Name, placed}
 use Rattle.graphql_syntax.specs.trees.ValueTree.{Tree}
-use Rattle.graphql_grammar.specs.declared.arguments.Applied.{Applied}
+use Rattle.graphql_grammar.specs.declared.arguments.DirectiveOf.{DirectiveOf}
 
 -- a name and its value, where each value stands for a tree
 abbrev pub in_argument : {V : Type 0} → (V → Tree) → Positioned Name × Positioned V → request.Argument
 in_argument tree argument = (argument.0, placed tree argument.1)
 
-abbrev pub in_directive : {V : Type 0} → (V → Tree) → Applied V → Positioned request.Directive
-in_directive tree applied = record { pos = applied.pos; node = record { name = applied.name; arguments = map (in_argument tree) applied.arguments.items } }
+abbrev pub in_directive : {V : Type 0} → (V → Tree) → DirectiveOf V → Positioned request.Directive
+in_directive tree directive = record { pos = directive.pos; node = record { name = directive.name; arguments = map (in_argument tree) directive.arguments.items } }

@@ -12,7 +12,7 @@ use indexmap::IndexMap;
 use std::alloc::{AllocError, Global};
 
 /// So many fields are compared one by one. Of more a map is made.
-const FEW: usize = 16;
+const COMPARED_ONE_BY_ONE: usize = 16;
 
 fn holds<V>(fields: &[(Name, V)], name: &Name) -> bool
     ensures { result ≡ list_any (has_name name.now) fields.now }
@@ -57,7 +57,7 @@ fn entries_of<V: Drop>(alloc: Global, map: IndexMap<Name, V>) -> Result<Vec<(Nam
 pub fn merge<V: Drop>(alloc: Global, fields: Vec<(Name, V)>) -> Result<Vec<(Name, V)>, AllocError>
     ensures { IfOk result (λ merged. merged.items ≡ grammar.merged fields.items) }
 {
-    if fields.len() <= FEW && are_distinct(&fields) {
+    if fields.len() <= COMPARED_ONE_BY_ONE && are_distinct(&fields) {
         return Ok(fields);
     }
     entries_of(alloc, map_of(alloc, fields)?)

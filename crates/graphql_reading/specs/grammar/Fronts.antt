@@ -1,5 +1,6 @@
 -- Fronts that some tree completes, and the first token whose front none completes.
 -- A front is a beginning of a list of tokens.
+-- Source: this project's choice: the specification does not say where and why a text is refused.
 use Rattle.std.specs.Prelude.{◌≡◌, ℕ, suc, ◌<◌, ◌≤◌, List, ◌∷◌, ◌++◌, length, take, map}
 use Rattle.graphql_tokens.specs.tokens.Token.{Bare, Token}
 use Rattle.graphql_tokens.specs.tokens.Proper.{AreProper}

@@ -1,4 +1,5 @@
 -- How deep a document may nest.
+-- Source: this project's choice, with the Rust crate's 64 as the default.
 use Rattle.std.specs.Prelude.{ℕ, ◌≤◌}
 
 -- a budget for each of the three things that nest: selection sets, values and types

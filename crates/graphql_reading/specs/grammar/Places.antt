@@ -1,4 +1,6 @@
 -- Where the parts of a document stand.
+-- Source: this project's choice, as the Rust crate's: a node stands where its first token does, unless its production
+-- says otherwise.
 use Rattle.std.specs.Prelude.{ℕ, List}
 use Rattle.graphql_tokens.specs.declared.pos.Pos.{Pos}
 use Rattle.graphql_tokens.specs.declared.pos.Positioned.{Positioned}

@@ -1,4 +1,5 @@
 -- The notation of the grammar: relations between the tokens of a phrase and its tree, and how they are put together.
+-- Source: this project's notation for the EBNF of GraphQL October 2021, sections 2 and 3.
 use Rattle.std.specs.Prelude.{◌≡◌, ◌⊎◌, IsTrue, Option, Some, None, List, [], ◌∷◌, ◌++◌}
 use Rattle.graphql_tokens.specs.tokens.Token.{Bare, Token}
 use Rattle.graphql_reading.specs.grammar.Tests.{Test}

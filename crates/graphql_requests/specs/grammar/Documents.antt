@@ -1,4 +1,6 @@
 -- The document of a list of definitions that breaks no rule.
+-- Source: this project's choice, as the Rust crate's: an operation without a name, or operations by name; and
+-- fragments by name.
 use Rattle.std.specs.Prelude.{List, [], ◌∷◌, Some, None}
 use Rattle.graphql_tokens.specs.declared.pos.Positioned.{Positioned}
 use Rattle.graphql_syntax.specs.trees.Request.{Name, OperationDefinition, FragmentDefinition, Operations, single, multiple, Document}

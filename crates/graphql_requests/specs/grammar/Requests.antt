@@ -1,4 +1,5 @@
 -- Requests as a language: their grammar, their rules and their documents.
+-- Source: this project's choice.
 use Rattle.std.specs.Prelude.{◌≡◌}
 use Rattle.graphql_syntax.specs.declared.types.executable.ExecutableDocument.{ExecutableDocument}
 use Rattle.graphql_syntax.specs.trees.RequestViews.{document_tree}
