@@ -31,6 +31,9 @@ fn limits_are_copied_and_shown(rt: HostRuntime) -> Result<(), Fail> {
         "Limits { selections: 1, values: 2, types: 3 }"
     );
     assert!(rt; copy == limits);
+    assert_eq!(rt; copy.selections(), 1);
+    assert_eq!(rt; copy.values(), 2);
+    assert_eq!(rt; copy.types(), 3);
     Ok(())
 }
 

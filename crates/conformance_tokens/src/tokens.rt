@@ -1,5 +1,5 @@
 //! Token lists: of each token its kind, its spelling, its byte offset and its place.
-use graphql_tokens::lexer::{Token, Tokens};
+use graphql_tokens::lexer::{Token, TokenKind, Tokens};
 use rows::Shown;
 use std::alloc::{AllocError, Global};
 
@@ -29,10 +29,31 @@ pub fn shown(alloc: Global, text: &str) -> Result<String, AllocError> {
     shown.finish()
 }
 
+/// Whether the tests of a kind answer true for this kind's own, and for no other. A fault has none.
+fn passes_its_own_test(kind: TokenKind) -> bool {
+    let passed = (
+        (kind.is_punct(), kind.is_name(), kind.is_number()),
+        (kind.is_string(), kind.is_block(), kind.is_end()),
+    );
+    let none = (false, false, false);
+    match kind {
+        TokenKind::Punct => passed == ((true, false, false), none),
+        TokenKind::Name => passed == ((false, true, false), none),
+        TokenKind::Number => passed == ((false, false, true), none),
+        TokenKind::String => passed == (none, (true, false, false)),
+        TokenKind::Block => passed == (none, (false, true, false)),
+        TokenKind::End => passed == (none, (false, false, true)),
+        TokenKind::Fault => passed == (none, none),
+    }
+}
+
 fn write_next(shown: &mut Shown, token: Option<Token<'_>>) {
     match token {
         Some(token) => {
             shown.debugged("", &token.kind);
+            if !passes_its_own_test(token.kind) {
+                shown.word(" (another kind)");
+            }
             shown.word(if token.text.is_empty() { "" } else { " " });
             shown.word(token.text);
             shown.item(" ", &token.start);
