@@ -70,7 +70,7 @@ abbrev pub given : {A : Type 0} → Option (List A) → List A
 given None = []
 given (Some xs) = xs
 
--- a phrase of p, and after it what is as it has to be
+-- a phrase of p, and after it a rest of which this holds
 pub record Further {A : Type 0} (p : Rel A) (rest : List Token → Type 0) (used : List Token) (a : A) : Type 0 where
   pub front : List Token
   pub back : List Token
