@@ -89,3 +89,10 @@ cons x = x.0 ∷ x.1
 -- one phrase of p or more
 abbrev pub plus : {A : Type 0} → Rel A → Rel (List A)
 plus p = mapped cons (p ⨾ star p)
+
+-- one phrase of p or more, with a mark between each two of them; a mark may stand before the first too
+abbrev pub separated_of : {A : Type 0} → Option Token × (A × List A) → List A
+separated_of (mark, (member, members)) = member ∷ members
+
+abbrev pub separated : {A : Type 0} → Test → Rel A → Rel (List A)
+separated mark p = mapped separated_of (opt (one mark) ⨾ p ⨾ star (after mark p))

@@ -2,7 +2,7 @@
 use Rattle.std.specs.Prelude.{ℕ, zero, suc, Bool, true, false, cond, Option, Some, None, ◌<◌, ◌≡◌, List, [], ◌∷◌, ◌++◌, length}
 use Rattle.graphql_tokens.specs.tokens.Token.{Bare, Token}
 use Rattle.graphql_reading.specs.grammar.Tests.{Test, the_end}
-use Rattle.graphql_reading.specs.grammar.Relations.{cons, between_of, after_of}
+use Rattle.graphql_reading.specs.grammar.Relations.{cons, between_of, after_of, separated_of}
 use Rattle.graphql_reading.specs.grammar.Fronts.{Verdict, syntax, limit}
 
 -- a tree and the tokens after it, or the tokens from the refused one on
@@ -86,6 +86,10 @@ many_at first r ts = repeat_at (suc (length ts)) first r ts
 
 unfoldable pub plus_at : {A : Type 0} → Test → Reader A → Reader (List A)
 plus_at first r = mapped_at cons (then_at r (many_at first r))
+
+-- phrases with a mark between each two of them, and perhaps one before the first
+unfoldable pub separated_at : {A : Type 0} → Test → Reader A → Reader (List A)
+separated_at mark r = mapped_at separated_of (then_at (opt_at mark (one_at mark)) (then_at r (many_at mark (after_at mark r))))
 
 -- what is read, with others in front of it
 abbrev pub with_front : {A : Type 0} → List A → Outcome (List A) → Outcome (List A)

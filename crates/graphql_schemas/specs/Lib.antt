@@ -1,0 +1,4 @@
+-- Public: what a reader of the public contracts has to believe.
+pub mod grammar
+-- Inner: what private clauses and models cite. No public definition imports one of these.
+pub mod reading

@@ -1,0 +1,1 @@
+-- Inner: what private clauses cite.
