@@ -2,7 +2,7 @@ pub mod ValueTests
 pub mod Fields
 pub mod SimpleValues
 pub mod TypeSteps
-pub mod Strings
+pub mod StringMeanings
 pub mod TypeProductions
 pub mod ValueProductions
 pub mod ValueFrames

@@ -21,7 +21,7 @@ use Rattle.graphql_grammar.proofs.ValueTests.{number, quoted, block, any_number-
 use Rattle.graphql_reading.proofs.PunctSamples.{has-close_list, has-close_object, has-colon}
 use Rattle.graphql_reading.proofs.ReadsExactly.{ReadsExactly, HasPhrase, BeginsWith, good-one, good-punct, good-keyword, good-name, good-name_but, good-mapped, good-next, good-led, good-many, good-choose, good-nested, good-deep, good-same, led-one, led-within, led-same, led-mapped, led-then, led-either, led-nested, has-token, has-pair, has-map, has-star, has-first, opens}
 use Rattle.graphql_reading.proofs.Meaning.{good-meaning, led-meaning, blind-meaning}
-use Rattle.graphql_grammar.proofs.Strings.{string-decides, block-decides}
+use Rattle.graphql_grammar.proofs.StringMeanings.{string-decides, block-decides}
 use Rattle.graphql_reading.proofs.IgnoresPlaces.{IgnoresPlaces, blind-one, blind-then, blind-mapped, blind-either, blind-star}
 use Rattle.graphql_reading.proofs.Loop.{Takes, takes-one}
 use Prim.Native.String.{String}

@@ -16,5 +16,6 @@ pub mod error;
 pub mod operations;
 pub mod positions;
 pub mod refusals;
+pub mod strings;
 pub mod types;
 pub mod value;

@@ -29,6 +29,13 @@ string_text t = option_map encode_utf8_all (content_value (chars (inside 1 t.spe
 abbrev pub block_text : Bare → Option (List ℕ)
 block_text t = Some (encode_utf8_all (block_value (chars (inside 3 t.spelling))))
 
+-- what a string, or a block string, stands for
+abbrev pub string_value_at : Reader (List ℕ)
+string_value_at = mapped_at (λ x. x.1) (meaning_at any_string string_text)
+
+abbrev pub block_value_at : Reader (List ℕ)
+block_value_at = mapped_at (λ x. x.1) (meaning_at any_block block_text)
+
 abbrev pub string_at : Reader Value
 string_at = mapped_at string_of (meaning_at any_string string_text)
 

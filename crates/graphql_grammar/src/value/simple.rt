@@ -1,14 +1,12 @@
 //! Values that are neither lists nor objects.
 ghost use Rattle.std.specs.Prelude.{◌≡◌, IfOk};
-ghost use Rattle.graphql_grammar.specs.grammar.Values as grammar;
 ghost use Rattle.graphql_grammar.specs.reading.OpenValues.{node_at, word_tree};
 ghost use Rattle.graphql_reading.specs.reading.Given.{Gives};
-ghost use Rattle.graphql_reading.specs.reading.Spelled.{IsQuoted};
 ghost use Rattle.graphql_grammar.specs.reading.Values.{simple_at, word_at, number_at, string_at, block_at, variable_at};
 
+use crate::strings::{read_block, read_string};
 use graphql_reading::cursor::{Cursor, Reading, Refusal};
 use graphql_syntax::lexer::TokenKind;
-use graphql_syntax::text::{block_string_value, string_value};
 use graphql_syntax::value::{Literal, Name, Number};
 use std::alloc::{AllocError, Global};
 
@@ -50,40 +48,19 @@ fn read_number<V: Literal>(alloc: Global, cursor: &mut Cursor) -> Reading<V>
     Ok(V::number(number))
 }
 
-/// What stands between so many quotes.
-fn inside(text: &str, quotes: usize) -> &str
-    requires { IsQuoted quotes text.now }
-    ensures { result.now ≡ grammar.inside quotes text.now }
-{
-    let front = &text[..text.len() - quotes];
-    &front[quotes..]
-}
-
 /// `StringValue` between single quotes (GraphQL October 2021, section 2.9.4)
-fn read_string<V: Literal>(alloc: Global, cursor: &mut Cursor) -> Reading<V>
+fn read_string_node<V: Literal>(alloc: Global, cursor: &mut Cursor) -> Reading<V>
     ensures { Gives V.tree result cursor.old cursor.new (node_at string_at) }
 {
-    let token = cursor.hand();
-    if !token.kind.is_string() {
-        return Err(Refusal::Syntax);
-    }
-    let Some(text) = string_value(alloc, inside(token.text, 1))? else {
-        return Err(Refusal::Syntax);
-    };
-    cursor.advance();
+    let text = read_string(alloc, cursor)?;
     Ok(V::string(text))
 }
 
 /// `StringValue` between triple quotes, a block string (GraphQL October 2021, section 2.9.4)
-fn read_block<V: Literal>(alloc: Global, cursor: &mut Cursor) -> Reading<V>
+fn read_block_node<V: Literal>(alloc: Global, cursor: &mut Cursor) -> Reading<V>
     ensures { Gives V.tree result cursor.old cursor.new (node_at block_at) }
 {
-    let token = cursor.hand();
-    if !token.kind.is_block() {
-        return Err(Refusal::Syntax);
-    }
-    let text = block_string_value(alloc, inside(token.text, 3))?;
-    cursor.advance();
+    let text = read_block(alloc, cursor)?;
     Ok(V::string(text))
 }
 
@@ -111,8 +88,8 @@ pub fn read_simple<V: Literal>(alloc: Global, cursor: &mut Cursor) -> Reading<V>
     match cursor.hand().kind {
         TokenKind::Name => read_word(alloc, cursor),
         TokenKind::Number => read_number(alloc, cursor),
-        TokenKind::String => read_string(alloc, cursor),
-        TokenKind::Block => read_block(alloc, cursor),
+        TokenKind::String => read_string_node(alloc, cursor),
+        TokenKind::Block => read_block_node(alloc, cursor),
         _ => read_variable(alloc, cursor),
     }
 }

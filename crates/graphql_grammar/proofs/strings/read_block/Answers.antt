@@ -1,17 +1,16 @@
-use Rattle.std.proofs.Common.{List, sym, ap₂, ◌∙◌, arith}
+use Rattle.std.proofs.Common.{List, sym, ap, ◌∙◌, arith}
 use Rattle.std.proofs.lemmas.Str.{encodes-chars, IsUtf8-string_bytes}
 use Rattle.std.specs.String.{string_bytes}
 use Rattle.graphql_tokens.specs.tokens.Token.{Token}
-use Rattle.graphql_syntax.specs.trees.ValueTree.{Tree}
 use Rattle.graphql_reading.specs.reading.Outcome.{Read}
 use Rattle.graphql_grammar.proofs.SimpleValues.{block-here, block-means}
-use Rattle.graphql_grammar.proofs.value.simple.read_block.Goals as goal
+use Rattle.graphql_grammar.proofs.strings.read_block.Goals as goal
 
 pub inside-requires : goal.inside-requires
-inside-requires g c = block-here c.hand-token.result c.args.cursor.now.hand c.hand-token.ensures.token (sym c.is_block.ensures ∙ c.if-not-is_block.false) c.hand-token.ensures.proper
+inside-requires c = block-here c.hand-token.result c.args.cursor.now.hand c.hand-token.ensures.token (sym c.is_block.ensures ∙ c.if-not-is_block.false) c.hand-token.ensures.proper
 
 pub returns : goal.returns
-returns g c =
+returns c =
     let back = encodes-chars (string_bytes c.in_ok-text.text) (IsUtf8-string_bytes c.in_ok-text.text) in
     let reads = block-means c.hand-token.result c.args.cursor.now.hand c.args.cursor.now.behind c.inside.result.now (string_bytes c.in_ok-text.text) c.hand-token.ensures.token (sym c.is_block.ensures ∙ c.if-not-is_block.false) c.inside.ensures c.in_ok-text.ensures back in
-    (reads ∙ ap₂ (λ (t : Tree) (l : List Token). Read t l) (sym c.string.ensures) (sym c.advance.ensures.left), (c.advance.ensures.whole, omega (arith, c.advance.ensures.taken)))
+    (reads ∙ ap (λ (l : List Token). Read (string_bytes c.in_ok-text.text) l) (sym c.advance.ensures.left), (c.advance.ensures.whole, omega (arith, c.advance.ensures.taken)))

@@ -1,7 +1,7 @@
 use Rattle.std.proofs.Common.{◌≡◌, ℕ, ◌-◌, List, length, take, ap, ◌∙◌, subst, sym, arith}
 use Rattle.std.specs.Str.{IsCharBoundary, IsUtf8}
 use Rattle.graphql_reading.proofs.ProperTokens.{behind-quotes}
-use Rattle.graphql_grammar.proofs.value.simple.inside.Goals as goal
+use Rattle.graphql_grammar.proofs.strings.inside.Goals as goal
 
 pub range_from-requires : goal.range_from-requires
 range_from-requires c = λ some.

@@ -1,0 +1,51 @@
+//! Readers of strings and block strings, by GraphQL October 2021, section 2.9.4.
+ghost use Rattle.std.specs.Prelude.{◌≡◌, string_bytes};
+ghost use Rattle.graphql_grammar.specs.grammar.Values as grammar;
+ghost use Rattle.graphql_grammar.specs.reading.Values.{string_value_at, block_value_at};
+ghost use Rattle.graphql_reading.specs.reading.Given.{Gives};
+ghost use Rattle.graphql_reading.specs.reading.Spelled.{IsQuoted};
+
+use graphql_reading::cursor::{Cursor, Reading, Refusal};
+use graphql_syntax::text::{block_string_value, string_value};
+use std::alloc::Global;
+
+/// What stands between so many quotes.
+fn inside(text: &str, quotes: usize) -> &str
+    requires { IsQuoted quotes text.now }
+    ensures { result.now ≡ grammar.inside quotes text.now }
+{
+    let front = &text[..text.len() - quotes];
+    &front[quotes..]
+}
+
+/// Reads a string, and gives its value.
+///
+/// `StringValue` between single quotes (GraphQL October 2021, section 2.9.4)
+pub fn read_string(alloc: Global, cursor: &mut Cursor) -> Reading<String>
+    ensures { Gives string_bytes result cursor.old cursor.new string_value_at }
+{
+    let token = cursor.hand();
+    if !token.kind.is_string() {
+        return Err(Refusal::Syntax);
+    }
+    let Some(text) = string_value(alloc, inside(token.text, 1))? else {
+        return Err(Refusal::Syntax);
+    };
+    cursor.advance();
+    Ok(text)
+}
+
+/// Reads a block string, and gives its value.
+///
+/// `StringValue` between triple quotes (GraphQL October 2021, section 2.9.4)
+pub fn read_block(alloc: Global, cursor: &mut Cursor) -> Reading<String>
+    ensures { Gives string_bytes result cursor.old cursor.new block_value_at }
+{
+    let token = cursor.hand();
+    if !token.kind.is_block() {
+        return Err(Refusal::Syntax);
+    }
+    let text = block_string_value(alloc, inside(token.text, 3))?;
+    cursor.advance();
+    Ok(text)
+}
