@@ -1,1 +1,9 @@
 -- Inner: what private clauses cite.
+pub mod Descriptions
+pub mod Directives
+pub mod Fields
+pub mod InputValues
+pub mod Members
+pub mod Schema
+pub mod SchemaFile
+pub mod Types

@@ -1,5 +1,5 @@
 -- Descriptions, and where what they describe stands (GraphQL October 2021, section 3.2).
-use Rattle.std.specs.Prelude.{ℕ, Option, Some, None, List}
+use Rattle.std.specs.Prelude.{ℕ, Some, None, List}
 use Rattle.graphql_tokens.specs.declared.pos.Pos.{Pos}
 use Rattle.graphql_tokens.specs.declared.pos.Positioned.{Positioned}
 use Rattle.graphql_tokens.specs.tokens.Edition.{Edition}
