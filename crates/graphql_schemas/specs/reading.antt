@@ -1,4 +1,5 @@
 -- Inner: what private clauses cite.
+pub mod Bodies
 pub mod Descriptions
 pub mod Directives
 pub mod Fields
@@ -7,3 +8,4 @@ pub mod Members
 pub mod Schema
 pub mod SchemaFile
 pub mod Types
+pub mod Views

@@ -9,7 +9,7 @@ use Rattle.graphql_syntax.specs.trees.Schema.{InputValues}
 use Rattle.graphql_reading.specs.grammar.Limits.{Limits}
 use Rattle.graphql_reading.specs.grammar.Tests.{punct, keyword, any_name}
 use Rattle.graphql_reading.specs.reading.Outcome.{Reader, one_at, meaning_at, then_at, mapped_at, opt_at, after_at, separated_at}
-use Rattle.graphql_schemas.specs.grammar.Directives.{location_word, location_of}
+use Rattle.graphql_schemas.specs.grammar.Directives.{location_word, location_of, is_there}
 use Rattle.graphql_schemas.specs.reading.InputValues.{arguments_definition_at}
 
 -- ---- locations
@@ -34,9 +34,15 @@ location_named spelling = location_among spelling all_locations
 abbrev pub location_at : Reader (Positioned DirectiveLocation)
 location_at = mapped_at location_of (meaning_at any_name (λ t. location_named t.spelling))
 
+abbrev pub locations_at : Reader (List (Positioned DirectiveLocation))
+locations_at = after_at (keyword "on") (separated_at (punct "|") location_at)
+
 -- ---- definitions
+
+abbrev pub repeatable_at : Reader Bool
+repeatable_at = mapped_at is_there (opt_at (keyword "repeatable") (one_at (keyword "repeatable")))
 
 -- after the description
 abbrev pub directive_rest_at : Limits → Reader (Token × (Token × (Token × (Option InputValues × (Option Token × List (Positioned DirectiveLocation))))))
 directive_rest_at limits =
-    then_at (one_at (keyword "directive")) (then_at (one_at (punct "@")) (then_at (one_at any_name) (then_at (opt_at (punct "(") (arguments_definition_at limits)) (then_at (opt_at (keyword "repeatable") (one_at (keyword "repeatable"))) (after_at (keyword "on") (separated_at (punct "|") location_at))))))
+    then_at (one_at (keyword "directive")) (then_at (one_at (punct "@")) (then_at (one_at any_name) (then_at (opt_at (punct "(") (arguments_definition_at limits)) (then_at (opt_at (keyword "repeatable") (one_at (keyword "repeatable"))) locations_at))))

@@ -5,6 +5,7 @@ use Rattle.graphql_syntax.specs.trees.Schema.{FieldDefinition}
 use Rattle.graphql_grammar.specs.reading.Arguments.{directives_at}
 use Rattle.graphql_grammar.specs.reading.Types.{type_at}
 use Rattle.graphql_reading.specs.grammar.Limits.{Limits}
+use Rattle.graphql_reading.specs.grammar.Relations.{given}
 use Rattle.graphql_reading.specs.grammar.Tests.{punct, any_name}
 use Rattle.graphql_reading.specs.reading.Outcome.{Reader, one_at, then_at, mapped_at, opt_at, plus_at, between_at}
 use Rattle.graphql_schemas.specs.grammar.Fields.{field_definition_of}
@@ -17,3 +18,7 @@ field_definition_at limits =
 
 abbrev pub fields_at : Limits → Reader (List (Positioned FieldDefinition))
 fields_at limits = between_at (punct "{") (plus_at member_first (field_definition_at limits)) (punct "}")
+
+-- where there are any
+abbrev pub given_fields_at : Limits → Reader (List (Positioned FieldDefinition))
+given_fields_at limits = mapped_at given (opt_at (punct "{") (fields_at limits))

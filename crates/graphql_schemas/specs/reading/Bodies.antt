@@ -1,0 +1,51 @@
+-- Reading the bodies of types as the code does: the keyword, the name, and the rest by the keyword.
+use Rattle.std.specs.Prelude.{Bool, map}
+use Rattle.graphql_tokens.specs.tokens.Seen.{seen}
+use Rattle.graphql_tokens.specs.tokens.Token.{Token}
+use Rattle.graphql_syntax.specs.trees.RequestViews.{const_directives_tree}
+use Rattle.graphql_syntax.specs.trees.Request.{placed}
+use Rattle.graphql_syntax.specs.trees.Schema.{object, interface}
+use Rattle.graphql_syntax.specs.trees.SchemaViews.{field_definition_tree, kind_tree}
+use Rattle.graphql_reading.specs.grammar.Limits.{Limits}
+use Rattle.graphql_reading.specs.grammar.Tests.{keyword}
+use Rattle.graphql_reading.specs.reading.Outcome.{Reader, one_at, mapped_at, choose_at}
+use Rattle.graphql_schemas.specs.declared.types.Body as code_body
+use Rattle.graphql_schemas.specs.declared.types.Members as code_members
+use Rattle.graphql_schemas.specs.declared.types.Rest as code_rest
+use Rattle.graphql_schemas.specs.declared.types.Word.{Word}
+use Rattle.graphql_schemas.specs.declared.types.Word.TheVariants as words
+use Rattle.graphql_schemas.specs.grammar.Types.{Members, Rest, Body}
+use Rattle.graphql_schemas.specs.reading.Types.{fields_rest_at, scalar_rest_at, union_rest_at, enum_rest_at, input_rest_at}
+
+-- ---- what those of the code stand for
+
+abbrev pub in_members : code_members.Members → Members
+in_members m = (m.implements.items, (const_directives_tree m.directives.items, map (placed field_definition_tree) m.fields.items))
+
+abbrev pub in_rest : code_rest.Rest → Rest
+in_rest r = (const_directives_tree r.directives.items, kind_tree r.kind)
+
+abbrev pub in_body : code_body.Body → Body
+in_body b = (seen b.word, (b.name, in_rest b.rest))
+
+-- ---- by the keyword
+
+abbrev pub worded : Word → Token → Token × Word
+worded word t = (t, word)
+
+abbrev pub word_at : Reader (Token × Word)
+word_at =
+    choose_at (keyword "scalar") (mapped_at (worded words.Scalar) (one_at (keyword "scalar")))
+    (choose_at (keyword "type") (mapped_at (worded words.Type) (one_at (keyword "type")))
+    (choose_at (keyword "interface") (mapped_at (worded words.Interface) (one_at (keyword "interface")))
+    (choose_at (keyword "union") (mapped_at (worded words.Union) (one_at (keyword "union")))
+    (choose_at (keyword "enum") (mapped_at (worded words.Enum) (one_at (keyword "enum")))
+    (mapped_at (worded words.Input) (one_at (keyword "input")))))))
+
+abbrev pub rest_at : Bool → Limits → Word → Reader Rest
+rest_at extend limits words.Scalar = scalar_rest_at extend limits
+rest_at extend limits words.Type = fields_rest_at object extend limits
+rest_at extend limits words.Interface = fields_rest_at interface extend limits
+rest_at extend limits words.Union = union_rest_at extend limits
+rest_at extend limits words.Enum = enum_rest_at extend limits
+rest_at extend limits words.Input = input_rest_at extend limits

@@ -1,0 +1,64 @@
+//! The reader of descriptions, by GraphQL October 2021, section 3.2.
+ghost use Rattle.std.specs.Prelude.{◌≡◌, string_bytes};
+ghost use Rattle.graphql_tokens.specs.tokens.Seen.{seen};
+ghost use Rattle.graphql_syntax.specs.trees.Request as request;
+ghost use Rattle.graphql_syntax.specs.trees.SchemaViews.{description_tree};
+ghost use Rattle.graphql_reading.specs.reading.Given.{Gives};
+ghost use Rattle.graphql_schemas.specs.grammar.Descriptions as grammar;
+ghost use Rattle.graphql_schemas.specs.reading.Descriptions.{is_text, description_at, maybe_description_at};
+
+use graphql_grammar::strings::{read_block, read_string};
+use graphql_reading::cursor::{Cursor, Reading};
+use graphql_syntax::lexer::Token;
+use graphql_syntax::pos::{Pos, Positioned};
+use std::alloc::Global;
+
+/// Whether a description is in hand.
+#[inline(always)]
+pub fn is_at_description(cursor: &Cursor) -> bool
+    ensures { result ≡ is_text cursor.now.hand.bare }
+{
+    let kind = cursor.hand().kind;
+    kind.is_string() || kind.is_block()
+}
+
+/// `Description : String | Block`
+fn read_description(alloc: Global, cursor: &mut Cursor) -> Reading<Positioned<String>>
+    ensures { Gives (request.placed string_bytes) result cursor.old cursor.new description_at }
+{
+    let quote = cursor.hand();
+    let text = if quote.kind.is_string() {
+        read_string(alloc, cursor)?
+    } else {
+        read_block(alloc, cursor)?
+    };
+    Ok(Positioned::new(text, quote.pos))
+}
+
+/// Reads a description, where one is in hand.
+///
+/// `Description?` (GraphQL October 2021, section 3.2)
+#[tactic(auto, unfolding(graphql_reading::specs::reading::Outcome::opt_at))]
+#[inline(always)]
+pub fn read_maybe_description(
+    alloc: Global,
+    cursor: &mut Cursor,
+) -> Reading<Option<Positioned<String>>>
+    ensures { Gives description_tree result cursor.old cursor.new maybe_description_at }
+{
+    if !is_at_description(cursor) {
+        return Ok(None);
+    }
+    Ok(Some(read_description(alloc, cursor)?))
+}
+
+/// Where a definition stands: at its description, or else at this first token of its own.
+#[inline(always)]
+pub fn place_of(description: &Option<Positioned<String>>, first: Token) -> Pos
+    ensures { result ≡ grammar.place_of (description_tree description.now) (seen first) }
+{
+    match description {
+        Some(text) => text.pos,
+        None => first.pos,
+    }
+}

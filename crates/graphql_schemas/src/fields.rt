@@ -1,0 +1,78 @@
+//! Readers of the fields of object types and interfaces, by GraphQL October 2021, section 3.6.
+ghost use Rattle.graphql_tokens.specs.declared.pos.Positioned.{Positioned};
+ghost use Rattle.graphql_syntax.specs.trees.Request as request;
+ghost use Rattle.graphql_syntax.specs.trees.Schema as trees;
+ghost use Rattle.graphql_syntax.specs.trees.SchemaViews.{field_definition_tree};
+ghost use Rattle.graphql_reading.specs.reading.Given.{Gives, trees_in};
+ghost use Rattle.graphql_schemas.specs.reading.Fields.{field_definition_at, given_fields_at};
+ghost use Rattle.graphql_schemas.specs.reading.InputValues.{member_first};
+
+use crate::descriptions::{place_of, read_maybe_description};
+use crate::input_values::{is_at_member, read_maybe_arguments_definition};
+use graphql_grammar::arguments::read_const_directives;
+use graphql_grammar::types::read_type;
+use graphql_reading::cursor::{Cursor, Reading};
+use graphql_reading::limits::Limits;
+use graphql_reading::names::name_in;
+use graphql_reading::production::{Production, maybe_bracketed};
+use graphql_syntax::pos::Positioned;
+use graphql_syntax::types::FieldDefinition;
+use std::alloc::Global;
+
+/// `Description? Name ArgumentsDef? ':' Type ConstDirectives?`
+struct FieldPhrase;
+
+impl Production for FieldPhrase {
+    type Node = Positioned<FieldDefinition>;
+
+    type Budget = Limits;
+
+    ghost Tree = { Positioned trees.FieldDefinition };
+
+    ghost tree = { request.placed field_definition_tree };
+
+    ghost first = { member_first };
+
+    ghost reader = { field_definition_at };
+
+    #[inline(always)]
+    fn is_next(cursor: &Cursor) -> bool {
+        is_at_member(cursor)
+    }
+
+    fn read(
+        alloc: Global,
+        cursor: &mut Cursor,
+        limits: Limits,
+    ) -> Reading<Positioned<FieldDefinition>> {
+        let description = read_maybe_description(alloc, cursor)?;
+        let token = cursor.expect_name()?;
+        let pos = place_of(&description, token);
+        let name = name_in(alloc, token)?;
+        let arguments = read_maybe_arguments_definition(alloc, cursor, limits)?;
+        cursor.expect_punct(":")?;
+        let ty = read_type(alloc, cursor, limits.types())?;
+        let directives = read_const_directives(alloc, cursor, limits.values())?;
+        let field = FieldDefinition {
+            description,
+            name,
+            arguments,
+            ty,
+            directives,
+        };
+        Ok(Positioned::new(field, pos))
+    }
+}
+
+/// Reads fields with their brackets, where a `{` is in hand; else there are none.
+///
+/// `Fields? : ('{' FieldDef+ '}')?` (GraphQL October 2021, section 3.6)
+pub fn read_maybe_fields(
+    alloc: Global,
+    cursor: &mut Cursor,
+    limits: Limits,
+) -> Reading<Vec<Positioned<FieldDefinition>>>
+    ensures { Gives (trees_in (request.placed field_definition_tree)) result cursor.old cursor.new (given_fields_at limits) }
+{
+    maybe_bracketed::<FieldPhrase>(alloc, cursor, "{", "}", limits)
+}

@@ -1,0 +1,128 @@
+//! Readers of the interfaces of a type, the types of a union and the values of an enum, by GraphQL October 2021,
+//! sections 3.6, 3.8 and 3.9.
+ghost use Rattle.std.specs.Prelude.{◌≡◌, option_map};
+ghost use Rattle.graphql_tokens.specs.declared.pos.Positioned.{Positioned};
+ghost use Rattle.graphql_tokens.specs.tokens.Seen.{seen};
+ghost use Rattle.graphql_syntax.specs.trees.Request as request;
+ghost use Rattle.graphql_syntax.specs.trees.Schema as trees;
+ghost use Rattle.graphql_syntax.specs.trees.SchemaViews.{enum_value_tree};
+ghost use Rattle.graphql_reading.specs.reading.Given.{Gives, trees_in};
+ghost use Rattle.graphql_reading.specs.reading.Outcome.{one_at};
+ghost use Rattle.graphql_schemas.specs.grammar.Members.{enum_name};
+ghost use Rattle.graphql_schemas.specs.reading.Members.{given_implements_at, given_members_at, enum_value_first, enum_value_at, given_enum_values_at};
+
+use crate::descriptions::{is_at_description, place_of, read_maybe_description};
+use graphql_grammar::arguments::read_const_directives;
+use graphql_reading::cursor::{Cursor, Reading, Refusal};
+use graphql_reading::limits::Limits;
+use graphql_reading::names::{NamePhrase, name_in};
+use graphql_reading::production::{Production, maybe_bracketed, separated};
+use graphql_syntax::lexer::Token;
+use graphql_syntax::pos::Positioned;
+use graphql_syntax::types::EnumValueDefinition;
+use graphql_syntax::value::Name;
+use std::alloc::Global;
+
+/// Reads the interfaces that a type implements, where `implements` is in hand; else there are none.
+///
+/// `Implements? : ('implements' '&'? Name ('&' Name)*)?` (GraphQL October 2021, section 3.6)
+#[tactic(auto, unfolding(graphql_reading::specs::reading::Outcome::opt_at))]
+pub fn read_maybe_implements(
+    alloc: Global,
+    cursor: &mut Cursor,
+) -> Reading<Vec<Positioned<Name>>>
+    ensures { Gives (λ names. names.items) result cursor.old cursor.new given_implements_at }
+{
+    if !cursor.is_at_keyword("implements") {
+        return Ok(Vec::new(alloc));
+    }
+    cursor.advance();
+    separated::<NamePhrase>(alloc, cursor, "&", ())
+}
+
+/// Reads the types of a union, where a `=` is in hand; else there are none.
+///
+/// `Members? : ('=' '|'? Name ('|' Name)*)?` (GraphQL October 2021, section 3.8)
+#[tactic(auto, unfolding(graphql_reading::specs::reading::Outcome::opt_at))]
+pub fn read_maybe_members(alloc: Global, cursor: &mut Cursor) -> Reading<Vec<Positioned<Name>>>
+    ensures { Gives (λ names. names.items) result cursor.old cursor.new given_members_at }
+{
+    if !cursor.is_at_punct("=") {
+        return Ok(Vec::new(alloc));
+    }
+    cursor.advance();
+    separated::<NamePhrase>(alloc, cursor, "|", ())
+}
+
+/// Whether a name is in hand that an enum's value may have.
+fn is_at_enum_name(cursor: &Cursor) -> bool
+    ensures { result ≡ enum_name cursor.now.hand.bare }
+{
+    cursor.is_at_name()
+        && !(cursor.is_at_keyword("true")
+            || cursor.is_at_keyword("false")
+            || cursor.is_at_keyword("null"))
+}
+
+/// `EnumName : a Name other than 'true', 'false', 'null'`
+fn expect_enum_name<'a>(cursor: &mut Cursor<'a>) -> Reading<Token<'a>>
+    ensures { Gives seen result cursor.old cursor.new (one_at enum_name) }
+{
+    if !is_at_enum_name(cursor) {
+        return Err(Refusal::Syntax);
+    }
+    Ok(cursor.take())
+}
+
+/// `Description? EnumName ConstDirectives?`
+struct EnumValuePhrase;
+
+impl Production for EnumValuePhrase {
+    type Node = Positioned<EnumValueDefinition>;
+
+    type Budget = Limits;
+
+    ghost Tree = { Positioned trees.EnumValueDefinition };
+
+    ghost tree = { request.placed enum_value_tree };
+
+    ghost first = { enum_value_first };
+
+    ghost reader = { enum_value_at };
+
+    #[inline(always)]
+    fn is_next(cursor: &Cursor) -> bool {
+        is_at_description(cursor) || is_at_enum_name(cursor)
+    }
+
+    fn read(
+        alloc: Global,
+        cursor: &mut Cursor,
+        limits: Limits,
+    ) -> Reading<Positioned<EnumValueDefinition>> {
+        let description = read_maybe_description(alloc, cursor)?;
+        let token = expect_enum_name(cursor)?;
+        let pos = place_of(&description, token);
+        let value = name_in(alloc, token)?;
+        let directives = read_const_directives(alloc, cursor, limits.values())?;
+        let definition = EnumValueDefinition {
+            description,
+            value,
+            directives,
+        };
+        Ok(Positioned::new(definition, pos))
+    }
+}
+
+/// Reads the values of an enum with their brackets, where a `{` is in hand; else there are none.
+///
+/// `EnumValues? : ('{' (Description? EnumName ConstDirectives?)+ '}')?` (GraphQL October 2021, section 3.9)
+pub fn read_maybe_enum_values(
+    alloc: Global,
+    cursor: &mut Cursor,
+    limits: Limits,
+) -> Reading<Vec<Positioned<EnumValueDefinition>>>
+    ensures { Gives (trees_in (request.placed enum_value_tree)) result cursor.old cursor.new (given_enum_values_at limits) }
+{
+    maybe_bracketed::<EnumValuePhrase>(alloc, cursor, "{", "}", limits)
+}

@@ -1,0 +1,140 @@
+//! Readers of definitions and extensions of schemas, by GraphQL October 2021, section 3.3.
+ghost use Rattle.graphql_tokens.specs.declared.pos.Positioned.{Positioned};
+ghost use Rattle.graphql_tokens.specs.tokens.Seen.{seen};
+ghost use Rattle.graphql_syntax.specs.trees.Request as request;
+ghost use Rattle.graphql_syntax.specs.trees.SchemaViews.{description_tree};
+ghost use Rattle.graphql_reading.specs.reading.Given.{Gives, trees_in};
+ghost use Rattle.graphql_reading.specs.reading.Outcome.{mapped_at};
+ghost use Rattle.graphql_schemas.specs.grammar.Schema as grammar;
+ghost use Rattle.graphql_schemas.specs.reading.Schema.{root_first, root_at, roots_at, schema_rest_at, extended_schema_at};
+ghost use Rattle.graphql_schemas.specs.reading.Views.{root_tree, schema_tree};
+
+use crate::descriptions::place_of;
+use graphql_grammar::arguments::read_const_directives;
+use graphql_grammar::operations::read_operation_type;
+use graphql_reading::cursor::{Cursor, Reading, Refusal};
+use graphql_reading::limits::Limits;
+use graphql_reading::names::name_in;
+use graphql_reading::production::{Production, bracketed, maybe_bracketed};
+use graphql_syntax::lexer::Token;
+use graphql_syntax::pos::{Pos, Positioned};
+use graphql_syntax::types::{ConstDirective, OperationType};
+use graphql_syntax::value::Name;
+use std::alloc::Global;
+
+/// The type at which operations of a kind begin.
+#[derive(Drop)]
+pub struct Root {
+    /// The kind.
+    pub kind: OperationType,
+    /// The place of its keyword.
+    pub pos: Pos,
+    /// The name of the type.
+    pub name: Positioned<Name>,
+}
+
+/// A definition or an extension of a schema, with its roots as they are written.
+#[derive(Drop)]
+pub struct Schema {
+    /// The text of the description.
+    pub description: Option<Positioned<String>>,
+    /// Whether it is an extension.
+    pub extend: bool,
+    /// The directives, in source order.
+    pub directives: Vec<Positioned<ConstDirective>>,
+    /// The roots, in source order.
+    pub roots: Vec<Root>,
+}
+
+/// `OperationType ':' Name`
+struct RootPhrase;
+
+impl Production for RootPhrase {
+    type Node = Root;
+
+    type Budget = ();
+
+    ghost Tree = { grammar.Root };
+
+    ghost tree = { root_tree };
+
+    ghost first = { root_first };
+
+    ghost reader = { λ _. root_at };
+
+    fn is_next(cursor: &Cursor) -> bool {
+        cursor.is_at_keyword("query")
+            || cursor.is_at_keyword("mutation")
+            || cursor.is_at_keyword("subscription")
+    }
+
+    fn read(alloc: Global, cursor: &mut Cursor, _budget: ()) -> Reading<Root> {
+        let (word, kind) = read_operation_type(cursor)?;
+        cursor.expect_punct(":")?;
+        let token = cursor.expect_name()?;
+        let name = name_in(alloc, token)?;
+        Ok(Root {
+            kind,
+            pos: word.pos,
+            name,
+        })
+    }
+}
+
+/// `Roots : '{' (OperationType ':' Name)+ '}'`
+fn read_roots(alloc: Global, cursor: &mut Cursor) -> Reading<Vec<Root>>
+    ensures { Gives (trees_in root_tree) result cursor.old cursor.new roots_at }
+{
+    bracketed::<RootPhrase>(alloc, cursor, "{", "}", ())
+}
+
+/// Reads the definition of a schema after its description.
+///
+/// `Schema : Description? 'schema' ConstDirectives? Roots` (GraphQL October 2021, section 3.3)
+pub fn read_schema(
+    alloc: Global,
+    cursor: &mut Cursor,
+    limits: Limits,
+    description: Option<Positioned<String>>,
+) -> Reading<Positioned<Schema>>
+    ensures { Gives (request.placed schema_tree) result cursor.old cursor.new (mapped_at (λ rest. grammar.schema_of (description_tree description, rest)) (schema_rest_at limits)) }
+{
+    let word = cursor.expect_keyword("schema")?;
+    let pos = place_of(&description, word);
+    let directives = read_const_directives(alloc, cursor, limits.values())?;
+    let roots = read_roots(alloc, cursor)?;
+    let schema = Schema {
+        description,
+        extend: false,
+        directives,
+        roots,
+    };
+    Ok(Positioned::new(schema, pos))
+}
+
+/// Reads the extension of a schema after this `extend`.
+///
+/// `SchemaExt : 'extend' 'schema' ConstDirectives Roots? | 'extend' 'schema' Roots` (GraphQL October 2021, section
+/// 3.3.2)
+pub fn read_schema_extension(
+    alloc: Global,
+    cursor: &mut Cursor,
+    limits: Limits,
+    extend: Token,
+) -> Reading<Positioned<Schema>>
+    ensures { Gives (request.placed schema_tree) result cursor.old cursor.new (mapped_at (λ rest. grammar.schema_extension_of (seen extend, rest)) (extended_schema_at limits)) }
+{
+    cursor.expect_keyword("schema")?;
+    if !(cursor.is_at_punct("@") || cursor.is_at_punct("{")) {
+        return Err(Refusal::Syntax);
+    }
+    let directives = read_const_directives(alloc, cursor, limits.values())?;
+    let roots = maybe_bracketed::<RootPhrase>(alloc, cursor, "{", "}", ())?;
+    let schema = Schema {
+        description: None,
+        extend: true,
+        directives,
+        roots,
+    };
+    Ok(Positioned::new(schema, extend.pos))
+}

@@ -1,0 +1,297 @@
+//! Readers of definitions and extensions of types, by GraphQL October 2021, sections 3.4 to 3.10.
+ghost use Rattle.std.specs.Prelude.{◌≡◌, false, true};
+ghost use Rattle.graphql_tokens.specs.tokens.Seen.{seen};
+ghost use Rattle.graphql_syntax.specs.trees.Request as request;
+ghost use Rattle.graphql_syntax.specs.trees.SchemaViews.{description_tree, type_definition_tree};
+ghost use Rattle.graphql_reading.specs.reading.Given.{Gives};
+ghost use Rattle.graphql_reading.specs.reading.Outcome.{mapped_at};
+ghost use Rattle.graphql_schemas.specs.grammar.Types as grammar;
+ghost use Rattle.graphql_schemas.specs.reading.Bodies.{in_members, in_rest, in_body, word_at, rest_at};
+ghost use Rattle.graphql_schemas.specs.reading.Types.{some_field_parts_at, scalar_rest_at, union_rest_at, enum_rest_at, input_rest_at, body_at};
+
+use crate::descriptions::place_of;
+use crate::fields::read_maybe_fields;
+use crate::input_values::read_maybe_input_fields;
+use crate::members::{read_maybe_enum_values, read_maybe_implements, read_maybe_members};
+use graphql_grammar::arguments::read_const_directives;
+use graphql_reading::cursor::{Cursor, Reading, Refusal};
+use graphql_reading::limits::Limits;
+use graphql_reading::names::read_name;
+use graphql_syntax::lexer::Token;
+use graphql_syntax::pos::Positioned;
+use graphql_syntax::types::{
+    ConstDirective, EnumType, FieldDefinition, InputObjectType, InterfaceType, ObjectType,
+    TypeDefinition, TypeKind, UnionType,
+};
+use graphql_syntax::value::Name;
+use std::alloc::Global;
+
+/// The keyword of a type's definition.
+#[derive(Clone, Copy)]
+enum Word {
+    Scalar,
+    Type,
+    Interface,
+    Union,
+    Enum,
+    Input,
+}
+
+/// What an object type and an interface may have.
+struct Members {
+    implements: Vec<Positioned<Name>>,
+    directives: Vec<Positioned<ConstDirective>>,
+    fields: Vec<Positioned<FieldDefinition>>,
+}
+
+/// What stands after the name of a type: its directives, and its kind with the parts of that.
+struct Rest {
+    directives: Vec<Positioned<ConstDirective>>,
+    kind: TypeKind,
+}
+
+/// What a definition and an extension of a type share.
+struct Body<'a> {
+    word: Token<'a>,
+    name: Positioned<Name>,
+    rest: Rest,
+}
+
+/// `'scalar' | 'type' | 'interface' | 'union' | 'enum' | 'input'`
+fn read_word<'a>(cursor: &mut Cursor<'a>) -> Reading<(Token<'a>, Word)>
+    ensures { Gives (λ x. (seen x.0, x.1)) result cursor.old cursor.new word_at }
+{
+    let word = if cursor.is_at_keyword("scalar") {
+        Word::Scalar
+    } else if cursor.is_at_keyword("type") {
+        Word::Type
+    } else if cursor.is_at_keyword("interface") {
+        Word::Interface
+    } else if cursor.is_at_keyword("union") {
+        Word::Union
+    } else if cursor.is_at_keyword("enum") {
+        Word::Enum
+    } else if cursor.is_at_keyword("input") {
+        Word::Input
+    } else {
+        return Err(Refusal::Syntax);
+    };
+    Ok((cursor.take(), word))
+}
+
+/// `Implements? ConstDirectives? Fields?`; an extension has at least one of them.
+fn read_field_parts(
+    alloc: Global,
+    cursor: &mut Cursor,
+    limits: Limits,
+    extend: bool,
+) -> Reading<Members>
+    ensures { Gives in_members result cursor.old cursor.new (some_field_parts_at extend limits) }
+{
+    if extend
+        && !(cursor.is_at_keyword("implements")
+            || cursor.is_at_punct("@")
+            || cursor.is_at_punct("{"))
+    {
+        return Err(Refusal::Syntax);
+    }
+    let implements = read_maybe_implements(alloc, cursor)?;
+    let directives = read_const_directives(alloc, cursor, limits.values())?;
+    let fields = read_maybe_fields(alloc, cursor, limits)?;
+    Ok(Members {
+        implements,
+        directives,
+        fields,
+    })
+}
+
+/// `ConstDirectives?`; an extension has them.
+fn read_scalar_rest(
+    alloc: Global,
+    cursor: &mut Cursor,
+    limits: Limits,
+    extend: bool,
+) -> Reading<Rest>
+    ensures { Gives in_rest result cursor.old cursor.new (scalar_rest_at extend limits) }
+{
+    if extend && !cursor.is_at_punct("@") {
+        return Err(Refusal::Syntax);
+    }
+    let directives = read_const_directives(alloc, cursor, limits.values())?;
+    Ok(Rest {
+        directives,
+        kind: TypeKind::Scalar,
+    })
+}
+
+/// `ConstDirectives? Members?`; an extension has at least one of them.
+fn read_union_rest(
+    alloc: Global,
+    cursor: &mut Cursor,
+    limits: Limits,
+    extend: bool,
+) -> Reading<Rest>
+    ensures { Gives in_rest result cursor.old cursor.new (union_rest_at extend limits) }
+{
+    if extend && !(cursor.is_at_punct("@") || cursor.is_at_punct("=")) {
+        return Err(Refusal::Syntax);
+    }
+    let directives = read_const_directives(alloc, cursor, limits.values())?;
+    let members = read_maybe_members(alloc, cursor)?;
+    Ok(Rest {
+        directives,
+        kind: TypeKind::Union(UnionType { members }),
+    })
+}
+
+/// `ConstDirectives? EnumValues?`; an extension has at least one of them.
+fn read_enum_rest(
+    alloc: Global,
+    cursor: &mut Cursor,
+    limits: Limits,
+    extend: bool,
+) -> Reading<Rest>
+    ensures { Gives in_rest result cursor.old cursor.new (enum_rest_at extend limits) }
+{
+    if extend && !(cursor.is_at_punct("@") || cursor.is_at_punct("{")) {
+        return Err(Refusal::Syntax);
+    }
+    let directives = read_const_directives(alloc, cursor, limits.values())?;
+    let values = read_maybe_enum_values(alloc, cursor, limits)?;
+    Ok(Rest {
+        directives,
+        kind: TypeKind::Enum(EnumType { values }),
+    })
+}
+
+/// `ConstDirectives? InputFields?`; an extension has at least one of them.
+fn read_input_rest(
+    alloc: Global,
+    cursor: &mut Cursor,
+    limits: Limits,
+    extend: bool,
+) -> Reading<Rest>
+    ensures { Gives in_rest result cursor.old cursor.new (input_rest_at extend limits) }
+{
+    if extend && !(cursor.is_at_punct("@") || cursor.is_at_punct("{")) {
+        return Err(Refusal::Syntax);
+    }
+    let directives = read_const_directives(alloc, cursor, limits.values())?;
+    let fields = read_maybe_input_fields(alloc, cursor, limits)?;
+    Ok(Rest {
+        directives,
+        kind: TypeKind::InputObject(InputObjectType { fields }),
+    })
+}
+
+/// What stands after the name, by the keyword.
+fn read_rest(
+    alloc: Global,
+    cursor: &mut Cursor,
+    limits: Limits,
+    word: Word,
+    extend: bool,
+) -> Reading<Rest>
+    ensures { Gives in_rest result cursor.old cursor.new (rest_at extend limits word) }
+{
+    match word {
+        Word::Scalar => read_scalar_rest(alloc, cursor, limits, extend),
+        Word::Type => {
+            let Members {
+                implements,
+                directives,
+                fields,
+            } = read_field_parts(alloc, cursor, limits, extend)?;
+            Ok(Rest {
+                directives,
+                kind: TypeKind::Object(ObjectType { implements, fields }),
+            })
+        }
+        Word::Interface => {
+            let Members {
+                implements,
+                directives,
+                fields,
+            } = read_field_parts(alloc, cursor, limits, extend)?;
+            Ok(Rest {
+                directives,
+                kind: TypeKind::Interface(InterfaceType { implements, fields }),
+            })
+        }
+        Word::Union => read_union_rest(alloc, cursor, limits, extend),
+        Word::Enum => read_enum_rest(alloc, cursor, limits, extend),
+        Word::Input => read_input_rest(alloc, cursor, limits, extend),
+    }
+}
+
+/// ```text
+/// Body : 'scalar' Name ConstDirectives?
+///   | 'type' Name Implements? ConstDirectives? Fields?
+///   | 'interface' Name Implements? ConstDirectives? Fields?
+///   | 'union' Name ConstDirectives? Members?
+///   | 'enum' Name ConstDirectives? EnumValues?
+///   | 'input' Name ConstDirectives? InputFields?
+/// ```
+/// In an extension at least one of the optional parts is there.
+fn read_body<'a>(
+    alloc: Global,
+    cursor: &mut Cursor<'a>,
+    limits: Limits,
+    extend: bool,
+) -> Reading<Body<'a>>
+    ensures { Gives in_body result cursor.old cursor.new (body_at extend limits) }
+{
+    let (token, word) = read_word(cursor)?;
+    let name = read_name(alloc, cursor)?;
+    let rest = read_rest(alloc, cursor, limits, word, extend)?;
+    Ok(Body {
+        word: token,
+        name,
+        rest,
+    })
+}
+
+/// Reads the definition of a type after its description.
+///
+/// `TypeDef : Description? Body` (GraphQL October 2021, section 3.4)
+pub fn read_type_definition(
+    alloc: Global,
+    cursor: &mut Cursor,
+    limits: Limits,
+    description: Option<Positioned<String>>,
+) -> Reading<Positioned<TypeDefinition>>
+    ensures { Gives (request.placed type_definition_tree) result cursor.old cursor.new (mapped_at (λ body. grammar.type_definition_of (description_tree description, body)) (body_at false limits)) }
+{
+    let Body { word, name, rest } = read_body(alloc, cursor, limits, false)?;
+    let pos = place_of(&description, word);
+    let definition = TypeDefinition {
+        extend: false,
+        description,
+        name,
+        directives: rest.directives,
+        kind: rest.kind,
+    };
+    Ok(Positioned::new(definition, pos))
+}
+
+/// Reads the extension of a type after this `extend`.
+///
+/// `TypeExt : 'extend' Body`, with at least one of the optional parts (GraphQL October 2021, section 3.4.3)
+pub fn read_type_extension(
+    alloc: Global,
+    cursor: &mut Cursor,
+    limits: Limits,
+    extend: Token,
+) -> Reading<Positioned<TypeDefinition>>
+    ensures { Gives (request.placed type_definition_tree) result cursor.old cursor.new (mapped_at (λ body. grammar.type_extension_of (seen extend, body)) (body_at true limits)) }
+{
+    let Body { name, rest, .. } = read_body(alloc, cursor, limits, true)?;
+    let definition = TypeDefinition {
+        extend: true,
+        description: None,
+        name,
+        directives: rest.directives,
+        kind: rest.kind,
+    };
+    Ok(Positioned::new(definition, extend.pos))
+}
