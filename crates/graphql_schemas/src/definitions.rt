@@ -1,17 +1,18 @@
 //! Readers of definitions and of schema files, by GraphQL October 2021, section 3.1.
 ghost use Rattle.std.specs.Prelude.{◌≡◌};
 ghost use Rattle.graphql_reading.specs.reading.Given.{Gives, GivesWhole};
+ghost use Rattle.graphql_schemas.specs.reading.Depths.{limits_of};
 ghost use Rattle.graphql_schemas.specs.grammar.SchemaFile.{Definition as SpecDefinition};
 ghost use Rattle.graphql_schemas.specs.reading.SchemaFile.{described_at, extension_at, definition_first, definition_at, definitions_at, schema_file_at};
 ghost use Rattle.graphql_schemas.specs.reading.Types.{body_first};
 ghost use Rattle.graphql_schemas.specs.reading.Views.{definition_tree, in_definitions};
 
+use crate::depths::Depths;
 use crate::descriptions::{is_at_description, read_maybe_description};
 use crate::directives::read_directive_definition;
 use crate::schema::{Schema, read_schema, read_schema_extension};
 use crate::types::{read_type_definition, read_type_extension};
 use graphql_reading::cursor::{Cursor, Reading};
-use graphql_reading::limits::Limits;
 use graphql_reading::production::{Production, one_or_more};
 use graphql_syntax::pos::Positioned;
 use graphql_syntax::types::{DirectiveDefinition, TypeDefinition};
@@ -50,39 +51,39 @@ fn is_at_definition(cursor: &Cursor) -> bool
 }
 
 /// `SchemaExt | TypeExt`
-fn read_extension(alloc: Global, cursor: &mut Cursor, limits: Limits) -> Reading<Definition>
-    ensures { Gives definition_tree result cursor.old cursor.new (extension_at limits) }
+fn read_extension(alloc: Global, cursor: &mut Cursor, depths: Depths) -> Reading<Definition>
+    ensures { Gives definition_tree result cursor.old cursor.new (extension_at (limits_of depths)) }
 {
     let extend = cursor.expect_keyword("extend")?;
     if cursor.is_at_keyword("schema") {
-        let schema = read_schema_extension(alloc, cursor, limits, extend)?;
+        let schema = read_schema_extension(alloc, cursor, depths, extend)?;
         return Ok(Definition::Schema(schema));
     }
-    let extension = read_type_extension(alloc, cursor, limits, extend)?;
+    let extension = read_type_extension(alloc, cursor, depths, extend)?;
     Ok(Definition::TypeDef(extension))
 }
 
 /// `Schema | TypeDef | DirectiveDef`: each may have a description.
-fn read_described(alloc: Global, cursor: &mut Cursor, limits: Limits) -> Reading<Definition>
-    ensures { Gives definition_tree result cursor.old cursor.new (described_at limits) }
+fn read_described(alloc: Global, cursor: &mut Cursor, depths: Depths) -> Reading<Definition>
+    ensures { Gives definition_tree result cursor.old cursor.new (described_at (limits_of depths)) }
 {
     let description = read_maybe_description(alloc, cursor)?;
     if cursor.is_at_keyword("schema") {
-        let schema = read_schema(alloc, cursor, limits, description)?;
+        let schema = read_schema(alloc, cursor, depths, description)?;
         return Ok(Definition::Schema(schema));
     }
     if cursor.is_at_keyword("directive") {
-        let directive = read_directive_definition(alloc, cursor, limits, description)?;
+        let directive = read_directive_definition(alloc, cursor, depths, description)?;
         return Ok(Definition::Directive(directive));
     }
-    let definition = read_type_definition(alloc, cursor, limits, description)?;
+    let definition = read_type_definition(alloc, cursor, depths, description)?;
     Ok(Definition::TypeDef(definition))
 }
 
 impl Production for Definition {
     type Node = Definition;
 
-    type Budget = Limits;
+    type Budget = Depths;
 
     ghost Tree = { SpecDefinition };
 
@@ -90,26 +91,26 @@ impl Production for Definition {
 
     ghost first = { definition_first };
 
-    ghost reader = { definition_at };
+    ghost reader = { λ depths. definition_at (limits_of depths) };
 
     fn is_next(cursor: &Cursor) -> bool {
         is_at_definition(cursor)
     }
 
     /// `Definition : Schema | SchemaExt | TypeDef | TypeExt | DirectiveDef`
-    fn read(alloc: Global, cursor: &mut Cursor, limits: Limits) -> Reading<Definition> {
+    fn read(alloc: Global, cursor: &mut Cursor, depths: Depths) -> Reading<Definition> {
         if cursor.is_at_keyword("extend") {
-            return read_extension(alloc, cursor, limits);
+            return read_extension(alloc, cursor, depths);
         }
-        read_described(alloc, cursor, limits)
+        read_described(alloc, cursor, depths)
     }
 }
 
 /// `Definition+`
-fn read_definitions(alloc: Global, cursor: &mut Cursor, limits: Limits) -> Reading<Vec<Definition>>
-    ensures { Gives in_definitions result cursor.old cursor.new (definitions_at limits) }
+fn read_definitions(alloc: Global, cursor: &mut Cursor, depths: Depths) -> Reading<Vec<Definition>>
+    ensures { Gives in_definitions result cursor.old cursor.new (definitions_at (limits_of depths)) }
 {
-    one_or_more::<Definition>(alloc, cursor, limits)
+    one_or_more::<Definition>(alloc, cursor, depths)
 }
 
 /// The definitions of a schema file. The end of the text stays in hand.
@@ -118,11 +119,11 @@ fn read_definitions(alloc: Global, cursor: &mut Cursor, limits: Limits) -> Readi
 pub fn read_schema_file(
     alloc: Global,
     cursor: &mut Cursor,
-    limits: Limits,
+    depths: Depths,
 ) -> Reading<Vec<Definition>>
-    ensures { GivesWhole in_definitions result cursor.old cursor.new (schema_file_at limits) }
+    ensures { GivesWhole in_definitions result cursor.old cursor.new (schema_file_at (limits_of depths)) }
 {
-    let definitions = read_definitions(alloc, cursor, limits)?;
+    let definitions = read_definitions(alloc, cursor, depths)?;
     cursor.expect_end()?;
     Ok(definitions)
 }

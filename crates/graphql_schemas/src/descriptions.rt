@@ -55,7 +55,7 @@ pub fn read_maybe_description(
 /// Where a definition stands: at its description, or else at this first token of its own.
 #[inline(always)]
 pub fn place_of(description: &Option<Positioned<String>>, first: Token) -> Pos
-    ensures { result ≡ grammar.place_of (description_tree description.now) (seen first) }
+    ensures { result ≡ grammar.place_of (description_tree description.now) (seen first.entry) }
 {
     match description {
         Some(text) => text.pos,

@@ -7,13 +7,14 @@ ghost use Rattle.graphql_syntax.specs.trees.SchemaViews.{description_tree, direc
 ghost use Rattle.graphql_reading.specs.grammar.Tests.{any_name};
 ghost use Rattle.graphql_reading.specs.reading.Given.{Gives};
 ghost use Rattle.graphql_reading.specs.reading.Outcome.{mapped_at};
+ghost use Rattle.graphql_schemas.specs.reading.Depths.{limits_of};
 ghost use Rattle.graphql_schemas.specs.grammar.Directives as grammar;
 ghost use Rattle.graphql_schemas.specs.reading.Directives.{location_named, location_at, locations_at, repeatable_at, directive_rest_at};
 
+use crate::depths::Depths;
 use crate::descriptions::place_of;
 use crate::input_values::read_maybe_arguments_definition;
 use graphql_reading::cursor::{Cursor, Reading, Refusal};
-use graphql_reading::limits::Limits;
 use graphql_reading::names::read_name;
 use graphql_reading::production::{Production, separated};
 use graphql_syntax::pos::Positioned;
@@ -115,16 +116,16 @@ fn read_is_repeatable(cursor: &mut Cursor) -> bool
 pub fn read_directive_definition(
     alloc: Global,
     cursor: &mut Cursor,
-    limits: Limits,
+    depths: Depths,
     description: Option<Positioned<String>>,
 ) -> Reading<Positioned<DirectiveDefinition>>
-    ensures { Gives (request.placed directive_definition_tree) result cursor.old cursor.new (mapped_at (λ rest. grammar.directive_definition_of (description_tree description, rest)) (directive_rest_at limits)) }
+    ensures { Gives (request.placed directive_definition_tree) result cursor.old cursor.new (mapped_at (λ rest. grammar.directive_definition_of (description_tree description, rest)) (directive_rest_at (limits_of depths))) }
 {
     let word = cursor.expect_keyword("directive")?;
     let pos = place_of(&description, word);
     cursor.expect_punct("@")?;
     let name = read_name(alloc, cursor)?;
-    let arguments = read_maybe_arguments_definition(alloc, cursor, limits)?;
+    let arguments = read_maybe_arguments_definition(alloc, cursor, depths)?;
     let is_repeatable = read_is_repeatable(cursor);
     let locations = read_locations(alloc, cursor)?;
     let definition = DirectiveDefinition {

@@ -4,15 +4,16 @@ ghost use Rattle.graphql_syntax.specs.trees.Request as request;
 ghost use Rattle.graphql_syntax.specs.trees.Schema as trees;
 ghost use Rattle.graphql_syntax.specs.trees.SchemaViews.{field_definition_tree};
 ghost use Rattle.graphql_reading.specs.reading.Given.{Gives, trees_in};
+ghost use Rattle.graphql_schemas.specs.reading.Depths.{limits_of};
 ghost use Rattle.graphql_schemas.specs.reading.Fields.{field_definition_at, given_fields_at};
 ghost use Rattle.graphql_schemas.specs.reading.InputValues.{member_first};
 
+use crate::depths::Depths;
 use crate::descriptions::{place_of, read_maybe_description};
 use crate::input_values::{is_at_member, read_maybe_arguments_definition};
 use graphql_grammar::arguments::read_const_directives;
 use graphql_grammar::types::read_type;
 use graphql_reading::cursor::{Cursor, Reading};
-use graphql_reading::limits::Limits;
 use graphql_reading::names::name_in;
 use graphql_reading::production::{Production, maybe_bracketed};
 use graphql_syntax::pos::Positioned;
@@ -25,7 +26,7 @@ struct FieldPhrase;
 impl Production for FieldPhrase {
     type Node = Positioned<FieldDefinition>;
 
-    type Budget = Limits;
+    type Budget = Depths;
 
     ghost Tree = { Positioned trees.FieldDefinition };
 
@@ -33,7 +34,7 @@ impl Production for FieldPhrase {
 
     ghost first = { member_first };
 
-    ghost reader = { field_definition_at };
+    ghost reader = { λ depths. field_definition_at (limits_of depths) };
 
     #[inline(always)]
     fn is_next(cursor: &Cursor) -> bool {
@@ -43,16 +44,16 @@ impl Production for FieldPhrase {
     fn read(
         alloc: Global,
         cursor: &mut Cursor,
-        limits: Limits,
+        depths: Depths,
     ) -> Reading<Positioned<FieldDefinition>> {
         let description = read_maybe_description(alloc, cursor)?;
         let token = cursor.expect_name()?;
         let pos = place_of(&description, token);
         let name = name_in(alloc, token)?;
-        let arguments = read_maybe_arguments_definition(alloc, cursor, limits)?;
+        let arguments = read_maybe_arguments_definition(alloc, cursor, depths)?;
         cursor.expect_punct(":")?;
-        let ty = read_type(alloc, cursor, limits.types())?;
-        let directives = read_const_directives(alloc, cursor, limits.values())?;
+        let ty = read_type(alloc, cursor, depths.types)?;
+        let directives = read_const_directives(alloc, cursor, depths.values)?;
         let field = FieldDefinition {
             description,
             name,
@@ -70,9 +71,9 @@ impl Production for FieldPhrase {
 pub fn read_maybe_fields(
     alloc: Global,
     cursor: &mut Cursor,
-    limits: Limits,
+    depths: Depths,
 ) -> Reading<Vec<Positioned<FieldDefinition>>>
-    ensures { Gives (trees_in (request.placed field_definition_tree)) result cursor.old cursor.new (given_fields_at limits) }
+    ensures { Gives (trees_in (request.placed field_definition_tree)) result cursor.old cursor.new (given_fields_at (limits_of depths)) }
 {
-    maybe_bracketed::<FieldPhrase>(alloc, cursor, "{", "}", limits)
+    maybe_bracketed::<FieldPhrase>(alloc, cursor, "{", "}", depths)
 }

@@ -1,19 +1,21 @@
 //! Readers of input values: what arguments and input objects are given, by GraphQL October 2021, sections 3.6.1 and
 //! 3.10.
+ghost use Rattle.std.specs.Prelude.{◌≡◌};
 ghost use Rattle.graphql_tokens.specs.declared.pos.Positioned.{Positioned};
 ghost use Rattle.graphql_syntax.specs.trees.Request as request;
 ghost use Rattle.graphql_syntax.specs.trees.Schema as trees;
 ghost use Rattle.graphql_syntax.specs.trees.SchemaViews.{input_value_tree};
 ghost use Rattle.graphql_reading.specs.reading.Given.{Gives, trees_in};
-ghost use Rattle.graphql_schemas.specs.reading.InputValues.{member_first, input_value_at, given_arguments_at, input_fields_at};
+ghost use Rattle.graphql_schemas.specs.reading.Depths.{limits_of};
+ghost use Rattle.graphql_schemas.specs.reading.InputValues.{member_first, input_value_at, given_arguments_at, given_input_fields_at};
 
+use crate::depths::Depths;
 use crate::descriptions::{is_at_description, place_of, read_maybe_description};
 use graphql_grammar::arguments::{read_const_directives, read_maybe_default};
 use graphql_grammar::types::read_type;
 use graphql_reading::cursor::{Cursor, Reading};
-use graphql_reading::limits::Limits;
 use graphql_reading::names::name_in;
-use graphql_reading::production::{Production, bracketed, maybe_bracketed};
+use graphql_reading::production::{Production, maybe_bracketed};
 use graphql_syntax::pos::Positioned;
 use graphql_syntax::types::InputValueDefinition;
 use std::alloc::Global;
@@ -32,7 +34,7 @@ struct InputValuePhrase;
 impl Production for InputValuePhrase {
     type Node = Positioned<InputValueDefinition>;
 
-    type Budget = Limits;
+    type Budget = Depths;
 
     ghost Tree = { Positioned trees.InputValueDefinition };
 
@@ -40,7 +42,7 @@ impl Production for InputValuePhrase {
 
     ghost first = { member_first };
 
-    ghost reader = { input_value_at };
+    ghost reader = { λ depths. input_value_at (limits_of depths) };
 
     #[inline(always)]
     fn is_next(cursor: &Cursor) -> bool {
@@ -50,16 +52,16 @@ impl Production for InputValuePhrase {
     fn read(
         alloc: Global,
         cursor: &mut Cursor,
-        limits: Limits,
+        depths: Depths,
     ) -> Reading<Positioned<InputValueDefinition>> {
         let description = read_maybe_description(alloc, cursor)?;
         let token = cursor.expect_name()?;
         let pos = place_of(&description, token);
         let name = name_in(alloc, token)?;
         cursor.expect_punct(":")?;
-        let ty = read_type(alloc, cursor, limits.types())?;
-        let default_value = read_maybe_default(alloc, cursor, limits.values())?;
-        let directives = read_const_directives(alloc, cursor, limits.values())?;
+        let ty = read_type(alloc, cursor, depths.types)?;
+        let default_value = read_maybe_default(alloc, cursor, depths.values)?;
+        let directives = read_const_directives(alloc, cursor, depths.values)?;
         let value = InputValueDefinition {
             description,
             name,
@@ -77,11 +79,11 @@ impl Production for InputValuePhrase {
 pub fn read_maybe_arguments_definition(
     alloc: Global,
     cursor: &mut Cursor,
-    limits: Limits,
+    depths: Depths,
 ) -> Reading<Vec<Positioned<InputValueDefinition>>>
-    ensures { Gives (trees_in (request.placed input_value_tree)) result cursor.old cursor.new (given_arguments_at limits) }
+    ensures { Gives (trees_in (request.placed input_value_tree)) result cursor.old cursor.new (given_arguments_at (limits_of depths)) }
 {
-    maybe_bracketed::<InputValuePhrase>(alloc, cursor, "(", ")", limits)
+    maybe_bracketed::<InputValuePhrase>(alloc, cursor, "(", ")", depths)
 }
 
 /// Reads the fields of an input object with their brackets, where a `{` is in hand; else there are none.
@@ -90,9 +92,9 @@ pub fn read_maybe_arguments_definition(
 pub fn read_maybe_input_fields(
     alloc: Global,
     cursor: &mut Cursor,
-    limits: Limits,
+    depths: Depths,
 ) -> Reading<Vec<Positioned<InputValueDefinition>>>
-    ensures { Gives (trees_in (request.placed input_value_tree)) result cursor.old cursor.new (given_input_fields_at limits) }
+    ensures { Gives (trees_in (request.placed input_value_tree)) result cursor.old cursor.new (given_input_fields_at (limits_of depths)) }
 {
-    maybe_bracketed::<InputValuePhrase>(alloc, cursor, "{", "}", limits)
+    maybe_bracketed::<InputValuePhrase>(alloc, cursor, "{", "}", depths)
 }

@@ -2,4 +2,14 @@
 //! (GraphQL October 2021, section 3).
 #![tactic(auto)]
 
-pub fn nothing() {}
+mod definitions;
+mod depths;
+mod descriptions;
+mod directives;
+mod fields;
+mod input_values;
+mod members;
+mod schema;
+mod types;
+
+pub use definitions::read_schema_file;

@@ -1,6 +1,6 @@
 //! Readers of the interfaces of a type, the types of a union and the values of an enum, by GraphQL October 2021,
 //! sections 3.6, 3.8 and 3.9.
-ghost use Rattle.std.specs.Prelude.{◌≡◌, option_map};
+ghost use Rattle.std.specs.Prelude.{◌≡◌};
 ghost use Rattle.graphql_tokens.specs.declared.pos.Positioned.{Positioned};
 ghost use Rattle.graphql_tokens.specs.tokens.Seen.{seen};
 ghost use Rattle.graphql_syntax.specs.trees.Request as request;
@@ -8,13 +8,14 @@ ghost use Rattle.graphql_syntax.specs.trees.Schema as trees;
 ghost use Rattle.graphql_syntax.specs.trees.SchemaViews.{enum_value_tree};
 ghost use Rattle.graphql_reading.specs.reading.Given.{Gives, trees_in};
 ghost use Rattle.graphql_reading.specs.reading.Outcome.{one_at};
+ghost use Rattle.graphql_schemas.specs.reading.Depths.{limits_of};
 ghost use Rattle.graphql_schemas.specs.grammar.Members.{enum_name};
-ghost use Rattle.graphql_schemas.specs.reading.Members.{given_implements_at, given_members_at, enum_value_first, enum_value_at, given_enum_values_at};
+ghost use Rattle.graphql_schemas.specs.reading.Members.{implements_at, given_implements_at, members_at, given_members_at, enum_value_first, enum_value_at, given_enum_values_at};
 
+use crate::depths::Depths;
 use crate::descriptions::{is_at_description, place_of, read_maybe_description};
 use graphql_grammar::arguments::read_const_directives;
 use graphql_reading::cursor::{Cursor, Reading, Refusal};
-use graphql_reading::limits::Limits;
 use graphql_reading::names::{NamePhrase, name_in};
 use graphql_reading::production::{Production, maybe_bracketed, separated};
 use graphql_syntax::lexer::Token;
@@ -23,26 +24,38 @@ use graphql_syntax::types::EnumValueDefinition;
 use graphql_syntax::value::Name;
 use std::alloc::Global;
 
+/// `Implements : 'implements' '&'? Name ('&' Name)*`
+fn read_implements(alloc: Global, cursor: &mut Cursor) -> Reading<Vec<Positioned<Name>>>
+    ensures { Gives (λ names. names.items) result cursor.old cursor.new implements_at }
+{
+    cursor.expect_keyword("implements")?;
+    separated::<NamePhrase>(alloc, cursor, "&", ())
+}
+
 /// Reads the interfaces that a type implements, where `implements` is in hand; else there are none.
 ///
-/// `Implements? : ('implements' '&'? Name ('&' Name)*)?` (GraphQL October 2021, section 3.6)
+/// `Implements?` (GraphQL October 2021, section 3.6)
 #[tactic(auto, unfolding(graphql_reading::specs::reading::Outcome::opt_at))]
-pub fn read_maybe_implements(
-    alloc: Global,
-    cursor: &mut Cursor,
-) -> Reading<Vec<Positioned<Name>>>
+pub fn read_maybe_implements(alloc: Global, cursor: &mut Cursor) -> Reading<Vec<Positioned<Name>>>
     ensures { Gives (λ names. names.items) result cursor.old cursor.new given_implements_at }
 {
     if !cursor.is_at_keyword("implements") {
         return Ok(Vec::new(alloc));
     }
-    cursor.advance();
-    separated::<NamePhrase>(alloc, cursor, "&", ())
+    read_implements(alloc, cursor)
+}
+
+/// `Members : '=' '|'? Name ('|' Name)*`
+fn read_members(alloc: Global, cursor: &mut Cursor) -> Reading<Vec<Positioned<Name>>>
+    ensures { Gives (λ names. names.items) result cursor.old cursor.new members_at }
+{
+    cursor.expect_punct("=")?;
+    separated::<NamePhrase>(alloc, cursor, "|", ())
 }
 
 /// Reads the types of a union, where a `=` is in hand; else there are none.
 ///
-/// `Members? : ('=' '|'? Name ('|' Name)*)?` (GraphQL October 2021, section 3.8)
+/// `Members?` (GraphQL October 2021, section 3.8)
 #[tactic(auto, unfolding(graphql_reading::specs::reading::Outcome::opt_at))]
 pub fn read_maybe_members(alloc: Global, cursor: &mut Cursor) -> Reading<Vec<Positioned<Name>>>
     ensures { Gives (λ names. names.items) result cursor.old cursor.new given_members_at }
@@ -50,8 +63,7 @@ pub fn read_maybe_members(alloc: Global, cursor: &mut Cursor) -> Reading<Vec<Pos
     if !cursor.is_at_punct("=") {
         return Ok(Vec::new(alloc));
     }
-    cursor.advance();
-    separated::<NamePhrase>(alloc, cursor, "|", ())
+    read_members(alloc, cursor)
 }
 
 /// Whether a name is in hand that an enum's value may have.
@@ -80,7 +92,7 @@ struct EnumValuePhrase;
 impl Production for EnumValuePhrase {
     type Node = Positioned<EnumValueDefinition>;
 
-    type Budget = Limits;
+    type Budget = Depths;
 
     ghost Tree = { Positioned trees.EnumValueDefinition };
 
@@ -88,7 +100,7 @@ impl Production for EnumValuePhrase {
 
     ghost first = { enum_value_first };
 
-    ghost reader = { enum_value_at };
+    ghost reader = { λ depths. enum_value_at (limits_of depths) };
 
     #[inline(always)]
     fn is_next(cursor: &Cursor) -> bool {
@@ -98,13 +110,13 @@ impl Production for EnumValuePhrase {
     fn read(
         alloc: Global,
         cursor: &mut Cursor,
-        limits: Limits,
+        depths: Depths,
     ) -> Reading<Positioned<EnumValueDefinition>> {
         let description = read_maybe_description(alloc, cursor)?;
         let token = expect_enum_name(cursor)?;
         let pos = place_of(&description, token);
         let value = name_in(alloc, token)?;
-        let directives = read_const_directives(alloc, cursor, limits.values())?;
+        let directives = read_const_directives(alloc, cursor, depths.values)?;
         let definition = EnumValueDefinition {
             description,
             value,
@@ -120,9 +132,9 @@ impl Production for EnumValuePhrase {
 pub fn read_maybe_enum_values(
     alloc: Global,
     cursor: &mut Cursor,
-    limits: Limits,
+    depths: Depths,
 ) -> Reading<Vec<Positioned<EnumValueDefinition>>>
-    ensures { Gives (trees_in (request.placed enum_value_tree)) result cursor.old cursor.new (given_enum_values_at limits) }
+    ensures { Gives (trees_in (request.placed enum_value_tree)) result cursor.old cursor.new (given_enum_values_at (limits_of depths)) }
 {
-    maybe_bracketed::<EnumValuePhrase>(alloc, cursor, "{", "}", limits)
+    maybe_bracketed::<EnumValuePhrase>(alloc, cursor, "{", "}", depths)
 }

@@ -5,15 +5,16 @@ ghost use Rattle.graphql_syntax.specs.trees.Request as request;
 ghost use Rattle.graphql_syntax.specs.trees.SchemaViews.{description_tree};
 ghost use Rattle.graphql_reading.specs.reading.Given.{Gives, trees_in};
 ghost use Rattle.graphql_reading.specs.reading.Outcome.{mapped_at};
+ghost use Rattle.graphql_schemas.specs.reading.Depths.{limits_of};
 ghost use Rattle.graphql_schemas.specs.grammar.Schema as grammar;
 ghost use Rattle.graphql_schemas.specs.reading.Schema.{root_first, root_at, roots_at, schema_rest_at, extended_schema_at};
 ghost use Rattle.graphql_schemas.specs.reading.Views.{root_tree, schema_tree};
 
+use crate::depths::Depths;
 use crate::descriptions::place_of;
 use graphql_grammar::arguments::read_const_directives;
 use graphql_grammar::operations::read_operation_type;
 use graphql_reading::cursor::{Cursor, Reading, Refusal};
-use graphql_reading::limits::Limits;
 use graphql_reading::names::name_in;
 use graphql_reading::production::{Production, bracketed, maybe_bracketed};
 use graphql_syntax::lexer::Token;
@@ -94,14 +95,14 @@ fn read_roots(alloc: Global, cursor: &mut Cursor) -> Reading<Vec<Root>>
 pub fn read_schema(
     alloc: Global,
     cursor: &mut Cursor,
-    limits: Limits,
+    depths: Depths,
     description: Option<Positioned<String>>,
 ) -> Reading<Positioned<Schema>>
-    ensures { Gives (request.placed schema_tree) result cursor.old cursor.new (mapped_at (λ rest. grammar.schema_of (description_tree description, rest)) (schema_rest_at limits)) }
+    ensures { Gives (request.placed schema_tree) result cursor.old cursor.new (mapped_at (λ rest. grammar.schema_of (description_tree description, rest)) (schema_rest_at (limits_of depths))) }
 {
     let word = cursor.expect_keyword("schema")?;
     let pos = place_of(&description, word);
-    let directives = read_const_directives(alloc, cursor, limits.values())?;
+    let directives = read_const_directives(alloc, cursor, depths.values)?;
     let roots = read_roots(alloc, cursor)?;
     let schema = Schema {
         description,
@@ -119,16 +120,16 @@ pub fn read_schema(
 pub fn read_schema_extension(
     alloc: Global,
     cursor: &mut Cursor,
-    limits: Limits,
+    depths: Depths,
     extend: Token,
 ) -> Reading<Positioned<Schema>>
-    ensures { Gives (request.placed schema_tree) result cursor.old cursor.new (mapped_at (λ rest. grammar.schema_extension_of (seen extend, rest)) (extended_schema_at limits)) }
+    ensures { Gives (request.placed schema_tree) result cursor.old cursor.new (mapped_at (λ rest. grammar.schema_extension_of (seen extend.entry, rest)) (extended_schema_at (limits_of depths))) }
 {
     cursor.expect_keyword("schema")?;
     if !(cursor.is_at_punct("@") || cursor.is_at_punct("{")) {
         return Err(Refusal::Syntax);
     }
-    let directives = read_const_directives(alloc, cursor, limits.values())?;
+    let directives = read_const_directives(alloc, cursor, depths.values)?;
     let roots = maybe_bracketed::<RootPhrase>(alloc, cursor, "{", "}", ())?;
     let schema = Schema {
         description: None,

@@ -1,21 +1,23 @@
 //! Readers of definitions and extensions of types, by GraphQL October 2021, sections 3.4 to 3.10.
-ghost use Rattle.std.specs.Prelude.{◌≡◌, false, true};
+ghost use Rattle.std.specs.Prelude.{◌≡◌, false, true, not, ◌&&◌, MatchResult};
+ghost use Rattle.graphql_reading.specs.declared.cursor.Refusal.TheVariants.{Syntax};
 ghost use Rattle.graphql_tokens.specs.tokens.Seen.{seen};
 ghost use Rattle.graphql_syntax.specs.trees.Request as request;
 ghost use Rattle.graphql_syntax.specs.trees.SchemaViews.{description_tree, type_definition_tree};
 ghost use Rattle.graphql_reading.specs.reading.Given.{Gives};
 ghost use Rattle.graphql_reading.specs.reading.Outcome.{mapped_at};
+ghost use Rattle.graphql_schemas.specs.reading.Depths.{limits_of};
 ghost use Rattle.graphql_schemas.specs.grammar.Types as grammar;
 ghost use Rattle.graphql_schemas.specs.reading.Bodies.{in_members, in_rest, in_body, word_at, rest_at};
 ghost use Rattle.graphql_schemas.specs.reading.Types.{some_field_parts_at, scalar_rest_at, union_rest_at, enum_rest_at, input_rest_at, body_at};
 
+use crate::depths::Depths;
 use crate::descriptions::place_of;
 use crate::fields::read_maybe_fields;
 use crate::input_values::read_maybe_input_fields;
 use crate::members::{read_maybe_enum_values, read_maybe_implements, read_maybe_members};
 use graphql_grammar::arguments::read_const_directives;
 use graphql_reading::cursor::{Cursor, Reading, Refusal};
-use graphql_reading::limits::Limits;
 use graphql_reading::names::read_name;
 use graphql_syntax::lexer::Token;
 use graphql_syntax::pos::Positioned;
@@ -54,7 +56,8 @@ struct Rest {
 struct Body<'a> {
     word: Token<'a>,
     name: Positioned<Name>,
-    rest: Rest,
+    directives: Vec<Positioned<ConstDirective>>,
+    kind: TypeKind,
 }
 
 /// `'scalar' | 'type' | 'interface' | 'union' | 'enum' | 'input'`
@@ -79,25 +82,35 @@ fn read_word<'a>(cursor: &mut Cursor<'a>) -> Reading<(Token<'a>, Word)>
     Ok((cursor.take(), word))
 }
 
+/// An extension has at least one of the optional parts: this tells whether the token in hand begins one.
+#[inline(always)]
+fn expect_part(extend: bool, is_there: bool) -> Reading<()>
+    ensures { MatchResult result
+        (λ _. (extend && not is_there) ≡ false)
+        (λ refusal. (refusal ≡ Syntax) × ((extend && not is_there) ≡ true)) }
+{
+    if extend && !is_there {
+        return Err(Refusal::Syntax);
+    }
+    Ok(())
+}
+
 /// `Implements? ConstDirectives? Fields?`; an extension has at least one of them.
 fn read_field_parts(
     alloc: Global,
     cursor: &mut Cursor,
-    limits: Limits,
+    depths: Depths,
     extend: bool,
 ) -> Reading<Members>
-    ensures { Gives in_members result cursor.old cursor.new (some_field_parts_at extend limits) }
+    ensures { Gives in_members result cursor.old cursor.new (some_field_parts_at extend (limits_of depths)) }
 {
-    if extend
-        && !(cursor.is_at_keyword("implements")
-            || cursor.is_at_punct("@")
-            || cursor.is_at_punct("{"))
-    {
-        return Err(Refusal::Syntax);
-    }
+    let is_there = cursor.is_at_keyword("implements")
+        || cursor.is_at_punct("@")
+        || cursor.is_at_punct("{");
+    expect_part(extend, is_there)?;
     let implements = read_maybe_implements(alloc, cursor)?;
-    let directives = read_const_directives(alloc, cursor, limits.values())?;
-    let fields = read_maybe_fields(alloc, cursor, limits)?;
+    let directives = read_const_directives(alloc, cursor, depths.values)?;
+    let fields = read_maybe_fields(alloc, cursor, depths)?;
     Ok(Members {
         implements,
         directives,
@@ -109,15 +122,14 @@ fn read_field_parts(
 fn read_scalar_rest(
     alloc: Global,
     cursor: &mut Cursor,
-    limits: Limits,
+    depths: Depths,
     extend: bool,
 ) -> Reading<Rest>
-    ensures { Gives in_rest result cursor.old cursor.new (scalar_rest_at extend limits) }
+    ensures { Gives in_rest result cursor.old cursor.new (scalar_rest_at extend (limits_of depths)) }
 {
-    if extend && !cursor.is_at_punct("@") {
-        return Err(Refusal::Syntax);
-    }
-    let directives = read_const_directives(alloc, cursor, limits.values())?;
+    let is_there = cursor.is_at_punct("@");
+    expect_part(extend, is_there)?;
+    let directives = read_const_directives(alloc, cursor, depths.values)?;
     Ok(Rest {
         directives,
         kind: TypeKind::Scalar,
@@ -128,15 +140,14 @@ fn read_scalar_rest(
 fn read_union_rest(
     alloc: Global,
     cursor: &mut Cursor,
-    limits: Limits,
+    depths: Depths,
     extend: bool,
 ) -> Reading<Rest>
-    ensures { Gives in_rest result cursor.old cursor.new (union_rest_at extend limits) }
+    ensures { Gives in_rest result cursor.old cursor.new (union_rest_at extend (limits_of depths)) }
 {
-    if extend && !(cursor.is_at_punct("@") || cursor.is_at_punct("=")) {
-        return Err(Refusal::Syntax);
-    }
-    let directives = read_const_directives(alloc, cursor, limits.values())?;
+    let is_there = cursor.is_at_punct("@") || cursor.is_at_punct("=");
+    expect_part(extend, is_there)?;
+    let directives = read_const_directives(alloc, cursor, depths.values)?;
     let members = read_maybe_members(alloc, cursor)?;
     Ok(Rest {
         directives,
@@ -145,19 +156,13 @@ fn read_union_rest(
 }
 
 /// `ConstDirectives? EnumValues?`; an extension has at least one of them.
-fn read_enum_rest(
-    alloc: Global,
-    cursor: &mut Cursor,
-    limits: Limits,
-    extend: bool,
-) -> Reading<Rest>
-    ensures { Gives in_rest result cursor.old cursor.new (enum_rest_at extend limits) }
+fn read_enum_rest(alloc: Global, cursor: &mut Cursor, depths: Depths, extend: bool) -> Reading<Rest>
+    ensures { Gives in_rest result cursor.old cursor.new (enum_rest_at extend (limits_of depths)) }
 {
-    if extend && !(cursor.is_at_punct("@") || cursor.is_at_punct("{")) {
-        return Err(Refusal::Syntax);
-    }
-    let directives = read_const_directives(alloc, cursor, limits.values())?;
-    let values = read_maybe_enum_values(alloc, cursor, limits)?;
+    let is_there = cursor.is_at_punct("@") || cursor.is_at_punct("{");
+    expect_part(extend, is_there)?;
+    let directives = read_const_directives(alloc, cursor, depths.values)?;
+    let values = read_maybe_enum_values(alloc, cursor, depths)?;
     Ok(Rest {
         directives,
         kind: TypeKind::Enum(EnumType { values }),
@@ -168,16 +173,15 @@ fn read_enum_rest(
 fn read_input_rest(
     alloc: Global,
     cursor: &mut Cursor,
-    limits: Limits,
+    depths: Depths,
     extend: bool,
 ) -> Reading<Rest>
-    ensures { Gives in_rest result cursor.old cursor.new (input_rest_at extend limits) }
+    ensures { Gives in_rest result cursor.old cursor.new (input_rest_at extend (limits_of depths)) }
 {
-    if extend && !(cursor.is_at_punct("@") || cursor.is_at_punct("{")) {
-        return Err(Refusal::Syntax);
-    }
-    let directives = read_const_directives(alloc, cursor, limits.values())?;
-    let fields = read_maybe_input_fields(alloc, cursor, limits)?;
+    let is_there = cursor.is_at_punct("@") || cursor.is_at_punct("{");
+    expect_part(extend, is_there)?;
+    let directives = read_const_directives(alloc, cursor, depths.values)?;
+    let fields = read_maybe_input_fields(alloc, cursor, depths)?;
     Ok(Rest {
         directives,
         kind: TypeKind::InputObject(InputObjectType { fields }),
@@ -188,20 +192,20 @@ fn read_input_rest(
 fn read_rest(
     alloc: Global,
     cursor: &mut Cursor,
-    limits: Limits,
+    depths: Depths,
     word: Word,
     extend: bool,
 ) -> Reading<Rest>
-    ensures { Gives in_rest result cursor.old cursor.new (rest_at extend limits word) }
+    ensures { Gives in_rest result cursor.old cursor.new (rest_at extend (limits_of depths) word) }
 {
     match word {
-        Word::Scalar => read_scalar_rest(alloc, cursor, limits, extend),
+        Word::Scalar => read_scalar_rest(alloc, cursor, depths, extend),
         Word::Type => {
             let Members {
                 implements,
                 directives,
                 fields,
-            } = read_field_parts(alloc, cursor, limits, extend)?;
+            } = read_field_parts(alloc, cursor, depths, extend)?;
             Ok(Rest {
                 directives,
                 kind: TypeKind::Object(ObjectType { implements, fields }),
@@ -212,15 +216,15 @@ fn read_rest(
                 implements,
                 directives,
                 fields,
-            } = read_field_parts(alloc, cursor, limits, extend)?;
+            } = read_field_parts(alloc, cursor, depths, extend)?;
             Ok(Rest {
                 directives,
                 kind: TypeKind::Interface(InterfaceType { implements, fields }),
             })
         }
-        Word::Union => read_union_rest(alloc, cursor, limits, extend),
-        Word::Enum => read_enum_rest(alloc, cursor, limits, extend),
-        Word::Input => read_input_rest(alloc, cursor, limits, extend),
+        Word::Union => read_union_rest(alloc, cursor, depths, extend),
+        Word::Enum => read_enum_rest(alloc, cursor, depths, extend),
+        Word::Input => read_input_rest(alloc, cursor, depths, extend),
     }
 }
 
@@ -236,18 +240,19 @@ fn read_rest(
 fn read_body<'a>(
     alloc: Global,
     cursor: &mut Cursor<'a>,
-    limits: Limits,
+    depths: Depths,
     extend: bool,
 ) -> Reading<Body<'a>>
-    ensures { Gives in_body result cursor.old cursor.new (body_at extend limits) }
+    ensures { Gives in_body result cursor.old cursor.new (body_at extend (limits_of depths)) }
 {
     let (token, word) = read_word(cursor)?;
     let name = read_name(alloc, cursor)?;
-    let rest = read_rest(alloc, cursor, limits, word, extend)?;
+    let Rest { directives, kind } = read_rest(alloc, cursor, depths, word, extend)?;
     Ok(Body {
         word: token,
         name,
-        rest,
+        directives,
+        kind,
     })
 }
 
@@ -257,19 +262,24 @@ fn read_body<'a>(
 pub fn read_type_definition(
     alloc: Global,
     cursor: &mut Cursor,
-    limits: Limits,
+    depths: Depths,
     description: Option<Positioned<String>>,
 ) -> Reading<Positioned<TypeDefinition>>
-    ensures { Gives (request.placed type_definition_tree) result cursor.old cursor.new (mapped_at (λ body. grammar.type_definition_of (description_tree description, body)) (body_at false limits)) }
+    ensures { Gives (request.placed type_definition_tree) result cursor.old cursor.new (mapped_at (λ body. grammar.type_definition_of (description_tree description, body)) (body_at false (limits_of depths))) }
 {
-    let Body { word, name, rest } = read_body(alloc, cursor, limits, false)?;
+    let Body {
+        word,
+        name,
+        directives,
+        kind,
+    } = read_body(alloc, cursor, depths, false)?;
     let pos = place_of(&description, word);
     let definition = TypeDefinition {
         extend: false,
         description,
         name,
-        directives: rest.directives,
-        kind: rest.kind,
+        directives,
+        kind,
     };
     Ok(Positioned::new(definition, pos))
 }
@@ -280,18 +290,23 @@ pub fn read_type_definition(
 pub fn read_type_extension(
     alloc: Global,
     cursor: &mut Cursor,
-    limits: Limits,
+    depths: Depths,
     extend: Token,
 ) -> Reading<Positioned<TypeDefinition>>
-    ensures { Gives (request.placed type_definition_tree) result cursor.old cursor.new (mapped_at (λ body. grammar.type_extension_of (seen extend, body)) (body_at true limits)) }
+    ensures { Gives (request.placed type_definition_tree) result cursor.old cursor.new (mapped_at (λ body. grammar.type_extension_of (seen extend.entry, body)) (body_at true (limits_of depths))) }
 {
-    let Body { name, rest, .. } = read_body(alloc, cursor, limits, true)?;
+    let Body {
+        word: _,
+        name,
+        directives,
+        kind,
+    } = read_body(alloc, cursor, depths, true)?;
     let definition = TypeDefinition {
         extend: true,
         description: None,
         name,
-        directives: rest.directives,
-        kind: rest.kind,
+        directives,
+        kind,
     };
     Ok(Positioned::new(definition, extend.pos))
 }

@@ -26,7 +26,7 @@ abbrev pub in_rest : code_rest.Rest → Rest
 in_rest r = (const_directives_tree r.directives.items, kind_tree r.kind)
 
 abbrev pub in_body : code_body.Body → Body
-in_body b = (seen b.word, (b.name, in_rest b.rest))
+in_body b = (seen b.word, (b.name, (const_directives_tree b.directives.items, kind_tree b.kind)))
 
 -- ---- by the keyword
 
