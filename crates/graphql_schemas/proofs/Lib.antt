@@ -1,1 +1,2 @@
 pub mod DescriptionProductions
+pub mod InputValueProductions
