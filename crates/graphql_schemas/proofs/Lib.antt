@@ -1,2 +1,3 @@
 pub mod DescriptionProductions
 pub mod InputValueProductions
+pub mod FieldProductions
