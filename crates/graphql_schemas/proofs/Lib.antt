@@ -1,3 +1,4 @@
 pub mod DescriptionProductions
 pub mod InputValueProductions
 pub mod FieldProductions
+pub mod FormerParts
