@@ -1,13 +1,9 @@
 -- Interfaces of types, types of unions and values of enums are read exactly, at every budget; and their places don't
 -- matter.
-use Rattle.std.proofs.Common.{◌≡◌, ℕ, false, not, ◌||◌, IsTrue, Some, None, List, [], ◌∷◌, codes, map, option_map, refl}
+use Rattle.std.proofs.Common.{ℕ, false, not, ◌||◌, IsTrue, List, [], ◌∷◌, codes, map, refl}
 use Rattle.graphql_tokens.specs.tokens.Edition.{Current}
-use Rattle.graphql_tokens.specs.tokens.Token.{Token}
-use Rattle.graphql_syntax.specs.trees.Request.{Directives}
-use Rattle.graphql_syntax.specs.trees.Schema.{Description}
 use Rattle.graphql_grammar.specs.grammar.Arguments.{directives}
-use Rattle.graphql_grammar.specs.grammar.Placeless.{unplaced, bare_node, placeless_directives}
-use Rattle.graphql_reading.specs.grammar.Fronts.{without_place}
+use Rattle.graphql_grammar.specs.grammar.Placeless.{unplaced, bare_node}
 use Rattle.graphql_reading.specs.grammar.Limits.{Limits}
 use Rattle.graphql_reading.specs.grammar.Relations.{one, ◌⨾◌}
 use Rattle.graphql_reading.specs.grammar.Tests.{Test, is_among, punct, keyword, any_name}
@@ -24,7 +20,7 @@ use Rattle.graphql_grammar.proofs.ValueTests.{quoted, block}
 use Rattle.graphql_schemas.specs.grammar.Members.{a_name, implements, members, enum_name, enum_value_of, an_enum_value, enum_values}
 use Rattle.graphql_schemas.specs.grammar.Placeless.{placeless_names, placeless_enum_value}
 use Rattle.graphql_schemas.specs.reading.Members.{name_at, implements_at, members_at, enum_value_first, enum_value_at, enum_values_at}
-use Rattle.graphql_schemas.proofs.DescriptionProductions.{text-within, begins-description, exact-maybe_description, has-maybe_description, ignores-maybe_description}
+use Rattle.graphql_schemas.proofs.DescriptionProductions.{text-within, begins-description, exact-maybe_description, has-maybe_description, ignores-maybe_description, described-nowhere}
 use Prim.Native.String.{String}
 
 -- ---- names
@@ -117,12 +113,10 @@ begins-enum_value =
 pub has-enum_value : HasPhrase (an_enum_value Current)
 has-enum_value = has-map (has-pair has-maybe_description (has-pair (has-token enum-name-sample) (has-directives false)))
 
-enum-value-nowhere : (x : Description × (Token × Directives)) → unplaced placeless_enum_value (enum_value_of x) ≡ enum_value_of (option_map bare_node x.0, (without_place x.1.0, placeless_directives x.1.1))
-enum-value-nowhere (None, more) = refl
-enum-value-nowhere (Some text, more) = refl
-
 pub ignores-enum_value : IgnoresPlaces (an_enum_value Current) (unplaced placeless_enum_value)
-ignores-enum_value = blind-mapped {k = enum_value_of} enum-value-nowhere (blind-then ignores-maybe_description (blind-then (blind-one enum_name) (blind-directives false)))
+ignores-enum_value =
+    blind-mapped {k = enum_value_of} (λ x. described-nowhere placeless_enum_value x.0 x.1.0 (enum_value_of x).node)
+    (blind-then ignores-maybe_description (blind-then (blind-one enum_name) (blind-directives false)))
 
 -- another one or the bracket follows
 exact-next-enum_value : {b : Limits} → ReadsExactly (an_enum_value Current) b after_enum_value (enum_value_at b)
