@@ -15,7 +15,7 @@ use crate::depths::Depths;
 use crate::descriptions::place_of;
 use crate::input_values::read_maybe_arguments_definition;
 use graphql_reading::cursor::{Cursor, Reading, Refusal};
-use graphql_reading::names::read_name;
+use graphql_reading::names::name_in;
 use graphql_reading::production::{Production, separated};
 use graphql_syntax::pos::Positioned;
 use graphql_syntax::types::{DirectiveDefinition, DirectiveLocation};
@@ -124,7 +124,8 @@ pub fn read_directive_definition(
     let word = cursor.expect_keyword("directive")?;
     let pos = place_of(&description, word);
     cursor.expect_punct("@")?;
-    let name = read_name(alloc, cursor)?;
+    let token = cursor.expect_name()?;
+    let name = name_in(alloc, token)?;
     let arguments = read_maybe_arguments_definition(alloc, cursor, depths)?;
     let is_repeatable = read_is_repeatable(cursor);
     let locations = read_locations(alloc, cursor)?;

@@ -3,13 +3,14 @@ ghost use Rattle.std.specs.Prelude.{◌≡◌, false, true, not, ◌&&◌, Match
 ghost use Rattle.graphql_reading.specs.declared.cursor.Refusal.TheVariants.{Syntax};
 ghost use Rattle.graphql_tokens.specs.tokens.Seen.{seen};
 ghost use Rattle.graphql_syntax.specs.trees.Request as request;
+ghost use Rattle.graphql_syntax.specs.trees.Schema.{object, interface};
 ghost use Rattle.graphql_syntax.specs.trees.SchemaViews.{description_tree, type_definition_tree};
 ghost use Rattle.graphql_reading.specs.reading.Given.{Gives};
 ghost use Rattle.graphql_reading.specs.reading.Outcome.{mapped_at};
 ghost use Rattle.graphql_schemas.specs.reading.Depths.{limits_of};
 ghost use Rattle.graphql_schemas.specs.grammar.Types as grammar;
-ghost use Rattle.graphql_schemas.specs.reading.Bodies.{in_members, in_rest, in_body, word_at, rest_at};
-ghost use Rattle.graphql_schemas.specs.reading.Types.{some_field_parts_at, scalar_rest_at, union_rest_at, enum_rest_at, input_rest_at, body_at};
+ghost use Rattle.graphql_schemas.specs.reading.Bodies.{in_members, in_rest, in_body, word_at, rest_at, body_by_word_at, members_by_part_at};
+ghost use Rattle.graphql_schemas.specs.reading.Types.{some_field_parts_at, scalar_rest_at, fields_rest_at, union_rest_at, enum_rest_at, input_rest_at, body_at};
 
 use crate::depths::Depths;
 use crate::descriptions::place_of;
@@ -18,7 +19,7 @@ use crate::input_values::read_maybe_input_fields;
 use crate::members::{read_maybe_enum_values, read_maybe_implements, read_maybe_members};
 use graphql_grammar::arguments::read_const_directives;
 use graphql_reading::cursor::{Cursor, Reading, Refusal};
-use graphql_reading::names::read_name;
+use graphql_reading::names::name_in;
 use graphql_syntax::lexer::Token;
 use graphql_syntax::pos::Positioned;
 use graphql_syntax::types::{
@@ -95,8 +96,22 @@ fn expect_part(extend: bool, is_there: bool) -> Reading<()>
     Ok(())
 }
 
-/// `Implements? ConstDirectives? Fields?`; an extension has at least one of them.
-fn read_field_parts(
+/// `Implements? ConstDirectives? Fields?`
+fn read_members(alloc: Global, cursor: &mut Cursor, depths: Depths) -> Reading<Members>
+    ensures { Gives in_members result cursor.old cursor.new (members_by_part_at (limits_of depths)) }
+{
+    let implements = read_maybe_implements(alloc, cursor)?;
+    let directives = read_const_directives(alloc, cursor, depths.values)?;
+    let fields = read_maybe_fields(alloc, cursor, depths)?;
+    Ok(Members {
+        implements,
+        directives,
+        fields,
+    })
+}
+
+/// The same; an extension has at least one of them.
+fn read_owed_members(
     alloc: Global,
     cursor: &mut Cursor,
     depths: Depths,
@@ -108,13 +123,46 @@ fn read_field_parts(
         || cursor.is_at_punct("@")
         || cursor.is_at_punct("{");
     expect_part(extend, is_there)?;
-    let implements = read_maybe_implements(alloc, cursor)?;
-    let directives = read_const_directives(alloc, cursor, depths.values)?;
-    let fields = read_maybe_fields(alloc, cursor, depths)?;
-    Ok(Members {
+    read_members(alloc, cursor, depths)
+}
+
+/// The rest of an object type.
+fn read_object_rest(
+    alloc: Global,
+    cursor: &mut Cursor,
+    depths: Depths,
+    extend: bool,
+) -> Reading<Rest>
+    ensures { Gives in_rest result cursor.old cursor.new (fields_rest_at object extend (limits_of depths)) }
+{
+    let Members {
         implements,
         directives,
         fields,
+    } = read_owed_members(alloc, cursor, depths, extend)?;
+    Ok(Rest {
+        directives,
+        kind: TypeKind::Object(ObjectType { implements, fields }),
+    })
+}
+
+/// The rest of an interface.
+fn read_interface_rest(
+    alloc: Global,
+    cursor: &mut Cursor,
+    depths: Depths,
+    extend: bool,
+) -> Reading<Rest>
+    ensures { Gives in_rest result cursor.old cursor.new (fields_rest_at interface extend (limits_of depths)) }
+{
+    let Members {
+        implements,
+        directives,
+        fields,
+    } = read_owed_members(alloc, cursor, depths, extend)?;
+    Ok(Rest {
+        directives,
+        kind: TypeKind::Interface(InterfaceType { implements, fields }),
     })
 }
 
@@ -200,28 +248,8 @@ fn read_rest(
 {
     match word {
         Word::Scalar => read_scalar_rest(alloc, cursor, depths, extend),
-        Word::Type => {
-            let Members {
-                implements,
-                directives,
-                fields,
-            } = read_field_parts(alloc, cursor, depths, extend)?;
-            Ok(Rest {
-                directives,
-                kind: TypeKind::Object(ObjectType { implements, fields }),
-            })
-        }
-        Word::Interface => {
-            let Members {
-                implements,
-                directives,
-                fields,
-            } = read_field_parts(alloc, cursor, depths, extend)?;
-            Ok(Rest {
-                directives,
-                kind: TypeKind::Interface(InterfaceType { implements, fields }),
-            })
-        }
+        Word::Type => read_object_rest(alloc, cursor, depths, extend),
+        Word::Interface => read_interface_rest(alloc, cursor, depths, extend),
         Word::Union => read_union_rest(alloc, cursor, depths, extend),
         Word::Enum => read_enum_rest(alloc, cursor, depths, extend),
         Word::Input => read_input_rest(alloc, cursor, depths, extend),
@@ -243,10 +271,11 @@ fn read_body<'a>(
     depths: Depths,
     extend: bool,
 ) -> Reading<Body<'a>>
-    ensures { Gives in_body result cursor.old cursor.new (body_at extend (limits_of depths)) }
+    ensures { Gives in_body result cursor.old cursor.new (body_by_word_at extend (limits_of depths)) }
 {
     let (token, word) = read_word(cursor)?;
-    let name = read_name(alloc, cursor)?;
+    let name = cursor.expect_name()?;
+    let name = name_in(alloc, name)?;
     let Rest { directives, kind } = read_rest(alloc, cursor, depths, word, extend)?;
     Ok(Body {
         word: token,

@@ -1,5 +1,5 @@
 -- Reading the bodies of types as the code does: the keyword, the name, and the rest by the keyword.
-use Rattle.std.specs.Prelude.{Bool, map}
+use Rattle.std.specs.Prelude.{Bool, false, map}
 use Rattle.graphql_tokens.specs.tokens.Seen.{seen}
 use Rattle.graphql_tokens.specs.tokens.Token.{Token}
 use Rattle.graphql_syntax.specs.trees.RequestViews.{const_directives_tree}
@@ -7,14 +7,18 @@ use Rattle.graphql_syntax.specs.trees.Request.{placed}
 use Rattle.graphql_syntax.specs.trees.Schema.{object, interface}
 use Rattle.graphql_syntax.specs.trees.SchemaViews.{field_definition_tree, kind_tree}
 use Rattle.graphql_reading.specs.grammar.Limits.{Limits}
-use Rattle.graphql_reading.specs.grammar.Tests.{keyword}
-use Rattle.graphql_reading.specs.reading.Outcome.{Reader, one_at, mapped_at, choose_at}
+use Rattle.graphql_grammar.specs.reading.Arguments.{directives_at}
+use Rattle.graphql_reading.specs.grammar.Places.{name_of}
+use Rattle.graphql_reading.specs.grammar.Tests.{keyword, any_name}
+use Rattle.graphql_reading.specs.reading.Outcome.{Reader, ◌>>=◌, one_at, then_at, mapped_at, choose_at}
 use Rattle.graphql_schemas.specs.declared.types.Body as code_body
 use Rattle.graphql_schemas.specs.declared.types.Members as code_members
 use Rattle.graphql_schemas.specs.declared.types.Rest as code_rest
 use Rattle.graphql_schemas.specs.declared.types.Word.{Word}
 use Rattle.graphql_schemas.specs.declared.types.Word.TheVariants as words
 use Rattle.graphql_schemas.specs.grammar.Types.{Members, Rest, Body}
+use Rattle.graphql_schemas.specs.reading.Fields.{given_fields_at}
+use Rattle.graphql_schemas.specs.reading.Members.{given_implements_at}
 use Rattle.graphql_schemas.specs.reading.Types.{fields_rest_at, scalar_rest_at, union_rest_at, enum_rest_at, input_rest_at}
 
 -- ---- what those of the code stand for
@@ -49,3 +53,15 @@ rest_at extend limits words.Interface = fields_rest_at interface extend limits
 rest_at extend limits words.Union = union_rest_at extend limits
 rest_at extend limits words.Enum = enum_rest_at extend limits
 rest_at extend limits words.Input = input_rest_at extend limits
+
+-- a keyword, a name, and the rest
+abbrev pub after_word_at : Bool → Limits → Token × Word → Reader Body
+after_word_at extend limits (token, word) = mapped_at (λ x. (token, (name_of x.0, x.1))) (then_at (one_at any_name) (rest_at extend limits word))
+
+abbrev pub body_by_word_at : Bool → Limits → Reader Body
+body_by_word_at extend limits ts = word_at ts >>= after_word_at extend limits
+
+-- ---- the parts of object types and interfaces, each a list that may be empty
+
+abbrev pub members_by_part_at : Limits → Reader Members
+members_by_part_at limits = then_at given_implements_at (then_at (directives_at false limits.values) (given_fields_at limits))
