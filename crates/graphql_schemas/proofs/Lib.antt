@@ -1,1 +1,3 @@
 pub mod PartProductions
+pub mod LocationProductions
+pub mod SchemaProductions
