@@ -76,7 +76,7 @@ rest-stops {A} {B} first r close front t ts e = ap (λ (k : Outcome (List A)). w
 
 -- ---- one or more
 
-two-fronts : {A : Type 0} (xs ys : List A) (o : Outcome (List A)) → with_front xs (with_front ys o) ≡ with_front (xs ++ ys) o
+pub two-fronts : {A : Type 0} (xs ys : List A) (o : Outcome (List A)) → with_front xs (with_front ys o) ≡ with_front (xs ++ ys) o
 two-fronts xs ys (Read l rest) = ap (λ (l : List _). Read l rest) (sym (append_assoc xs ys l))
 two-fronts xs ys (Refused v rest) = refl
 

@@ -32,7 +32,7 @@ refuses first r initial now next items Limit kept h = loop-stops first r _ items
 pub stops : {X Z Y : Type 0} (view : X → Y) (all : Z → List Y) (first : Test) (r : Reader Y) (initial now next : Ahead) (items : List Y) (e : Refusal) → Kept first r initial now items → Gives view (Err e) now next r → Gives all (Err e) initial next (plus_at first r)
 stops view all first r initial now next items e kept h = (refuses first r initial now next items e kept h.0, go-on initial now next kept.on h.1)
 
-one-more : {X Y : Type 0} (view : X → Y) (xs : List X) (x : X) → map view (xs ++ x ∷ []) ≡ map view xs ++ view x ∷ []
+pub one-more : {X Y : Type 0} (view : X → Y) (xs : List X) (x : X) → map view (xs ++ x ∷ []) ≡ map view xs ++ view x ∷ []
 one-more view [] x = refl
 one-more view (y ∷ xs) x = ap (λ (l : List _). view y ∷ l) (one-more view xs x)
 

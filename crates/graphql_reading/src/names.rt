@@ -1,5 +1,6 @@
 //! Readers of names.
-ghost use Rattle.std.specs.Prelude.{◌≡◌, IfOk};
+ghost use Rattle.std.specs.Prelude.{◌≡◌, ℕ, List, IfOk};
+ghost use Rattle.graphql_tokens.specs.declared.pos.Positioned as model;
 ghost use Rattle.graphql_tokens.specs.tokens.Seen.{seen};
 ghost use Rattle.graphql_reading.specs.grammar.Places.{name_of};
 ghost use Rattle.graphql_reading.specs.grammar.Tests.{any_name};
@@ -7,6 +8,7 @@ ghost use Rattle.graphql_reading.specs.reading.Given.{Gives};
 ghost use Rattle.graphql_reading.specs.reading.Outcome.{one_at, mapped_at};
 
 use crate::cursor::{Cursor, Reading};
+use crate::production::Production;
 use graphql_tokens::lexer::Token;
 use graphql_tokens::name::Name;
 use graphql_tokens::pos::Positioned;
@@ -30,4 +32,31 @@ pub fn read_name(alloc: Global, cursor: &mut Cursor) -> Reading<Positioned<Name>
     let token = cursor.expect_name()?;
     let name = name_in(alloc, token)?;
     Ok(name)
+}
+
+/// `Name`, so that lists of names can be read.
+pub struct NamePhrase;
+
+impl Production for NamePhrase {
+    type Node = Positioned<Name>;
+
+    type Budget = ();
+
+    ghost Tree = { model.Positioned (List ℕ) };
+
+    ghost tree = { λ name. name };
+
+    ghost first = { any_name };
+
+    ghost reader = { λ _. mapped_at name_of (one_at any_name) };
+
+    #[inline(always)]
+    fn is_next(cursor: &Cursor) -> bool {
+        cursor.is_at_name()
+    }
+
+    #[inline(always)]
+    fn read(alloc: Global, cursor: &mut Cursor, _budget: ()) -> Reading<Positioned<Name>> {
+        read_name(alloc, cursor)
+    }
 }

@@ -5,7 +5,7 @@ ghost use Rattle.std.specs.Prelude.{◌≡◌, option_map};
 ghost use Rattle.graphql_reading.specs.grammar.Relations.{given};
 ghost use Rattle.graphql_reading.specs.grammar.Tests.{Test};
 ghost use Rattle.graphql_reading.specs.reading.Given.{Gives, trees_in};
-ghost use Rattle.graphql_reading.specs.reading.Outcome.{Reader, Takes, mapped_at, many_at, plus_at, opt_at, between_at};
+ghost use Rattle.graphql_reading.specs.reading.Outcome.{Reader, Takes, mapped_at, many_at, plus_at, opt_at, between_at, separated_at};
 ghost use Rattle.graphql_reading.specs.reading.Spelled.{punct_of};
 
 use crate::cursor::{Cursor, Reading};
@@ -57,6 +57,30 @@ pub fn one_or_more<P: Production>(
         let node = P::read(alloc, cursor, budget)?;
         push(&mut nodes, node)?;
         if !P::is_next(cursor) {
+            return Ok(nodes);
+        }
+    }
+}
+
+/// Reads one phrase or more with a mark between each two of them; the mark may stand before the first too.
+///
+/// `Mark? Phrase (Mark Phrase)*`
+#[inline(always)]
+pub fn separated<P: Production>(
+    alloc: Global,
+    cursor: &mut Cursor,
+    mark: &str,
+    budget: P::Budget,
+) -> Reading<Vec<P::Node>>
+    requires { Takes (P.reader budget) }
+    ensures { Gives (trees_in P.tree) result cursor.old cursor.new (separated_at (punct_of mark.now) (P.reader budget)) }
+{
+    cursor.take_punct(mark);
+    let mut nodes = Vec::with_capacity(alloc, 1)?;
+    loop {
+        let node = P::read(alloc, cursor, budget)?;
+        push(&mut nodes, node)?;
+        if !cursor.take_punct(mark) {
             return Ok(nodes);
         }
     }

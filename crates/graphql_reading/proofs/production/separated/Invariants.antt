@@ -1,0 +1,11 @@
+use Rattle.std.proofs.Common.{length}
+use Rattle.graphql_reading.specs.reading.Given.{trees_in}
+use Rattle.graphql_reading.specs.reading.Spelled.{punct_of}
+use Rattle.graphql_reading.proofs.SeparatedLoop.{KeptMembers}
+use Rattle.graphql_reading.proofs.production.separated.Given as goal
+
+abbrev pub invariant-loop-nodes : goal.invariant-loop-nodes
+invariant-loop-nodes g l = KeptMembers (punct_of l.mark) (g.P.Production.reader l.budget) l.fn.cursor l.cursor (trees_in g.P.Production.tree l.nodes)
+
+abbrev pub decreases-loop-nodes : goal.decreases-loop-nodes
+decreases-loop-nodes g l = length l.cursor.behind
