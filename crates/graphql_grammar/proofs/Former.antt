@@ -10,7 +10,7 @@ use Rattle.graphql_reading.specs.grammar.Relations.{one}
 use Rattle.graphql_reading.specs.grammar.Tests.{punct, any_name, any_string}
 use Rattle.graphql_reading.proofs.Includes.{Includes, includes-same, includes-meaning, includes-then, includes-either, includes-mapped, includes-opt, includes-star, includes-plus}
 
-string-stands : (t : Bare) (bytes : List ℕ) → StringStands Former t bytes → StringStands Current t bytes
+pub string-stands : (t : Bare) (bytes : List ℕ) → StringStands Former t bytes → StringStands Current t bytes
 string-stands t bytes h = (h.0, former_means (chars (inside 1 t.spelling)) h.0 h.1, h.2)
 
 includes-string : Includes (a_string Former) (a_string Current)

@@ -1,0 +1,86 @@
+-- Descriptions are read exactly; and their places don't matter, nor those of what they describe.
+use Rattle.std.proofs.Common.{◌≡◌, ℕ, IsTrue, Option, Some, None, List, map, option_map, refl, subst}
+use Rattle.graphql_tokens.specs.tokens.Edition.{Current}
+use Rattle.graphql_tokens.specs.tokens.Token.{Token}
+use Rattle.graphql_syntax.specs.trees.Schema.{Description}
+use Rattle.graphql_grammar.specs.grammar.Placeless.{unplaced, bare_node}
+use Rattle.graphql_grammar.specs.grammar.Values.{StringStands, BlockStands}
+use Rattle.graphql_reading.specs.grammar.Fronts.{without_place}
+use Rattle.graphql_reading.specs.grammar.Limits.{Limits}
+use Rattle.graphql_reading.specs.grammar.Relations.{Rel, opt, given}
+use Rattle.graphql_reading.specs.grammar.Tests.{Test, any_name, any_string, any_block}
+use Rattle.graphql_reading.proofs.Theory.{IsSubset, outside}
+use Rattle.graphql_reading.proofs.TokenTests.{any_name-within, within-either}
+use Rattle.graphql_reading.proofs.ReadsExactly.{ReadsExactly, HasPhrase, BeginsWith, good-mapped, good-choose, led-within, led-mapped, led-either}
+use Rattle.graphql_reading.proofs.Meaning.{good-meaning, led-meaning, blind-meaning}
+use Rattle.graphql_reading.proofs.Extra.{Opens, good-opt, has-opt, opens-opt}
+use Rattle.graphql_reading.proofs.IgnoresPlaces.{IgnoresPlaces, on-option, blind-mapped, blind-either, blind-opt}
+use Rattle.graphql_grammar.proofs.StringMeanings.{string-decides, block-decides}
+use Rattle.graphql_grammar.proofs.ValueTests.{quoted, block, any_string-within, any_block-within, any_string-inner, any_block-inner}
+use Rattle.graphql_schemas.specs.grammar.Descriptions.{text_of, a_description, described}
+use Rattle.graphql_schemas.specs.grammar.Placeless.{placeless_description}
+use Rattle.graphql_schemas.specs.reading.Descriptions.{is_text, description_at, maybe_description_at}
+
+-- ---- optional parts without places
+
+option-alike : {A : Type 0} (f : A → A) (o : Option A) → on-option f o ≡ option_map f o
+option-alike f None = refl
+option-alike f (Some a) = refl
+
+pub ignores-optional : {A : Type 0} {p : Limits → Rel A} {f : A → A} → IgnoresPlaces p f → IgnoresPlaces (λ c. opt (p c)) (option_map f)
+ignores-optional {A} {p} {f} h = subst (λ (g : Option A → Option A). IgnoresPlaces (λ c. opt (p c)) g) (λ i o. option-alike f o i) (blind-opt h)
+
+-- a list that isn't there has no places
+pub map-given : {A : Type 0} (f : A → A) (list : Option (List A)) → map f (given list) ≡ given (option_map (map f) list)
+map-given f None = refl
+map-given f (Some list) = refl
+
+-- ---- what descriptions begin with
+
+pub text-within : {g : Test} → ((spelling : List ℕ) → IsTrue (g (quoted spelling))) → ((spelling : List ℕ) → IsTrue (g (block spelling))) → IsSubset is_text g
+text-within a-string a-block = within-either (any_string-within a-string) (any_block-within a-block)
+
+-- no name begins a description
+pub name-no-text : IsSubset any_name (outside is_text)
+name-no-text = any_name-within (λ spelling. refl)
+
+-- ---- descriptions
+
+pub exact-description : {b : Limits} {f : Test} → ReadsExactly (λ c. a_description Current) b f description_at
+exact-description =
+    good-choose (led-mapped (led-meaning any_string (StringStands Current)))
+    (led-mapped (led-within (any_block-within (λ spelling. refl)) (led-meaning any_block BlockStands)))
+    (good-mapped (good-meaning any_string-inner string-decides))
+    (good-mapped (good-meaning any_block-inner block-decides))
+
+pub begins-description : BeginsWith (λ c. a_description Current) is_text
+begins-description =
+    led-either (led-mapped (led-within (any_string-within (λ spelling. refl)) (led-meaning any_string (StringStands Current))))
+    (led-mapped (led-within (any_block-within (λ spelling. refl)) (led-meaning any_block BlockStands)))
+
+pub ignores-description : IgnoresPlaces (λ c. a_description Current) bare_node
+ignores-description =
+    blind-either (blind-mapped {k = text_of} (λ x. refl) (blind-meaning any_string (StringStands Current)))
+    (blind-mapped {k = text_of} (λ x. refl) (blind-meaning any_block BlockStands))
+
+-- ---- descriptions, where there are any
+
+-- what follows is neither a string nor a block string
+pub exact-maybe_description : {b : Limits} {f : Test} → IsSubset f (outside is_text) → ReadsExactly (λ c. opt (a_description Current)) b f maybe_description_at
+exact-maybe_description away = good-opt begins-description away exact-description
+
+pub first-maybe_description : {f g : Test} → IsSubset is_text g → IsSubset f g → Opens (λ c. opt (a_description Current)) f g
+first-maybe_description text h = opens-opt begins-description text h
+
+pub has-maybe_description : HasPhrase (λ c. opt (a_description Current))
+has-maybe_description = has-opt {p = λ c. a_description Current}
+
+pub ignores-maybe_description : IgnoresPlaces (λ c. opt (a_description Current)) placeless_description
+ignores-maybe_description = ignores-optional ignores-description
+
+-- ---- what they describe
+
+-- what is described stands nowhere where nothing has a place
+pub described-nowhere : {A : Type 0} (f : A → A) (description : Description) (first : Token) (node : A) → unplaced f (described description first node) ≡ described (placeless_description description) (without_place first) (f node)
+described-nowhere f None first node = refl
+described-nowhere f (Some text) first node = refl

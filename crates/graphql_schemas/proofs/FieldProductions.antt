@@ -1,0 +1,87 @@
+-- Fields of types are read exactly, at every budget; and their places don't matter.
+use Rattle.std.proofs.Common.{◌≡◌, false, Option, Some, None, map, option_map, refl}
+use Rattle.graphql_tokens.specs.declared.pos.Positioned.{Positioned}
+use Rattle.graphql_tokens.specs.tokens.Edition.{Current}
+use Rattle.graphql_tokens.specs.tokens.Token.{Token}
+use Rattle.graphql_syntax.specs.trees.Request.{Directives}
+use Rattle.graphql_syntax.specs.trees.Schema.{Description, InputValues}
+use Rattle.graphql_syntax.specs.trees.TypeTree.{TypeTree}
+use Rattle.graphql_grammar.specs.grammar.Arguments.{directives}
+use Rattle.graphql_grammar.specs.grammar.Placeless.{unplaced, bare_node, placeless_directives}
+use Rattle.graphql_grammar.specs.grammar.Types.{type_reference}
+use Rattle.graphql_reading.specs.grammar.Fronts.{without_place}
+use Rattle.graphql_reading.specs.grammar.Limits.{Limits}
+use Rattle.graphql_reading.specs.grammar.Relations.{Rel, one, ◌⨾◌}
+use Rattle.graphql_reading.specs.grammar.Tests.{Test, punct, any_name}
+use Rattle.graphql_reading.proofs.Theory.{IsSubset, outside}
+use Rattle.graphql_reading.proofs.TokenTests.{itself, punct-within, name-sample}
+use Rattle.graphql_reading.proofs.PunctSamples.{has-open_object, has-close_object, has-colon}
+use Rattle.graphql_reading.proofs.ReadsExactly.{ReadsExactly, HasPhrase, BeginsWith, good-punct, good-name, good-mapped, good-next, good-led, led-one, led-mapped, led-then, has-token, has-pair, has-map, has-plus}
+use Rattle.graphql_reading.proofs.Extra.{good-seq, good-plus-ahead}
+use Rattle.graphql_reading.proofs.IgnoresPlaces.{IgnoresPlaces, blind-one, blind-then, blind-mapped, blind-plus}
+use Rattle.graphql_reading.proofs.Loop.{Takes, takes-one}
+use Rattle.graphql_grammar.proofs.TypeProductions.{good-type, has-type, blind-type}
+use Rattle.graphql_grammar.proofs.ArgumentProductions.{good-directives, opens-directives, has-directives, blind-directives}
+use Rattle.graphql_schemas.specs.grammar.Fields.{field_definition_of, a_field_definition, fields}
+use Rattle.graphql_schemas.specs.grammar.Placeless.{placeless_input_values, placeless_field}
+use Rattle.graphql_schemas.specs.reading.Fields.{field_definition_at, fields_at}
+use Rattle.graphql_schemas.specs.reading.InputValues.{member_first}
+use Rattle.graphql_schemas.proofs.DescriptionProductions.{name-no-text, exact-maybe_description, has-maybe_description, ignores-maybe_description}
+use Rattle.graphql_schemas.proofs.InputValueProductions.{begins-member, after_member, member-goes-on, members-outside, exact-maybe_arguments_definition, has-maybe_arguments_definition, ignores-maybe_arguments_definition}
+
+-- a type, and the directives of the field
+abbrev typed : Limits → Rel (Token × (Positioned TypeTree × Directives))
+typed c = one (punct ":") ⨾ type_reference c.types ⨾ directives Current false c.values
+
+has-typed : HasPhrase typed
+has-typed = has-pair has-colon (has-pair has-type (has-directives false))
+
+-- `!` belongs to the type, `@` and `(` to the directives
+pub exact-field_definition : {b : Limits} {f : Test} → IsSubset f (outside (punct "!")) → IsSubset f (outside (punct "(")) → IsSubset f (outside (punct "@")) → ReadsExactly (a_field_definition Current) b f (field_definition_at b)
+exact-field_definition marked away last =
+    good-mapped (good-led {g = any_name} (led-then led-one) (has-pair (has-token name-sample) (has-pair has-maybe_arguments_definition has-typed)) (exact-maybe_description name-no-text)
+    (good-next (has-pair has-maybe_arguments_definition has-typed) good-name
+    (good-led {g = punct ":"} (led-then led-one) has-typed (exact-maybe_arguments_definition (punct-within ":" refl))
+    (good-next (has-pair has-type (has-directives false)) (good-punct ":")
+    (good-seq {g = outside (punct "!")} (opens-directives false refl marked) (has-directives false) (good-type itself)
+    (good-directives false away last))))))
+
+pub begins-field_definition : BeginsWith (a_field_definition Current) member_first
+begins-field_definition = led-mapped (begins-member (led-then led-one))
+
+pub has-field_definition : HasPhrase (a_field_definition Current)
+has-field_definition = has-map (has-pair has-maybe_description (has-pair (has-token name-sample) (has-pair has-maybe_arguments_definition has-typed)))
+
+field-nowhere : (x : Description × (Token × (Option InputValues × (Token × (Positioned TypeTree × Directives))))) → unplaced placeless_field (field_definition_of x) ≡ field_definition_of (option_map bare_node x.0, (without_place x.1.0, (option_map placeless_input_values x.1.1.0, (without_place x.1.1.1.0, (bare_node x.1.1.1.1.0, placeless_directives x.1.1.1.1.1)))))
+field-nowhere (None, (name, (None, more))) = refl
+field-nowhere (None, (name, (Some arguments, more))) = refl
+field-nowhere (Some text, (name, (None, more))) = refl
+field-nowhere (Some text, (name, (Some arguments, more))) = refl
+
+pub ignores-field_definition : IgnoresPlaces (a_field_definition Current) (unplaced placeless_field)
+ignores-field_definition =
+    blind-mapped {k = field_definition_of} field-nowhere
+    (blind-then ignores-maybe_description (blind-then (blind-one any_name) (blind-then ignores-maybe_arguments_definition (blind-then (blind-one (punct ":")) (blind-then blind-type (blind-directives false))))))
+
+-- another one or a bracket follows
+exact-next-field_definition : {b : Limits} → ReadsExactly (a_field_definition Current) b after_member (field_definition_at b)
+exact-next-field_definition = exact-field_definition (members-outside "!" refl refl) (members-outside "(" refl refl) (members-outside "@" refl refl)
+
+pub takes-field_definition : (limits : Limits) → Takes (field_definition_at limits)
+takes-field_definition limits = takes-one {b = limits} exact-next-field_definition begins-field_definition
+
+-- nothing is looked ahead at after `}`
+pub exact-fields : {b : Limits} {f : Test} → ReadsExactly (fields Current) b f (fields_at b)
+exact-fields =
+    good-mapped (good-next (has-pair (has-plus has-field_definition) has-close_object) (good-punct "{")
+    (good-led led-one has-close_object (good-plus-ahead {g = after_member} begins-field_definition member-goes-on (punct-within "}" refl) (punct-within "}" refl) exact-next-field_definition)
+    (good-punct "}")))
+
+pub begins-fields : BeginsWith (fields Current) (punct "{")
+begins-fields = led-mapped (led-then led-one)
+
+pub has-fields : HasPhrase (fields Current)
+has-fields = has-map (has-pair has-open_object (has-pair (has-plus has-field_definition) has-close_object))
+
+pub ignores-fields : IgnoresPlaces (fields Current) (map (unplaced placeless_field))
+ignores-fields = blind-mapped (λ x. refl) (blind-then (blind-one (punct "{")) (blind-then (blind-plus ignores-field_definition) (blind-one (punct "}"))))
