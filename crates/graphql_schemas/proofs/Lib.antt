@@ -6,3 +6,4 @@ pub mod FormerParts
 pub mod PartProductions
 pub mod LocationProductions
 pub mod SchemaProductions
+pub mod FieldPartProductions

@@ -1,7 +1,9 @@
 -- Parts that may stand or not are read exactly: directives and a list after them, and one of the two at least where a part
 -- is owed.
-use Rattle.std.proofs.Common.{◌≡◌, ℕ, Bool, true, false, cond, ◌&&◌, ◌||◌, ◌↔◌, IsTrue, inl, inr, Option, Some, None, List, [], ◌∷◌, map, refl, sym, ap, ◌∙◌}
+use Rattle.std.proofs.Common.{◌≡◌, ℕ, Bool, true, false, cond, ◌&&◌, ◌||◌, ◌↔◌, IsTrue, inl, inr, Option, Some, None, List, [], ◌∷◌, map, refl, sym, ap, ◌∙◌, not, codes}
+use Rattle.std.specs.Str.{bytes_eq}
 use Rattle.graphql_tokens.specs.tokens.Edition.{Current}
+use Rattle.graphql_tokens.specs.tokens.Kinds.{is_punct}
 use Rattle.graphql_tokens.specs.tokens.Token.{Token}
 use Rattle.graphql_syntax.specs.trees.Request.{Directives}
 use Rattle.graphql_reading.specs.grammar.Fronts.{syntax}
@@ -10,11 +12,11 @@ use Rattle.graphql_reading.specs.grammar.Relations.{Rel, never, ◌⨾◌, ◌�
 use Rattle.graphql_reading.specs.grammar.Tests.{Test, punct}
 use Rattle.graphql_reading.specs.reading.Outcome.{Outcome, Read, Refused, Reader, ◌>>=◌, then_at, mapped_at, choose_at, opt_at, plus_at}
 use Rattle.graphql_reading.proofs.Theory.{Dead, IfHead, peek, IsSubset, outside}
-use Rattle.graphql_reading.proofs.TokenTests.{punctuator, itself, punct-within, within-first, within-second, within-then}
+use Rattle.graphql_reading.proofs.TokenTests.{punctuator, itself, punct-within, within-first, within-second, within-then, within-both}
 use Rattle.graphql_reading.proofs.ReadsExactly.{ReadsExactly, HasPhrase, BeginsWith, good-mapped, good-choose, good-same, led-mapped, led-then, led-within, led-either, has-pair, has-map, has-plus, has-first}
 use Rattle.graphql_reading.proofs.Extra.{Opens, good-seq, opens-opt, opens-then, good-plus-ahead, good-opt, has-opt}
 use Rattle.graphql_reading.proofs.Optional.{good-reader, opt-taken}
-use Rattle.graphql_reading.proofs.IgnoresPlaces.{IgnoresPlaces, on-option, blind-then, blind-mapped, blind-either, blind-plus, blind-opt}
+use Rattle.graphql_reading.proofs.IgnoresPlaces.{IgnoresPlaces, blind-then, blind-mapped, blind-either, blind-plus}
 use Rattle.graphql_reading.proofs.Loop.{many-plus, many-stops, many-nothing}
 use Rattle.graphql_grammar.specs.grammar.Arguments.{a_directive}
 use Rattle.graphql_grammar.specs.grammar.Placeless.{placeless_directives}
@@ -22,6 +24,8 @@ use Rattle.graphql_grammar.specs.reading.Arguments.{directive_at, directives_at}
 use Rattle.graphql_grammar.proofs.ArgumentProductions.{good-directive, led-directive, has-directive, good-directives, opens-directives, has-directives, blind-directive, blind-directives, takes-directive}
 use Rattle.graphql_schemas.specs.grammar.Types.{parts_of, parts, list_alone, some_parts}
 use Rattle.graphql_schemas.specs.reading.Types.{owed_at, parts_at, some_parts_at}
+use Rattle.graphql_schemas.proofs.DescriptionProductions.{ignores-optional, map-given}
+use Prim.Native.String.{String}
 
 -- ---- what begins what is made of a tree
 
@@ -106,12 +110,8 @@ has-parts {p = p} = has-map (has-pair (has-directives false) (has-opt {p = p}))
 abbrev pub placeless-parts : {A : Type 0} → (A → A) → Directives × List A → Directives × List A
 placeless-parts f x = (placeless_directives x.0, map f x.1)
 
-pub given-same : {A : Type 0} (f : A → A) (list : Option (List A)) → map f (given list) ≡ given (on-option (map f) list)
-given-same f None = refl
-given-same f (Some list) = refl
-
 pub ignores-parts : {A : Type 0} {p : Limits → Rel (List A)} {f : A → A} → IgnoresPlaces p (map f) → IgnoresPlaces (λ c. parts Current c (p c)) (placeless-parts f)
-ignores-parts {A} {f = f} h = blind-mapped (λ x. ap (λ (l : List A). (placeless_directives x.0, l)) (given-same f x.1)) (blind-then (blind-directives false) (blind-opt h))
+ignores-parts {A} {f = f} h = blind-mapped (λ x. ap (λ (l : List A). (placeless_directives x.0, l)) (map-given f x.1)) (blind-then (blind-directives false) (ignores-optional h))
 
 -- ---- one of the two at least
 
@@ -169,5 +169,21 @@ has-some_parts {p = p} = has-first {q = λ c. mapped list_alone (p c)} (has-map 
 
 pub ignores-some_parts : {A : Type 0} {p : Limits → Rel (List A)} {f : A → A} → IgnoresPlaces p (map f) → IgnoresPlaces (λ c. some_parts Current c (p c)) (placeless-parts f)
 ignores-some_parts {A} {f = f} h =
-    blind-either (blind-mapped (λ x. ap (λ (l : List A). (placeless_directives x.0, l)) (given-same f x.1)) (blind-then (blind-plus (blind-directive false)) (blind-opt h)))
+    blind-either (blind-mapped (λ x. ap (λ (l : List A). (placeless_directives x.0, l)) (map-given f x.1)) (blind-then (blind-plus (blind-directive false)) (ignores-optional h)))
     (blind-mapped (λ x. refl) h)
+
+-- ---- what follows a definition
+
+-- it is no punctuator
+abbrev pub no-punctuator : Test
+no-punctuator t = not (is_punct t.kind)
+
+pub past-punctuator : (word : String) {f : Test} → IsSubset f no-punctuator → IsSubset f (outside (punct word))
+past-punctuator word h = record { by = λ t e. go (is_punct t.kind) (bytes_eq t.spelling (codes word)) (h.by t e) }
+  where
+    go : (w v : Bool) → IsTrue (not w) → IsTrue (not (w && v))
+    go true v e = absurd cc
+    go false v e = refl
+
+pub past-parts : {f : Test} → IsSubset f no-punctuator → IsSubset f past-directives
+past-parts h = within-both (past-punctuator "(" h) (past-punctuator "@" h)
