@@ -1,13 +1,13 @@
 -- Fields of types are read exactly, at every budget; and their places don't matter.
-use Rattle.std.proofs.Common.{◌≡◌, false, Option, Some, None, map, option_map, refl}
+use Rattle.std.proofs.Common.{false, Option, map, refl, ap, ◌∙◌}
 use Rattle.graphql_tokens.specs.declared.pos.Positioned.{Positioned}
 use Rattle.graphql_tokens.specs.tokens.Edition.{Current}
 use Rattle.graphql_tokens.specs.tokens.Token.{Token}
 use Rattle.graphql_syntax.specs.trees.Request.{Directives}
-use Rattle.graphql_syntax.specs.trees.Schema.{Description, InputValues}
+use Rattle.graphql_syntax.specs.trees.Schema.{Description, InputValues, FieldDefinition}
 use Rattle.graphql_syntax.specs.trees.TypeTree.{TypeTree}
 use Rattle.graphql_grammar.specs.grammar.Arguments.{directives}
-use Rattle.graphql_grammar.specs.grammar.Placeless.{unplaced, bare_node, placeless_directives}
+use Rattle.graphql_grammar.specs.grammar.Placeless.{unplaced}
 use Rattle.graphql_grammar.specs.grammar.Types.{type_reference}
 use Rattle.graphql_reading.specs.grammar.Fronts.{without_place}
 use Rattle.graphql_reading.specs.grammar.Limits.{Limits}
@@ -22,11 +22,12 @@ use Rattle.graphql_reading.proofs.IgnoresPlaces.{IgnoresPlaces, blind-one, blind
 use Rattle.graphql_reading.proofs.Loop.{Takes, takes-one}
 use Rattle.graphql_grammar.proofs.TypeProductions.{good-type, has-type, blind-type}
 use Rattle.graphql_grammar.proofs.ArgumentProductions.{good-directives, opens-directives, has-directives, blind-directives}
+use Rattle.graphql_schemas.specs.grammar.Descriptions.{described}
 use Rattle.graphql_schemas.specs.grammar.Fields.{field_definition_of, a_field_definition, fields}
-use Rattle.graphql_schemas.specs.grammar.Placeless.{placeless_input_values, placeless_field}
+use Rattle.graphql_schemas.specs.grammar.Placeless.{placeless_description, placeless_input_value, placeless_field}
 use Rattle.graphql_schemas.specs.reading.Fields.{field_definition_at, fields_at}
 use Rattle.graphql_schemas.specs.reading.InputValues.{member_first}
-use Rattle.graphql_schemas.proofs.DescriptionProductions.{name-no-text, exact-maybe_description, has-maybe_description, ignores-maybe_description}
+use Rattle.graphql_schemas.proofs.DescriptionProductions.{map-given, described-nowhere, name-no-text, exact-maybe_description, has-maybe_description, ignores-maybe_description}
 use Rattle.graphql_schemas.proofs.InputValueProductions.{begins-member, after_member, member-goes-on, members-outside, exact-maybe_arguments_definition, has-maybe_arguments_definition, ignores-maybe_arguments_definition}
 
 -- a type, and the directives of the field
@@ -52,15 +53,13 @@ begins-field_definition = led-mapped (begins-member (led-then led-one))
 pub has-field_definition : HasPhrase (a_field_definition Current)
 has-field_definition = has-map (has-pair has-maybe_description (has-pair (has-token name-sample) (has-pair has-maybe_arguments_definition has-typed)))
 
-field-nowhere : (x : Description × (Token × (Option InputValues × (Token × (Positioned TypeTree × Directives))))) → unplaced placeless_field (field_definition_of x) ≡ field_definition_of (option_map bare_node x.0, (without_place x.1.0, (option_map placeless_input_values x.1.1.0, (without_place x.1.1.1.0, (bare_node x.1.1.1.1.0, placeless_directives x.1.1.1.1.1)))))
-field-nowhere (None, (name, (None, more))) = refl
-field-nowhere (None, (name, (Some arguments, more))) = refl
-field-nowhere (Some text, (name, (None, more))) = refl
-field-nowhere (Some text, (name, (Some arguments, more))) = refl
+-- the field without places, with these arguments
+abbrev with-arguments : Description × (Token × (Option InputValues × (Token × (Positioned TypeTree × Directives)))) → InputValues → Positioned FieldDefinition
+with-arguments x arguments = described (placeless_description x.0) (without_place x.1.0) (record (placeless_field (field_definition_of x).node) { arguments = arguments })
 
 pub ignores-field_definition : IgnoresPlaces (a_field_definition Current) (unplaced placeless_field)
 ignores-field_definition =
-    blind-mapped {k = field_definition_of} field-nowhere
+    blind-mapped {k = field_definition_of} (λ x. described-nowhere placeless_field x.0 x.1.0 (field_definition_of x).node ∙ ap (with-arguments x) (map-given (unplaced placeless_input_value) x.1.1.0))
     (blind-then ignores-maybe_description (blind-then (blind-one any_name) (blind-then ignores-maybe_arguments_definition (blind-then (blind-one (punct ":")) (blind-then blind-type (blind-directives false))))))
 
 -- another one or a bracket follows

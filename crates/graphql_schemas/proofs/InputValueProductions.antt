@@ -1,16 +1,12 @@
 -- Input values are read exactly, at every budget; and their places don't matter.
-use Rattle.std.proofs.Common.{ℕ, ◌≡◌, false, ◌||◌, IsTrue, Option, Some, None, List, option_map, refl}
-use Rattle.graphql_tokens.specs.declared.pos.Positioned.{Positioned}
+use Rattle.std.proofs.Common.{ℕ, false, ◌||◌, IsTrue, Option, List, option_map, refl}
 use Rattle.graphql_tokens.specs.tokens.Edition.{Current}
-use Rattle.graphql_tokens.specs.tokens.Token.{Token}
 use Rattle.graphql_syntax.specs.trees.Request.{Directives}
-use Rattle.graphql_syntax.specs.trees.Schema.{Description, InputValues}
-use Rattle.graphql_syntax.specs.trees.TypeTree.{TypeTree}
+use Rattle.graphql_syntax.specs.trees.Schema.{InputValues}
 use Rattle.graphql_grammar.specs.grammar.Arguments.{directives, a_default}
-use Rattle.graphql_grammar.specs.grammar.Placeless.{unplaced, bare_node, placeless_directives}
+use Rattle.graphql_grammar.specs.grammar.Placeless.{unplaced}
 use Rattle.graphql_grammar.specs.grammar.Types.{type_reference}
 use Rattle.graphql_grammar.specs.grammar.Values.{Value}
-use Rattle.graphql_reading.specs.grammar.Fronts.{without_place}
 use Rattle.graphql_reading.specs.grammar.Limits.{Limits}
 use Rattle.graphql_reading.specs.grammar.Relations.{Rel, ◌⨾◌, mapped, plus, opt, given}
 use Rattle.graphql_reading.specs.grammar.Tests.{Test, punct, any_name}
@@ -30,16 +26,16 @@ use Rattle.graphql_schemas.specs.grammar.InputValues.{input_value_of, an_input_v
 use Rattle.graphql_schemas.specs.grammar.Placeless.{placeless_input_value, placeless_input_values}
 use Rattle.graphql_schemas.specs.reading.Descriptions.{is_text}
 use Rattle.graphql_schemas.specs.reading.InputValues.{member_first, input_value_at, arguments_definition_at, given_arguments_at, input_fields_at}
-use Rattle.graphql_schemas.proofs.DescriptionProductions.{text-within, name-no-text, ignores-optional, map-given, begins-description, exact-maybe_description, has-maybe_description, ignores-maybe_description}
+use Rattle.graphql_schemas.proofs.DescriptionProductions.{text-within, name-no-text, ignores-optional, map-given, begins-description, exact-maybe_description, has-maybe_description, ignores-maybe_description, described-nowhere}
 use Prim.Native.String.{String}
 
 -- ---- what members begin with
 
 -- a description may stand before a name
-pub text-in-members : IsSubset is_text member_first
+text-in-members : IsSubset is_text member_first
 text-in-members = text-within (λ spelling. refl) (λ spelling. refl)
 
-pub name-in-members : IsSubset any_name member_first
+name-in-members : IsSubset any_name member_first
 name-in-members = any_name-within (λ spelling. refl)
 
 -- a description, where there is one, and what begins with a name
@@ -50,20 +46,17 @@ begins-member {q = q} led = led-opt {q = q} (led-within text-in-members begins-d
 abbrev pub after_member : Test
 after_member t = member_first t || punct ")" t || punct "}" t
 
-pub members-within : {g : Test} → ((spelling : List ℕ) → IsTrue (g (quoted spelling))) → ((spelling : List ℕ) → IsTrue (g (block spelling))) → ((spelling : List ℕ) → IsTrue (g (named spelling))) → IsTrue (g (punctuator ")")) → IsTrue (g (punctuator "}")) → IsSubset after_member g
+members-within : {g : Test} → ((spelling : List ℕ) → IsTrue (g (quoted spelling))) → ((spelling : List ℕ) → IsTrue (g (block spelling))) → ((spelling : List ℕ) → IsTrue (g (named spelling))) → IsTrue (g (punctuator ")")) → IsTrue (g (punctuator "}")) → IsSubset after_member g
 members-within string here name paren brace = within-either (within-either (within-either (text-within string here) (any_name-within name)) (punct-within ")" paren)) (punct-within "}" brace)
 
 pub member-goes-on : IsSubset member_first after_member
 member-goes-on = within-either (text-within (λ spelling. refl) (λ spelling. refl)) (any_name-within (λ spelling. refl))
 
--- it is no other punctuator
+-- what follows a member is no other punctuator
 pub members-outside : (word : String) → IsTrue (outside (punct word) (punctuator ")")) → IsTrue (outside (punct word) (punctuator "}")) → IsSubset after_member (outside (punct word))
 members-outside word paren brace = members-within (λ spelling. refl) (λ spelling. refl) (λ spelling. refl) paren brace
 
 -- ---- input values
-
-abbrev maybe-default : Limits → Rel (Option Value)
-maybe-default c = opt (a_default Current c.values)
 
 abbrev default-and-directives : Limits → Rel (Option Value × Directives)
 default-and-directives c = opt (a_default Current c.values) ⨾ directives Current false c.values
@@ -90,13 +83,9 @@ begins-input_value = led-mapped (begins-member (led-then led-one))
 pub has-input_value : HasPhrase (an_input_value Current)
 has-input_value = has-map (has-pair has-maybe_description (has-pair (has-token name-sample) (has-pair has-colon (has-pair has-type has-default-and-directives))))
 
-input-value-nowhere : (x : Description × (Token × (Token × (Positioned TypeTree × (Option Value × Directives))))) → unplaced placeless_input_value (input_value_of x) ≡ input_value_of (option_map bare_node x.0, (without_place x.1.0, (without_place x.1.1.0, (bare_node x.1.1.1.0, (option_map bare_node x.1.1.1.1.0, placeless_directives x.1.1.1.1.1)))))
-input-value-nowhere (None, more) = refl
-input-value-nowhere (Some text, more) = refl
-
 pub ignores-input_value : IgnoresPlaces (an_input_value Current) (unplaced placeless_input_value)
 ignores-input_value =
-    blind-mapped {k = input_value_of} input-value-nowhere
+    blind-mapped {k = input_value_of} (λ x. described-nowhere placeless_input_value x.0 x.1.0 (input_value_of x).node)
     (blind-then ignores-maybe_description (blind-then (blind-one any_name) (blind-then (blind-one (punct ":")) (blind-then blind-type (blind-then (ignores-optional blind-default) (blind-directives false))))))
 
 -- another one or a bracket follows

@@ -1,29 +1,26 @@
 -- Interfaces of types, types of unions and values of enums are read exactly, at every budget; and their places don't
 -- matter.
-use Rattle.std.proofs.Common.{◌≡◌, ℕ, false, not, ◌||◌, IsTrue, Option, Some, None, List, [], ◌∷◌, codes, map, option_map, refl}
+use Rattle.std.proofs.Common.{ℕ, false, not, ◌||◌, IsTrue, List, [], ◌∷◌, codes, map, refl}
 use Rattle.graphql_tokens.specs.tokens.Edition.{Current}
-use Rattle.graphql_tokens.specs.tokens.Token.{Token}
-use Rattle.graphql_syntax.specs.trees.Request.{Directives}
-use Rattle.graphql_syntax.specs.trees.Schema.{Description}
 use Rattle.graphql_grammar.specs.grammar.Arguments.{directives}
-use Rattle.graphql_grammar.specs.grammar.Placeless.{unplaced, bare_node, placeless_directives}
-use Rattle.graphql_reading.specs.grammar.Fronts.{without_place}
+use Rattle.graphql_grammar.specs.grammar.Placeless.{unplaced, bare_node}
 use Rattle.graphql_reading.specs.grammar.Limits.{Limits}
-use Rattle.graphql_reading.specs.grammar.Relations.{Rel, one, ◌⨾◌}
-use Rattle.graphql_reading.specs.grammar.Tests.{Test, is_among, punct, any_name}
+use Rattle.graphql_reading.specs.grammar.Relations.{one, ◌⨾◌}
+use Rattle.graphql_reading.specs.grammar.Tests.{Test, is_among, punct, keyword, any_name}
 use Rattle.graphql_reading.proofs.Theory.{IsSubset, outside}
-use Rattle.graphql_reading.proofs.TokenTests.{punctuator, named, word_of, sample, punct-within, name_but-within, within-either, HasSample, name-spells, name-sample}
-use Rattle.graphql_reading.proofs.PunctSamples.{has-open_object, has-close_object}
+use Rattle.graphql_reading.proofs.TokenTests.{any_name-within, punct-inner, keyword-inner, keyword-sample, punctuator, named, word_of, sample, punct-within, name_but-within, within-either, HasSample, name-spells, name-sample}
+use Rattle.graphql_reading.proofs.PunctSamples.{has-equals, has-open_object, has-close_object}
 use Rattle.graphql_reading.proofs.ReadsExactly.{ReadsExactly, HasPhrase, BeginsWith, good-punct, good-name, good-name_but, good-mapped, good-next, good-led, led-one, led-within, led-mapped, led-then, has-token, has-pair, has-map, has-plus}
+use Rattle.graphql_reading.proofs.Separated.{good-after, led-after, has-after, blind-after, good-separated, has-separated, blind-separated}
 use Rattle.graphql_reading.proofs.Extra.{good-plus-ahead, led-opt}
 use Rattle.graphql_reading.proofs.IgnoresPlaces.{IgnoresPlaces, blind-one, blind-then, blind-mapped, blind-plus}
 use Rattle.graphql_reading.proofs.Loop.{Takes, takes-one}
 use Rattle.graphql_grammar.proofs.ArgumentProductions.{good-directives, has-directives, blind-directives}
 use Rattle.graphql_grammar.proofs.ValueTests.{quoted, block}
-use Rattle.graphql_schemas.specs.grammar.Members.{a_name, enum_name, enum_value_of, an_enum_value, enum_values}
-use Rattle.graphql_schemas.specs.grammar.Placeless.{placeless_enum_value}
-use Rattle.graphql_schemas.specs.reading.Members.{name_at, enum_value_first, enum_value_at, enum_values_at}
-use Rattle.graphql_schemas.proofs.DescriptionProductions.{text-within, begins-description, exact-maybe_description, has-maybe_description, ignores-maybe_description}
+use Rattle.graphql_schemas.specs.grammar.Members.{a_name, implements, members, enum_name, enum_value_of, an_enum_value, enum_values}
+use Rattle.graphql_schemas.specs.grammar.Placeless.{placeless_names, placeless_enum_value}
+use Rattle.graphql_schemas.specs.reading.Members.{name_at, implements_at, members_at, enum_value_first, enum_value_at, enum_values_at}
+use Rattle.graphql_schemas.proofs.DescriptionProductions.{text-within, begins-description, exact-maybe_description, has-maybe_description, ignores-maybe_description, described-nowhere}
 use Prim.Native.String.{String}
 
 -- ---- names
@@ -39,6 +36,41 @@ has-placed_name = has-map (has-token name-sample)
 
 pub ignores-placed_name : IgnoresPlaces (λ c. a_name) bare_node
 ignores-placed_name = blind-mapped (λ t. refl) (blind-one any_name)
+
+-- ---- interfaces and types of unions
+
+-- no name is a mark
+name-no-mark : (mark : String) → IsSubset any_name (outside (punct mark))
+name-no-mark mark = any_name-within (λ spelling. refl)
+
+implements-sample : HasSample (keyword "implements")
+implements-sample = keyword-sample "implements" refl (refl, (refl, (refl, (refl, (refl, (refl, (refl, (refl, (refl, (refl, tt))))))))))
+
+-- a `&` goes on with another name
+pub exact-implements : {b : Limits} {f : Test} → IsSubset f (outside (punct "&")) → ReadsExactly (λ c. implements) b f implements_at
+exact-implements away = good-after (keyword-inner "implements") (has-separated (punct "&") has-placed_name) (good-separated "&" begins-placed_name (name-no-mark "&") away has-placed_name exact-placed_name)
+
+pub begins-implements : BeginsWith (λ c. implements) (keyword "implements")
+begins-implements = led-after
+
+pub has-implements : HasPhrase (λ c. implements)
+has-implements = has-after (keyword "implements") (has-token implements-sample) (has-separated (punct "&") has-placed_name)
+
+pub ignores-implements : IgnoresPlaces (λ c. implements) placeless_names
+ignores-implements = blind-after (keyword "implements") (blind-separated (punct "&") ignores-placed_name)
+
+-- a `|` goes on with another name
+pub exact-members : {b : Limits} {f : Test} → IsSubset f (outside (punct "|")) → ReadsExactly (λ c. members) b f members_at
+exact-members away = good-after (punct-inner "=") (has-separated (punct "|") has-placed_name) (good-separated "|" begins-placed_name (name-no-mark "|") away has-placed_name exact-placed_name)
+
+pub begins-members : BeginsWith (λ c. members) (punct "=")
+begins-members = led-after
+
+pub has-members : HasPhrase (λ c. members)
+has-members = has-after (punct "=") has-equals (has-separated (punct "|") has-placed_name)
+
+pub ignores-members : IgnoresPlaces (λ c. members) placeless_names
+ignores-members = blind-after (punct "=") (blind-separated (punct "|") ignores-placed_name)
 
 -- ---- values of an enum
 
@@ -81,12 +113,10 @@ begins-enum_value =
 pub has-enum_value : HasPhrase (an_enum_value Current)
 has-enum_value = has-map (has-pair has-maybe_description (has-pair (has-token enum-name-sample) (has-directives false)))
 
-enum-value-nowhere : (x : Description × (Token × Directives)) → unplaced placeless_enum_value (enum_value_of x) ≡ enum_value_of (option_map bare_node x.0, (without_place x.1.0, placeless_directives x.1.1))
-enum-value-nowhere (None, more) = refl
-enum-value-nowhere (Some text, more) = refl
-
 pub ignores-enum_value : IgnoresPlaces (an_enum_value Current) (unplaced placeless_enum_value)
-ignores-enum_value = blind-mapped {k = enum_value_of} enum-value-nowhere (blind-then ignores-maybe_description (blind-then (blind-one enum_name) (blind-directives false)))
+ignores-enum_value =
+    blind-mapped {k = enum_value_of} (λ x. described-nowhere placeless_enum_value x.0 x.1.0 (enum_value_of x).node)
+    (blind-then ignores-maybe_description (blind-then (blind-one enum_name) (blind-directives false)))
 
 -- another one or the bracket follows
 exact-next-enum_value : {b : Limits} → ReadsExactly (an_enum_value Current) b after_enum_value (enum_value_at b)
