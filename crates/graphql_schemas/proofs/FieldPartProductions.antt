@@ -1,5 +1,5 @@
 -- Interfaces, directives and fields, which may stand or not, are read exactly; and one of them at least, where a part is owed.
-use Rattle.std.proofs.Common.{◌≡◌, Bool, true, false, cond, ◌&&◌, ◌||◌, IsTrue, Option, Some, None, List, [], ◌∷◌, map, option_map, refl, sym, ap, ◌∙◌}
+use Rattle.std.proofs.Common.{◌≡◌, Bool, true, false, cond, ◌&&◌, ◌||◌, Option, None, List, [], ◌∷◌, refl, sym, ap, ◌∙◌}
 use Rattle.graphql_tokens.specs.tokens.Edition.{Current}
 use Rattle.graphql_tokens.specs.tokens.Token.{Token}
 use Rattle.graphql_tokens.specs.declared.pos.Positioned.{Positioned}
@@ -7,27 +7,27 @@ use Rattle.graphql_syntax.specs.trees.Request.{Directives}
 use Rattle.graphql_syntax.specs.trees.Schema.{Names, FieldDefinition}
 use Rattle.graphql_reading.specs.grammar.Fronts.{syntax}
 use Rattle.graphql_reading.specs.grammar.Limits.{Limits}
-use Rattle.graphql_reading.specs.grammar.Relations.{Rel, ◌⨾◌, opt}
+use Rattle.graphql_reading.specs.grammar.Relations.{Rel, ◌⨾◌}
 use Rattle.graphql_reading.specs.grammar.Tests.{Test, punct, keyword}
 use Rattle.graphql_reading.specs.reading.Outcome.{Outcome, Read, Refused, Reader, ◌>>=◌, then_at, mapped_at, choose_at, opt_at}
 use Rattle.graphql_reading.proofs.Theory.{IsSubset, outside}
-use Rattle.graphql_reading.proofs.TokenTests.{punctuator, word_of, itself, punct-within, keyword-within, within-both, within-first, within-second, within-then}
-use Rattle.graphql_reading.proofs.ReadsExactly.{ReadsExactly, HasPhrase, BeginsWith, good-mapped, good-choose, led-mapped, led-then, led-within, led-either, has-pair, has-map, has-first}
-use Rattle.graphql_reading.proofs.Extra.{Opens, good-seq, opens-opt, opens-then, good-opt, has-opt}
-use Rattle.graphql_reading.proofs.Optional.{good-reader, opt-taken, opt-left, with-some, opt-then}
+use Rattle.graphql_reading.proofs.TokenTests.{punct-within, within-both, within-first, within-second}
+use Rattle.graphql_reading.proofs.ReadsExactly.{ReadsExactly, HasPhrase, good-mapped, good-choose, led-mapped, led-then, has-pair, has-map, has-first}
+use Rattle.graphql_reading.proofs.Extra.{Opens, good-seq, good-opt, has-opt}
+use Rattle.graphql_reading.proofs.Optional.{good-reader, opt-left, with-some, opt-then}
 use Rattle.graphql_reading.proofs.IgnoresPlaces.{IgnoresPlaces, blind-then, blind-mapped, blind-either}
 use Rattle.graphql_grammar.specs.grammar.Placeless.{unplaced, bare_node}
 use Rattle.graphql_schemas.specs.grammar.Fields.{fields}
 use Rattle.graphql_schemas.specs.grammar.Members.{implements}
 use Rattle.graphql_schemas.specs.grammar.Placeless.{placeless_names, placeless_field}
-use Rattle.graphql_schemas.specs.grammar.Types.{parts, some_parts, Members, members_of, field_parts, no_interfaces, some_field_parts}
+use Rattle.graphql_schemas.specs.grammar.Types.{parts, Members, members_of, field_parts, no_interfaces, some_field_parts}
 use Rattle.graphql_schemas.specs.reading.Fields.{fields_at}
 use Rattle.graphql_schemas.specs.reading.Members.{implements_at}
-use Rattle.graphql_schemas.specs.reading.Types.{parts_at, part_first, some_parts_at, field_parts_at, field_part_first, some_field_parts_at}
+use Rattle.graphql_schemas.specs.reading.Types.{parts_at, part_first, some_parts_at, field_parts_at, some_field_parts_at}
 use Rattle.graphql_schemas.proofs.DescriptionProductions.{ignores-optional, map-given}
-use Rattle.graphql_schemas.proofs.FieldProductions.{exact-fields, begins-fields, has-fields, ignores-fields}
+use Rattle.graphql_schemas.proofs.FieldProductions.{exact-fields, begins-fields, ignores-fields}
 use Rattle.graphql_schemas.proofs.MemberProductions.{exact-implements, begins-implements, has-implements, ignores-implements}
-use Rattle.graphql_schemas.proofs.PartProductions.{past-directives, first-mapped, exact-parts, first-parts, has-parts, placeless-parts, ignores-parts, exact-some_parts, begins-some_parts, has-some_parts, ignores-some_parts, no-punctuator, past-punctuator, past-parts}
+use Rattle.graphql_schemas.proofs.PartProductions.{exact-parts, first-parts, has-parts, placeless-parts, ignores-parts, exact-some_parts, begins-some_parts, ignores-some_parts, no-punctuator, past-punctuator, past-parts}
 
 -- ---- directives and fields
 

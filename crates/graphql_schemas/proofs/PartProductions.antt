@@ -1,6 +1,6 @@
 -- Parts that may stand or not are read exactly: directives and a list after them, and one of the two at least where a part
 -- is owed.
-use Rattle.std.proofs.Common.{◌≡◌, ℕ, Bool, true, false, cond, ◌&&◌, ◌||◌, ◌↔◌, IsTrue, inl, inr, Option, Some, None, List, [], ◌∷◌, map, refl, sym, ap, ◌∙◌, not, codes}
+use Rattle.std.proofs.Common.{◌≡◌, ℕ, Bool, true, false, cond, ◌&&◌, ◌||◌, ◌↔◌, IsTrue, inl, inr, Option, Some, List, [], ◌∷◌, map, refl, sym, ap, ◌∙◌, not, codes}
 use Rattle.std.specs.Str.{bytes_eq}
 use Rattle.graphql_tokens.specs.tokens.Edition.{Current}
 use Rattle.graphql_tokens.specs.tokens.Kinds.{is_punct}
@@ -8,7 +8,7 @@ use Rattle.graphql_tokens.specs.tokens.Token.{Token}
 use Rattle.graphql_syntax.specs.trees.Request.{Directives}
 use Rattle.graphql_reading.specs.grammar.Fronts.{syntax}
 use Rattle.graphql_reading.specs.grammar.Limits.{Limits}
-use Rattle.graphql_reading.specs.grammar.Relations.{Rel, never, ◌⨾◌, ◌∪◌, mapped, plus, opt, given}
+use Rattle.graphql_reading.specs.grammar.Relations.{Rel, never, ◌⨾◌, ◌∪◌, mapped, plus, opt}
 use Rattle.graphql_reading.specs.grammar.Tests.{Test, punct}
 use Rattle.graphql_reading.specs.reading.Outcome.{Outcome, Read, Refused, Reader, ◌>>=◌, then_at, mapped_at, choose_at, opt_at, plus_at}
 use Rattle.graphql_reading.proofs.Theory.{Dead, IfHead, peek, IsSubset, outside}
