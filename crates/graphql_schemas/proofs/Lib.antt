@@ -7,3 +7,4 @@ pub mod PartProductions
 pub mod LocationProductions
 pub mod SchemaProductions
 pub mod FieldPartProductions
+pub mod BodyProductions
