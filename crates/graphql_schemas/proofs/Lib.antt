@@ -8,3 +8,4 @@ pub mod LocationProductions
 pub mod SchemaProductions
 pub mod FieldPartProductions
 pub mod BodyProductions
+pub mod DirectiveProductions
