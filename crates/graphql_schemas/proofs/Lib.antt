@@ -9,3 +9,4 @@ pub mod SchemaProductions
 pub mod FieldPartProductions
 pub mod BodyProductions
 pub mod DirectiveProductions
+pub mod FormerSchemas
