@@ -10,3 +10,4 @@ pub mod FieldPartProductions
 pub mod BodyProductions
 pub mod DirectiveProductions
 pub mod FormerSchemas
+pub mod SchemaFileProductions
