@@ -1,5 +1,5 @@
 -- Interfaces, directives and fields, which may stand or not, are read exactly; and one of them at least, where a part is owed.
-use Rattle.std.proofs.Common.{◌≡◌, Bool, true, false, cond, ◌&&◌, ◌||◌, Option, None, List, [], ◌∷◌, refl, sym, ap, ◌∙◌}
+use Rattle.std.proofs.Common.{not, ◌≡◌, Bool, true, false, cond, ◌&&◌, ◌||◌, Option, None, List, [], ◌∷◌, refl, sym, ap, ◌∙◌}
 use Rattle.graphql_tokens.specs.tokens.Edition.{Current}
 use Rattle.graphql_tokens.specs.tokens.Token.{Token}
 use Rattle.graphql_tokens.specs.declared.pos.Positioned.{Positioned}
@@ -93,14 +93,18 @@ reads-by-first limits (t ∷ ts) = go (keyword "implements" t.bare) refl
     some-interfaces (Read x rest) = refl
     some-interfaces (Refused v rest) = refl
 
-    none : (w : Bool) (o : Outcome FieldParts) → (cond w o (Refused syntax (t ∷ ts)) >>= λ x rest. Read (no_interfaces x) rest) ≡ cond w ((o >>= λ x rest. Read (None, x) rest) >>= λ x rest. Read (members_of x) rest) (Refused syntax (t ∷ ts))
+    none : (w : Bool) (o : Outcome FieldParts) → (cond (not w) (Refused syntax (t ∷ ts)) o >>= λ x rest. Read (no_interfaces x) rest) ≡ cond (not w) (Refused syntax (t ∷ ts)) ((o >>= λ x rest. Read (None, x) rest) >>= λ x rest. Read (members_of x) rest)
     none true (Read x rest) = refl
     none true (Refused v rest) = refl
     none false o = refl
 
-    go : (w : Bool) → keyword "implements" t.bare ≡ w → cond w (interfaces-first_at limits (t ∷ ts)) (cond (part_first (punct "{") t.bare) (the-parts (t ∷ ts)) (Refused syntax (t ∷ ts)) >>= λ x rest. Read (no_interfaces x) rest) ≡ cond (w || part_first (punct "{") t.bare) (field_parts_at limits (t ∷ ts)) (Refused syntax (t ∷ ts))
+    -- what is read after perhaps some interfaces, where one of the other parts is owed
+    others : Outcome (Option Names) → Outcome Members
+    others o = cond (not (part_first (punct "{") t.bare)) (Refused syntax (t ∷ ts)) ((o >>= λ names rest. the-parts rest >>= λ x rest'. Read (names, x) rest') >>= λ x rest. Read (members_of x) rest)
+
+    go : (w : Bool) → keyword "implements" t.bare ≡ w → cond w (interfaces-first_at limits (t ∷ ts)) (cond (not (part_first (punct "{") t.bare)) (Refused syntax (t ∷ ts)) (the-parts (t ∷ ts)) >>= λ x rest. Read (no_interfaces x) rest) ≡ cond (not (w || part_first (punct "{") t.bare)) (Refused syntax (t ∷ ts)) (field_parts_at limits (t ∷ ts))
     go true e = some-interfaces (interfaces-first_at limits (t ∷ ts)) ∙ ap (λ (o : Outcome (Option Names × FieldParts)). o >>= λ x rest. Read (members_of x) rest) (sym (opt-then (keyword "implements") implements_at the-parts t ts e))
-    go false e = none (part_first (punct "{") t.bare) (the-parts (t ∷ ts)) ∙ ap (λ (o : Outcome (Option Names)). cond (part_first (punct "{") t.bare) ((o >>= λ names rest. the-parts rest >>= λ x rest'. Read (names, x) rest') >>= λ x rest. Read (members_of x) rest) (Refused syntax (t ∷ ts))) (sym (opt-left (keyword "implements") implements_at t ts e))
+    go false e = none (part_first (punct "{") t.bare) (the-parts (t ∷ ts)) ∙ ap others (sym (opt-left (keyword "implements") implements_at t ts e))
 
 abbrev interfaces-first : Limits → Rel Members
 interfaces-first c = implements ⨾ body-parts c

@@ -48,13 +48,17 @@ begins-never = record { by = λ c x y a m. absurd m }
 or-never : {A : Type 0} (p : Rel A) (x : List Token) (t : A) → (p ∪ never) x t ↔ p x t
 or-never p x t = (λ h. elim h [ inl k ↦ k | inr k ↦ absurd k ], λ h. inl h)
 
+by-first : {A : Type 0} (w : Bool) (x y : A) → cond w x y ≡ cond (not w) y x
+by-first true x y = refl
+by-first false x y = refl
+
 -- it is read by the token in sight
 pub exact-owed : {A : Type 0} {p : Limits → Rel A} {b : Limits} {f first : Test} {r : Reader A} → BeginsWith p first → ReadsExactly p b f r → ReadsExactly p b f (owed_at true first r)
 exact-owed {A} {p} {b} {f} {first} {r} begins h = good-reader same (good-same (λ c. or-never (p c)) (good-choose begins (begins-never {A = A}) h exact-never))
   where
     same : (ts : List Token) → choose_at first r (λ ts. Refused syntax ts) ts ≡ owed_at true first r ts
     same [] = refl
-    same (t ∷ ts) = refl
+    same (t ∷ ts) = by-first (first t.bare) (r (t ∷ ts)) (Refused syntax (t ∷ ts))
 
 -- where nothing is owed
 pub exact-free : {A : Type 0} {p : Limits → Rel A} {b : Limits} {f : Test} {r : Reader A} (first : Test) → r [] ≡ Refused syntax [] → ReadsExactly p b f r → ReadsExactly p b f (owed_at false first r)
@@ -89,7 +93,7 @@ exact-some-directives {b} away = good-reader same (exact-owed begins-some-direct
     same [] = refl
     same (t ∷ ts) = go (punct "@" t.bare) refl
       where
-        go : (w : Bool) → punct "@" t.bare ≡ w → cond w (plus_at (punct "@") (directive_at false b.values) (t ∷ ts)) (Refused syntax (t ∷ ts)) ≡ cond w (directives_at false b.values (t ∷ ts)) (Refused syntax (t ∷ ts))
+        go : (w : Bool) → punct "@" t.bare ≡ w → cond (not w) (Refused syntax (t ∷ ts)) (plus_at (punct "@") (directive_at false b.values) (t ∷ ts)) ≡ cond (not w) (Refused syntax (t ∷ ts)) (directives_at false b.values (t ∷ ts))
         go true e = sym (many-plus (punct "@") (directive_at false b.values) (takes-directive false b.values) t ts e)
         go false e = refl
 
@@ -140,11 +144,11 @@ reads-by-first {A} limits first r (t ∷ ts) = go (punct "@" t.bare) refl
     alone (Read a rest) = refl
     alone (Refused v rest) = refl
 
-    other : (w : Bool) → first t.bare ≡ w → punct "@" t.bare ≡ false → cond w (mapped_at list_alone r (t ∷ ts)) (Refused syntax (t ∷ ts)) ≡ cond w (parts_at limits first r (t ∷ ts)) (Refused syntax (t ∷ ts))
+    other : (w : Bool) → first t.bare ≡ w → punct "@" t.bare ≡ false → cond (not w) (Refused syntax (t ∷ ts)) (mapped_at list_alone r (t ∷ ts)) ≡ cond (not w) (Refused syntax (t ∷ ts)) (parts_at limits first r (t ∷ ts))
     other true here e = sym (ap (then-list first r) (many-stops (punct "@") (directive_at false limits.values) t ts e) ∙ ap (list-after []) (opt-taken first r t ts here) ∙ alone (r (t ∷ ts)))
     other false here e = refl
 
-    go : (w : Bool) → punct "@" t.bare ≡ w → cond w (directives-first_at limits.values first r (t ∷ ts)) (cond (first t.bare) (mapped_at list_alone r (t ∷ ts)) (Refused syntax (t ∷ ts))) ≡ cond (w || first t.bare) (parts_at limits first r (t ∷ ts)) (Refused syntax (t ∷ ts))
+    go : (w : Bool) → punct "@" t.bare ≡ w → cond w (directives-first_at limits.values first r (t ∷ ts)) (cond (not (first t.bare)) (Refused syntax (t ∷ ts)) (mapped_at list_alone r (t ∷ ts))) ≡ cond (not (w || first t.bare)) (Refused syntax (t ∷ ts)) (parts_at limits first r (t ∷ ts))
     go true e = ap (then-list first r) (sym (many-plus (punct "@") (directive_at false limits.values) (takes-directive false limits.values) t ts e))
     go false e = other (first t.bare) refl e
 

@@ -1,5 +1,5 @@
 -- Reading definitions and extensions of types from lists of tokens.
-use Rattle.std.specs.Prelude.{Bool, false, not, cond, ◌||◌, List, [], ◌∷◌}
+use Rattle.std.specs.Prelude.{Bool, false, not, cond, ◌&&◌, ◌||◌, List, [], ◌∷◌}
 use Rattle.graphql_syntax.specs.trees.Request.{Directives}
 use Rattle.graphql_syntax.specs.trees.Schema.{TypeKind, object, interface, union, enumeration, input_object, Fields}
 use Rattle.graphql_grammar.specs.reading.Arguments.{directives_at}
@@ -18,7 +18,7 @@ use Prim.Native.String.{String}
 -- In an extension a part is owed: the token in sight begins one.
 abbrev pub owed_at : {A : Type 0} → Bool → Test → Reader A → Reader A
 owed_at extend first r [] = Refused syntax []
-owed_at extend first r (t ∷ ts) = cond (not extend || first t.bare) (r (t ∷ ts)) (Refused syntax (t ∷ ts))
+owed_at extend first r (t ∷ ts) = cond (extend && not (first t.bare)) (Refused syntax (t ∷ ts)) (r (t ∷ ts))
 
 -- directives, and a list that begins so
 abbrev pub parts_at : {A : Type 0} → Limits → Test → Reader (List A) → Reader (Directives × List A)
