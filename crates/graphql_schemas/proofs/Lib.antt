@@ -3,3 +3,11 @@ pub mod InputValueProductions
 pub mod FieldProductions
 pub mod MemberProductions
 pub mod FormerParts
+pub mod PartProductions
+pub mod LocationProductions
+pub mod SchemaProductions
+pub mod FieldPartProductions
+pub mod BodyProductions
+pub mod DirectiveProductions
+pub mod FormerSchemas
+pub mod SchemaFileProductions

@@ -1,0 +1,193 @@
+-- Parts that may stand or not are read exactly: directives and a list after them, and one of the two at least where a part
+-- is owed.
+use Rattle.std.proofs.Common.{◌≡◌, ℕ, Bool, true, false, cond, ◌&&◌, ◌||◌, ◌↔◌, IsTrue, inl, inr, Option, Some, List, [], ◌∷◌, map, refl, sym, ap, ◌∙◌, not, codes}
+use Rattle.std.specs.Str.{bytes_eq}
+use Rattle.graphql_tokens.specs.tokens.Edition.{Current}
+use Rattle.graphql_tokens.specs.tokens.Kinds.{is_punct}
+use Rattle.graphql_tokens.specs.tokens.Token.{Token}
+use Rattle.graphql_syntax.specs.trees.Request.{Directives}
+use Rattle.graphql_reading.specs.grammar.Fronts.{syntax}
+use Rattle.graphql_reading.specs.grammar.Limits.{Limits}
+use Rattle.graphql_reading.specs.grammar.Relations.{Rel, never, ◌⨾◌, ◌∪◌, mapped, plus, opt}
+use Rattle.graphql_reading.specs.grammar.Tests.{Test, punct}
+use Rattle.graphql_reading.specs.reading.Outcome.{Outcome, Read, Refused, Reader, ◌>>=◌, then_at, mapped_at, choose_at, opt_at, plus_at}
+use Rattle.graphql_reading.proofs.Theory.{Dead, IfHead, peek, IsSubset, outside}
+use Rattle.graphql_reading.proofs.TokenTests.{punctuator, itself, punct-within, within-first, within-second, within-then, within-both}
+use Rattle.graphql_reading.proofs.ReadsExactly.{ReadsExactly, HasPhrase, BeginsWith, good-mapped, good-choose, good-same, led-mapped, led-then, led-within, led-either, has-pair, has-map, has-plus, has-first}
+use Rattle.graphql_reading.proofs.Extra.{Opens, good-seq, opens-opt, opens-then, good-plus-ahead, good-opt, has-opt}
+use Rattle.graphql_reading.proofs.Optional.{good-reader, opt-taken}
+use Rattle.graphql_reading.proofs.IgnoresPlaces.{IgnoresPlaces, blind-then, blind-mapped, blind-either, blind-plus}
+use Rattle.graphql_reading.proofs.Loop.{many-plus, many-stops, many-nothing}
+use Rattle.graphql_grammar.specs.grammar.Arguments.{a_directive}
+use Rattle.graphql_grammar.specs.grammar.Placeless.{placeless_directives}
+use Rattle.graphql_grammar.specs.reading.Arguments.{directive_at, directives_at}
+use Rattle.graphql_grammar.proofs.ArgumentProductions.{good-directive, led-directive, has-directive, good-directives, opens-directives, has-directives, blind-directive, blind-directives, takes-directive}
+use Rattle.graphql_schemas.specs.grammar.Types.{parts_of, parts, list_alone, some_parts}
+use Rattle.graphql_schemas.specs.reading.Types.{owed_at, parts_at, some_parts_at}
+use Rattle.graphql_schemas.proofs.DescriptionProductions.{ignores-optional, map-given}
+use Prim.Native.String.{String}
+
+-- ---- what begins what is made of a tree
+
+pub first-mapped : {A B : Type 0} {k : A → B} {p : Limits → Rel A} {f g : Test} → Opens p f g → Opens (λ c. mapped k (p c)) f g
+first-mapped o = record { by = λ c x y t m begins. o.by c x y m.value m.holds begins }
+
+-- ---- a part that is owed
+
+-- no phrase is read nowhere
+exact-never : {A : Type 0} {b : Limits} {f : Test} → ReadsExactly (λ c. never {A = A}) b f (λ ts. Refused syntax ts)
+exact-never {A} {b} {f} = record { at = λ ts. record { before = []; split = refl; quiet = tt; alive = inl refl; dead = none ts } }
+  where
+    none : (ts : List Token) → IfHead ts (Dead (λ c. never {A = A}) b f syntax (peek ts))
+    none [] = tt
+    none (t ∷ ts) = λ c x y z a h begins e. h
+
+begins-never : {A : Type 0} {g : Test} → BeginsWith (λ c. never {A = A}) g
+begins-never = record { by = λ c x y a m. absurd m }
+
+or-never : {A : Type 0} (p : Rel A) (x : List Token) (t : A) → (p ∪ never) x t ↔ p x t
+or-never p x t = (λ h. elim h [ inl k ↦ k | inr k ↦ absurd k ], λ h. inl h)
+
+by-first : {A : Type 0} (w : Bool) (x y : A) → cond w x y ≡ cond (not w) y x
+by-first true x y = refl
+by-first false x y = refl
+
+-- it is read by the token in sight
+pub exact-owed : {A : Type 0} {p : Limits → Rel A} {b : Limits} {f first : Test} {r : Reader A} → BeginsWith p first → ReadsExactly p b f r → ReadsExactly p b f (owed_at true first r)
+exact-owed {A} {p} {b} {f} {first} {r} begins h = good-reader same (good-same (λ c. or-never (p c)) (good-choose begins (begins-never {A = A}) h exact-never))
+  where
+    same : (ts : List Token) → choose_at first r (λ ts. Refused syntax ts) ts ≡ owed_at true first r ts
+    same [] = refl
+    same (t ∷ ts) = by-first (first t.bare) (r (t ∷ ts)) (Refused syntax (t ∷ ts))
+
+-- where nothing is owed
+pub exact-free : {A : Type 0} {p : Limits → Rel A} {b : Limits} {f : Test} {r : Reader A} (first : Test) → r [] ≡ Refused syntax [] → ReadsExactly p b f r → ReadsExactly p b f (owed_at false first r)
+exact-free {A} {p} {b} {f} {r} first nothing h = good-reader same h
+  where
+    same : (ts : List Token) → r ts ≡ owed_at false first r ts
+    same [] = nothing
+    same (t ∷ ts) = refl
+
+-- ---- directives alone
+
+-- what follows directives is neither another one nor arguments of the last
+abbrev pub past-directives : Test
+past-directives t = outside (punct "(") t && outside (punct "@") t
+
+abbrev some-directives : Limits → Rel Directives
+some-directives c = plus (a_directive Current false c.values)
+
+pub no-directives : (limits : Limits) → directives_at false limits.values [] ≡ Refused syntax []
+no-directives limits = many-nothing (punct "@") (directive_at false limits.values)
+
+exact-plus-directives : {b : Limits} {f : Test} → IsSubset f past-directives → ReadsExactly some-directives b f (plus_at (punct "@") (directive_at false b.values))
+exact-plus-directives away = good-plus-ahead {g = outside (punct "(")} (led-directive false) (punct-within "@" refl) (within-then away (within-first _ _)) (within-then away (within-second _ _)) (good-directive false itself)
+
+pub begins-some-directives : BeginsWith (λ c. plus (a_directive Current false c.values)) (punct "@")
+begins-some-directives = led-mapped (led-then (led-directive false))
+
+pub exact-some-directives : {b : Limits} {f : Test} → IsSubset f past-directives → ReadsExactly (λ c. plus (a_directive Current false c.values)) b f (owed_at true (punct "@") (directives_at false b.values))
+exact-some-directives {b} away = good-reader same (exact-owed begins-some-directives (exact-plus-directives away))
+  where
+    same : (ts : List Token) → owed_at true (punct "@") (plus_at (punct "@") (directive_at false b.values)) ts ≡ owed_at true (punct "@") (directives_at false b.values) ts
+    same [] = refl
+    same (t ∷ ts) = go (punct "@" t.bare) refl
+      where
+        go : (w : Bool) → punct "@" t.bare ≡ w → cond (not w) (Refused syntax (t ∷ ts)) (plus_at (punct "@") (directive_at false b.values) (t ∷ ts)) ≡ cond (not w) (Refused syntax (t ∷ ts)) (directives_at false b.values (t ∷ ts))
+        go true e = sym (many-plus (punct "@") (directive_at false b.values) (takes-directive false b.values) t ts e)
+        go false e = refl
+
+-- ---- directives, and a list
+
+pub exact-parts : {A : Type 0} {p : Limits → Rel (List A)} {b : Limits} {f first : Test} {r : Reader (List A)} → BeginsWith p first → IsSubset first past-directives → IsSubset f past-directives → IsSubset f (outside first) → ReadsExactly p b f r → ReadsExactly (λ c. parts Current c (p c)) b f (parts_at b first r)
+exact-parts {p = p} begins apart away none h =
+    good-mapped (good-seq {g = past-directives} (opens-opt begins apart away) (has-opt {p = p})
+    (good-directives false (within-first _ _) (within-second _ _))
+    (good-opt begins none h))
+
+pub first-parts : {A : Type 0} {p : Limits → Rel (List A)} {f first g : Test} → BeginsWith p first → IsTrue (g (punctuator "@")) → IsSubset first g → IsSubset f g → Opens (λ c. parts Current c (p c)) f g
+first-parts {p = p} {g = g} begins at here h = first-mapped (opens-then (opens-directives false {g = g} at itself) (opens-opt begins here h))
+
+pub has-parts : {A : Type 0} {p : Limits → Rel (List A)} → HasPhrase (λ c. parts Current c (p c))
+has-parts {p = p} = has-map (has-pair (has-directives false) (has-opt {p = p}))
+
+abbrev pub placeless-parts : {A : Type 0} → (A → A) → Directives × List A → Directives × List A
+placeless-parts f x = (placeless_directives x.0, map f x.1)
+
+pub ignores-parts : {A : Type 0} {p : Limits → Rel (List A)} {f : A → A} → IgnoresPlaces p (map f) → IgnoresPlaces (λ c. parts Current c (p c)) (placeless-parts f)
+ignores-parts {A} {f = f} h = blind-mapped (λ x. ap (λ (l : List A). (placeless_directives x.0, l)) (map-given f x.1)) (blind-then (blind-directives false) (ignores-optional h))
+
+-- ---- one of the two at least
+
+-- read in the same way after the directives
+abbrev list-after : {A : Type 0} → Directives → Outcome (Option (List A)) → Outcome (Directives × List A)
+list-after ds o = (o >>= λ l rest. Read (ds, l) rest) >>= λ x rest. Read (parts_of x) rest
+
+abbrev then-list : {A : Type 0} → Test → Reader (List A) → Outcome Directives → Outcome (Directives × List A)
+then-list first r o = (o >>= λ ds rest. opt_at first r rest >>= λ l rest'. Read (ds, l) rest') >>= λ x rest. Read (parts_of x) rest
+
+pub no-parts : {A : Type 0} (limits : Limits) (first : Test) (r : Reader (List A)) → parts_at limits first r [] ≡ Refused syntax []
+no-parts limits first r = ap (then-list first r) (no-directives limits)
+
+-- by the token in sight
+abbrev directives-first_at : {A : Type 0} → ℕ → Test → Reader (List A) → Reader (Directives × List A)
+directives-first_at values first r = mapped_at parts_of (then_at (plus_at (punct "@") (directive_at false values)) (opt_at first r))
+
+abbrev by-first_at : {A : Type 0} → ℕ → Test → Reader (List A) → Reader (Directives × List A)
+by-first_at values first r = choose_at (punct "@") (directives-first_at values first r) (owed_at true first (mapped_at list_alone r))
+
+reads-by-first : {A : Type 0} (limits : Limits) (first : Test) (r : Reader (List A)) (ts : List Token) → by-first_at limits.values first r ts ≡ some_parts_at true limits first r ts
+reads-by-first limits first r [] = refl
+reads-by-first {A} limits first r (t ∷ ts) = go (punct "@" t.bare) refl
+  where
+    alone : (o : Outcome (List A)) → list-after [] (o >>= λ a rest. Read (Some a) rest) ≡ (o >>= λ a rest. Read (list_alone a) rest)
+    alone (Read a rest) = refl
+    alone (Refused v rest) = refl
+
+    other : (w : Bool) → first t.bare ≡ w → punct "@" t.bare ≡ false → cond (not w) (Refused syntax (t ∷ ts)) (mapped_at list_alone r (t ∷ ts)) ≡ cond (not w) (Refused syntax (t ∷ ts)) (parts_at limits first r (t ∷ ts))
+    other true here e = sym (ap (then-list first r) (many-stops (punct "@") (directive_at false limits.values) t ts e) ∙ ap (list-after []) (opt-taken first r t ts here) ∙ alone (r (t ∷ ts)))
+    other false here e = refl
+
+    go : (w : Bool) → punct "@" t.bare ≡ w → cond w (directives-first_at limits.values first r (t ∷ ts)) (cond (not (first t.bare)) (Refused syntax (t ∷ ts)) (mapped_at list_alone r (t ∷ ts))) ≡ cond (not (w || first t.bare)) (Refused syntax (t ∷ ts)) (parts_at limits first r (t ∷ ts))
+    go true e = ap (then-list first r) (sym (many-plus (punct "@") (directive_at false limits.values) (takes-directive false limits.values) t ts e))
+    go false e = other (first t.bare) refl e
+
+begins-directives-first : {A : Type 0} {p : Limits → Rel (List A)} → BeginsWith (λ c. mapped parts_of (some-directives c ⨾ opt (p c))) (punct "@")
+begins-directives-first {p = p} = led-mapped {p = λ c. some-directives c ⨾ opt (p c)} (led-then begins-some-directives)
+
+begins-list-first : {A : Type 0} {p : Limits → Rel (List A)} {first : Test} → BeginsWith p first → BeginsWith (λ c. mapped list_alone (p c)) first
+begins-list-first begins = led-mapped begins
+
+pub exact-some_parts : {A : Type 0} {p : Limits → Rel (List A)} {b : Limits} {f first : Test} {r : Reader (List A)} → BeginsWith p first → IsSubset first past-directives → IsSubset f past-directives → IsSubset f (outside first) → ReadsExactly p b f r → ReadsExactly (λ c. some_parts Current c (p c)) b f (some_parts_at true b first r)
+exact-some_parts {p = p} {b = b} {first = first} {r = r} begins apart away none h =
+    good-reader (reads-by-first b first r)
+    (good-choose (begins-directives-first {p = p}) (led-within (within-then apart (within-second _ _)) (begins-list-first begins))
+    (good-mapped (good-seq {g = past-directives} (opens-opt begins apart away) (has-opt {p = p}) (exact-plus-directives itself) (good-opt begins none h)))
+    (exact-owed (begins-list-first begins) (good-mapped h)))
+
+pub begins-some_parts : {A : Type 0} {p : Limits → Rel (List A)} {first g : Test} → BeginsWith p first → IsTrue (g (punctuator "@")) → IsSubset first g → BeginsWith (λ c. some_parts Current c (p c)) g
+begins-some_parts {p = p} begins at here = led-either (led-within (punct-within "@" at) (begins-directives-first {p = p})) (led-within here (begins-list-first begins))
+
+pub has-some_parts : {A : Type 0} {p : Limits → Rel (List A)} → HasPhrase (λ c. some_parts Current c (p c))
+has-some_parts {p = p} = has-first {q = λ c. mapped list_alone (p c)} (has-map {f = parts_of} (has-pair (has-plus (has-directive false)) (has-opt {p = p})))
+
+pub ignores-some_parts : {A : Type 0} {p : Limits → Rel (List A)} {f : A → A} → IgnoresPlaces p (map f) → IgnoresPlaces (λ c. some_parts Current c (p c)) (placeless-parts f)
+ignores-some_parts {A} {f = f} h =
+    blind-either (blind-mapped (λ x. ap (λ (l : List A). (placeless_directives x.0, l)) (map-given f x.1)) (blind-then (blind-plus (blind-directive false)) (ignores-optional h)))
+    (blind-mapped (λ x. refl) h)
+
+-- ---- what follows a definition
+
+-- it is no punctuator
+abbrev pub no-punctuator : Test
+no-punctuator t = not (is_punct t.kind)
+
+pub past-punctuator : (word : String) {f : Test} → IsSubset f no-punctuator → IsSubset f (outside (punct word))
+past-punctuator word h = record { by = λ t e. go (is_punct t.kind) (bytes_eq t.spelling (codes word)) (h.by t e) }
+  where
+    go : (w v : Bool) → IsTrue (not w) → IsTrue (not (w && v))
+    go true v e = absurd cc
+    go false v e = refl
+
+pub past-parts : {f : Test} → IsSubset f no-punctuator → IsSubset f past-directives
+past-parts h = within-both (past-punctuator "(" h) (past-punctuator "@" h)

@@ -1,0 +1,274 @@
+-- Definitions, extensions and schema files are read exactly, have phrases, and don't look at places.
+use Rattle.std.proofs.Common.{◌≡◌, ◌||◌, IsTrue, ◌↔◌, inl, inr, Some, None, List, refl, sym, ap, ◌∙◌}
+use Rattle.graphql_tokens.specs.tokens.Edition.{Current}
+use Rattle.graphql_tokens.specs.tokens.Token.{Token}
+use Rattle.graphql_syntax.specs.trees.Schema.{Description}
+use Rattle.graphql_reading.specs.grammar.Limits.{Limits}
+use Rattle.graphql_reading.specs.grammar.Relations.{Rel, one, ◌⨾◌, ◌∪◌, mapped, opt}
+use Rattle.graphql_reading.specs.grammar.Tests.{Test, keyword, any_name, the_end}
+use Rattle.graphql_reading.proofs.Theory.{IsSubset, outside}
+use Rattle.graphql_reading.proofs.TokenTests.{word_of, keyword-within, the_end-within, within-either}
+use Rattle.graphql_reading.proofs.ReadsExactly.{ReadsExactly, HasPhrase, BeginsWith, good-keyword, good-mapped, good-next, good-led, good-choose, good-same, led-one, led-within, led-same, led-mapped, led-then, led-either, has-pair, has-map, has-plus, has-first}
+use Rattle.graphql_reading.proofs.Extra.{good-plus-ahead, led-opt, both-ways}
+use Rattle.graphql_reading.proofs.IgnoresPlaces.{IgnoresPlaces, blind-one, blind-then, blind-mapped, blind-either, blind-plus}
+use Rattle.graphql_reading.proofs.Loop.{Takes, takes-one}
+use Rattle.graphql_grammar.specs.grammar.Placeless.{unplaced}
+use Rattle.graphql_grammar.proofs.Languages.{IsRead}
+use Rattle.graphql_schemas.specs.grammar.Descriptions.{a_description}
+use Rattle.graphql_schemas.specs.grammar.Directives.{directive_definition_of, a_directive_definition}
+use Rattle.graphql_schemas.specs.grammar.Placeless.{placeless_description, placeless_type, placeless_schema, placeless_directive_definition, placeless_definition, placeless_definitions}
+use Rattle.graphql_schemas.specs.grammar.Schema.{schema_of, a_schema, schema_extension_of, a_schema_extension}
+use Rattle.graphql_schemas.specs.grammar.SchemaFile.{Definition, schema, type_def, directive, a_definition, definitions}
+use Rattle.graphql_schemas.specs.grammar.Schemas.{schemas}
+use Rattle.graphql_schemas.specs.grammar.Types.{Body, type_definition_of, a_type_definition, type_extension_of, a_type_extension, body, extended_body}
+use Rattle.graphql_schemas.specs.reading.Descriptions.{is_text}
+use Rattle.graphql_schemas.specs.reading.SchemaFile.{Undescribed, of_schema, of_type, of_directive, with_description, undescribed_at, described_at, Extended, a_schema as extends_schema, a_type as extends_type, extension_of, extension_at, definition_first, definition_at, definitions_at}
+use Rattle.graphql_schemas.specs.reading.Types.{body_first}
+use Rattle.graphql_schemas.proofs.BodyProductions.{placeless-body, exact-body, begins-body, ignores-body, exact-extended_body, begins-extended_body, ignores-extended_body, bodies-within}
+use Rattle.graphql_schemas.proofs.DescriptionProductions.{text-within, name-no-text, begins-description, exact-maybe_description, has-maybe_description, ignores-maybe_description}
+use Rattle.graphql_schemas.proofs.DirectiveProductions.{DirectiveRest, placeless-directive-rest, directive-rest, exact-directive-rest, begins-directive-rest, ignores-directive-rest}
+use Rattle.graphql_schemas.proofs.FormerSchemas.{includes-definitions}
+use Rattle.graphql_schemas.proofs.PartProductions.{no-punctuator, past-punctuator, past-parts}
+use Rattle.graphql_schemas.proofs.SchemaProductions.{SchemaRest, placeless-schema-rest, schema-rest, exact-schema-rest, begins-schema-rest, has-schema-rest, ignores-schema-rest, extended-schema, exact-extended-schema, begins-extended-schema, has-extended-schema, ignores-extended-schema}
+
+-- ---- laws
+
+-- a production after a part, taken in among others
+taken-in : {A B X Y D : Type 0} (p : Rel A) (q : Rel B) (i : B → X) (h : A × X → D) (g : A × B → Y) (k : Y → D) → ((a : A) (b : B) → h (a, i b) ≡ k (g (a, b))) → (x : List Token) (t : D) → mapped h (p ⨾ mapped i q) x t ↔ mapped k (mapped g (p ⨾ q)) x t
+taken-in {A} {B} {X} {Y} {D} p q i h g k e x t = (to, from)
+  where
+    to : mapped h (p ⨾ mapped i q) x t → mapped k (mapped g (p ⨾ q)) x t
+    to m = record {
+      value = g (m.value.0, m.holds.second.value);
+      holds = record { value = (m.value.0, m.holds.second.value); holds = record { front = m.holds.front; back = m.holds.back; joined = m.holds.joined; first = m.holds.first; second = m.holds.second.holds }; is = refl };
+      is = m.is ∙ ap (λ (y : X). h (m.value.0, y)) m.holds.second.is ∙ e m.value.0 m.holds.second.value;
+    }
+
+    from : mapped k (mapped g (p ⨾ q)) x t → mapped h (p ⨾ mapped i q) x t
+    from m = record {
+      value = (m.holds.value.0, i m.holds.value.1);
+      holds = record { front = m.holds.holds.front; back = m.holds.holds.back; joined = m.holds.holds.joined; first = m.holds.holds.first; second = record { value = m.holds.value.1; holds = m.holds.holds.second; is = refl } };
+      is = m.is ∙ ap k m.holds.is ∙ sym (e m.holds.value.0 m.holds.value.1);
+    }
+
+-- one of two after a part
+spread-out : {A X D : Type 0} (p : Rel A) (q r : Rel X) (h : A × X → D) (x : List Token) (t : D) → mapped h (p ⨾ (q ∪ r)) x t ↔ (mapped h (p ⨾ q) ∪ mapped h (p ⨾ r)) x t
+spread-out {A} {X} {D} p q r h x t = (to, from)
+  where
+    to : mapped h (p ⨾ (q ∪ r)) x t → (mapped h (p ⨾ q) ∪ mapped h (p ⨾ r)) x t
+    to m = elim m.holds.second [
+      | inl k ↦ inl (record { value = m.value; holds = record { front = m.holds.front; back = m.holds.back; joined = m.holds.joined; first = m.holds.first; second = k }; is = m.is })
+      | inr k ↦ inr (record { value = m.value; holds = record { front = m.holds.front; back = m.holds.back; joined = m.holds.joined; first = m.holds.first; second = k }; is = m.is })
+    ]
+
+    from : (mapped h (p ⨾ q) ∪ mapped h (p ⨾ r)) x t → mapped h (p ⨾ (q ∪ r)) x t
+    from (inl m) = record { value = m.value; holds = record { front = m.holds.front; back = m.holds.back; joined = m.holds.joined; first = m.holds.first; second = inl m.holds.second }; is = m.is }
+    from (inr m) = record { value = m.value; holds = record { front = m.holds.front; back = m.holds.back; joined = m.holds.joined; first = m.holds.first; second = inr m.holds.second }; is = m.is }
+
+either-same : {A : Type 0} (p q r s : Rel A) (x : List Token) (t : A) → p x t ↔ q x t → r x t ↔ s x t → (p ∪ r) x t ↔ (q ∪ s) x t
+either-same {A} p q r s x t h k = (to, from)
+  where
+    to : (p ∪ r) x t → (q ∪ s) x t
+    to (inl m) = inl (h.0 m)
+    to (inr m) = inr (k.0 m)
+
+    from : (q ∪ s) x t → (p ∪ r) x t
+    from (inl m) = inl (h.1 m)
+    from (inr m) = inr (k.1 m)
+
+-- ---- what a definition says after its description
+
+abbrev undescribed : Limits → Rel Undescribed
+undescribed c = mapped of_schema (schema-rest c) ∪ mapped of_directive (directive-rest c) ∪ mapped of_type (body Current c)
+
+exact-undescribed : {b : Limits} {f : Test} → IsSubset f no-punctuator → IsSubset f (outside (keyword "implements")) → ReadsExactly undescribed b f (undescribed_at b)
+exact-undescribed ends apart =
+    good-choose (led-mapped begins-schema-rest) (led-either (led-mapped (led-within (keyword-within "directive" refl) begins-directive-rest)) (led-mapped (led-within (bodies-within refl refl refl refl refl refl) begins-body)))
+    (good-mapped exact-schema-rest)
+    (good-choose (led-mapped begins-directive-rest) (led-mapped (led-within (bodies-within refl refl refl refl refl refl) begins-body))
+    (good-mapped (exact-directive-rest ends))
+    (good-mapped (exact-body ends apart)))
+
+begins-undescribed : {g : Test} → IsSubset (keyword "schema") g → IsSubset (keyword "directive") g → IsSubset body_first g → BeginsWith undescribed g
+begins-undescribed a-schema a-directive a-body =
+    led-either (led-mapped (led-within a-schema begins-schema-rest)) (led-either (led-mapped (led-within a-directive begins-directive-rest)) (led-mapped (led-within a-body begins-body)))
+
+has-undescribed : HasPhrase undescribed
+has-undescribed = has-first {q = λ c. mapped of_directive (directive-rest c) ∪ mapped of_type (body Current c)} (has-map has-schema-rest)
+
+-- ---- definitions
+
+abbrev described : Limits → Rel Definition
+described c = mapped schema (a_schema Current c) ∪ mapped directive (a_directive_definition Current c) ∪ mapped type_def (a_type_definition Current c)
+
+-- the three, with the description once
+is-described : (c : Limits) (x : List Token) (t : Definition) → mapped with_description (opt (a_description Current) ⨾ undescribed c) x t ↔ described c x t
+is-described c x t =
+    both-ways (spread-out text (mapped of_schema (schema-rest c)) (mapped of_directive (directive-rest c) ∪ mapped of_type (body Current c)) with_description x t)
+    (either-same (mapped with_description (text ⨾ mapped of_schema (schema-rest c))) (mapped schema (a_schema Current c)) (mapped with_description (text ⨾ (mapped of_directive (directive-rest c) ∪ mapped of_type (body Current c)))) (mapped directive (a_directive_definition Current c) ∪ mapped type_def (a_type_definition Current c)) x t
+    (taken-in text (schema-rest c) of_schema with_description schema_of schema (λ a b. refl) x t)
+    (both-ways (spread-out text (mapped of_directive (directive-rest c)) (mapped of_type (body Current c)) with_description x t)
+    (either-same (mapped with_description (text ⨾ mapped of_directive (directive-rest c))) (mapped directive (a_directive_definition Current c)) (mapped with_description (text ⨾ mapped of_type (body Current c))) (mapped type_def (a_type_definition Current c)) x t
+    (taken-in text (directive-rest c) of_directive with_description directive_definition_of directive (λ a b. refl) x t)
+    (taken-in text (body Current c) of_type with_description type_definition_of type_def (λ a b. refl) x t))))
+  where
+    text : Rel Description
+    text = opt (a_description Current)
+
+exact-described : {b : Limits} {f : Test} → IsSubset f no-punctuator → IsSubset f (outside (keyword "implements")) → ReadsExactly described b f (described_at b)
+exact-described ends apart =
+    good-same is-described (good-mapped (good-led {g = any_name} (begins-undescribed (keyword-within "schema" refl) (keyword-within "directive" refl) (bodies-within refl refl refl refl refl refl)) has-undescribed
+    (exact-maybe_description name-no-text)
+    (exact-undescribed ends apart)))
+
+begins-described : {g : Test} → IsSubset is_text g → IsSubset (keyword "schema") g → IsSubset (keyword "directive") g → IsSubset body_first g → BeginsWith described g
+begins-described a-text a-schema a-directive a-body =
+    led-same is-described (led-mapped (led-opt {q = undescribed} (led-within a-text begins-description) (begins-undescribed a-schema a-directive a-body)))
+
+-- ---- extensions
+
+abbrev extended : Limits → Rel Extended
+extended c = mapped extends_schema (extended-schema c) ∪ mapped extends_type (extended_body Current c)
+
+abbrev extensions : Limits → Rel Definition
+extensions c = mapped schema (a_schema_extension Current c) ∪ mapped type_def (a_type_extension Current c)
+
+-- the two, with 'extend' once
+is-extension : (c : Limits) (x : List Token) (t : Definition) → mapped extension_of (one (keyword "extend") ⨾ extended c) x t ↔ extensions c x t
+is-extension c x t =
+    both-ways (spread-out (one (keyword "extend")) (mapped extends_schema (extended-schema c)) (mapped extends_type (extended_body Current c)) extension_of x t)
+    (either-same (mapped extension_of (one (keyword "extend") ⨾ mapped extends_schema (extended-schema c))) (mapped schema (a_schema_extension Current c)) (mapped extension_of (one (keyword "extend") ⨾ mapped extends_type (extended_body Current c))) (mapped type_def (a_type_extension Current c)) x t
+    (taken-in (one (keyword "extend")) (extended-schema c) extends_schema extension_of schema_extension_of schema (λ a b. refl) x t)
+    (taken-in (one (keyword "extend")) (extended_body Current c) extends_type extension_of type_extension_of type_def (λ a b. refl) x t))
+
+has-extended : HasPhrase extended
+has-extended = has-first {q = λ c. mapped extends_type (extended_body Current c)} (has-map has-extended-schema)
+
+exact-extension : {b : Limits} {f : Test} → IsSubset f no-punctuator → IsSubset f (outside (keyword "implements")) → ReadsExactly extensions b f (extension_at b)
+exact-extension ends apart =
+    good-same is-extension (good-mapped (good-next has-extended (good-keyword "extend")
+    (good-choose (led-mapped begins-extended-schema) (led-mapped (led-within (bodies-within refl refl refl refl refl refl) begins-extended_body))
+    (good-mapped (exact-extended-schema (past-parts ends) (past-punctuator "{" ends)))
+    (good-mapped (exact-extended_body ends apart)))))
+
+begins-extension : BeginsWith extensions (keyword "extend")
+begins-extension = led-same is-extension (led-mapped (led-then {q = extended} led-one))
+
+-- ---- both
+
+-- the same alternatives in another order
+in-order : {A : Type 0} (p q r s u : Rel A) (x : List Token) (t : A) → ((q ∪ s) ∪ (p ∪ (u ∪ r))) x t ↔ (p ∪ (q ∪ (r ∪ (s ∪ u)))) x t
+in-order {A} p q r s u x t = (to, from)
+  where
+    to : ((q ∪ s) ∪ (p ∪ (u ∪ r))) x t → (p ∪ (q ∪ (r ∪ (s ∪ u)))) x t
+    to (inl (inl m)) = inr (inl m)
+    to (inl (inr m)) = inr (inr (inr (inl m)))
+    to (inr (inl m)) = inl m
+    to (inr (inr (inl m))) = inr (inr (inr (inr m)))
+    to (inr (inr (inr m))) = inr (inr (inl m))
+
+    from : (p ∪ (q ∪ (r ∪ (s ∪ u)))) x t → ((q ∪ s) ∪ (p ∪ (u ∪ r))) x t
+    from (inl m) = inr (inl m)
+    from (inr (inl m)) = inl (inl m)
+    from (inr (inr (inl m))) = inr (inr (inr m))
+    from (inr (inr (inr (inl m)))) = inl (inr m)
+    from (inr (inr (inr (inr m)))) = inr (inr (inl m))
+
+is-definition : (c : Limits) (x : List Token) (t : Definition) → (extensions c ∪ described c) x t ↔ a_definition Current c x t
+is-definition c = in-order (mapped schema (a_schema Current c)) (mapped schema (a_schema_extension Current c)) (mapped type_def (a_type_definition Current c)) (mapped type_def (a_type_extension Current c)) (mapped directive (a_directive_definition Current c))
+
+pub exact-definition : {b : Limits} {f : Test} → IsSubset f no-punctuator → IsSubset f (outside (keyword "implements")) → ReadsExactly (a_definition Current) b f (definition_at b)
+exact-definition ends apart =
+    good-same is-definition (good-choose begins-extension
+    (begins-described (text-within (λ spelling. refl) (λ spelling. refl)) (keyword-within "schema" refl) (keyword-within "directive" refl) (bodies-within refl refl refl refl refl refl))
+    (exact-extension ends apart)
+    (exact-described ends apart))
+
+pub begins-definition : BeginsWith (a_definition Current) definition_first
+begins-definition =
+    led-same is-definition (led-either (led-within (keyword-within "extend" refl) begins-extension)
+    (begins-described (text-within (λ spelling. refl) (λ spelling. refl)) (keyword-within "schema" refl) (keyword-within "directive" refl) (bodies-within refl refl refl refl refl refl)))
+
+pub has-definition : HasPhrase (a_definition Current)
+has-definition = has-first {q = λ c. mapped schema (a_schema_extension Current c) ∪ mapped type_def (a_type_definition Current c) ∪ mapped type_def (a_type_extension Current c) ∪ mapped directive (a_directive_definition Current c)} (has-map (has-map (has-pair has-maybe_description has-schema-rest)))
+
+-- ---- places
+
+schema-nowhere : (x : Description × SchemaRest) → unplaced placeless_schema (schema_of x) ≡ schema_of (placeless_description x.0, placeless-schema-rest x.1)
+schema-nowhere (None, more) = refl
+schema-nowhere (Some text, more) = refl
+
+ignores-schema : IgnoresPlaces (a_schema Current) (unplaced placeless_schema)
+ignores-schema = blind-mapped {k = schema_of} schema-nowhere (blind-then ignores-maybe_description ignores-schema-rest)
+
+ignores-schema_extension : IgnoresPlaces (a_schema_extension Current) (unplaced placeless_schema)
+ignores-schema_extension = blind-mapped {k = schema_extension_of} (λ x. refl) (blind-then (blind-one (keyword "extend")) ignores-extended-schema)
+
+type-nowhere : (x : Description × Body) → unplaced placeless_type (type_definition_of x) ≡ type_definition_of (placeless_description x.0, placeless-body x.1)
+type-nowhere (None, more) = refl
+type-nowhere (Some text, more) = refl
+
+ignores-type_definition : IgnoresPlaces (a_type_definition Current) (unplaced placeless_type)
+ignores-type_definition = blind-mapped {k = type_definition_of} type-nowhere (blind-then ignores-maybe_description ignores-body)
+
+ignores-type_extension : IgnoresPlaces (a_type_extension Current) (unplaced placeless_type)
+ignores-type_extension = blind-mapped {k = type_extension_of} (λ x. refl) (blind-then (blind-one (keyword "extend")) ignores-extended_body)
+
+directive-nowhere : (x : Description × DirectiveRest) → unplaced placeless_directive_definition (directive_definition_of x) ≡ directive_definition_of (placeless_description x.0, placeless-directive-rest x.1)
+directive-nowhere (None, (word, (sign, (name, (None, (None, locations)))))) = refl
+directive-nowhere (None, (word, (sign, (name, (None, (Some repeatable, locations)))))) = refl
+directive-nowhere (None, (word, (sign, (name, (Some arguments, (None, locations)))))) = refl
+directive-nowhere (None, (word, (sign, (name, (Some arguments, (Some repeatable, locations)))))) = refl
+directive-nowhere (Some text, (word, (sign, (name, (None, (None, locations)))))) = refl
+directive-nowhere (Some text, (word, (sign, (name, (None, (Some repeatable, locations)))))) = refl
+directive-nowhere (Some text, (word, (sign, (name, (Some arguments, (None, locations)))))) = refl
+directive-nowhere (Some text, (word, (sign, (name, (Some arguments, (Some repeatable, locations)))))) = refl
+
+ignores-directive_definition : IgnoresPlaces (a_directive_definition Current) (unplaced placeless_directive_definition)
+ignores-directive_definition = blind-mapped {k = directive_definition_of} directive-nowhere (blind-then ignores-maybe_description ignores-directive-rest)
+
+pub ignores-definition : IgnoresPlaces (a_definition Current) placeless_definition
+ignores-definition =
+    blind-either (blind-mapped {k = schema} (λ s. refl) ignores-schema)
+    (blind-either (blind-mapped {k = schema} (λ s. refl) ignores-schema_extension)
+    (blind-either (blind-mapped {k = type_def} (λ t. refl) ignores-type_definition)
+    (blind-either (blind-mapped {k = type_def} (λ t. refl) ignores-type_extension)
+    (blind-mapped {k = directive} (λ d. refl) ignores-directive_definition))))
+
+-- ---- schema files
+
+-- what follows a definition: another one, or the end of the text
+abbrev pub after_definition : Test
+after_definition t = definition_first t || the_end t
+
+definitions-within : {g : Test} → IsSubset is_text g → IsTrue (g (word_of "extend")) → IsTrue (g (word_of "schema")) → IsTrue (g (word_of "directive")) → IsSubset body_first g → IsSubset definition_first g
+definitions-within a-text an-extension a-schema a-directive a-body =
+    within-either (within-either (within-either (within-either a-text (keyword-within "extend" an-extension)) (keyword-within "schema" a-schema)) (keyword-within "directive" a-directive)) a-body
+
+ends-definition : IsSubset after_definition no-punctuator
+ends-definition = within-either (definitions-within (text-within (λ spelling. refl) (λ spelling. refl)) refl refl refl (bodies-within refl refl refl refl refl refl)) (the_end-within (λ spelling. refl))
+
+no-interfaces : IsSubset after_definition (outside (keyword "implements"))
+no-interfaces = within-either (definitions-within (text-within (λ spelling. refl) (λ spelling. refl)) refl refl refl (bodies-within refl refl refl refl refl refl)) (the_end-within (λ spelling. refl))
+
+definition-goes-on : IsSubset definition_first after_definition
+definition-goes-on = definitions-within (text-within (λ spelling. refl) (λ spelling. refl)) refl refl refl (bodies-within refl refl refl refl refl refl)
+
+exact-next-definition : {b : Limits} → ReadsExactly (a_definition Current) b after_definition (definition_at b)
+exact-next-definition = exact-definition ends-definition no-interfaces
+
+pub takes-definition : (limits : Limits) → Takes (definition_at limits)
+takes-definition limits = takes-one {b = limits} exact-next-definition begins-definition
+
+-- the end of the text ends the list
+pub exact-definitions : {b : Limits} → ReadsExactly (definitions Current) b the_end (definitions_at b)
+exact-definitions = good-plus-ahead {g = after_definition} begins-definition definition-goes-on (the_end-within (λ spelling. refl)) (the_end-within (λ spelling. refl)) exact-next-definition
+
+pub has-definitions : HasPhrase (definitions Current)
+has-definitions = has-plus has-definition
+
+pub ignores-definitions : IgnoresPlaces (definitions Current) placeless_definitions
+ignores-definitions = blind-plus ignores-definition
+
+pub schemas-are-read : IsRead schemas definitions_at
+schemas-are-read = record { has = has-definitions; blind = ignores-definitions; good = λ b. exact-definitions {b = b}; includes = includes-definitions }
