@@ -29,14 +29,14 @@ use Rattle.graphql_reading.proofs.Whole.{Says, whole-answers, one-tree}
 -- What is known of a language and of the reader of its definitions: each budget has a phrase, places don't matter,
 -- the reader follows the current grammar exactly up to the end of the text, and the former grammar is part of it.
 pub record IsRead {D Document : Type 0} (language : Language D Document) (reader : Limits → Reader (List D)) : Type 0 where
-  pub has : HasPhrase (language.definitions Current)
-  pub blind : IgnoresPlaces (language.definitions Current) language.placeless
-  pub good : (b : Limits) → ReadsExactly (language.definitions Current) b the_end (reader b)
+  pub has_phrase : HasPhrase (language.definitions Current)
+  pub ignores_places : IgnoresPlaces (language.definitions Current) language.placeless
+  pub reads_exactly : (b : Limits) → ReadsExactly (language.definitions Current) b the_end (reader b)
   pub includes : (b : Limits) → Includes (language.definitions Former b) (language.definitions Current b)
 
 says : {D Document : Type 0} (language : Language D Document) (reader : Limits → Reader (List D)) → IsRead language reader → (limits : Limits) (ts : List Token) (o : Outcome (List D)) → EndsOnce ts → AreProperButFaults ts → whole_at (reader limits) ts ≡ o → Says (grammar language Current) language.placeless limits ts o
 says language reader read limits ts o ends proper e =
-    subst (Says (grammar language Current) language.placeless limits ts) e (whole-answers read.has read.blind (read.good limits) ts ends proper)
+    subst (Says (grammar language Current) language.placeless limits ts) e (whole-answers read.has_phrase read.ignores_places (read.reads_exactly limits) ts ends proper)
 
 -- ---- a list that is read
 
@@ -71,8 +71,8 @@ answered {D} language reader read limits ts ends proper = go (whole_at (reader l
 
 pub has-one-tree : {D Document : Type 0} (language : Language D Document) (reader : Limits → Reader (List D)) → IsRead language reader → (ts : List Token) → HasOneTree language ts
 has-one-tree language reader read ts = record {
-  same = λ x y h k. sym (one-tree (language.definitions Current) h.0 (reader h.0) (read.good h.0) ts k.0 x y h.1 k.1);
-  same_placeless = λ x y h k. sym (one-tree (language.definitions Current) h.0 (reader h.0) (read.good h.0) (without_places ts) k.0 x y h.1 k.1);
+  same = λ x y h k. sym (one-tree (language.definitions Current) h.0 (reader h.0) (read.reads_exactly h.0) ts k.0 x y h.1 k.1);
+  same_placeless = λ x y h k. sym (one-tree (language.definitions Current) h.0 (reader h.0) (read.reads_exactly h.0) (without_places ts) k.0 x y h.1 k.1);
 }
 
 -- a tree is the only one
