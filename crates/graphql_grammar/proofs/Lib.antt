@@ -6,7 +6,7 @@ pub mod Strings
 pub mod TypeProductions
 pub mod ValueProductions
 pub mod ValueFrames
-pub mod ValueFill
+pub mod ValueContents
 pub mod ValueLoop
 pub mod ValuePlaces
 pub mod ArgumentProductions

@@ -9,7 +9,7 @@ use Rattle.graphql_reading.specs.grammar.Tests.{Test, punct, keyword, any_name}
 use Rattle.graphql_reading.specs.grammar.Limits.{Limits}
 use Rattle.graphql_reading.specs.grammar.Relations.{Rel, one, never, ◌⨾◌, ◌∪◌, mapped, plus, opt}
 use Rattle.graphql_grammar.specs.grammar.Arguments.{arguments, directive_of, a_directive, directives}
-use Rattle.graphql_requests.specs.grammar.Selections.{Set, aliased, a_field, fragment_name, spread_of, a_spread, condition_of, a_type_condition, inline_of, an_inline_fragment, a_selection, selections_of, a_set, selection_set}
+use Rattle.graphql_requests.specs.grammar.Selections.{Set, aliased, a_field, fragment_name, spread_of, a_spread, condition_of, a_type_condition, inline_of, an_inline_fragment, a_selection, selection_set_of, a_set, selection_set}
 use Rattle.graphql_reading.specs.reading.Outcome.{Reader, one_at, then_at, mapped_at, choose_at, opt_at, deep_at}
 use Rattle.graphql_grammar.specs.reading.Arguments.{maybe_arguments_at, directives_at}
 use Rattle.graphql_requests.specs.reading.Selections.{as_alias, aliased_at, field_at, type_condition_at, Inline, inline_first, inline_at, AfterDots, a_name, an_inline, dotted, dots_at, selection_first, selection_at, a_set_at, selection_set_at}
@@ -276,7 +276,7 @@ has-sets = record { some = λ c. some c c.selections }
 
 extends-set : (c : Limits) (t : Token) → IsTrue (punct "{" t.bare) → Extends (sets c) (t ∷ [])
 extends-set c t e =
-    let m = extends-one {f = selections_of} {q = λ c. plus (a_selection Current c.values (inner-sets c)) ⨾ one (punct "}")} (punct "{") (has-pair (has-plus (has-selection {set = inner-sets})) (has-token close-sample)) c t e in
+    let m = extends-one {f = selection_set_of} {q = λ c. plus (a_selection Current c.values (inner-sets c)) ⨾ one (punct "}")} (punct "{") (has-pair (has-plus (has-selection {set = inner-sets})) (has-token close-sample)) c t e in
     record { tail = m.tail; tree = m.tree; holds = (is-set c (t ∷ m.tail) m.tree).0 m.holds; proper = m.proper }
 
 -- what can follow `...` where a set may follow it
