@@ -6,7 +6,7 @@ use Rattle.graphql_tokens.specs.tokens.Cuts.{EndsOnce}
 use Rattle.graphql_tokens.specs.tokens.Edition.{Former, Current}
 use Rattle.graphql_tokens.specs.tokens.Proper.{AreProperButFaults}
 use Rattle.graphql_tokens.specs.tokens.Token.{Bare, Token}
-use Rattle.graphql_grammar.specs.answers.Answers.{Answers, TakenFor, AreTheDefinitions, AreUnbroken, HasOneTree, IsDecided}
+use Rattle.graphql_grammar.specs.answers.Answers.{Answers, TakenFor, AreTheDefinitions, AreUnbroken, HasOneTree, IsDecided, RestsOnBareTokens}
 use Rattle.graphql_grammar.specs.answers.Language.{Language, grammar}
 use Rattle.graphql_grammar.specs.declared.error.Error.{Error}
 use Rattle.graphql_grammar.specs.declared.error.Error.TheVariants as errors
@@ -24,7 +24,7 @@ use Rattle.graphql_reading.proofs.IgnoresPlaces.{IgnoresPlaces}
 use Rattle.graphql_reading.proofs.ReadsExactly.{ReadsExactly, HasPhrase}
 use Rattle.graphql_reading.proofs.Includes.{Includes, includes-whole}
 use Rattle.graphql_reading.proofs.TokenTests.{the_end-is}
-use Rattle.graphql_reading.proofs.Whole.{Says, whole-answers, one-tree}
+use Rattle.graphql_reading.proofs.Whole.{Says, whole-answers, one-tree, ignores-whole, one-refusal, refusal-bare, trees-bare}
 
 -- What is known of a language and of the reader of its definitions: each budget has a phrase, places don't matter,
 -- the reader follows the current grammar exactly up to the end of the text, and the former grammar is part of it.
@@ -84,7 +84,11 @@ the-tree {D} language reader read limits ts ds ends proper h = go (answered lang
     go (inr m) = absurd (m.1.no_tree ds h)
 
 pub is-decided : {D Document : Type 0} (language : Language D Document) (reader : Limits → Reader (List D)) → IsRead language reader → (limits : Limits) (ts : List Token) → EndsOnce ts → AreProperButFaults ts → IsDecided language limits ts
-is-decided {D} language reader read limits ts ends proper = record { either = go (answered language reader read limits ts ends proper); never_both = never (whole_at (reader limits) ts) refl }
+is-decided {D} language reader read limits ts ends proper = record {
+  either = go (answered language reader read limits ts ends proper);
+  never_both = never (whole_at (reader limits) ts) refl;
+  one_refusal = one-refusal (grammar language Current) limits ts;
+}
   where
     go : ((ds : List D) × AreTheDefinitions language limits ts ds) ⊎ ((v : Verdict) × RefusedToken (grammar language Current) limits ts v) → ((ds : List D) × grammar language Current limits ts ds) ⊎ ((v : Verdict) × RefusedToken (grammar language Current) limits ts v)
     go (inl m) = inl (m.0, m.1.within)
@@ -94,6 +98,13 @@ is-decided {D} language reader read limits ts ends proper = record { either = go
     never (Read es rest) e ds h k v r = (says language reader read limits ts (Read es rest) ends proper e).1.none k v r
     never (Refused w []) e ds h k v r = says language reader read limits ts (Refused w []) ends proper e
     never (Refused w (t ∷ after)) e ds h k v r = (says language reader read limits ts (Refused w (t ∷ after)) ends proper e).none ds h
+
+pub rests-on-bare-tokens : {D Document : Type 0} (language : Language D Document) (reader : Limits → Reader (List D)) → IsRead language reader → (limits : Limits) (ts : List Token) → RestsOnBareTokens language limits ts
+rests-on-bare-tokens language reader read limits ts = record {
+  has_tree = λ us e ds h. let s = (ignores-whole read.ignores_places).by limits ts us ds h e in (s.tree, s.holds);
+  same_tree = λ us e ds es h k. trees-bare read.ignores_places (read.reads_exactly limits) ts us ds es e h k;
+  same_refusal = λ us e count v r. refusal-bare (grammar language Current) limits ts us count v e r;
+}
 
 -- ---- the former edition
 

@@ -23,10 +23,10 @@ pub no-bares : (y : List Token) → bares y ≡ [] → y ≡ []
 no-bares [] e = refl
 no-bares (t ∷ y) e = absurd cc
 
-tail-is : {A : Type 0} (t s : A) (u y : List A) → t ∷ u ≡ s ∷ y → u ≡ y
+pub tail-is : {A : Type 0} (t s : A) (u y : List A) → t ∷ u ≡ s ∷ y → u ≡ y
 tail-is t s u y e = cc
 
-head-is : {A : Type 0} (t s : A) (u y : List A) → t ∷ u ≡ s ∷ y → t ≡ s
+pub head-is : {A : Type 0} (t s : A) (u y : List A) → t ∷ u ≡ s ∷ y → t ≡ s
 head-is t s u y e = cc
 
 pub record Splits (u v y : List Token) : Type 0 where

@@ -9,18 +9,12 @@ use Rattle.graphql_reading.specs.reading.Outcome.{meant, meaning_at, Refused}
 use Rattle.graphql_reading.proofs.Theory.{Exact, IsStopped, IsInner, Begins, peek}
 use Rattle.graphql_reading.proofs.TokenTests.{HasSample}
 use Rattle.graphql_reading.proofs.ReadsExactly.{ReadsExactly, HasPhrase, BeginsWith}
-use Rattle.graphql_reading.proofs.IgnoresPlaces.{IgnoresPlaces, Same, no-bares}
+use Rattle.graphql_reading.proofs.IgnoresPlaces.{IgnoresPlaces, Same, no-bares, head-is, tail-is}
 
 -- the value is the one meaning, where there is any
 pub record Decides {A : Type 0} (value : Bare → Option A) (means : Bare → A → Type 0) : Type 0 where
   pub sound : (t : Bare) (a : A) → value t ≡ Some a → means t a
   pub complete : (t : Bare) (a : A) → means t a → value t ≡ Some a
-
-head-is : {A : Type 0} (s t : A) (y w : List A) → s ∷ y ≡ t ∷ w → s ≡ t
-head-is s t y w e = cc
-
-tail-is : {A : Type 0} (s t : A) (y w : List A) → s ∷ y ≡ t ∷ w → y ≡ w
-tail-is s t y w e = cc
 
 -- ---- it is read exactly
 

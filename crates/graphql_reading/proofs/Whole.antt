@@ -211,40 +211,6 @@ has-whole has = has-map (has-pair has (has-token end-sample))
 pub ignores-whole : {A : Type 0} {p : Limits → Rel A} {placeless : A → A} → IgnoresPlaces p placeless → IgnoresPlaces (whole p) placeless
 ignores-whole h = ignores-mapped (λ a. refl) (ignores-then h (ignores-one the_end))
 
--- a list with a tree has one end and no fault
-quiet-then-end : (u : List Token) (e : Token) → Quiet u → is_last e.bare.kind ≡ true → EndsOnce (u ++ e ∷ [])
-quiet-then-end [] e q c = c
-quiet-then-end (t ∷ []) e q c = (q.0, c)
-quiet-then-end (t ∷ s ∷ u) e q c = (q.0, quiet-then-end (s ∷ u) e q.1 c)
-
-pub whole-ends : {A : Type 0} (p : Limits → Rel A) (c : Limits) (r : Reader A) → ReadsExactly p c the_end r → (ts : List Token) (x : A) → whole p c ts x → EndsOnce ts
-whole-ends {A} p c r exact ts x h = go (r ts) (exact.at ts)
-  where
-    ended : is_last h.value.1.bare.kind ≡ true
-    ended = end-last h.value.1.bare h.holds.second.1
-
-    joined : ts ≡ h.holds.front ++ h.value.1 ∷ []
-    joined = h.holds.joined ∙ ap (λ (l : List Token). h.holds.front ++ l) h.holds.second.0
-
-    begins : Begins the_end h.holds.back
-    begins = subst (λ (l : List Token). Begins the_end l) (sym h.holds.second.0) h.holds.second.1
-
-    ends-at : (u : List Token) → Quiet u → h.holds.front ≡ u → EndsOnce ts
-    ends-at u q e = subst EndsOnce (sym (joined ∙ ap (λ (l : List Token). l ++ h.value.1 ∷ []) e)) (quiet-then-end u h.value.1 q ended)
-
-    go : (o : Outcome A) → Exact p c the_end ts o → EndsOnce ts
-    go (Read a []) m = absurd (quiet-last h.holds.front h.value.1 ended (subst Quiet (sym (append-nil m.used) ∙ sym m.split ∙ joined) m.quiet))
-    go (Read a (e ∷ after)) m = ends-at m.used m.quiet (m.only c h.holds.front h.holds.back after h.value.0 h.holds.first begins (sym h.holds.joined ∙ m.split ∙ sym (append_assoc m.used (e ∷ []) after))).0
-    go (Refused v []) m = absurd (quiet-last h.holds.front h.value.1 ended (subst Quiet (sym (append-nil m.before) ∙ sym m.split ∙ joined) m.quiet))
-    go (Refused v (t ∷ after)) m = absurd (dead-here v m.dead)
-      where
-        kill : IsDead (p c) the_end (m.before ++ t ∷ []) → ⊥
-        kill d = d h.holds.front h.holds.back after h.value.0 h.holds.first begins (sym h.holds.joined ∙ m.split ∙ sym (append_assoc m.before (t ∷ []) after))
-
-        dead-here : (v : Verdict) → Dead p c the_end v (m.before ++ t ∷ []) → ⊥
-        dead-here syntax d = kill (d c)
-        dead-here limit d = kill d.0
-
 -- all trees of a list that ends are equal
 pub one-tree : {A : Type 0} (p : Limits → Rel A) (b : Limits) (r : Reader A) → ReadsExactly p b the_end r → (ts : List Token) (c : Limits) (x y : A) → whole p b ts x → whole p c ts y → y ≡ x
 one-tree {A} p b r exact ts c x y h k = go (r ts) (exact.at ts)
@@ -339,26 +305,7 @@ refusal-bare {A} g limits ts us k v e r = record {
     told limit m = viable-bare (take k ts) (take k us) (same k) m
 
 -- and so do trees, up to places
-pub trees-bare : {A : Type 0} {g : Limits → Rel A} {placeless : A → A} {limits : Limits} {ts us : List Token} {a b : A} → IgnoresPlaces g placeless → bares ts ≡ bares us → IsTheTree g placeless limits ts a → IsTheTree g placeless limits us b → placeless a ≡ placeless b
-trees-bare {A} {g} {placeless} {limits} {ts} {us} {a} {b} ignores e h k =
-    let s = ignores.by limits ts us a h.within e in
-    sym s.same ∙ ap placeless (k.only s.tree (limits, s.holds))
-
--- a list that ends has a tree within the limits or a refused token, and never both
-pub record HasTree {A : Type 0} (g : Grammar A) (placeless : A → A) (limits : Limits) (ts : List Token) : Type 0 where
-  pub tree : A
-  pub is : Accepts g placeless limits ts tree
-
-pub record HasRefusal {A : Type 0} (g : Grammar A) (limits : Limits) (ts : List Token) : Type 0 where
-  pub k : ℕ
-  pub verdict : Verdict
-  pub is : IsRefused g limits ts k verdict
-  pub none : (tree : A) → g limits ts tree → ⊥
-
-pub decided : {A : Type 0} {p : Limits → Rel A} {placeless : A → A} {b : Limits} {r : Reader A} → HasPhrase p → IgnoresPlaces p placeless → ReadsExactly p b the_end r → (ts : List Token) → EndsOnce ts → AreProperButFaults ts → HasTree (whole p) placeless b ts ⊎ HasRefusal (whole p) b ts
-decided {A} {p} {placeless} {b} {r} has ignores exact ts ends cuts = go (whole_at r ts) (whole-answers has ignores exact ts ends cuts)
-  where
-    go : (o : Outcome A) → Says (whole p) placeless b ts o → HasTree (whole p) placeless b ts ⊎ HasRefusal (whole p) b ts
-    go (Read a rest) h = inl (record { tree = a; is = h.1 })
-    go (Refused v []) h = absurd h
-    go (Refused v (t ∷ after)) h = inr (record { k = suc (length h.before); verdict = v; is = h.refusal; none = h.none })
+pub trees-bare : {A : Type 0} {p : Limits → Rel A} {placeless : A → A} {b : Limits} {r : Reader A} → IgnoresPlaces p placeless → ReadsExactly p b the_end r → (ts us : List Token) (x y : A) → bares ts ≡ bares us → whole p b ts x → whole p b us y → placeless x ≡ placeless y
+trees-bare {p = p} {placeless = placeless} {b = b} {r = r} ignores exact ts us x y e h k =
+    let s = (ignores-whole ignores).by b ts us x h e in
+    sym s.same ∙ ap placeless (one-tree p b r exact us b y s.tree k s.holds)

@@ -14,16 +14,13 @@ use Rattle.graphql_grammar.proofs.DistinctValues.{keeps-arguments, given-distinc
 use Rattle.graphql_reading.specs.grammar.Limits.{Limits}
 use Rattle.graphql_reading.specs.grammar.Relations.{Rel, one, never, opt, given}
 use Rattle.graphql_reading.specs.grammar.Tests.{punct, keyword, any_name}
-use Rattle.graphql_reading.proofs.Keeps.{Keeps, Anything, BothOf, OfOption, keeps-any, keeps-never, keeps-mapped, keeps-then, keeps-either, keeps-opt, keeps-plus}
+use Rattle.graphql_reading.proofs.Keeps.{Keeps, Anything, BothOf, OfOption, keeps-any, keeps-never, keeps-more, keeps-mapped, keeps-then, keeps-either, keeps-opt, keeps-plus}
 use Rattle.graphql_requests.specs.grammar.Documents.{named_operations, fragments, operations_beside}
 use Rattle.graphql_requests.specs.grammar.Laws.{IsDistinctDefault, IsDistinctVariable, IsDistinctSelection, IsDistinctSet, HasDistinctObjects, FragmentHasDistinctObjects, OperationsHaveDistinctObjects}
 use Rattle.graphql_requests.specs.grammar.Request.{Definition, operation, fragment, own_set, a_short_operation, a_full_operation, a_fragment, a_definition, definitions}
 use Rattle.graphql_requests.specs.grammar.Requests.{requests}
 use Rattle.graphql_requests.specs.grammar.Selections.{Set, set_or_none, aliased, fragment_name, a_type_condition, a_selection, selection_set}
 use Rattle.graphql_requests.specs.grammar.Variables.{default_and_directives, a_variable_definition, variable_definitions}
-
-keeps-more : {A : Type 0} {p : Rel A} {P Q : A → Type 0} → ((a : A) → P a → Q a) → Keeps p P → Keeps p Q
-keeps-more h k = record { by = λ x t m. h t (k.by x t m) }
 
 -- ---- variable definitions
 

@@ -17,7 +17,7 @@ ghost use Rattle.graphql_tokens.specs.tokens.Cuts.{Cuts, HasNoFault};
 ghost use Rattle.graphql_tokens.specs.tokens.Edition.{Former, Current};
 ghost use Rattle.graphql_tokens.specs.tokens.Cuts.{IsCutInto};
 ghost use Rattle.graphql_tokens.specs.tokens.Token.{Token as SpecToken, left};
-ghost use Rattle.graphql_grammar.specs.answers.Answers.{Answers, AreTheDefinitions, HasOneTree, IsDecided, TakenFor};
+ghost use Rattle.graphql_grammar.specs.answers.Answers.{Answers, AreTheDefinitions, HasOneTree, IsDecided, RestsOnBareTokens, TakenFor};
 ghost use Rattle.graphql_grammar.specs.answers.Language.{grammar};
 ghost use Rattle.graphql_reading.specs.grammar.Limits.{default_limits};
 ghost use Rattle.graphql_syntax.specs.trees.RequestViews.{document_tree};
@@ -52,6 +52,7 @@ fn read_document(
     ensures only { (ds : List SpecDefinition) → grammar requests Current limits (left tokens.old) ds → AreTheDefinitions requests limits (left tokens.old) ds }
     ensures one_tree { HasOneTree requests (left tokens.old) }
     ensures decided { IsDecided requests limits (left tokens.old) }
+    ensures bare { RestsOnBareTokens requests limits (left tokens.old) }
     ensures lawful { IfOk result (λ document. IsLawful (document_tree document)) }
     ensures taken { (count : ℕ) × (tokens.new.taken ≡ tokens.old.taken + count) × TakenFor requests limits (left tokens.old) result count }
     ensures whole { tokens.new.whole ≡ tokens.old.whole }
@@ -84,9 +85,10 @@ pub fn parse_query(alloc: Global, text: &str) -> Result<ExecutableDocument>
     ensures former { (tokens : List SpecToken) (ds : List SpecDefinition) → Cuts Former [] (chars text.now) tokens → grammar requests Former default_limits tokens ds → IsCutInto text.now tokens × AreTheDefinitions requests default_limits tokens ds }
     // The tokens of a text that the former edition cuts without a fault are those of now.
     ensures former_tokens { (tokens : List SpecToken) → HasNoFault tokens → Cuts Former [] (chars text.now) tokens → Answers requests default_limits tokens result }
-    // These two hold of each text, also where memory runs out.
+    // These three hold of each text, also where memory runs out.
     ensures one_tree { (tokens : List SpecToken) → IsCutInto text.now tokens → HasOneTree requests tokens }
     ensures decided { (tokens : List SpecToken) → IsCutInto text.now tokens → IsDecided requests default_limits tokens }
+    ensures bare { (tokens : List SpecToken) → IsCutInto text.now tokens → RestsOnBareTokens requests default_limits tokens }
     // Operations have distinct names, or there is one without a name; fragments have distinct names; and so have the
     // fields of each object.
     ensures lawful { IfOk result (λ document. IsLawful (document_tree document)) }
@@ -101,6 +103,7 @@ pub fn parse_query_limited(alloc: Global, text: &str, limits: Limits) -> Result<
     ensures former_tokens { (tokens : List SpecToken) → HasNoFault tokens → Cuts Former [] (chars text.now) tokens → Answers requests limits tokens result }
     ensures one_tree { (tokens : List SpecToken) → IsCutInto text.now tokens → HasOneTree requests tokens }
     ensures decided { (tokens : List SpecToken) → IsCutInto text.now tokens → IsDecided requests limits tokens }
+    ensures bare { (tokens : List SpecToken) → IsCutInto text.now tokens → RestsOnBareTokens requests limits tokens }
     ensures lawful { IfOk result (λ document. IsLawful (document_tree document)) }
 {
     let mut tokens = Tokens::new(text);
@@ -118,6 +121,7 @@ pub fn parse_query_from(alloc: Global, tokens: &mut Tokens<'_>) -> Result<Execut
     ensures answer { Answers requests default_limits (left tokens.old) result }
     ensures one_tree { HasOneTree requests (left tokens.old) }
     ensures decided { IsDecided requests default_limits (left tokens.old) }
+    ensures bare { RestsOnBareTokens requests default_limits (left tokens.old) }
     ensures lawful { IfOk result (λ document. IsLawful (document_tree document)) }
     ensures taken { (count : ℕ) × (tokens.new.taken ≡ tokens.old.taken + count) × TakenFor requests default_limits (left tokens.old) result count }
     ensures whole { tokens.new.whole ≡ tokens.old.whole }

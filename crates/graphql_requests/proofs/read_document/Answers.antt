@@ -14,7 +14,7 @@ use Rattle.graphql_requests.specs.reading.Request.{definitions_at}
 use Rattle.graphql_reading.specs.reading.Ahead.{tokens}
 use Rattle.graphql_reading.specs.reading.Given.{GoesOn}
 use Rattle.graphql_requests.specs.reading.Definitions.{in_definitions}
-use Rattle.graphql_grammar.proofs.Languages.{accepted, accepted-all, document-answers, document-taken, refusal-answers, refusal-taken, taken-between, has-one-tree, is-decided, the-tree}
+use Rattle.graphql_grammar.proofs.Languages.{accepted, accepted-all, document-answers, document-taken, refusal-answers, refusal-taken, taken-between, has-one-tree, is-decided, rests-on-bare-tokens, the-tree}
 use Rattle.graphql_requests.proofs.RequestProductions.{requests-are-read}
 use Rattle.graphql_requests.proofs.read_document.Goals as goal
 use Rattle.graphql_requests.proofs.read_document.Goals.{in-Ok, in-Err}
@@ -90,6 +90,9 @@ returns-clause-one_tree c = has-one-tree requests definitions_at requests-are-re
 
 pub returns-clause-decided : goal.returns-clause-decided
 returns-clause-decided c = subst (IsDecided requests c.args.limits) (ahead-is c) (is-decided requests definitions_at requests-are-read c.args.limits (tokens c.new-cursor.result) (ends c) (proper c))
+
+pub returns-clause-bare : goal.returns-clause-bare
+returns-clause-bare c = rests-on-bare-tokens requests definitions_at requests-are-read c.args.limits (left c.args.tokens.now)
 
 pub returns-clause-only : goal.returns-clause-only
 returns-clause-only c ds h =
