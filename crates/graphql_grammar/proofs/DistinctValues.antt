@@ -1,5 +1,5 @@
 -- In each value that the grammar relates to tokens no object has a name twice.
-use Rattle.std.proofs.Common.{◌≡◌, ◌≢◌, ℕ, zero, suc, Bool, true, false, cond, Option, Some, None, List, [], ◌∷◌, map, refl, sym, ap, ◌∙◌}
+use Rattle.std.proofs.Common.{◌≡◌, ◌≢◌, ℕ, zero, suc, Bool, true, false, cond, Option, Some, None, List, [], ◌∷◌, map, refl, sym, ◌∙◌}
 use Rattle.std.proofs.lemmas.Slice.Eq.{bytes_eq-Decides}
 use Rattle.std.specs.List.{AllByRecursion}
 use Rattle.std.specs.Str.{bytes_eq}
@@ -9,8 +9,8 @@ use Rattle.graphql_syntax.specs.trees.ValueTree.{Tree, trees_of, fields_of}
 use Rattle.graphql_grammar.specs.grammar.Arguments.{an_argument, arguments, a_directive, directives, a_default}
 use Rattle.graphql_grammar.specs.grammar.Distinct.{HasNone, IsDistinct, AreDistinctItems, AreDistinctFields, IsDistinctValue, IsDistinctArgument, AreDistinctArguments, IsDistinctDirective, AreDistinctDirectives}
 use Rattle.graphql_grammar.specs.grammar.Merged.{has_name, without, last_value, merged}
-use Rattle.graphql_grammar.specs.grammar.Values.{Value, a_list, an_object, a_field, a_simple_value, a_word, a_number, a_string, a_block, a_variable, value}
-use Rattle.graphql_reading.specs.grammar.Relations.{Rel, one, mapped, given}
+use Rattle.graphql_grammar.specs.grammar.Values.{Value, a_list, an_object, a_field, a_simple_value, a_word, value}
+use Rattle.graphql_reading.specs.grammar.Relations.{Rel, one, given}
 use Rattle.graphql_reading.specs.grammar.Tests.{punct, any_name}
 use Rattle.graphql_reading.proofs.Keeps.{Keeps, Anything, BothOf, OfOption, keeps-any, keeps-mapped, keeps-then, keeps-either, keeps-opt, keeps-star, keeps-plus}
 

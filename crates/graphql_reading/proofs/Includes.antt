@@ -1,5 +1,5 @@
 -- Productions that have each phrase of another, with the same tree.
-use Rattle.std.proofs.Common.{◌≡◌, IsTrue, ◌⊎◌, inl, inr, Option, Some, None, List, [], ◌∷◌}
+use Rattle.std.proofs.Common.{inl, inr, Option, Some, None, List, [], ◌∷◌}
 use Rattle.graphql_tokens.specs.tokens.Token.{Bare, Token}
 use Rattle.graphql_reading.specs.grammar.Fronts.{whole}
 use Rattle.graphql_reading.specs.grammar.Limits.{Limits}

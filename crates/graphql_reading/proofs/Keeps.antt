@@ -1,10 +1,8 @@
 -- What holds of each tree of a production, from what holds of the trees of its parts.
-use Rattle.std.proofs.Common.{◌≡◌, ◌⊎◌, inl, inr, Option, Some, None, List, [], ◌∷◌, sym, subst}
+use Rattle.std.proofs.Common.{inl, inr, Option, Some, None, List, [], ◌∷◌, sym, subst}
 use Rattle.std.specs.List.{AllByRecursion}
 use Rattle.graphql_tokens.specs.tokens.Token.{Token}
-use Rattle.graphql_reading.specs.grammar.Fronts.{whole}
-use Rattle.graphql_reading.specs.grammar.Limits.{Limits}
-use Rattle.graphql_reading.specs.grammar.Relations.{Rel, one, never, ◌⨾◌, ◌∪◌, mapped, star, plus, opt}
+use Rattle.graphql_reading.specs.grammar.Relations.{Rel, never, ◌⨾◌, ◌∪◌, mapped, star, plus, opt}
 
 pub record Keeps {A : Type 0} (p : Rel A) (P : A → Type 0) : Type 0 where
   pub by : (x : List Token) (t : A) → p x t → P t

@@ -18,7 +18,7 @@ use Rattle.graphql_requests.specs.grammar.Documents.{named_operations, fragments
 use Rattle.graphql_requests.specs.grammar.Laws.{HasDistinctNames, AreDistinct, IsLawful}
 use Rattle.graphql_requests.specs.grammar.Request.{Definition, operation, fragment}
 use Rattle.graphql_requests.specs.grammar.Requests.{requests}
-use Rattle.graphql_requests.specs.grammar.Rules.{breach_of, lack_of, missing_operation, or_else, first_operation, first_anonymous, first_operation_named, first_fragment_named}
+use Rattle.graphql_requests.specs.grammar.Rules.{breach_of, lack_of, missing_operation, first_operation, first_anonymous, first_operation_named, first_fragment_named}
 use Rattle.graphql_requests.proofs.DistinctObjects.{OfDefinition, in-operations, in-fragments, in-beside}
 use Rattle.graphql_requests.proofs.OneMore.{operation-place, fragment-place, none-inside}
 use Rattle.graphql_requests.proofs.Sorted.{none-second}

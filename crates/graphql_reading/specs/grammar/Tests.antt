@@ -1,6 +1,6 @@
 -- Tests of one token. They look at its kind and its spelling, and never at its place.
 -- Source: the kinds of tokens of GraphQL October 2021, section 2.1.6; a keyword is a name (section 2.1.9).
-use Rattle.std.specs.Prelude.{ℕ, Bool, true, false, not, ◌&&◌, ◌||◌, List, [], ◌∷◌, codes}
+use Rattle.std.specs.Prelude.{ℕ, Bool, false, not, ◌&&◌, ◌||◌, List, [], ◌∷◌, codes}
 use Rattle.std.specs.Str.{bytes_eq}
 use Rattle.graphql_tokens.specs.tokens.Kinds.{is_punct, is_name, is_number, is_string, is_block, is_end}
 use Rattle.graphql_tokens.specs.tokens.Token.{Bare}
