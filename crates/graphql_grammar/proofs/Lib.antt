@@ -12,6 +12,7 @@ pub mod ValuePlaces
 pub mod ArgumentProductions
 pub mod Former
 pub mod Languages
+pub mod Answering
 pub mod OperationKinds
 pub mod Unbroken
 pub mod DistinctValues

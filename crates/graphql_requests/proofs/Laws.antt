@@ -5,13 +5,14 @@ use Rattle.std.specs.Map.{lookup}
 use Rattle.std.specs.Str.{bytes_eq}
 use Rattle.graphql_tokens.specs.declared.pos.Pos.{Pos}
 use Rattle.graphql_tokens.specs.declared.pos.Positioned.{Positioned}
+use Rattle.graphql_tokens.specs.tokens.Token.{Token}
 use Rattle.graphql_syntax.specs.declared.types.executable.ExecutableDocument.{ExecutableDocument}
 use Rattle.graphql_syntax.specs.trees.Request.{Name, OperationDefinition, FragmentDefinition, Operations, single, multiple}
 use Rattle.graphql_syntax.specs.trees.RequestViews.{document_tree}
-use Rattle.graphql_grammar.specs.answers.Answers.{AreUnbroken, IsDocument}
+use Rattle.graphql_grammar.specs.answers.Answers.{Answers, AreUnbroken, IsDocument}
 use Rattle.graphql_grammar.specs.declared.error.Error.{Error}
 use Rattle.graphql_grammar.specs.declared.error.Error.TheVariants.{MultipleOperations, OperationDuplicated, FragmentDuplicated}
-use Rattle.graphql_grammar.specs.reading.DocumentOf.{IsDocumentOf}
+use Rattle.graphql_reading.specs.grammar.Limits.{Limits}
 use Rattle.graphql_grammar.proofs.Unbroken.{not-nil}
 use Rattle.graphql_reading.proofs.IgnoresPlaces.{head-is, tail-is}
 use Rattle.graphql_requests.specs.grammar.Documents.{named_operations, fragments, operations_beside, document_of}
@@ -19,7 +20,7 @@ use Rattle.graphql_requests.specs.grammar.Laws.{HasDistinctNames, AreDistinct, I
 use Rattle.graphql_requests.specs.grammar.Request.{Definition, operation, fragment}
 use Rattle.graphql_requests.specs.grammar.Requests.{requests}
 use Rattle.graphql_requests.specs.grammar.Rules.{breach_of, lack_of, missing_operation, first_operation, first_anonymous, first_operation_named, first_fragment_named}
-use Rattle.graphql_requests.proofs.DistinctObjects.{OfDefinition, in-operations, in-fragments, in-beside}
+use Rattle.graphql_requests.proofs.DistinctObjects.{OfDefinition, all-distinct, in-operations, in-fragments, in-beside}
 use Rattle.graphql_requests.proofs.OneMore.{operation-place, fragment-place, none-inside}
 use Rattle.graphql_requests.proofs.Sorted.{none-second}
 
@@ -131,7 +132,7 @@ beside ds unbroken complete (multiple es) e =
     named (operation (Some name) o ∷ l) xs es e = named l xs es e
     named (fragment name f ∷ l) xs es e = named l xs es e
 
-pub lawful : (ds : List Definition) (document : ExecutableDocument) → AllByRecursion OfDefinition ds → IsDocument requests ds document → IsLawful (document_tree document)
+lawful : (ds : List Definition) (document : ExecutableDocument) → AllByRecursion OfDefinition ds → IsDocument requests ds document → IsLawful (document_tree document)
 lawful ds document distinct h = subst IsLawful (sym h.made) (record {
   operations = beside ds h.unbroken h.complete (document_of ds).operations refl;
   fragments = distinct-fragments ds h.unbroken;
@@ -139,6 +140,6 @@ lawful ds document distinct h = subst IsLawful (sym h.made) (record {
   in_fragments = in-fragments ds distinct;
 })
 
-pub lawful-answer : (ds : List Definition) (result : Result ExecutableDocument Error) → AllByRecursion OfDefinition ds → IsDocumentOf requests ds result → IfOk result (λ document. IsLawful (document_tree document))
-lawful-answer ds (Ok document) distinct is = lawful ds document distinct is
-lawful-answer ds (Err error) distinct is = tt
+pub lawful-answer : (limits : Limits) (ts : List Token) (result : Result ExecutableDocument Error) → Answers requests limits ts result → IfOk result (λ document. IsLawful (document_tree document))
+lawful-answer limits ts (Ok document) (ds, h, is) = lawful ds document (all-distinct limits ts ds h.within) is
+lawful-answer limits ts (Err error) h = tt

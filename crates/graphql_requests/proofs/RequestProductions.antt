@@ -26,7 +26,8 @@ use Rattle.graphql_reading.proofs.ReadsExactly.{ReadsExactly, HasPhrase, BeginsW
 use Rattle.graphql_reading.proofs.Extra.{has-opt, exact-opt, begins-opt, begins-star, either-way}
 use Rattle.graphql_reading.proofs.IgnoresPlaces.{IgnoresPlaces, ignores-one, ignores-then, ignores-mapped, ignores-either, ignores-plus, ignores-opt, on-option}
 use Rattle.graphql_reading.proofs.Loop.{Takes, takes-one}
-use Rattle.graphql_grammar.proofs.Languages.{IsRead}
+use Rattle.graphql_grammar.specs.reading.ReadBy.{IsReadBy}
+use Rattle.graphql_grammar.proofs.Languages.{IsRead, is-read-by}
 use Rattle.graphql_requests.specs.grammar.Requests.{requests}
 use Rattle.graphql_requests.proofs.FormerRequests.{includes-definitions}
 use Rattle.graphql_grammar.proofs.ArgumentProductions.{exact-directives, begins-directive, has-directives, ignores-directives}
@@ -171,3 +172,6 @@ exact-request = exact-definitions (the_end-within (λ w. refl))
 
 pub requests-are-read : IsRead requests definitions_at
 requests-are-read = record { has_phrase = has-definitions; ignores_places = ignores-definitions; reads_exactly = λ b. exact-request {b = b}; includes = includes-definitions }
+
+pub requests-read-by : IsReadBy requests definitions_at
+requests-read-by = is-read-by requests definitions_at requests-are-read

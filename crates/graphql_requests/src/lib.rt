@@ -19,51 +19,51 @@ ghost use Rattle.graphql_tokens.specs.tokens.Cuts.{IsCutInto};
 ghost use Rattle.graphql_tokens.specs.tokens.Token.{Token as SpecToken, left};
 ghost use Rattle.graphql_grammar.specs.answers.Answers.{Answers, AreTheDefinitions, HasOneTree, IsDecided, RestsOnBareTokens, TakenFor};
 ghost use Rattle.graphql_grammar.specs.answers.Language.{grammar};
+ghost use Rattle.graphql_grammar.specs.reading.DocumentOf.{IsDocumentOf};
 ghost use Rattle.graphql_reading.specs.grammar.Limits.{default_limits};
 ghost use Rattle.graphql_syntax.specs.trees.RequestViews.{document_tree};
 ghost use Rattle.graphql_requests.specs.grammar.Laws.{IsLawful};
 ghost use Rattle.graphql_requests.specs.grammar.Request.{Definition as SpecDefinition};
 ghost use Rattle.graphql_requests.specs.grammar.Requests.{requests};
+ghost use Rattle.graphql_requests.specs.reading.Definitions.{definition_tree};
+ghost use Rattle.graphql_requests.specs.reading.Request.{definitions_at};
+ghost use Rattle.graphql_requests.specs.reading.Sorting.{definition_trees};
 
 mod definitions;
 mod rules;
 mod selections;
 mod variables;
 
-use definitions::read_request;
+use definitions::{Definition, read_definitions};
+use graphql_grammar::document::read_document;
 use graphql_grammar::error::Result;
-use graphql_grammar::refusals::error_of;
-use graphql_reading::cursor::Cursor;
+use graphql_reading::cursor::{Cursor, Reading};
 use graphql_reading::limits::Limits;
 use graphql_syntax::types::ExecutableDocument;
 use graphql_tokens::lexer::Tokens;
 use rules::document_of;
 use std::alloc::Global;
-use std::mem;
 
-// The definitions are read whole before the first rule is looked at.
-fn read_document(
-    alloc: Global,
-    tokens: &mut Tokens<'_>,
-    limits: Limits,
-) -> Result<ExecutableDocument>
-    requires { left tokens.old ≢ [] }
-    ensures answer { Answers requests limits (left tokens.old) result }
-    ensures only { (ds : List SpecDefinition) → grammar requests Current limits (left tokens.old) ds → AreTheDefinitions requests limits (left tokens.old) ds }
-    ensures one_tree { HasOneTree requests (left tokens.old) }
-    ensures decided { IsDecided requests limits (left tokens.old) }
-    ensures bare { RestsOnBareTokens requests limits (left tokens.old) }
-    ensures lawful { IfOk result (λ document. IsLawful (document_tree document)) }
-    ensures taken { (count : ℕ) × (tokens.new.taken ≡ tokens.old.taken + count) × TakenFor requests limits (left tokens.old) result count }
-    ensures whole { tokens.new.whole ≡ tokens.old.whole }
-{
-    let mut cursor = Cursor::new(mem::replace(tokens, Tokens::new("")));
-    let answer = match read_request(alloc, &mut cursor, limits) {
-        Ok(definitions) => document_of(alloc, definitions),
-        Err(refusal) => Err(error_of(alloc, &cursor, refusal)),
-    };
-    *tokens = cursor.into_tokens();
-    answer
+impl graphql_grammar::document::Definition for Definition {
+    type Document = ExecutableDocument;
+
+    ghost Tree = { SpecDefinition };
+
+    ghost tree = { definition_tree };
+
+    ghost language = { requests };
+
+    ghost reader = { definitions_at };
+
+    fn read_all(alloc: Global, cursor: &mut Cursor, limits: Limits) -> Reading<Vec<Definition>> {
+        read_definitions(alloc, cursor, limits)
+    }
+
+    fn document_of(alloc: Global, definitions: Vec<Definition>) -> Result<ExecutableDocument>
+        ensures { IsDocumentOf requests (definition_trees definitions.items) result }
+    {
+        document_of(alloc, definitions)
+    }
 }
 
 /// Reads a request (GraphQL October 2021, section 2): gives its one tree, with the place of each node.
@@ -107,7 +107,7 @@ pub fn parse_query_limited(alloc: Global, text: &str, limits: Limits) -> Result<
     ensures lawful { IfOk result (λ document. IsLawful (document_tree document)) }
 {
     let mut tokens = Tokens::new(text);
-    read_document(alloc, &mut tokens, limits)
+    read_document::<Definition>(alloc, &mut tokens, limits)
 }
 
 /// As [`parse_query`], over the tokens that are not yet taken, with the places that they have in the whole
@@ -126,5 +126,5 @@ pub fn parse_query_from(alloc: Global, tokens: &mut Tokens<'_>) -> Result<Execut
     ensures taken { (count : ℕ) × (tokens.new.taken ≡ tokens.old.taken + count) × TakenFor requests default_limits (left tokens.old) result count }
     ensures whole { tokens.new.whole ≡ tokens.old.whole }
 {
-    read_document(alloc, tokens, Limits::default())
+    read_document::<Definition>(alloc, tokens, Limits::default())
 }
