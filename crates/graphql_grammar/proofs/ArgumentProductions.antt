@@ -15,67 +15,67 @@ use Rattle.graphql_grammar.specs.reading.Arguments.{argument_at, arguments_at, m
 use Rattle.graphql_reading.proofs.Theory.{IsSubset, outside, anything}
 use Rattle.graphql_reading.proofs.TokenTests.{punctuator, itself, punct-within, name-sample}
 use Rattle.graphql_reading.proofs.PunctSamples.{has-equals, has-open, has-close, has-colon, has-at}
-use Rattle.graphql_reading.proofs.ReadsExactly.{ReadsExactly, HasPhrase, BeginsWith, good-punct, good-name, good-mapped, good-next, good-led, good-plus, led-one, led-mapped, led-then, has-token, has-pair, has-map, has-star, has-plus}
-use Rattle.graphql_reading.proofs.Extra.{Opens, opens-star, opens-opt, good-many-ahead, good-opt, has-opt}
-use Rattle.graphql_reading.proofs.IgnoresPlaces.{IgnoresPlaces, on-option, blind-one, blind-then, blind-mapped, blind-star, blind-plus, blind-opt}
+use Rattle.graphql_reading.proofs.ReadsExactly.{ReadsExactly, HasPhrase, BeginsWith, exact-punct, exact-name, exact-mapped, exact-next, exact-then-some, exact-plus, begins-one, begins-mapped, begins-then, has-token, has-pair, has-map, has-star, has-plus}
+use Rattle.graphql_reading.proofs.Extra.{FirstWithin, first-star, first-opt, exact-many-ahead, exact-opt, has-opt}
+use Rattle.graphql_reading.proofs.IgnoresPlaces.{IgnoresPlaces, on-option, ignores-one, ignores-then, ignores-mapped, ignores-star, ignores-plus, ignores-opt}
 use Rattle.graphql_reading.proofs.Loop.{Takes, takes-one}
-use Rattle.graphql_grammar.proofs.ValueProductions.{good-value, has-value, blind-value}
+use Rattle.graphql_grammar.proofs.ValueProductions.{exact-value, has-value, ignores-value}
 
 abbrev pub budget : ℕ → ℕ → Limits
 budget values types = record { selections = 0; values = values; types = types }
 
 -- ---- arguments
 
-pub good-argument : (vars : Bool) {b : Limits} {f : Test} → ReadsExactly (λ c. an_argument Current vars c.values) b f (argument_at vars b.values)
-good-argument vars = good-mapped (good-next (has-pair has-colon (has-value vars)) good-name (good-next (has-value vars) (good-punct ":") (good-value vars)))
+pub exact-argument : (vars : Bool) {b : Limits} {f : Test} → ReadsExactly (λ c. an_argument Current vars c.values) b f (argument_at vars b.values)
+exact-argument vars = exact-mapped (exact-next (has-pair has-colon (has-value vars)) exact-name (exact-next (has-value vars) (exact-punct ":") (exact-value vars)))
 
-pub led-argument : (vars : Bool) → BeginsWith (λ c. an_argument Current vars c.values) any_name
-led-argument vars = led-mapped (led-then led-one)
+pub begins-argument : (vars : Bool) → BeginsWith (λ c. an_argument Current vars c.values) any_name
+begins-argument vars = begins-mapped (begins-then begins-one)
 
 pub has-argument : (vars : Bool) → HasPhrase (λ c. an_argument Current vars c.values)
 has-argument vars = has-map (has-pair (has-token name-sample) (has-pair has-colon (has-value vars)))
 
-pub blind-argument : (vars : Bool) → IgnoresPlaces (λ c. an_argument Current vars c.values) placeless_argument
-blind-argument vars = blind-mapped (λ x. refl) (blind-then (blind-one any_name) (blind-then (blind-one (punct ":")) (blind-value vars)))
+pub ignores-argument : (vars : Bool) → IgnoresPlaces (λ c. an_argument Current vars c.values) placeless_argument
+ignores-argument vars = ignores-mapped (λ x. refl) (ignores-then (ignores-one any_name) (ignores-then (ignores-one (punct ":")) (ignores-value vars)))
 
 -- nothing is looked ahead at after `)`
-pub good-arguments : (vars : Bool) {b : Limits} {f : Test} → ReadsExactly (λ c. arguments Current vars c.values) b f (arguments_at vars b.values)
-good-arguments vars =
-    good-mapped (good-next (has-pair (has-plus (has-argument vars)) has-close) (good-punct "(")
-    (good-led led-one has-close (good-plus (led-argument vars) (punct-within ")" refl) (good-argument vars))
-    (good-punct ")")))
+pub exact-arguments : (vars : Bool) {b : Limits} {f : Test} → ReadsExactly (λ c. arguments Current vars c.values) b f (arguments_at vars b.values)
+exact-arguments vars =
+    exact-mapped (exact-next (has-pair (has-plus (has-argument vars)) has-close) (exact-punct "(")
+    (exact-then-some begins-one has-close (exact-plus (begins-argument vars) (punct-within ")" refl) (exact-argument vars))
+    (exact-punct ")")))
 
-pub led-arguments : (vars : Bool) → BeginsWith (λ c. arguments Current vars c.values) (punct "(")
-led-arguments vars = led-mapped (led-then led-one)
+pub begins-arguments : (vars : Bool) → BeginsWith (λ c. arguments Current vars c.values) (punct "(")
+begins-arguments vars = begins-mapped (begins-then begins-one)
 
 pub has-arguments : (vars : Bool) → HasPhrase (λ c. arguments Current vars c.values)
 has-arguments vars = has-map (has-pair has-open (has-pair (has-plus (has-argument vars)) has-close))
 
-pub blind-arguments : (vars : Bool) → IgnoresPlaces (λ c. arguments Current vars c.values) (map placeless_argument)
-blind-arguments vars = blind-mapped (λ x. refl) (blind-then (blind-one (punct "(")) (blind-then (blind-plus (blind-argument vars)) (blind-one (punct ")"))))
+pub ignores-arguments : (vars : Bool) → IgnoresPlaces (λ c. arguments Current vars c.values) (map placeless_argument)
+ignores-arguments vars = ignores-mapped (λ x. refl) (ignores-then (ignores-one (punct "(")) (ignores-then (ignores-plus (ignores-argument vars)) (ignores-one (punct ")"))))
 
 -- ---- arguments, where there are any
 
-pub good-maybe_arguments : (vars : Bool) {b : Limits} {f : Test} → IsSubset f (outside (punct "(")) → ReadsExactly (λ c. opt (arguments Current vars c.values)) b f (maybe_arguments_at vars b.values)
-good-maybe_arguments vars away = good-opt (led-arguments vars) away (good-arguments vars)
+pub exact-maybe_arguments : (vars : Bool) {b : Limits} {f : Test} → IsSubset f (outside (punct "(")) → ReadsExactly (λ c. opt (arguments Current vars c.values)) b f (maybe_arguments_at vars b.values)
+exact-maybe_arguments vars away = exact-opt (begins-arguments vars) away (exact-arguments vars)
 
-pub opens-maybe_arguments : (vars : Bool) {f g : Test} → IsTrue (g (punctuator "(")) → IsSubset f g → Opens (λ c. opt (arguments Current vars c.values)) f g
-opens-maybe_arguments vars here h = opens-opt (led-arguments vars) (punct-within "(" here) h
+pub first-maybe_arguments : (vars : Bool) {f g : Test} → IsTrue (g (punctuator "(")) → IsSubset f g → FirstWithin (λ c. opt (arguments Current vars c.values)) f g
+first-maybe_arguments vars here h = first-opt (begins-arguments vars) (punct-within "(" here) h
 
 pub has-maybe_arguments : (vars : Bool) → HasPhrase (λ c. opt (arguments Current vars c.values))
 has-maybe_arguments vars = has-opt {p = λ c. arguments Current vars c.values}
 
-pub blind-maybe_arguments : (vars : Bool) → IgnoresPlaces (λ c. opt (arguments Current vars c.values)) (on-option (map placeless_argument))
-blind-maybe_arguments vars = blind-opt (blind-arguments vars)
+pub ignores-maybe_arguments : (vars : Bool) → IgnoresPlaces (λ c. opt (arguments Current vars c.values)) (on-option (map placeless_argument))
+ignores-maybe_arguments vars = ignores-opt (ignores-arguments vars)
 
 -- ---- directives
 
 -- a `(` after the name belongs to the directive
-pub good-directive : (vars : Bool) {b : Limits} {f : Test} → IsSubset f (outside (punct "(")) → ReadsExactly (λ c. a_directive Current vars c.values) b f (directive_at vars b.values)
-good-directive vars away = good-mapped (good-next (has-pair (has-token name-sample) (has-maybe_arguments vars)) (good-punct "@") (good-next (has-maybe_arguments vars) good-name (good-maybe_arguments vars away)))
+pub exact-directive : (vars : Bool) {b : Limits} {f : Test} → IsSubset f (outside (punct "(")) → ReadsExactly (λ c. a_directive Current vars c.values) b f (directive_at vars b.values)
+exact-directive vars away = exact-mapped (exact-next (has-pair (has-token name-sample) (has-maybe_arguments vars)) (exact-punct "@") (exact-next (has-maybe_arguments vars) exact-name (exact-maybe_arguments vars away)))
 
-pub led-directive : (vars : Bool) → BeginsWith (λ c. a_directive Current vars c.values) (punct "@")
-led-directive vars = led-mapped (led-then led-one)
+pub begins-directive : (vars : Bool) → BeginsWith (λ c. a_directive Current vars c.values) (punct "@")
+begins-directive vars = begins-mapped (begins-then begins-one)
 
 pub has-directive : (vars : Bool) → HasPhrase (λ c. a_directive Current vars c.values)
 has-directive vars = has-map (has-pair has-at (has-pair (has-token name-sample) (has-maybe_arguments vars)))
@@ -84,39 +84,39 @@ given-same : (xs : Option trees.Arguments) → map placeless_argument (given xs)
 given-same None = refl
 given-same (Some xs) = refl
 
-pub blind-directive : (vars : Bool) → IgnoresPlaces (λ c. a_directive Current vars c.values) (unplaced placeless_directive)
-blind-directive vars =
-    blind-mapped (λ x. ap (λ (l : trees.Arguments). at {A = Directive} (without_place x.0) (record { name = name_of (without_place x.1.0); arguments = l })) (given-same x.1.1))
-    (blind-then (blind-one (punct "@")) (blind-then (blind-one any_name) (blind-maybe_arguments vars)))
+pub ignores-directive : (vars : Bool) → IgnoresPlaces (λ c. a_directive Current vars c.values) (unplaced placeless_directive)
+ignores-directive vars =
+    ignores-mapped (λ x. ap (λ (l : trees.Arguments). at {A = Directive} (without_place x.0) (record { name = name_of (without_place x.1.0); arguments = l })) (given-same x.1.1))
+    (ignores-then (ignores-one (punct "@")) (ignores-then (ignores-one any_name) (ignores-maybe_arguments vars)))
 
-pub good-directives : (vars : Bool) {b : Limits} {f : Test} → IsSubset f (outside (punct "(")) → IsSubset f (outside (punct "@")) → ReadsExactly (λ c. directives Current vars c.values) b f (directives_at vars b.values)
-good-directives vars away last = good-many-ahead {g = outside (punct "(")} (led-directive vars) (punct-within "@" refl) away last (good-directive vars itself)
+pub exact-directives : (vars : Bool) {b : Limits} {f : Test} → IsSubset f (outside (punct "(")) → IsSubset f (outside (punct "@")) → ReadsExactly (λ c. directives Current vars c.values) b f (directives_at vars b.values)
+exact-directives vars away last = exact-many-ahead {g = outside (punct "(")} (begins-directive vars) (punct-within "@" refl) away last (exact-directive vars itself)
 
-pub opens-directives : (vars : Bool) {f g : Test} → IsTrue (g (punctuator "@")) → IsSubset f g → Opens (λ c. directives Current vars c.values) f g
-opens-directives vars here h = opens-star (led-directive vars) (punct-within "@" here) h
+pub first-directives : (vars : Bool) {f g : Test} → IsTrue (g (punctuator "@")) → IsSubset f g → FirstWithin (λ c. directives Current vars c.values) f g
+first-directives vars here h = first-star (begins-directive vars) (punct-within "@" here) h
 
 pub has-directives : (vars : Bool) → HasPhrase (λ c. directives Current vars c.values)
 has-directives vars = has-star {p = λ c. a_directive Current vars c.values}
 
-pub blind-directives : (vars : Bool) → IgnoresPlaces (λ c. directives Current vars c.values) placeless_directives
-blind-directives vars = blind-star (blind-directive vars)
+pub ignores-directives : (vars : Bool) → IgnoresPlaces (λ c. directives Current vars c.values) placeless_directives
+ignores-directives vars = ignores-star (ignores-directive vars)
 
 -- ---- defaults
 
-pub good-default : {b : Limits} {f : Test} → ReadsExactly (λ c. a_default Current c.values) b f (default_at b.values)
-good-default = good-mapped (good-next (has-value false) (good-punct "=") (good-value false))
+pub exact-default : {b : Limits} {f : Test} → ReadsExactly (λ c. a_default Current c.values) b f (default_at b.values)
+exact-default = exact-mapped (exact-next (has-value false) (exact-punct "=") (exact-value false))
 
-pub led-default : BeginsWith (λ c. a_default Current c.values) (punct "=")
-led-default = led-mapped (led-then led-one)
+pub begins-default : BeginsWith (λ c. a_default Current c.values) (punct "=")
+begins-default = begins-mapped (begins-then begins-one)
 
 pub has-default : HasPhrase (λ c. a_default Current c.values)
 has-default = has-map (has-pair has-equals (has-value false))
 
-pub blind-default : IgnoresPlaces (λ c. a_default Current c.values) bare_node
-blind-default = blind-mapped (λ x. refl) (blind-then (blind-one (punct "=")) (blind-value false))
+pub ignores-default : IgnoresPlaces (λ c. a_default Current c.values) bare_node
+ignores-default = ignores-mapped (λ x. refl) (ignores-then (ignores-one (punct "=")) (ignores-value false))
 
 pub takes-argument : (vars : Bool) (values : ℕ) → Takes (argument_at vars values)
-takes-argument vars values = takes-one {b = budget values 0} {f = anything} (good-argument vars) (led-argument vars)
+takes-argument vars values = takes-one {b = budget values 0} {f = anything} (exact-argument vars) (begins-argument vars)
 
 pub takes-directive : (vars : Bool) (values : ℕ) → Takes (directive_at vars values)
-takes-directive vars values = takes-one {b = budget values 0} {f = outside (punct "(")} (good-directive vars itself) (led-directive vars)
+takes-directive vars values = takes-one {b = budget values 0} {f = outside (punct "(")} (exact-directive vars itself) (begins-directive vars)

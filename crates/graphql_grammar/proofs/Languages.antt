@@ -1,17 +1,17 @@
--- A language whose reader follows its grammar exactly: the answers of its parser, and how many tokens are taken for
--- them, from what the readers and the rules of the code give. Proved once, for each language.
+-- A language whose reader follows its grammar exactly: what is known of each list of tokens. Proved once, for each
+-- language.
 use Rattle.std.proofs.Common.{◌≡◌, ℕ, suc, ◌+◌, ◌-◌, ◌≤◌, ◌⊎◌, inl, inr, Result, Ok, Err, List, [], ◌∷◌, ◌++◌, length, drop, refl, sym, ap, ◌∙◌, subst, length-drop, length-append, arith}
 use Rattle.graphql_tokens.specs.declared.lexer.TokenKind.TheVariants.{End}
 use Rattle.graphql_tokens.specs.tokens.Cuts.{EndsOnce}
 use Rattle.graphql_tokens.specs.tokens.Edition.{Former, Current}
 use Rattle.graphql_tokens.specs.tokens.Proper.{AreProperButFaults}
 use Rattle.graphql_tokens.specs.tokens.Token.{Bare, Token}
-use Rattle.graphql_grammar.specs.answers.Answers.{Answers, TakenFor, AreTheDefinitions, AreUnbroken, HasOneTree, IsDecided}
+use Rattle.graphql_grammar.specs.answers.Answers.{Answers, TakenFor, AreTheDefinitions, AreUnbroken, HasOneTree, IsDecided, RestsOnBareTokens}
 use Rattle.graphql_grammar.specs.answers.Language.{Language, grammar}
 use Rattle.graphql_grammar.specs.declared.error.Error.{Error}
 use Rattle.graphql_grammar.specs.declared.error.Error.TheVariants as errors
 use Rattle.graphql_grammar.specs.reading.DocumentOf.{IsDocumentOf, TellsBreach, TellsOf}
-use Rattle.graphql_grammar.specs.reading.Errors.{IsErrorOf}
+use Rattle.graphql_grammar.specs.reading.ReadBy.{RefusedHere, IsReadBy}
 use Rattle.graphql_reading.specs.declared.cursor.Refusal.{Refusal}
 use Rattle.graphql_reading.specs.grammar.Fronts.{IsRefused, RefusedToken, Verdict, syntax, limit, without_places, whole}
 use Rattle.graphql_reading.specs.grammar.Limits.{Limits}
@@ -24,36 +24,28 @@ use Rattle.graphql_reading.proofs.IgnoresPlaces.{IgnoresPlaces}
 use Rattle.graphql_reading.proofs.ReadsExactly.{ReadsExactly, HasPhrase}
 use Rattle.graphql_reading.proofs.Includes.{Includes, includes-whole}
 use Rattle.graphql_reading.proofs.TokenTests.{the_end-is}
-use Rattle.graphql_reading.proofs.Whole.{Says, whole-answers, one-tree}
+use Rattle.graphql_reading.proofs.Whole.{Says, whole-answers, one-tree, ignores-whole, one-refusal, refusal-bare, trees-bare}
 
 -- What is known of a language and of the reader of its definitions: each budget has a phrase, places don't matter,
 -- the reader follows the current grammar exactly up to the end of the text, and the former grammar is part of it.
 pub record IsRead {D Document : Type 0} (language : Language D Document) (reader : Limits → Reader (List D)) : Type 0 where
-  pub has : HasPhrase (language.definitions Current)
-  pub blind : IgnoresPlaces (language.definitions Current) language.placeless
-  pub good : (b : Limits) → ReadsExactly (language.definitions Current) b the_end (reader b)
+  pub has_phrase : HasPhrase (language.definitions Current)
+  pub ignores_places : IgnoresPlaces (language.definitions Current) language.placeless
+  pub reads_exactly : (b : Limits) → ReadsExactly (language.definitions Current) b the_end (reader b)
   pub includes : (b : Limits) → Includes (language.definitions Former b) (language.definitions Current b)
 
 says : {D Document : Type 0} (language : Language D Document) (reader : Limits → Reader (List D)) → IsRead language reader → (limits : Limits) (ts : List Token) (o : Outcome (List D)) → EndsOnce ts → AreProperButFaults ts → whole_at (reader limits) ts ≡ o → Says (grammar language Current) language.placeless limits ts o
 says language reader read limits ts o ends proper e =
-    subst (Says (grammar language Current) language.placeless limits ts) e (whole-answers read.has read.blind (read.good limits) ts ends proper)
+    subst (Says (grammar language Current) language.placeless limits ts) e (whole-answers read.has_phrase read.ignores_places (read.reads_exactly limits) ts ends proper)
 
 -- ---- a list that is read
 
-pub accepted : {D Document : Type 0} (language : Language D Document) (reader : Limits → Reader (List D)) → IsRead language reader → (limits : Limits) (ts rest : List Token) (ds : List D) → EndsOnce ts → AreProperButFaults ts → whole_at (reader limits) ts ≡ Read ds rest → AreTheDefinitions language limits ts ds
+accepted : {D Document : Type 0} (language : Language D Document) (reader : Limits → Reader (List D)) → IsRead language reader → (limits : Limits) (ts rest : List Token) (ds : List D) → EndsOnce ts → AreProperButFaults ts → whole_at (reader limits) ts ≡ Read ds rest → AreTheDefinitions language limits ts ds
 accepted language reader read limits ts rest ds ends proper e = (says language reader read limits ts (Read ds rest) ends proper e).1.tree
-
--- nothing is left of it
-pub accepted-all : {D Document : Type 0} (language : Language D Document) (reader : Limits → Reader (List D)) → IsRead language reader → (limits : Limits) (ts rest : List Token) (ds : List D) → EndsOnce ts → AreProperButFaults ts → whole_at (reader limits) ts ≡ Read ds rest → rest ≡ []
-accepted-all language reader read limits ts rest ds ends proper e = (says language reader read limits ts (Read ds rest) ends proper e).0
 
 -- ---- a list that is refused
 
--- the token in hand is the refused one, and after it comes what isn't read
-abbrev pub RefusedHere : {D Document : Type 0} → Language D Document → Limits → List Token → Verdict → Token → List Token → Type 0
-RefusedHere language limits ts v t after = (refused : RefusedToken (grammar language Current) limits ts v) × (refused.token ≡ t) × (refused.after ≡ after)
-
-pub refused : {D Document : Type 0} (language : Language D Document) (reader : Limits → Reader (List D)) → IsRead language reader → (limits : Limits) (ts after : List Token) (t : Token) (v : Verdict) → EndsOnce ts → AreProperButFaults ts → whole_at (reader limits) ts ≡ Refused v (t ∷ after) → RefusedHere language limits ts v t after
+refused : {D Document : Type 0} (language : Language D Document) (reader : Limits → Reader (List D)) → IsRead language reader → (limits : Limits) (ts after : List Token) (t : Token) (v : Verdict) → EndsOnce ts → AreProperButFaults ts → whole_at (reader limits) ts ≡ Refused v (t ∷ after) → RefusedHere language limits ts v t after
 refused language reader read limits ts after t v ends proper e =
     let said = says language reader read limits ts (Refused v (t ∷ after)) ends proper e in
     (record { before = said.before; token = t; after = after; split = said.split; refused = said.refusal; no_tree = said.none }, refl, refl)
@@ -61,7 +53,7 @@ refused language reader read limits ts after t v ends proper e =
 -- ---- what is said of lists by the grammar alone
 
 -- a list that ends has a tree, the only one, or a refused token
-pub answered : {D Document : Type 0} (language : Language D Document) (reader : Limits → Reader (List D)) → IsRead language reader → (limits : Limits) (ts : List Token) → EndsOnce ts → AreProperButFaults ts → ((ds : List D) × AreTheDefinitions language limits ts ds) ⊎ ((v : Verdict) × RefusedToken (grammar language Current) limits ts v)
+answered : {D Document : Type 0} (language : Language D Document) (reader : Limits → Reader (List D)) → IsRead language reader → (limits : Limits) (ts : List Token) → EndsOnce ts → AreProperButFaults ts → ((ds : List D) × AreTheDefinitions language limits ts ds) ⊎ ((v : Verdict) × RefusedToken (grammar language Current) limits ts v)
 answered {D} language reader read limits ts ends proper = go (whole_at (reader limits) ts) refl
   where
     go : (o : Outcome (List D)) → whole_at (reader limits) ts ≡ o → ((ds : List D) × AreTheDefinitions language limits ts ds) ⊎ ((v : Verdict) × RefusedToken (grammar language Current) limits ts v)
@@ -69,22 +61,26 @@ answered {D} language reader read limits ts ends proper = go (whole_at (reader l
     go (Refused v []) e = absurd (says language reader read limits ts (Refused v []) ends proper e)
     go (Refused v (t ∷ after)) e = inr (v, (refused language reader read limits ts after t v ends proper e).0)
 
-pub has-one-tree : {D Document : Type 0} (language : Language D Document) (reader : Limits → Reader (List D)) → IsRead language reader → (ts : List Token) → HasOneTree language ts
+has-one-tree : {D Document : Type 0} (language : Language D Document) (reader : Limits → Reader (List D)) → IsRead language reader → (ts : List Token) → HasOneTree language ts
 has-one-tree language reader read ts = record {
-  same = λ x y h k. sym (one-tree (language.definitions Current) h.0 (reader h.0) (read.good h.0) ts k.0 x y h.1 k.1);
-  same_placeless = λ x y h k. sym (one-tree (language.definitions Current) h.0 (reader h.0) (read.good h.0) (without_places ts) k.0 x y h.1 k.1);
+  same = λ x y h k. sym (one-tree (language.definitions Current) h.0 (reader h.0) (read.reads_exactly h.0) ts k.0 x y h.1 k.1);
+  same_placeless = λ x y h k. sym (one-tree (language.definitions Current) h.0 (reader h.0) (read.reads_exactly h.0) (without_places ts) k.0 x y h.1 k.1);
 }
 
 -- a tree is the only one
-pub the-tree : {D Document : Type 0} (language : Language D Document) (reader : Limits → Reader (List D)) → IsRead language reader → (limits : Limits) (ts : List Token) (ds : List D) → EndsOnce ts → AreProperButFaults ts → grammar language Current limits ts ds → AreTheDefinitions language limits ts ds
+the-tree : {D Document : Type 0} (language : Language D Document) (reader : Limits → Reader (List D)) → IsRead language reader → (limits : Limits) (ts : List Token) (ds : List D) → EndsOnce ts → AreProperButFaults ts → grammar language Current limits ts ds → AreTheDefinitions language limits ts ds
 the-tree {D} language reader read limits ts ds ends proper h = go (answered language reader read limits ts ends proper)
   where
     go : ((es : List D) × AreTheDefinitions language limits ts es) ⊎ ((v : Verdict) × RefusedToken (grammar language Current) limits ts v) → AreTheDefinitions language limits ts ds
     go (inl m) = subst (AreTheDefinitions language limits ts) (sym (m.1.only ds (limits, h))) m.1
     go (inr m) = absurd (m.1.no_tree ds h)
 
-pub is-decided : {D Document : Type 0} (language : Language D Document) (reader : Limits → Reader (List D)) → IsRead language reader → (limits : Limits) (ts : List Token) → EndsOnce ts → AreProperButFaults ts → IsDecided language limits ts
-is-decided {D} language reader read limits ts ends proper = record { either = go (answered language reader read limits ts ends proper); never_both = never (whole_at (reader limits) ts) refl }
+is-decided : {D Document : Type 0} (language : Language D Document) (reader : Limits → Reader (List D)) → IsRead language reader → (limits : Limits) (ts : List Token) → EndsOnce ts → AreProperButFaults ts → IsDecided language limits ts
+is-decided {D} language reader read limits ts ends proper = record {
+  either = go (answered language reader read limits ts ends proper);
+  never_both = never (whole_at (reader limits) ts) refl;
+  one_refusal = one-refusal (grammar language Current) limits ts;
+}
   where
     go : ((ds : List D) × AreTheDefinitions language limits ts ds) ⊎ ((v : Verdict) × RefusedToken (grammar language Current) limits ts v) → ((ds : List D) × grammar language Current limits ts ds) ⊎ ((v : Verdict) × RefusedToken (grammar language Current) limits ts v)
     go (inl m) = inl (m.0, m.1.within)
@@ -94,6 +90,13 @@ is-decided {D} language reader read limits ts ends proper = record { either = go
     never (Read es rest) e ds h k v r = (says language reader read limits ts (Read es rest) ends proper e).1.none k v r
     never (Refused w []) e ds h k v r = says language reader read limits ts (Refused w []) ends proper e
     never (Refused w (t ∷ after)) e ds h k v r = (says language reader read limits ts (Refused w (t ∷ after)) ends proper e).none ds h
+
+rests-on-bare-tokens : {D Document : Type 0} (language : Language D Document) (reader : Limits → Reader (List D)) → IsRead language reader → (limits : Limits) (ts : List Token) → RestsOnBareTokens language limits ts
+rests-on-bare-tokens language reader read limits ts = record {
+  has_tree = λ us e ds h. let s = (ignores-whole read.ignores_places).by limits ts us ds h e in (s.tree, s.holds);
+  same_tree = λ us e ds es h k. trees-bare read.ignores_places (read.reads_exactly limits) ts us ds es e h k;
+  same_refusal = λ us e count v r. refusal-bare (grammar language Current) limits ts us count v e r;
+}
 
 -- ---- the former edition
 
@@ -115,62 +118,14 @@ ends-well p limits ts a h = record {
   is_end = ap (λ (t : Bare). t.kind) (the_end-is h.value.1.bare h.holds.second.1);
 }
 
--- ---- the answer where there is a tree
+-- ---- what a parser is made of
 
-pub document-answers : {D Document : Type 0} (language : Language D Document) (limits : Limits) (ts : List Token) (ds : List D) (result : Result Document Error) → AreTheDefinitions language limits ts ds → IsDocumentOf language ds result → Answers language limits ts result
-document-answers language limits ts ds (Ok document) h is = (ds, h, is)
-document-answers language limits ts ds (Err (errors.Syntax message start end)) h is = absurd is
-document-answers language limits ts ds (Err errors.RecursionLimitExceeded) h is = absurd is
-document-answers language limits ts ds (Err errors.OutOfMemory) h is = tt
-document-answers language limits ts ds (Err error) h is = record { definitions = ds; tree = h; broken = is }
-
-pub document-taken : {D Document : Type 0} (language : Language D Document) (limits : Limits) (ts : List Token) (ds : List D) (result : Result Document Error) (count : ℕ) → count ≡ length ts → IsDocumentOf language ds result → TakenFor language limits ts result count
-document-taken language limits ts ds (Ok document) count all is = all
-document-taken language limits ts ds (Err (errors.Syntax message start end)) count all is = absurd is
-document-taken language limits ts ds (Err errors.RecursionLimitExceeded) count all is = absurd is
-document-taken language limits ts ds (Err errors.OutOfMemory) count all is = omega (arith, all)
-document-taken language limits ts ds (Err error) count all is = all
-
--- the first definition that breaks a rule
-pub breaks : {D Document : Type 0} (language : Language D Document) (ds before : List D) (d : D) (after : List D) (error : Error) → ds ≡ before ++ d ∷ after → AreUnbroken language before → TellsOf (language.breach before d) error → TellsBreach language ds error
-breaks language ds before d after (errors.Syntax message start end) split unbroken e = absurd e
-breaks language ds before d after errors.RecursionLimitExceeded split unbroken e = absurd e
-breaks language ds before d after errors.OutOfMemory split unbroken e = tt
-breaks language ds before d after error split unbroken e = inl (record { before = before; broken = d; after = after; split = split; unbroken_before = unbroken; is = e })
-
--- ---- the answer where there is none
-
-pub refusal-answers : {D Document : Type 0} (language : Language D Document) (reader : Limits → Reader (List D)) → IsRead language reader → (limits : Limits) (old new : Ahead) (stop : Refusal) (error : Error) → EndsOnce (tokens old) → AreProperButFaults (tokens old) → Refuses stop old new (whole_at (reader limits)) → IsErrorOf stop new.hand.pos error → Answers language limits (tokens old) (Err error)
-refusal-answers language reader read limits old new stop (errors.Syntax message start end) ends proper h is =
-    let m = refused language reader read limits (tokens old) new.behind new.hand syntax ends proper (subst (λ (s : Refusal). Refuses s old new (whole_at (reader limits))) is.0 h) in
-    (m.0, is.1 ∙ ap (λ (t : Token). t.pos) (sym m.1), is.2, is.3)
-refusal-answers language reader read limits old new stop errors.RecursionLimitExceeded ends proper h is =
-    (refused language reader read limits (tokens old) new.behind new.hand limit ends proper (subst (λ (s : Refusal). Refuses s old new (whole_at (reader limits))) is h)).0
-refusal-answers language reader read limits old new stop errors.OutOfMemory ends proper h is = tt
-refusal-answers language reader read limits old new stop error ends proper h is = absurd is
-
--- the tokens up to the refused one
-up-to : {D Document : Type 0} (language : Language D Document) (limits : Limits) (ts after : List Token) (t : Token) (v : Verdict) (count : ℕ) → length ts ≡ count + length after → RefusedHere language limits ts v t after → IsRefused (grammar language Current) limits ts count v
-up-to language limits ts after t v count long h =
-    let all : length ts ≡ length h.0.before + suc (length after) = ap length (h.0.split ∙ ap (λ (l : List Token). h.0.before ++ l) (λ i. h.1 i ∷ h.2 i)) ∙ length-append h.0.before (t ∷ after) in
-    let same : suc (length h.0.before) ≡ count = omega (arith, long, all) in
-    subst (λ (n : ℕ). IsRefused (grammar language Current) limits ts n v) same h.0.refused
-
-pub refusal-taken : {D Document : Type 0} (language : Language D Document) (reader : Limits → Reader (List D)) → IsRead language reader → (limits : Limits) (old new : Ahead) (stop : Refusal) (error : Error) (count : ℕ) → length (tokens old) ≡ count + length new.behind → EndsOnce (tokens old) → AreProperButFaults (tokens old) → Refuses stop old new (whole_at (reader limits)) → IsErrorOf stop new.hand.pos error → TakenFor language limits (tokens old) (Err error) count
-refusal-taken language reader read limits old new stop (errors.Syntax message start end) count long ends proper h is =
-    up-to language limits (tokens old) new.behind new.hand syntax count long
-    (refused language reader read limits (tokens old) new.behind new.hand syntax ends proper (subst (λ (s : Refusal). Refuses s old new (whole_at (reader limits))) is.0 h))
-refusal-taken language reader read limits old new stop errors.RecursionLimitExceeded count long ends proper h is =
-    up-to language limits (tokens old) new.behind new.hand limit count long
-    (refused language reader read limits (tokens old) new.behind new.hand limit ends proper (subst (λ (s : Refusal). Refuses s old new (whole_at (reader limits))) is h))
-refusal-taken language reader read limits old new stop errors.OutOfMemory count long ends proper h is = omega (arith, long)
-refusal-taken language reader read limits old new stop error count long ends proper h is = absurd is
-
--- ---- counts
-
--- between two counts of tokens of one list stand as many as the one is more than the other
-pub taken-between : (whole old behind : List Token) (before now : ℕ) → old ≡ drop before whole → behind ≡ drop now whole → before ≤ now → now ≤ length whole → length old ≡ (now - before) + length behind
-taken-between whole old behind before now o b le within =
-    let p : length old ≡ length whole - before = ap length o ∙ length-drop before whole in
-    let q : length behind ≡ length whole - now = ap length b ∙ length-drop now whole in
-    omega (arith, p, q, le, within)
+pub is-read-by : {D Document : Type 0} (language : Language D Document) (reader : Limits → Reader (List D)) → IsRead language reader → IsReadBy language reader
+is-read-by language reader read = record {
+  accepts = λ limits ts ends proper ds rest e. let said = says language reader read limits ts (Read ds rest) ends proper e in (said.0, said.1.tree);
+  refuses = λ limits ts ends proper v t after e. refused language reader read limits ts after t v ends proper e;
+  only = λ limits ts ends proper ds h. the-tree language reader read limits ts ds ends proper h;
+  decided = λ limits ts ends proper. is-decided language reader read limits ts ends proper;
+  one_tree = has-one-tree language reader read;
+  bare = rests-on-bare-tokens language reader read;
+}

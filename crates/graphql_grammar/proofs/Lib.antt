@@ -6,12 +6,13 @@ pub mod StringMeanings
 pub mod TypeProductions
 pub mod ValueProductions
 pub mod ValueFrames
-pub mod ValueFill
+pub mod ValueContents
 pub mod ValueLoop
 pub mod ValuePlaces
 pub mod ArgumentProductions
 pub mod Former
 pub mod Languages
+pub mod Answering
 pub mod OperationKinds
 pub mod Unbroken
 pub mod DistinctValues

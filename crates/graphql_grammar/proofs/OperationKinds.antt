@@ -9,22 +9,22 @@ use Rattle.graphql_reading.specs.grammar.Fronts.{without_place}
 use Rattle.graphql_reading.specs.grammar.Limits.{Limits}
 use Rattle.graphql_reading.specs.grammar.Relations.{one, ◌∪◌, mapped}
 use Rattle.graphql_reading.specs.grammar.Tests.{Test, keyword}
-use Rattle.graphql_reading.proofs.IgnoresPlaces.{IgnoresPlaces, blind-one, blind-mapped, blind-either}
-use Rattle.graphql_reading.proofs.ReadsExactly.{ReadsExactly, HasPhrase, BeginsWith, good-keyword, good-mapped, good-choose, led-one, led-within, led-mapped, led-either, has-token, has-map, has-first}
+use Rattle.graphql_reading.proofs.IgnoresPlaces.{IgnoresPlaces, ignores-one, ignores-mapped, ignores-either}
+use Rattle.graphql_reading.proofs.ReadsExactly.{ReadsExactly, HasPhrase, BeginsWith, exact-keyword, exact-mapped, exact-choose, begins-one, begins-within, begins-mapped, begins-either, has-token, has-map, has-first}
 use Rattle.graphql_reading.proofs.TokenTests.{word_of, keyword-within, HasSample, keyword-sample}
 use Prim.Native.String.{String}
 
 -- a keyword, whichever kind it tells
-led-kind : {ty : OperationType} (word : String) {g : Test} → IsTrue (g (word_of word)) → BeginsWith (λ c. mapped (kind_of ty) (one (keyword word))) g
-led-kind word h = led-mapped {p = λ c. one (keyword word)} (led-within (keyword-within word h) led-one)
+begins-kind : {ty : OperationType} (word : String) {g : Test} → IsTrue (g (word_of word)) → BeginsWith (λ c. mapped (kind_of ty) (one (keyword word))) g
+begins-kind word h = begins-mapped {p = λ c. one (keyword word)} (begins-within (keyword-within word h) begins-one)
 
-pub good-operation_type : {b : Limits} {f : Test} → ReadsExactly (λ c. operation_type) b f operation_type_at
-good-operation_type =
-    good-choose (led-mapped {p = λ c. one (keyword "query")} led-one) (led-either (led-kind "mutation" refl) (led-kind "subscription" refl)) (good-mapped (good-keyword "query"))
-    (good-choose (led-mapped {p = λ c. one (keyword "mutation")} led-one) (led-kind "subscription" refl) (good-mapped (good-keyword "mutation")) (good-mapped (good-keyword "subscription")))
+pub exact-operation_type : {b : Limits} {f : Test} → ReadsExactly (λ c. operation_type) b f operation_type_at
+exact-operation_type =
+    exact-choose (begins-mapped {p = λ c. one (keyword "query")} begins-one) (begins-either (begins-kind "mutation" refl) (begins-kind "subscription" refl)) (exact-mapped (exact-keyword "query"))
+    (exact-choose (begins-mapped {p = λ c. one (keyword "mutation")} begins-one) (begins-kind "subscription" refl) (exact-mapped (exact-keyword "mutation")) (exact-mapped (exact-keyword "subscription")))
 
-pub led-operation_type : {g : Test} → IsTrue (g (word_of "query")) → IsTrue (g (word_of "mutation")) → IsTrue (g (word_of "subscription")) → BeginsWith (λ c. operation_type) g
-led-operation_type query mutation subscription = led-either (led-kind "query" query) (led-either (led-kind "mutation" mutation) (led-kind "subscription" subscription))
+pub begins-operation_type : {g : Test} → IsTrue (g (word_of "query")) → IsTrue (g (word_of "mutation")) → IsTrue (g (word_of "subscription")) → BeginsWith (λ c. operation_type) g
+begins-operation_type query mutation subscription = begins-either (begins-kind "query" query) (begins-either (begins-kind "mutation" mutation) (begins-kind "subscription" subscription))
 
 query-sample : HasSample (keyword "query")
 query-sample = keyword-sample "query" refl (refl, (refl, (refl, (refl, (refl, tt)))))
@@ -35,5 +35,5 @@ has-operation_type = has-first {q = λ c. mapped (kind_of Mutation) (one (keywor
 abbrev pub without-keyword-place : Token × OperationType → Token × OperationType
 without-keyword-place x = (without_place x.0, x.1)
 
-pub blind-operation_type : IgnoresPlaces (λ c. operation_type) without-keyword-place
-blind-operation_type = blind-either (blind-mapped (λ t. refl) (blind-one (keyword "query"))) (blind-either (blind-mapped (λ t. refl) (blind-one (keyword "mutation"))) (blind-mapped (λ t. refl) (blind-one (keyword "subscription"))))
+pub ignores-operation_type : IgnoresPlaces (λ c. operation_type) without-keyword-place
+ignores-operation_type = ignores-either (ignores-mapped (λ t. refl) (ignores-one (keyword "query"))) (ignores-either (ignores-mapped (λ t. refl) (ignores-one (keyword "mutation"))) (ignores-mapped (λ t. refl) (ignores-one (keyword "subscription"))))

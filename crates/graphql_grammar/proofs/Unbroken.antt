@@ -2,30 +2,25 @@
 use Rattle.std.proofs.Common.{◌≡◌, None, List, [], ◌∷◌, ◌++◌, refl, sym, ap, ◌∙◌}
 use Rattle.graphql_grammar.specs.answers.Answers.{AreUnbroken}
 use Rattle.graphql_grammar.specs.answers.Language.{Language}
+use Rattle.graphql_reading.proofs.IgnoresPlaces.{head-is, tail-is}
 
 -- a definition of a list with one more at its end is that one, or stands before it
 pub data Stands {D : Type 0} (ds before after : List D) (d e : D) : Type 0 where
   last : before ≡ ds → e ≡ d → Stands ds before after d e
   within : (rest : List D) → ds ≡ before ++ e ∷ rest → Stands ds before after d e
 
-not-nil : {A : Type 0} (x : A) (xs ys : List A) → [] ≡ xs ++ x ∷ ys → ⊥
+pub not-nil : {A : Type 0} (x : A) (xs ys : List A) → [] ≡ xs ++ x ∷ ys → ⊥
 not-nil x [] ys e = absurd cc
 not-nil x (y ∷ xs) ys e = absurd cc
 
-heads : {A : Type 0} (x y : A) (xs ys : List A) → x ∷ xs ≡ y ∷ ys → x ≡ y
-heads x y xs ys e = cc
-
-tails : {A : Type 0} (x y : A) (xs ys : List A) → x ∷ xs ≡ y ∷ ys → xs ≡ ys
-tails x y xs ys e = cc
-
 stands : {D : Type 0} (ds : List D) (d : D) (before : List D) (e : D) (after : List D) → ds ++ d ∷ [] ≡ before ++ e ∷ after → Stands ds before after d e
-stands [] d [] e after h = last refl (sym (heads d e [] after h))
-stands [] d (b ∷ before) e after h = absurd (not-nil e before after (tails d b [] (before ++ e ∷ after) h))
-stands {D} (x ∷ ds) d [] e after h = within ds (ap (λ (y : D). y ∷ ds) (heads x e (ds ++ d ∷ []) after h))
-stands {D} (x ∷ ds) d (b ∷ before) e after h = onto (stands ds d before e after (tails x b (ds ++ d ∷ []) (before ++ e ∷ after) h))
+stands [] d [] e after h = last refl (sym (head-is d e [] after h))
+stands [] d (b ∷ before) e after h = absurd (not-nil e before after (tail-is d b [] (before ++ e ∷ after) h))
+stands {D} (x ∷ ds) d [] e after h = within ds (ap (λ (y : D). y ∷ ds) (head-is x e (ds ++ d ∷ []) after h))
+stands {D} (x ∷ ds) d (b ∷ before) e after h = onto (stands ds d before e after (tail-is x b (ds ++ d ∷ []) (before ++ e ∷ after) h))
   where
     same : x ≡ b
-    same = heads x b (ds ++ d ∷ []) (before ++ e ∷ after) h
+    same = head-is x b (ds ++ d ∷ []) (before ++ e ∷ after) h
 
     onto : Stands ds before after d e → Stands (x ∷ ds) (b ∷ before) after d e
     onto (last p q) = last (ap (λ (l : List D). b ∷ l) p ∙ ap (λ (y : D). y ∷ ds) (sym same)) q

@@ -3,6 +3,7 @@ pub mod ArgumentViews
 pub mod Arguments
 pub mod ErrorPlaces
 pub mod DocumentOf
+pub mod ReadBy
 pub mod Errors
 pub mod Fields
 pub mod OpenValues

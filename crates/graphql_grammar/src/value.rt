@@ -5,13 +5,13 @@ ghost use Rattle.graphql_grammar.specs.reading.OpenValues.{node_at, opened, met,
 ghost use Rattle.graphql_reading.specs.reading.Given.{Gives};
 ghost use Rattle.graphql_grammar.specs.reading.Values.{value_at};
 
+mod contents;
 mod fields;
-mod fill;
 mod frames;
 mod simple;
 
+use contents::{enter, read_fields, read_items};
 use fields::merge;
-use fill::{enter, fill_list, fill_object};
 use frames::{Frame, Frames, Open};
 use graphql_reading::cursor::{Cursor, Reading};
 use graphql_syntax::pos::Positioned;
@@ -36,11 +36,11 @@ fn go_on<V: Literal>(
     ensures { Meets V.VARIABLES left (met V.tree) result cursor.old cursor.new (open_rest V.VARIABLES left (opened V.tree innermost)) }
 {
     match innermost {
-        Open::List(mut items) => match fill_list(alloc, cursor, &mut items, left)? {
+        Open::List(mut items) => match read_items(alloc, cursor, &mut items, left)? {
             None => Ok(Stop::Closed(V::list(items))),
             Some(inner) => Ok(Stop::Entered(Frame::List(items), inner)),
         },
-        Open::Object(mut fields) => match fill_object(alloc, cursor, &mut fields, left)? {
+        Open::Object(mut fields) => match read_fields(alloc, cursor, &mut fields, left)? {
             None => Ok(Stop::Closed(V::object(merge(alloc, fields)?))),
             Some((name, inner)) => Ok(Stop::Entered(Frame::Object(fields, name), inner)),
         },

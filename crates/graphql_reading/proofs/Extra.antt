@@ -7,41 +7,41 @@ use Rattle.graphql_reading.specs.grammar.Relations.{Rel, ◌⨾◌, ◌∪◌, m
 use Rattle.graphql_reading.specs.reading.Outcome.{Reader, then_at, mapped_at, none_at, many_at, plus_at, opt_at}
 use Rattle.graphql_reading.proofs.Parts.{none, nested, below, Nesting, of_selections, left}
 use Rattle.graphql_reading.proofs.Theory.{Starts, IsSubset, outside, within-begins, then-exact, none-exact, star-starts, leads-starts, choose-exact, Begins, many-exact, plus-exact}
-use Rattle.graphql_reading.proofs.ReadsExactly.{ReadsExactly, HasPhrase, BeginsWith, good-mapped, good-same, led-mapped}
+use Rattle.graphql_reading.proofs.ReadsExactly.{ReadsExactly, HasPhrase, BeginsWith, exact-mapped, exact-same, begins-mapped}
 
 abbrev nothing : {A : Type 0} → Option A
 nothing = None
 
--- what a part and its follow begin with
-pub record Opens {A : Type 0} (q : Limits → Rel A) (f g : Test) : Type 0 where
+-- what a phrase that is followed by f begins with lies within g
+pub record FirstWithin {A : Type 0} (q : Limits → Rel A) (f g : Test) : Type 0 where
   pub by : Starts q f g
 
 -- a part, and any other
-pub good-seq : {A B : Type 0} {p : Limits → Rel A} {q : Limits → Rel B} {b : Limits} {f g : Test} {r : Reader A} {s : Reader B} → Opens q f g → HasPhrase q → ReadsExactly p b g r → ReadsExactly q b f s → ReadsExactly (λ c. p c ⨾ q c) b f (then_at r s)
-good-seq {p = p} {q = q} {b = b} {f = f} {g = g} {r = r} {s = s} opens has h k = record { at = λ ts. then-exact p q b f g r s ts opens.by has.some (h.at ts) (λ a rest _. k.at rest) }
+pub exact-seq : {A B : Type 0} {p : Limits → Rel A} {q : Limits → Rel B} {b : Limits} {f g : Test} {r : Reader A} {s : Reader B} → FirstWithin q f g → HasPhrase q → ReadsExactly p b g r → ReadsExactly q b f s → ReadsExactly (λ c. p c ⨾ q c) b f (then_at r s)
+exact-seq {p = p} {q = q} {b = b} {f = f} {g = g} {r = r} {s = s} first has h k = record { at = λ ts. then-exact p q b f g r s ts first.by has.some (h.at ts) (λ a rest _. k.at rest) }
 
-pub opens-led : {A : Type 0} {p : Limits → Rel A} {f first g : Test} → BeginsWith p first → IsSubset first g → Opens p f g
-opens-led {p = p} {first = first} {g = g} led h = record { by = λ c x y a m begins. within-begins first g h (x ++ y) (led.by c x y a m) }
+pub first-begins : {A : Type 0} {p : Limits → Rel A} {f first g : Test} → BeginsWith p first → IsSubset first g → FirstWithin p f g
+first-begins {p = p} {first = first} {g = g} leads h = record { by = λ c x y a m begins. within-begins first g h (x ++ y) (leads.by c x y a m) }
 
-pub opens-star : {A : Type 0} {p : Limits → Rel A} {f first g : Test} → BeginsWith p first → IsSubset first g → IsSubset f g → Opens (λ c. star (p c)) f g
-opens-star {p = p} {f = f} {first = first} {g = g} led h k = record { by = star-starts p f first g led.by h k }
+pub first-star : {A : Type 0} {p : Limits → Rel A} {f first g : Test} → BeginsWith p first → IsSubset first g → IsSubset f g → FirstWithin (λ c. star (p c)) f g
+first-star {p = p} {f = f} {first = first} {g = g} leads h k = record { by = star-starts p f first g leads.by h k }
 
-pub opens-opt : {A : Type 0} {p : Limits → Rel A} {f first g : Test} → BeginsWith p first → IsSubset first g → IsSubset f g → Opens (λ c. opt (p c)) f g
-opens-opt {A} {p} {f} {first} {g} led h k = record { by = by }
+pub first-opt : {A : Type 0} {p : Limits → Rel A} {f first g : Test} → BeginsWith p first → IsSubset first g → IsSubset f g → FirstWithin (λ c. opt (p c)) f g
+first-opt {A} {p} {f} {first} {g} leads h k = record { by = by }
   where
     by : Starts (λ c. opt (p c)) f g
     by c x y None e begins = within-begins f g k (x ++ y) (subst (λ (l : List Token). Begins f (l ++ y)) (sym e) begins)
-    by c x y (Some a) e begins = within-begins first g h (x ++ y) (led.by c x y a e)
+    by c x y (Some a) e begins = within-begins first g h (x ++ y) (leads.by c x y a e)
 
-pub opens-then : {A B : Type 0} {p : Limits → Rel A} {q : Limits → Rel B} {f g h : Test} → Opens p g h → Opens q f g → Opens (λ c. p c ⨾ q c) f h
-opens-then {p = p} {q = q} {f = f} {g = g} {h = h} o n = record { by = λ c x y a m begins. subst (λ (l : List Token). Begins h l) (sym (append_assoc m.front m.back y) ∙ ap (λ (l : List Token). l ++ y) (sym m.joined)) (o.by c m.front (m.back ++ y) a.0 m.first (n.by c m.back y a.1 m.second begins)) }
+pub first-then : {A B : Type 0} {p : Limits → Rel A} {q : Limits → Rel B} {f g h : Test} → FirstWithin p g h → FirstWithin q f g → FirstWithin (λ c. p c ⨾ q c) f h
+first-then {p = p} {q = q} {f = f} {g = g} {h = h} o n = record { by = λ c x y a m begins. subst (λ (l : List Token). Begins h l) (sym (append_assoc m.front m.back y) ∙ ap (λ (l : List Token). l ++ y) (sym m.joined)) (o.by c m.front (m.back ++ y) a.0 m.first (n.by c m.back y a.1 m.second begins)) }
 
 -- any number of parts that look ahead
-pub good-many-ahead : {A : Type 0} {p : Limits → Rel A} {b : Limits} {f first g : Test} {r : Reader A} → BeginsWith p first → IsSubset first g → IsSubset f g → IsSubset f (outside first) → ReadsExactly p b g r → ReadsExactly (λ c. star (p c)) b f (many_at first r)
-good-many-ahead {p = p} {b = b} {f = f} {first = first} {g = g} {r = r} led h k away good = record { at = many-exact p b f first g r led.by h k away good.at }
+pub exact-many-ahead : {A : Type 0} {p : Limits → Rel A} {b : Limits} {f first g : Test} {r : Reader A} → BeginsWith p first → IsSubset first g → IsSubset f g → IsSubset f (outside first) → ReadsExactly p b g r → ReadsExactly (λ c. star (p c)) b f (many_at first r)
+exact-many-ahead {p = p} {b = b} {f = f} {first = first} {g = g} {r = r} leads h k away exact = record { at = many-exact p b f first g r leads.by h k away exact.at }
 
-pub good-plus-ahead : {A : Type 0} {p : Limits → Rel A} {b : Limits} {f first g : Test} {r : Reader A} → BeginsWith p first → IsSubset first g → IsSubset f g → IsSubset f (outside first) → ReadsExactly p b g r → ReadsExactly (λ c. plus (p c)) b f (plus_at first r)
-good-plus-ahead {p = p} {b = b} {f = f} {first = first} {g = g} {r = r} led h k away good = record { at = plus-exact p b f first g r led.by h k away good.at }
+pub exact-plus-ahead : {A : Type 0} {p : Limits → Rel A} {b : Limits} {f first g : Test} {r : Reader A} → BeginsWith p first → IsSubset first g → IsSubset f g → IsSubset f (outside first) → ReadsExactly p b g r → ReadsExactly (λ c. plus (p c)) b f (plus_at first r)
+exact-plus-ahead {p = p} {b = b} {f = f} {first = first} {g = g} {r = r} leads h k away exact = record { at = plus-exact p b f first g r leads.by h k away exact.at }
 
 -- ---- optional parts
 
@@ -59,24 +59,24 @@ is-opt {A} p x t = (to t, from t)
     from None e = inr (e, refl)
     from (Some a) e = inl (record { value = a; holds = e; is = refl })
 
-pub good-opt : {A : Type 0} {p : Limits → Rel A} {b : Limits} {f first : Test} {r : Reader A} → BeginsWith p first → IsSubset f (outside first) → ReadsExactly p b f r → ReadsExactly (λ c. opt (p c)) b f (opt_at first r)
+pub exact-opt : {A : Type 0} {p : Limits → Rel A} {b : Limits} {f first : Test} {r : Reader A} → BeginsWith p first → IsSubset f (outside first) → ReadsExactly p b f r → ReadsExactly (λ c. opt (p c)) b f (opt_at first r)
 unfolding opt_at
-good-opt {A} {p} {b} {f} {first} {r} led away h = good-same {p = λ c. mapped Some (p c) ∪ none None} (λ c. is-opt (p c)) (record { at = λ ts. choose-exact (λ c. mapped Some (p c)) (λ c. none None) b f first (mapped_at Some r) (none_at None) ts (leads-starts _ f first (led-mapped {f = Some} led).by) starts ((good-mapped {g = Some} h).at ts) (none-exact None b f ts) })
+exact-opt {A} {p} {b} {f} {first} {r} leads away h = exact-same {p = λ c. mapped Some (p c) ∪ none None} (λ c. is-opt (p c)) (record { at = λ ts. choose-exact (λ c. mapped Some (p c)) (λ c. none None) b f first (mapped_at Some r) (none_at None) ts (leads-starts _ f first (begins-mapped {f = Some} leads).by) starts ((exact-mapped {g = Some} h).at ts) (none-exact None b f ts) })
   where
     starts : Starts (λ c. none (nothing {A = A})) f (outside first)
     starts c x y t m begins = within-begins f (outside first) away (x ++ y) (subst (λ (l : List Token). Begins f (l ++ y)) (sym m.0) begins)
 
 -- an optional part and another
-pub led-opt : {A B : Type 0} {p : Limits → Rel A} {q : Limits → Rel B} {g : Test} → BeginsWith p g → BeginsWith q g → BeginsWith (λ c. opt (p c) ⨾ q c) g
-led-opt {A} {B} {p} {q} {g} h k = record { by = λ c x y a m. subst (λ (l : List Token). Begins g l) (sym (append_assoc m.front m.back y) ∙ ap (λ (l : List Token). l ++ y) (sym m.joined)) (go c m.front (m.back ++ y) a.0 m.first (k.by c m.back y a.1 m.second)) }
+pub begins-opt : {A B : Type 0} {p : Limits → Rel A} {q : Limits → Rel B} {g : Test} → BeginsWith p g → BeginsWith q g → BeginsWith (λ c. opt (p c) ⨾ q c) g
+begins-opt {A} {B} {p} {q} {g} h k = record { by = λ c x y a m. subst (λ (l : List Token). Begins g l) (sym (append_assoc m.front m.back y) ∙ ap (λ (l : List Token). l ++ y) (sym m.joined)) (go c m.front (m.back ++ y) a.0 m.first (k.by c m.back y a.1 m.second)) }
   where
     go : (c : Limits) (x y : List Token) (o : Option A) → opt (p c) x o → Begins g y → Begins g (x ++ y)
     go c x y None e begins = subst (λ (l : List Token). Begins g (l ++ y)) (sym e) begins
     go c x y (Some a) e begins = h.by c x y a e
 
 -- any number of parts and another
-pub led-star : {A B : Type 0} {p : Limits → Rel A} {q : Limits → Rel B} {g : Test} → BeginsWith p g → BeginsWith q g → BeginsWith (λ c. star (p c) ⨾ q c) g
-led-star {A} {B} {p} {q} {g} h k = record { by = λ c x y a m. subst (λ (l : List Token). Begins g l) (sym (append_assoc m.front m.back y) ∙ ap (λ (l : List Token). l ++ y) (sym m.joined)) (go c m.front (m.back ++ y) a.0 m.first (k.by c m.back y a.1 m.second)) }
+pub begins-star : {A B : Type 0} {p : Limits → Rel A} {q : Limits → Rel B} {g : Test} → BeginsWith p g → BeginsWith q g → BeginsWith (λ c. star (p c) ⨾ q c) g
+begins-star {A} {B} {p} {q} {g} h k = record { by = λ c x y a m. subst (λ (l : List Token). Begins g l) (sym (append_assoc m.front m.back y) ∙ ap (λ (l : List Token). l ++ y) (sym m.joined)) (go c m.front (m.back ++ y) a.0 m.first (k.by c m.back y a.1 m.second)) }
   where
     go : (c : Limits) (x y : List Token) (l : List A) → star (p c) x l → Begins g y → Begins g (x ++ y)
     go c x y [] e begins = subst (λ (l : List Token). Begins g (l ++ y)) (sym e) begins

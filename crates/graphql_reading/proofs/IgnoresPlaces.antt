@@ -23,10 +23,10 @@ pub no-bares : (y : List Token) → bares y ≡ [] → y ≡ []
 no-bares [] e = refl
 no-bares (t ∷ y) e = absurd cc
 
-tail-is : {A : Type 0} (t s : A) (u y : List A) → t ∷ u ≡ s ∷ y → u ≡ y
+pub tail-is : {A : Type 0} (t s : A) (u y : List A) → t ∷ u ≡ s ∷ y → u ≡ y
 tail-is t s u y e = cc
 
-head-is : {A : Type 0} (t s : A) (u y : List A) → t ∷ u ≡ s ∷ y → t ≡ s
+pub head-is : {A : Type 0} (t s : A) (u y : List A) → t ∷ u ≡ s ∷ y → t ≡ s
 head-is t s u y e = cc
 
 pub record Splits (u v y : List Token) : Type 0 where
@@ -55,8 +55,8 @@ fixed-at x u v e h = fixed-parts u v (subst (λ (l : List Token). without_places
 
 -- ---- the combinators
 
-pub blind-one : (test : Test) → IgnoresPlaces (λ c. one test) without_place
-blind-one test = record { by = by; fixed = λ c x a m e. head-is (without_place a) a [] [] (subst (λ (l : List Token). without_places l ≡ l) m.0 e) }
+pub ignores-one : (test : Test) → IgnoresPlaces (λ c. one test) without_place
+ignores-one test = record { by = by; fixed = λ c x a m e. head-is (without_place a) a [] [] (subst (λ (l : List Token). without_places l ≡ l) m.0 e) }
   where
     by : (c : Limits) (x y : List Token) (a : Token) → one test x a → bares x ≡ bares y → Same (one test) without_place y a
     by c x [] a m e = absurd (nothing (sym (ap bares m.0) ∙ e))
@@ -68,14 +68,14 @@ blind-one test = record { by = by; fixed = λ c x a m e. head-is (without_place 
         let same : a.bare ≡ s.bare = head-is a.bare s.bare [] (bares y) e₁ in
         record { tree = s; holds = (ap (λ (l : List Token). s ∷ l) (no-bares y (sym (tail-is a.bare s.bare [] (bares y) e₁))), subst (λ (t : Bare). IsTrue (test t)) same m.1); same = ap (λ (t : Bare). without_place (record a { bare = t })) (sym same) }
 
-pub blind-never : {A : Type 0} {f : A → A} → IgnoresPlaces (λ c. never {A = A}) f
-blind-never = record { by = λ c x y a m e. absurd m; fixed = λ c x a m e. absurd m }
+pub ignores-never : {A : Type 0} {f : A → A} → IgnoresPlaces (λ c. never {A = A}) f
+ignores-never = record { by = λ c x y a m e. absurd m; fixed = λ c x a m e. absurd m }
 
-pub blind-none : {A : Type 0} {a : A} {f : A → A} → f a ≡ a → IgnoresPlaces (λ c. none a) f
-blind-none {a = a} {f = f} e = record { by = λ c x y b m same. record { tree = a; holds = (no-bares y (sym same ∙ ap bares m.0), refl); same = ap f (sym m.1) }; fixed = λ c x b m _. ap f m.1 ∙ e ∙ sym m.1 }
+pub ignores-none : {A : Type 0} {a : A} {f : A → A} → f a ≡ a → IgnoresPlaces (λ c. none a) f
+ignores-none {a = a} {f = f} e = record { by = λ c x y b m same. record { tree = a; holds = (no-bares y (sym same ∙ ap bares m.0), refl); same = ap f (sym m.1) }; fixed = λ c x b m _. ap f m.1 ∙ e ∙ sym m.1 }
 
-pub blind-then : {A B : Type 0} {p : Limits → Rel A} {q : Limits → Rel B} {f : A → A} {g : B → B} → IgnoresPlaces p f → IgnoresPlaces q g → IgnoresPlaces (λ c. p c ⨾ q c) (λ x. (f x.0, g x.1))
-blind-then h k = record {
+pub ignores-then : {A B : Type 0} {p : Limits → Rel A} {q : Limits → Rel B} {f : A → A} {g : B → B} → IgnoresPlaces p f → IgnoresPlaces q g → IgnoresPlaces (λ c. p c ⨾ q c) (λ x. (f x.0, g x.1))
+ignores-then h k = record {
   by = λ c x y a m e.
       let s = splits m.front m.back y (sym (ap bares m.joined) ∙ e) in
       let i = h.by c m.front s.front a.0 m.first s.first in
@@ -87,16 +87,16 @@ blind-then h k = record {
 }
 
 -- what is made of a tree has its places from that tree
-pub blind-mapped : {A B : Type 0} {p : Limits → Rel A} {f : A → A} {g : B → B} {k : A → B} → ((a : A) → g (k a) ≡ k (f a)) → IgnoresPlaces p f → IgnoresPlaces (λ c. mapped k (p c)) g
-blind-mapped {f = f} {g = g} {k = k} e h = record {
+pub ignores-mapped : {A B : Type 0} {p : Limits → Rel A} {f : A → A} {g : B → B} {k : A → B} → ((a : A) → g (k a) ≡ k (f a)) → IgnoresPlaces p f → IgnoresPlaces (λ c. mapped k (p c)) g
+ignores-mapped {f = f} {g = g} {k = k} e h = record {
   by = λ c x y b m same.
       let i = h.by c x y m.value m.holds same in
       record { tree = k i.tree; holds = record { value = i.tree; holds = i.holds; is = refl }; same = e i.tree ∙ ap k i.same ∙ sym (e m.value) ∙ ap g (sym m.is) };
   fixed = λ c x b m is. ap g m.is ∙ e m.value ∙ ap k (h.fixed c x m.value m.holds is) ∙ sym m.is;
 }
 
-pub blind-either : {A : Type 0} {p q : Limits → Rel A} {f : A → A} → IgnoresPlaces p f → IgnoresPlaces q f → IgnoresPlaces (λ c. p c ∪ q c) f
-blind-either {A} {p} {q} {f} h k = record { by = by; fixed = fixed }
+pub ignores-either : {A : Type 0} {p q : Limits → Rel A} {f : A → A} → IgnoresPlaces p f → IgnoresPlaces q f → IgnoresPlaces (λ c. p c ∪ q c) f
+ignores-either {A} {p} {q} {f} h k = record { by = by; fixed = fixed }
   where
     by : (c : Limits) (x y : List Token) (a : A) → (p c ∪ q c) x a → bares x ≡ bares y → Same (p c ∪ q c) f y a
     by c x y a (inl m) e = let i = h.by c x y a m e in record { tree = i.tree; holds = inl i.holds; same = i.same }
@@ -106,8 +106,8 @@ blind-either {A} {p} {q} {f} h k = record { by = by; fixed = fixed }
     fixed c x a (inl m) e = h.fixed c x a m e
     fixed c x a (inr m) e = k.fixed c x a m e
 
-pub blind-star : {A : Type 0} {p : Limits → Rel A} {f : A → A} → IgnoresPlaces p f → IgnoresPlaces (λ c. star (p c)) (map f)
-blind-star {A} {p} {f} h = record { by = by; fixed = fixed }
+pub ignores-star : {A : Type 0} {p : Limits → Rel A} {f : A → A} → IgnoresPlaces p f → IgnoresPlaces (λ c. star (p c)) (map f)
+ignores-star {A} {p} {f} h = record { by = by; fixed = fixed }
   where
     by : (c : Limits) (x y : List Token) (a : List A) → star (p c) x a → bares x ≡ bares y → Same (star (p c)) (map f) y a
     by c x y [] m e = record { tree = []; holds = no-bares y (sym e ∙ ap bares m); same = refl }
@@ -123,11 +123,11 @@ blind-star {A} {p} {f} h = record { by = by; fixed = fixed }
         let s = fixed-at x m.front m.back m.joined e in
         ap₂ (λ (a : A) (l : List A). a ∷ l) (h.fixed c m.front a m.first s.0) (fixed c m.back more m.second s.1)
 
-pub blind-plus : {A : Type 0} {p : Limits → Rel A} {f : A → A} → IgnoresPlaces p f → IgnoresPlaces (λ c. plus (p c)) (map f)
-blind-plus {p = p} {f = f} h = blind-mapped {g = map f} {k = cons} (λ a. refl) (blind-then h (blind-star h))
+pub ignores-plus : {A : Type 0} {p : Limits → Rel A} {f : A → A} → IgnoresPlaces p f → IgnoresPlaces (λ c. plus (p c)) (map f)
+ignores-plus {p = p} {f = f} h = ignores-mapped {g = map f} {k = cons} (λ a. refl) (ignores-then h (ignores-star h))
 
-pub blind-nested : {A : Type 0} (k : Nesting) {p : Limits → Rel A} {f : A → A} → IgnoresPlaces p f → IgnoresPlaces (nested k p) f
-blind-nested {A} k {p} {f} h = record { by = λ c. by c (left k c); fixed = λ c. fixed c (left k c) }
+pub ignores-nested : {A : Type 0} (k : Nesting) {p : Limits → Rel A} {f : A → A} → IgnoresPlaces p f → IgnoresPlaces (nested k p) f
+ignores-nested {A} k {p} {f} h = record { by = λ c. by c (left k c); fixed = λ c. fixed c (left k c) }
   where
     by : (c : Limits) (n : ℕ) (x y : List Token) (a : A) → below k p c n x a → bares x ≡ bares y → Same (below k p c n) f y a
     by c zero x y a m e = absurd m
@@ -137,8 +137,8 @@ blind-nested {A} k {p} {f} h = record { by = λ c. by c (left k c); fixed = λ c
     fixed c zero x a m e = absurd m
     fixed c (suc n) x a m e = h.fixed (leave k c n) x a m e
 
-pub blind-same : {A : Type 0} {p q : Limits → Rel A} {f : A → A} → ((c : Limits) (x : List Token) (t : A) → p c x t ↔ q c x t) → IgnoresPlaces p f → IgnoresPlaces q f
-blind-same e h = record {
+pub ignores-same : {A : Type 0} {p q : Limits → Rel A} {f : A → A} → ((c : Limits) (x : List Token) (t : A) → p c x t ↔ q c x t) → IgnoresPlaces p f → IgnoresPlaces q f
+ignores-same e h = record {
   by = λ c x y a m same. let i = h.by c x y a ((e c x a).1 m) same in record { tree = i.tree; holds = (e c y i.tree).0 i.holds; same = i.same };
   fixed = λ c x a m is. h.fixed c x a ((e c x a).1 m) is;
 }
@@ -147,8 +147,8 @@ abbrev pub on-option : {A : Type 0} → (A → A) → Option A → Option A
 on-option f None = None
 on-option f (Some a) = Some (f a)
 
-pub blind-opt : {A : Type 0} {p : Limits → Rel A} {f : A → A} → IgnoresPlaces p f → IgnoresPlaces (λ c. opt (p c)) (on-option f)
-blind-opt {A} {p} {f} h = record { by = by; fixed = fixed }
+pub ignores-opt : {A : Type 0} {p : Limits → Rel A} {f : A → A} → IgnoresPlaces p f → IgnoresPlaces (λ c. opt (p c)) (on-option f)
+ignores-opt {A} {p} {f} h = record { by = by; fixed = fixed }
   where
     by : (c : Limits) (x y : List Token) (a : Option A) → opt (p c) x a → bares x ≡ bares y → Same (opt (p c)) (on-option f) y a
     by c x y None m e = record { tree = None; holds = no-bares y (sym e ∙ ap bares m); same = refl }

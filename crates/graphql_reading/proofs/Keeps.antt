@@ -23,6 +23,9 @@ keeps-any = record { by = λ x t h. tt }
 pub keeps-never : {A : Type 0} {P : A → Type 0} → Keeps never P
 keeps-never = record { by = λ x t h. absurd h }
 
+pub keeps-more : {A : Type 0} {p : Rel A} {P Q : A → Type 0} → ((a : A) → P a → Q a) → Keeps p P → Keeps p Q
+keeps-more h k = record { by = λ x t m. h t (k.by x t m) }
+
 pub keeps-mapped : {A B : Type 0} {f : A → B} {p : Rel A} {P : A → Type 0} {Q : B → Type 0} → ((a : A) → P a → Q (f a)) → Keeps p P → Keeps (mapped f p) Q
 keeps-mapped {A} {B} {f} {p} {P} {Q} h k = record { by = λ x t m. subst Q (sym m.is) (h m.value (k.by x m.value m.holds)) }
 

@@ -11,7 +11,7 @@ use Rattle.graphql_reading.proofs.Theory.{Exact, shrinks}
 use Rattle.graphql_reading.proofs.ReadsExactly.{ReadsExactly, BeginsWith}
 
 pub takes-one : {A : Type 0} {p : Limits → Rel A} {b : Limits} {f first : Test} {r : Reader A} → ReadsExactly p b f r → BeginsWith p first → (ts : List Token) (a : A) (rest : List Token) → r ts ≡ Read a rest → length rest < length ts
-takes-one {p = p} {b = b} {f = f} {first = first} {r = r} good led ts a rest e = shrinks p first b f ts a rest led.by (subst (Exact p b f ts) e (good.at ts))
+takes-one {p = p} {b = b} {f = f} {first = first} {r = r} exact leads ts a rest e = shrinks p first b f ts a rest leads.by (subst (Exact p b f ts) e (exact.at ts))
 
 abbrev pub pair-read : {A : Type 0} → A → List A → List Token → Outcome (A × List A)
 pair-read a b rest = Read (a, b) rest

@@ -9,18 +9,12 @@ use Rattle.graphql_reading.specs.reading.Outcome.{meant, meaning_at, Refused}
 use Rattle.graphql_reading.proofs.Theory.{Exact, IsStopped, IsInner, Begins, peek}
 use Rattle.graphql_reading.proofs.TokenTests.{HasSample}
 use Rattle.graphql_reading.proofs.ReadsExactly.{ReadsExactly, HasPhrase, BeginsWith}
-use Rattle.graphql_reading.proofs.IgnoresPlaces.{IgnoresPlaces, Same, no-bares}
+use Rattle.graphql_reading.proofs.IgnoresPlaces.{IgnoresPlaces, Same, no-bares, head-is, tail-is}
 
 -- the value is the one meaning, where there is any
 pub record Decides {A : Type 0} (value : Bare → Option A) (means : Bare → A → Type 0) : Type 0 where
   pub sound : (t : Bare) (a : A) → value t ≡ Some a → means t a
   pub complete : (t : Bare) (a : A) → means t a → value t ≡ Some a
-
-head-is : {A : Type 0} (s t : A) (y w : List A) → s ∷ y ≡ t ∷ w → s ≡ t
-head-is s t y w e = cc
-
-tail-is : {A : Type 0} (s t : A) (y w : List A) → s ∷ y ≡ t ∷ w → y ≡ w
-tail-is s t y w e = cc
 
 -- ---- it is read exactly
 
@@ -76,19 +70,19 @@ meaning-exact test value means inner decides b f (t ∷ ts) = go (test t.bare) r
     go true e = meant-exact test value means b f t ts inner decides e (value t.bare) refl
     go false e = no-token test means b f t ts e
 
-pub good-meaning : {A : Type 0} {test : Test} {value : Bare → Option A} {means : Bare → A → Type 0} {b : Limits} {f : Test} → IsInner test → Decides value means → ReadsExactly (λ c. meaning test means) b f (meaning_at test value)
-good-meaning {test = test} {value = value} {means = means} {b = b} {f = f} inner decides = record { at = meaning-exact test value means inner decides b f }
+pub exact-meaning : {A : Type 0} {test : Test} {value : Bare → Option A} {means : Bare → A → Type 0} {b : Limits} {f : Test} → IsInner test → Decides value means → ReadsExactly (λ c. meaning test means) b f (meaning_at test value)
+exact-meaning {test = test} {value = value} {means = means} {b = b} {f = f} inner decides = record { at = meaning-exact test value means inner decides b f }
 
 -- ---- what it begins with, samples, places
 
-pub led-meaning : {A : Type 0} (test : Test) (means : Bare → A → Type 0) → BeginsWith (λ c. meaning test means) test
-led-meaning test means = record { by = λ c x y a h. subst (λ (l : List Token). Begins test (l ++ y)) (sym h.0) h.1 }
+pub begins-meaning : {A : Type 0} (test : Test) (means : Bare → A → Type 0) → BeginsWith (λ c. meaning test means) test
+begins-meaning test means = record { by = λ c x y a h. subst (λ (l : List Token). Begins test (l ++ y)) (sym h.0) h.1 }
 
 pub has-meaning : {A : Type 0} {test : Test} (means : Bare → A → Type 0) (s : HasSample test) (a : A) → means s.token.bare a → HasPhrase (λ c. meaning test means)
 has-meaning means s a m = record { some = λ c. record { tail = s.token ∷ []; tree = (s.token, a); holds = (refl, s.passes, m); proper = (s.proper, tt) } }
 
-pub blind-meaning : {A : Type 0} (test : Test) (means : Bare → A → Type 0) → IgnoresPlaces (λ c. meaning test means) (λ x. (without_place x.0, x.1))
-blind-meaning {A} test means = record {
+pub ignores-meaning : {A : Type 0} (test : Test) (means : Bare → A → Type 0) → IgnoresPlaces (λ c. meaning test means) (λ x. (without_place x.0, x.1))
+ignores-meaning {A} test means = record {
   by = by;
   fixed = λ c x a m e. λ i. (head-is (without_place a.0) a.0 [] [] (subst (λ (l : List Token). without_places l ≡ l) m.0 e) i, a.1);
 }

@@ -8,29 +8,29 @@ use Rattle.graphql_reading.specs.reading.Outcome.{Outcome, Read, Refused, Reader
 use Rattle.graphql_reading.proofs.Parts.{none}
 use Rattle.graphql_reading.proofs.Theory.{Begins, Exact, Starts, IsSubset, outside, within-begins, leads-starts, choose-exact, none-exact}
 use Rattle.graphql_reading.proofs.ReadsExactly.{ReadsExactly, BeginsWith}
-use Rattle.graphql_reading.proofs.Extra.{Opens}
+use Rattle.graphql_reading.proofs.Extra.{FirstWithin}
 
 -- ---- alternatives of which the second may be empty
 
-pub good-choose_ahead : {A : Type 0} {p q : Limits → Rel A} {b : Limits} {f first : Test} {r s : Reader A} → BeginsWith p first → Opens q f (outside first) → ReadsExactly p b f r → ReadsExactly q b f s → ReadsExactly (λ c. p c ∪ q c) b f (choose_at first r s)
-good-choose_ahead {p = p} {q = q} {b = b} {f = f} {first = first} {r = r} {s = s} led out h k = record { at = λ ts. choose-exact p q b f first r s ts (leads-starts p f first led.by) out.by (h.at ts) (k.at ts) }
+pub exact-choose_ahead : {A : Type 0} {p q : Limits → Rel A} {b : Limits} {f first : Test} {r s : Reader A} → BeginsWith p first → FirstWithin q f (outside first) → ReadsExactly p b f r → ReadsExactly q b f s → ReadsExactly (λ c. p c ∪ q c) b f (choose_at first r s)
+exact-choose_ahead {p = p} {q = q} {b = b} {f = f} {first = first} {r = r} {s = s} leads out h k = record { at = λ ts. choose-exact p q b f first r s ts (leads-starts p f first leads.by) out.by (h.at ts) (k.at ts) }
 
-pub good-none : {A : Type 0} {a : A} {b : Limits} {f : Test} → ReadsExactly (λ c. none a) b f (none_at a)
-good-none {a = a} {b = b} {f = f} = record { at = none-exact a b f }
+pub exact-none : {A : Type 0} {a : A} {b : Limits} {f : Test} → ReadsExactly (λ c. none a) b f (none_at a)
+exact-none {a = a} {b = b} {f = f} = record { at = none-exact a b f }
 
-pub opens-none : {A : Type 0} {a : A} {f g : Test} → IsSubset f g → Opens (λ c. none a) f g
-opens-none {f = f} {g = g} h = record { by = λ c x y t m begins. within-begins f g h (x ++ y) (subst (λ (l : List Token). Begins f (l ++ y)) (sym m.0) begins) }
+pub first-none : {A : Type 0} {a : A} {f g : Test} → IsSubset f g → FirstWithin (λ c. none a) f g
+first-none {f = f} {g = g} h = record { by = λ c x y t m begins. within-begins f g h (x ++ y) (subst (λ (l : List Token). Begins f (l ++ y)) (sym m.0) begins) }
 
-pub opens-either : {A : Type 0} {p q : Limits → Rel A} {f g : Test} → Opens p f g → Opens q f g → Opens (λ c. p c ∪ q c) f g
-opens-either {p = p} {q = q} {f = f} {g = g} h k = record { by = by }
+pub first-either : {A : Type 0} {p q : Limits → Rel A} {f g : Test} → FirstWithin p f g → FirstWithin q f g → FirstWithin (λ c. p c ∪ q c) f g
+first-either {p = p} {q = q} {f = f} {g = g} h k = record { by = by }
   where
     by : Starts (λ c. p c ∪ q c) f g
     by c x y a (inl m) begins = h.by c x y a m begins
     by c x y a (inr m) begins = k.by c x y a m begins
 
 -- one reader in place of another
-pub good-reader : {A : Type 0} {p : Limits → Rel A} {b : Limits} {f : Test} {r s : Reader A} → ((ts : List Token) → r ts ≡ s ts) → ReadsExactly p b f r → ReadsExactly p b f s
-good-reader {p = p} {b = b} {f = f} e h = record { at = λ ts. subst (Exact p b f ts) (e ts) (h.at ts) }
+pub exact-reader : {A : Type 0} {p : Limits → Rel A} {b : Limits} {f : Test} {r s : Reader A} → ((ts : List Token) → r ts ≡ s ts) → ReadsExactly p b f r → ReadsExactly p b f s
+exact-reader {p = p} {b = b} {f = f} e h = record { at = λ ts. subst (Exact p b f ts) (e ts) (h.at ts) }
 
 -- ---- optional parts by the token in sight
 

@@ -24,76 +24,76 @@ pub record BeginsWith {A : Type 0} (p : Limits → Rel A) (g : Test) : Type 0 wh
 
 -- ---- readers
 
-pub good-one : {test : Test} {b : Limits} {f : Test} → IsInner test → ReadsExactly (λ c. one test) b f (one_at test)
-good-one {test} {b} {f} inner = record { at = one-exact test inner b f }
+pub exact-one : {test : Test} {b : Limits} {f : Test} → IsInner test → ReadsExactly (λ c. one test) b f (one_at test)
+exact-one {test} {b} {f} inner = record { at = one-exact test inner b f }
 
-pub good-punct : (word : String) {b : Limits} {f : Test} → ReadsExactly (λ c. one (punct word)) b f (one_at (punct word))
-good-punct word = good-one (punct-inner word)
+pub exact-punct : (word : String) {b : Limits} {f : Test} → ReadsExactly (λ c. one (punct word)) b f (one_at (punct word))
+exact-punct word = exact-one (punct-inner word)
 
-pub good-keyword : (word : String) {b : Limits} {f : Test} → ReadsExactly (λ c. one (keyword word)) b f (one_at (keyword word))
-good-keyword word = good-one (keyword-inner word)
+pub exact-keyword : (word : String) {b : Limits} {f : Test} → ReadsExactly (λ c. one (keyword word)) b f (one_at (keyword word))
+exact-keyword word = exact-one (keyword-inner word)
 
-pub good-name : {b : Limits} {f : Test} → ReadsExactly (λ c. one any_name) b f (one_at any_name)
-good-name = good-one any_name-inner
+pub exact-name : {b : Limits} {f : Test} → ReadsExactly (λ c. one any_name) b f (one_at any_name)
+exact-name = exact-one any_name-inner
 
-pub good-name_but : (words : List String) {b : Limits} {f : Test} → ReadsExactly (λ c. one (name_but words)) b f (one_at (name_but words))
-good-name_but words = good-one (name_but-inner words)
+pub exact-name_but : (words : List String) {b : Limits} {f : Test} → ReadsExactly (λ c. one (name_but words)) b f (one_at (name_but words))
+exact-name_but words = exact-one (name_but-inner words)
 
-pub good-mapped : {A B : Type 0} {g : A → B} {p : Limits → Rel A} {b : Limits} {f : Test} {r : Reader A} → ReadsExactly p b f r → ReadsExactly (λ c. mapped g (p c)) b f (mapped_at g r)
-good-mapped {g = g} {p = p} {b = b} {f = f} {r = r} h = record { at = λ ts. mapped-exact g p b f r ts (h.at ts) }
+pub exact-mapped : {A B : Type 0} {g : A → B} {p : Limits → Rel A} {b : Limits} {f : Test} {r : Reader A} → ReadsExactly p b f r → ReadsExactly (λ c. mapped g (p c)) b f (mapped_at g r)
+exact-mapped {g = g} {p = p} {b = b} {f = f} {r = r} h = record { at = λ ts. mapped-exact g p b f r ts (h.at ts) }
 
 -- a part that doesn't look ahead, and another
-pub good-next : {A B : Type 0} {p : Limits → Rel A} {q : Limits → Rel B} {b : Limits} {f : Test} {r : Reader A} {s : Reader B} → HasPhrase q → ReadsExactly p b anything r → ReadsExactly q b f s → ReadsExactly (λ c. p c ⨾ q c) b f (then_at r s)
-good-next {p = p} {q = q} {b = b} {f = f} {r = r} {s = s} has h k = record { at = λ ts. then-exact p q b f anything r s ts (starts-anything q f) has.some (h.at ts) (λ a rest _. k.at rest) }
+pub exact-next : {A B : Type 0} {p : Limits → Rel A} {q : Limits → Rel B} {b : Limits} {f : Test} {r : Reader A} {s : Reader B} → HasPhrase q → ReadsExactly p b anything r → ReadsExactly q b f s → ReadsExactly (λ c. p c ⨾ q c) b f (then_at r s)
+exact-next {p = p} {q = q} {b = b} {f = f} {r = r} {s = s} has h k = record { at = λ ts. then-exact p q b f anything r s ts (starts-anything q f) has.some (h.at ts) (λ a rest _. k.at rest) }
 
 -- a part that looks ahead, and another that isn't empty
-pub good-led : {A B : Type 0} {p : Limits → Rel A} {q : Limits → Rel B} {b : Limits} {f g : Test} {r : Reader A} {s : Reader B} → BeginsWith q g → HasPhrase q → ReadsExactly p b g r → ReadsExactly q b f s → ReadsExactly (λ c. p c ⨾ q c) b f (then_at r s)
-good-led {p = p} {q = q} {b = b} {f = f} {g = g} {r = r} {s = s} led has h k = record { at = λ ts. then-exact p q b f g r s ts (leads-starts q f g led.by) has.some (h.at ts) (λ a rest _. k.at rest) }
+pub exact-then-some : {A B : Type 0} {p : Limits → Rel A} {q : Limits → Rel B} {b : Limits} {f g : Test} {r : Reader A} {s : Reader B} → BeginsWith q g → HasPhrase q → ReadsExactly p b g r → ReadsExactly q b f s → ReadsExactly (λ c. p c ⨾ q c) b f (then_at r s)
+exact-then-some {p = p} {q = q} {b = b} {f = f} {g = g} {r = r} {s = s} leads has h k = record { at = λ ts. then-exact p q b f g r s ts (leads-starts q f g leads.by) has.some (h.at ts) (λ a rest _. k.at rest) }
 
 -- a part that looks ahead, and any number
-pub good-then-star : {A B : Type 0} {p : Limits → Rel A} {q : Limits → Rel B} {b : Limits} {f first g : Test} {r : Reader A} {s : Reader (List B)} → BeginsWith q first → IsSubset first g → IsSubset f g → ReadsExactly p b g r → ReadsExactly (λ c. star (q c)) b f s → ReadsExactly (λ c. p c ⨾ star (q c)) b f (then_at r s)
-good-then-star {p = p} {q = q} {b = b} {f = f} {first = first} {g = g} {r = r} {s = s} led in-first in-follow h k = record { at = λ ts. then-exact p (λ c. star (q c)) b f g r s ts (star-starts q f first g led.by in-first in-follow) (star-has q) (h.at ts) (λ a rest _. k.at rest) }
+pub exact-then-star : {A B : Type 0} {p : Limits → Rel A} {q : Limits → Rel B} {b : Limits} {f first g : Test} {r : Reader A} {s : Reader (List B)} → BeginsWith q first → IsSubset first g → IsSubset f g → ReadsExactly p b g r → ReadsExactly (λ c. star (q c)) b f s → ReadsExactly (λ c. p c ⨾ star (q c)) b f (then_at r s)
+exact-then-star {p = p} {q = q} {b = b} {f = f} {first = first} {g = g} {r = r} {s = s} leads in-first in-follow h k = record { at = λ ts. then-exact p (λ c. star (q c)) b f g r s ts (star-starts q f first g leads.by in-first in-follow) (star-has q) (h.at ts) (λ a rest _. k.at rest) }
 
-pub good-many : {A : Type 0} {p : Limits → Rel A} {b : Limits} {f first : Test} {r : Reader A} → BeginsWith p first → IsSubset f (outside first) → ReadsExactly p b anything r → ReadsExactly (λ c. star (p c)) b f (many_at first r)
-good-many {p = p} {b = b} {f = f} {first = first} {r = r} led away h = record { at = many-exact p b f first anything r led.by within-anything within-anything away h.at }
+pub exact-many : {A : Type 0} {p : Limits → Rel A} {b : Limits} {f first : Test} {r : Reader A} → BeginsWith p first → IsSubset f (outside first) → ReadsExactly p b anything r → ReadsExactly (λ c. star (p c)) b f (many_at first r)
+exact-many {p = p} {b = b} {f = f} {first = first} {r = r} leads away h = record { at = many-exact p b f first anything r leads.by within-anything within-anything away h.at }
 
-pub good-plus : {A : Type 0} {p : Limits → Rel A} {b : Limits} {f first : Test} {r : Reader A} → BeginsWith p first → IsSubset f (outside first) → ReadsExactly p b anything r → ReadsExactly (λ c. plus (p c)) b f (plus_at first r)
-good-plus {p = p} {b = b} {f = f} {first = first} {r = r} led away h = record { at = plus-exact p b f first anything r led.by within-anything within-anything away h.at }
+pub exact-plus : {A : Type 0} {p : Limits → Rel A} {b : Limits} {f first : Test} {r : Reader A} → BeginsWith p first → IsSubset f (outside first) → ReadsExactly p b anything r → ReadsExactly (λ c. plus (p c)) b f (plus_at first r)
+exact-plus {p = p} {b = b} {f = f} {first = first} {r = r} leads away h = record { at = plus-exact p b f first anything r leads.by within-anything within-anything away h.at }
 
-pub good-choose : {A : Type 0} {p q : Limits → Rel A} {b : Limits} {f first : Test} {r s : Reader A} → BeginsWith p first → BeginsWith q (outside first) → ReadsExactly p b f r → ReadsExactly q b f s → ReadsExactly (λ c. p c ∪ q c) b f (choose_at first r s)
-good-choose {p = p} {q = q} {b = b} {f = f} {first = first} {r = r} {s = s} led out h k = record { at = λ ts. choose-exact p q b f first r s ts (leads-starts p f first led.by) (leads-starts q f (outside first) out.by) (h.at ts) (k.at ts) }
+pub exact-choose : {A : Type 0} {p q : Limits → Rel A} {b : Limits} {f first : Test} {r s : Reader A} → BeginsWith p first → BeginsWith q (outside first) → ReadsExactly p b f r → ReadsExactly q b f s → ReadsExactly (λ c. p c ∪ q c) b f (choose_at first r s)
+exact-choose {p = p} {q = q} {b = b} {f = f} {first = first} {r = r} {s = s} leads out h k = record { at = λ ts. choose-exact p q b f first r s ts (leads-starts p f first leads.by) (leads-starts q f (outside first) out.by) (h.at ts) (k.at ts) }
 
-pub good-nested : {A : Type 0} (k : Nesting) {p : Limits → Rel A} {b : Limits} {f : Test} {r : Reader A} → ReadsExactly p b f r → ReadsExactly (nested k p) (deeper k b) f r
-good-nested k {p = p} {b = b} {f = f} {r = r} h = record { at = λ ts. nested-exact k p b f ts (r ts) (h.at ts) }
+pub exact-nested : {A : Type 0} (k : Nesting) {p : Limits → Rel A} {b : Limits} {f : Test} {r : Reader A} → ReadsExactly p b f r → ReadsExactly (nested k p) (deeper k b) f r
+exact-nested k {p = p} {b = b} {f = f} {r = r} h = record { at = λ ts. nested-exact k p b f ts (r ts) (h.at ts) }
 
-pub good-deep : {A : Type 0} (k : Nesting) {p : Limits → Rel A} {b : Limits} {test f : Test} → left k b ≡ 0 → ((c : Limits) (t : Token) → IsTrue (test t.bare) → Extends (p c) (t ∷ [])) → BeginsWith p test → ReadsExactly (nested k p) b f (deep_at test)
-good-deep k {p = p} {b = b} {test = test} {f = f} none has led = record { at = λ ts. deep-exact k p b test f ts none has led.by }
+pub exact-deep : {A : Type 0} (k : Nesting) {p : Limits → Rel A} {b : Limits} {test f : Test} → left k b ≡ 0 → ((c : Limits) (t : Token) → IsTrue (test t.bare) → Extends (p c) (t ∷ [])) → BeginsWith p test → ReadsExactly (nested k p) b f (deep_at test)
+exact-deep k {p = p} {b = b} {test = test} {f = f} none has leads = record { at = λ ts. deep-exact k p b test f ts none has leads.by }
 
-pub good-same : {A : Type 0} {p q : Limits → Rel A} {b : Limits} {f : Test} {r : Reader A} → ((c : Limits) (x : List Token) (t : A) → p c x t ↔ q c x t) → ReadsExactly p b f r → ReadsExactly q b f r
-good-same {p = p} {q = q} {b = b} {f = f} {r = r} e h = record { at = λ ts. same-exact p q b f ts (r ts) (λ c x t. (e c x t).0) (λ c x t. (e c x t).1) (h.at ts) }
+pub exact-same : {A : Type 0} {p q : Limits → Rel A} {b : Limits} {f : Test} {r : Reader A} → ((c : Limits) (x : List Token) (t : A) → p c x t ↔ q c x t) → ReadsExactly p b f r → ReadsExactly q b f r
+exact-same {p = p} {q = q} {b = b} {f = f} {r = r} e h = record { at = λ ts. same-exact p q b f ts (r ts) (λ c x t. (e c x t).0) (λ c x t. (e c x t).1) (h.at ts) }
 
 -- ---- what phrases begin with
 
-pub led-one : {test : Test} → BeginsWith (λ c. one test) test
-led-one {test} = record { by = Leads-one test }
+pub begins-one : {test : Test} → BeginsWith (λ c. one test) test
+begins-one {test} = record { by = Leads-one test }
 
-pub led-within : {A : Type 0} {p : Limits → Rel A} {f g : Test} → IsSubset f g → BeginsWith p f → BeginsWith p g
-led-within {p = p} {f = f} {g = g} h led = record { by = Leads-within p f g h led.by }
+pub begins-within : {A : Type 0} {p : Limits → Rel A} {f g : Test} → IsSubset f g → BeginsWith p f → BeginsWith p g
+begins-within {p = p} {f = f} {g = g} h leads = record { by = Leads-within p f g h leads.by }
 
-pub led-same : {A : Type 0} {p q : Limits → Rel A} {g : Test} → ((c : Limits) (x : List Token) (t : A) → p c x t ↔ q c x t) → BeginsWith p g → BeginsWith q g
-led-same e led = record { by = λ c x y a h. led.by c x y a ((e c x a).1 h) }
+pub begins-same : {A : Type 0} {p q : Limits → Rel A} {g : Test} → ((c : Limits) (x : List Token) (t : A) → p c x t ↔ q c x t) → BeginsWith p g → BeginsWith q g
+begins-same e leads = record { by = λ c x y a h. leads.by c x y a ((e c x a).1 h) }
 
-pub led-mapped : {A B : Type 0} {f : A → B} {p : Limits → Rel A} {g : Test} → BeginsWith p g → BeginsWith (λ c. mapped f (p c)) g
-led-mapped {f = f} {p = p} {g = g} h = record { by = Leads-mapped f p g h.by }
+pub begins-mapped : {A B : Type 0} {f : A → B} {p : Limits → Rel A} {g : Test} → BeginsWith p g → BeginsWith (λ c. mapped f (p c)) g
+begins-mapped {f = f} {p = p} {g = g} h = record { by = Leads-mapped f p g h.by }
 
-pub led-then : {A B : Type 0} {p : Limits → Rel A} {q : Limits → Rel B} {g : Test} → BeginsWith p g → BeginsWith (λ c. p c ⨾ q c) g
-led-then {p = p} {q = q} {g = g} h = record { by = Leads-then p q g h.by }
+pub begins-then : {A B : Type 0} {p : Limits → Rel A} {q : Limits → Rel B} {g : Test} → BeginsWith p g → BeginsWith (λ c. p c ⨾ q c) g
+begins-then {p = p} {q = q} {g = g} h = record { by = Leads-then p q g h.by }
 
-pub led-either : {A : Type 0} {p q : Limits → Rel A} {g : Test} → BeginsWith p g → BeginsWith q g → BeginsWith (λ c. p c ∪ q c) g
-led-either {p = p} {q = q} {g = g} h k = record { by = Leads-either p q g h.by k.by }
+pub begins-either : {A : Type 0} {p q : Limits → Rel A} {g : Test} → BeginsWith p g → BeginsWith q g → BeginsWith (λ c. p c ∪ q c) g
+begins-either {p = p} {q = q} {g = g} h k = record { by = Leads-either p q g h.by k.by }
 
-pub led-nested : {A : Type 0} (k : Nesting) {p : Limits → Rel A} {g : Test} → BeginsWith p g → BeginsWith (nested k p) g
-led-nested k {p = p} {g = g} h = record { by = Leads-nested k p g h.by }
+pub begins-nested : {A : Type 0} (k : Nesting) {p : Limits → Rel A} {g : Test} → BeginsWith p g → BeginsWith (nested k p) g
+begins-nested k {p = p} {g = g} h = record { by = Leads-nested k p g h.by }
 
 -- ---- phrases
 
@@ -116,7 +116,7 @@ pub has-first : {A : Type 0} {p q : Limits → Rel A} → HasPhrase p → HasPhr
 has-first {p = p} {q = q} h = record { some = has-left p q h.some }
 
 -- a phrase that begins with one token can be completed after it
-pub opens : {A B : Type 0} {f : Token × A → B} {q : Limits → Rel A} (test : Test) → HasPhrase q → (c : Limits) (t : Token) → IsTrue (test t.bare) → Extends (mapped f (one test ⨾ q c)) (t ∷ [])
-opens {f = f} test has c t e =
+pub extends-one : {A B : Type 0} {f : Token × A → B} {q : Limits → Rel A} (test : Test) → HasPhrase q → (c : Limits) (t : Token) → IsTrue (test t.bare) → Extends (mapped f (one test ⨾ q c)) (t ∷ [])
+extends-one {f = f} test has c t e =
     let m = has.some c in
     record { tail = m.tail; tree = f (t, m.tree); holds = record { value = (t, m.tree); holds = record { front = t ∷ []; back = m.tail; joined = refl; first = (refl, e); second = m.holds }; is = refl }; proper = m.proper }

@@ -476,15 +476,15 @@ shrinks p first b g ts a rest leads r = go r.used (leads b r.used [] a (r.holds 
     go (t ∷ u) h e = rw (e, length-append u rest) (omega arith)
 
 pub repeat-exact : {A : Type 0} (p : Limits → Rel A) (b : Limits) (f first g : Test) (r : Reader A) → Leads p first → IsSubset first g → IsSubset f g → IsSubset f (outside first) → ((ts : List Token) → Exact p b g ts (r ts)) → (n : ℕ) (ts : List Token) → length ts < n → Exact (λ c. star (p c)) b f ts (repeat_at n first r ts)
-repeat-exact p b f first g r leads in-first in-follow apart good zero ts lt = absurd (omega arith)
-repeat-exact {A} p b f first g r leads in-first in-follow apart good (suc n) ts lt =
+repeat-exact p b f first g r leads in-first in-follow apart exact zero ts lt = absurd (omega arith)
+repeat-exact {A} p b f first g r leads in-first in-follow apart exact (suc n) ts lt =
     same-exact (λ c. mapped cons (p c ⨾ star (p c)) ∪ none []) (λ c. star (p c)) b f ts (repeat_at (suc n) first r ts) to from
     (choose-exact (λ c. mapped cons (p c ⨾ star (p c))) (λ c. none []) b f first (mapped_at cons (then_at r (repeat_at n first r))) (none_at []) ts
     (λ c x y t m begins. subst (λ (l : List Token). Begins first l) (sym (append_assoc m.holds.front m.holds.back y) ∙ ap (λ (l : List Token). l ++ y) (sym m.holds.joined)) (leads c m.holds.front (m.holds.back ++ y) m.value.0 m.holds.first))
     (λ c x y t m begins. within-begins f (outside first) apart (x ++ y) (subst (λ (l : List Token). Begins f (l ++ y)) (sym m.0) begins))
     (mapped-exact cons (λ c. p c ⨾ star (p c)) b f (then_at r (repeat_at n first r)) ts
-    (then-exact p (λ c. star (p c)) b f g r (repeat_at n first r) ts (star-starts p f first g leads in-first in-follow) (star-has p) (good ts)
-    (λ a rest h. let less = shrinks p first b g ts a rest leads h in repeat-exact p b f first g r leads in-first in-follow apart good n rest (omega (arith, less)))))
+    (then-exact p (λ c. star (p c)) b f g r (repeat_at n first r) ts (star-starts p f first g leads in-first in-follow) (star-has p) (exact ts)
+    (λ a rest h. let less = shrinks p first b g ts a rest leads h in repeat-exact p b f first g r leads in-first in-follow apart exact n rest (omega (arith, less)))))
     (none-exact [] b f ts))
   where
     to : (c : Limits) (x : List Token) (t : List A) → (mapped cons (p c ⨾ star (p c)) ∪ none []) x t → star (p c) x t
@@ -497,7 +497,7 @@ repeat-exact {A} p b f first g r leads in-first in-follow apart good (suc n) ts 
 
 pub many-exact : {A : Type 0} (p : Limits → Rel A) (b : Limits) (f first g : Test) (r : Reader A) → Leads p first → IsSubset first g → IsSubset f g → IsSubset f (outside first) → ((ts : List Token) → Exact p b g ts (r ts)) → (ts : List Token) → Exact (λ c. star (p c)) b f ts (many_at first r ts)
 unfolding many_at
-many-exact p b f first g r leads in-first in-follow apart good ts = repeat-exact p b f first g r leads in-first in-follow apart good (suc (length ts)) ts (omega arith)
+many-exact p b f first g r leads in-first in-follow apart exact ts = repeat-exact p b f first g r leads in-first in-follow apart exact (suc (length ts)) ts (omega arith)
 
 -- ---- what phrases begin with
 
@@ -549,7 +549,7 @@ has-left p q h c = let m = h c in record { tail = m.tail; tree = m.tree; holds =
 
 pub plus-exact : {A : Type 0} (p : Limits → Rel A) (b : Limits) (f first g : Test) (r : Reader A) → Leads p first → IsSubset first g → IsSubset f g → IsSubset f (outside first) → ((ts : List Token) → Exact p b g ts (r ts)) → (ts : List Token) → Exact (λ c. plus (p c)) b f ts (plus_at first r ts)
 unfolding plus_at
-plus-exact p b f first g r leads in-first in-follow apart good ts =
+plus-exact p b f first g r leads in-first in-follow apart exact ts =
     mapped-exact cons (λ c. p c ⨾ star (p c)) b f (then_at r (many_at first r)) ts
-    (then-exact p (λ c. star (p c)) b f g r (many_at first r) ts (star-starts p f first g leads in-first in-follow) (star-has p) (good ts)
-    (λ a rest h. many-exact p b f first g r leads in-first in-follow apart good rest))
+    (then-exact p (λ c. star (p c)) b f g r (many_at first r) ts (star-starts p f first g leads in-first in-follow) (star-has p) (exact ts)
+    (λ a rest h. many-exact p b f first g r leads in-first in-follow apart exact rest))

@@ -13,7 +13,7 @@ use Rattle.graphql_reading.specs.reading.Outcome.{Outcome, Read, Refused, Reader
 use Rattle.graphql_reading.proofs.Theory.{Extends, proper-append, Exact, IsRead, IsStopped, IsDead, Dead, Quiet, Begins, peek, anything, one-refused, Then-refused-first, Then-refused-second, IsStopped-map, leads-starts, Leads-one}
 use Rattle.graphql_reading.proofs.TokenTests.{the_end-is, ended, sample, end-sample}
 use Rattle.graphql_reading.proofs.ReadsExactly.{ReadsExactly, HasPhrase, has-token, has-map, has-pair}
-use Rattle.graphql_reading.proofs.IgnoresPlaces.{IgnoresPlaces, blind-one, blind-mapped, blind-then}
+use Rattle.graphql_reading.proofs.IgnoresPlaces.{IgnoresPlaces, ignores-one, ignores-mapped, ignores-then}
 
 -- a refusal, told by the refused token and what stands after it; and no tree
 pub record Refuses {A : Type 0} (g : Grammar A) (limits : Limits) (tokens : List Token) (v : Verdict) (t : Token) (after : List Token) : Type 0 where
@@ -127,10 +127,10 @@ viable-bare front other e m = record { begun = m.begun; behind = m.behind; tree 
 completes-viable : {A : Type 0} {p : Rel A} (front : List Token) → Extends p front → Completes p front
 completes-viable front m = record { begun = front; behind = m.tail; tree = m.tree; alike = refl; proper = m.proper; holds = m.holds }
 
--- and back: to a relation that is blind to places, a front's own places do
+-- and back: to a relation that ignores places, a front's own places do
 pub viable-completes : {A : Type 0} {p : Limits → Rel A} {placeless : A → A} → IgnoresPlaces p placeless → (c : Limits) (front : List Token) → Completes (p c) front → Extends (p c) front
-viable-completes {p = p} blind c front m =
-    let s = blind.by c (m.begun ++ m.behind) (front ++ m.behind) m.tree m.holds (bares-append m.begun m.behind ∙ ap (λ (l : List Bare). l ++ bares m.behind) m.alike ∙ sym (bares-append front m.behind)) in
+viable-completes {p = p} ignores c front m =
+    let s = ignores.by c (m.begun ++ m.behind) (front ++ m.behind) m.tree m.holds (bares-append m.begun m.behind ∙ ap (λ (l : List Bare). l ++ bares m.behind) m.alike ∙ sym (bares-append front m.behind)) in
     record { tail = m.behind; tree = s.tree; holds = s.holds; proper = m.proper }
 
 shorter : {A : Type 0} {p : Rel A} (u rest front : List Token) → u ≡ front ++ rest → AreProper rest → Extends p u → Completes p front
@@ -144,18 +144,18 @@ dead-phrase : {A : Type 0} (p : Rel A) (front tail : List Token) (a : A) → IsD
 dead-phrase p front tail a dead h = dead (front ++ tail) (marker ∷ []) (tail ++ marker ∷ []) a h refl (append_assoc front tail (marker ∷ []))
 
 dead-viable : {A : Type 0} (p : Limits → Rel A) (placeless : A → A) → IgnoresPlaces p placeless → (c : Limits) (front : List Token) → IsDead (p c) anything front → Completes (p c) front → ⊥
-dead-viable p placeless blind c front dead m =
-    let n = viable-completes blind c front m in
+dead-viable p placeless ignores c front dead m =
+    let n = viable-completes ignores c front m in
     dead-phrase (p c) front n.tail n.tree dead n.holds
 
 -- ---- refusals
 
 refused : {A : Type 0} (p : Limits → Rel A) (placeless : A → A) (b : Limits) (ts : List Token) (v : Verdict) (rest : List Token) → HasPhrase p → IgnoresPlaces p placeless → EndsOnce ts → AreProperButFaults ts → IsStopped p b anything ts v rest → Says p placeless b ts (Refused v rest)
-refused {A} p placeless b ts v [] has blind ends cuts r = quiet-ends ts (subst Quiet (sym (r.split ∙ append-nil r.before)) r.quiet) ends
-refused {A} p placeless b ts v (t ∷ after) has blind ends cuts r = record {
+refused {A} p placeless b ts v [] has ignores ends cuts r = quiet-ends ts (subst Quiet (sym (r.split ∙ append-nil r.before)) r.quiet) ends
+refused {A} p placeless b ts v (t ∷ after) has ignores ends cuts r = record {
   before = r.before;
   split = r.split;
-  refusal = record { there = rw (r.split, length-append r.before (t ∷ after)) (omega arith); viable_before = before; not_viable = λ m. dead-viable p placeless blind b (r.before ++ t ∷ []) (dead-here v r.dead) (subst (Completes (p b)) first m); verdict_is = told v r.dead };
+  refusal = record { there = rw (r.split, length-append r.before (t ∷ after)) (omega arith); viable_before = before; not_viable = λ m. dead-viable p placeless ignores b (r.before ++ t ∷ []) (dead-here v r.dead) (subst (Completes (p b)) first m); verdict_is = told v r.dead };
   none = λ a h. dead-phrase (p b) (r.before ++ t ∷ []) after a (dead-here v r.dead) (subst (λ (l : List Token). p b l a) (r.split ∙ sym (append_assoc r.before (t ∷ []) after)) h);
 }
   where
@@ -175,7 +175,7 @@ refused {A} p placeless b ts v (t ∷ after) has blind ends cuts r = record {
     dead-here limit d = d.0
 
     told : (v : Verdict) → Dead p b anything v (r.before ++ t ∷ []) → IsVerdict p (take (suc (length r.before)) ts) v
-    told syntax d = λ m. dead-viable p placeless blind m.holds.0 (r.before ++ t ∷ []) (d m.holds.0) (subst (Completes (p m.holds.0)) first (record { begun = m.begun; behind = m.behind; tree = m.tree; alike = m.alike; proper = m.proper; holds = m.holds.1 }))
+    told syntax d = λ m. dead-viable p placeless ignores m.holds.0 (r.before ++ t ∷ []) (d m.holds.0) (subst (Completes (p m.holds.0)) first (record { begun = m.begun; behind = m.behind; tree = m.tree; alike = m.alike; proper = m.proper; holds = m.holds.1 }))
     told limit d =
         let c : Limits = record { selections = suc b.selections; values = suc b.values; types = suc b.types } in
         let m = d.1 c (omega arith) in
@@ -184,15 +184,15 @@ refused {A} p placeless b ts v (t ∷ after) has blind ends cuts r = record {
 -- ---- trees
 
 accepts : {A : Type 0} (p : Limits → Rel A) (placeless : A → A) (b : Limits) (ts : List Token) (a : A) → IgnoresPlaces p placeless → AreProper ts → p b ts a → ((c : Limits) (other : A) → p c ts other → other ≡ a) → ((c : Limits) (other another : A) → p b (without_places ts) another → p c (without_places ts) other → other ≡ another) → Accepts p placeless b ts a
-accepts p placeless b ts a blind proper holds only only-bare = record {
+accepts p placeless b ts a ignores proper holds only only-bare = record {
   tree = record { within = holds; only = λ other h. only h.0 other h.1; within_placeless = bare-holds; only_placeless = λ other h. only-bare h.0 other (placeless a) bare-holds h.1 };
   none = λ k v r. r.not_viable (record { begun = take k ts; behind = drop k ts; tree = a; alike = refl; proper = proper-drop k ts proper; holds = subst (λ (l : List Token). p b l a) (sym (take-append-drop k ts)) holds });
 }
   where
     bare-holds : p b (without_places ts) (placeless a)
     bare-holds =
-        let s = blind.by b ts (without_places ts) a holds (sym (bares-without ts)) in
-        subst (p b (without_places ts)) (sym (blind.fixed b (without_places ts) s.tree s.holds (without-twice ts)) ∙ s.same) s.holds
+        let s = ignores.by b ts (without_places ts) a holds (sym (bares-without ts)) in
+        subst (p b (without_places ts)) (sym (ignores.fixed b (without_places ts) s.tree s.holds (without-twice ts)) ∙ s.same) s.holds
 
 -- ---- the answer
 
@@ -208,46 +208,12 @@ after-body o = first-of (o >>= λ d rest. one_at the_end rest >>= pair-up d)
 pub has-whole : {A : Type 0} {p : Limits → Rel A} → HasPhrase p → HasPhrase (whole p)
 has-whole has = has-map (has-pair has (has-token end-sample))
 
-pub blind-whole : {A : Type 0} {p : Limits → Rel A} {placeless : A → A} → IgnoresPlaces p placeless → IgnoresPlaces (whole p) placeless
-blind-whole h = blind-mapped (λ a. refl) (blind-then h (blind-one the_end))
-
--- a list with a tree has one end and no fault
-quiet-then-end : (u : List Token) (e : Token) → Quiet u → is_last e.bare.kind ≡ true → EndsOnce (u ++ e ∷ [])
-quiet-then-end [] e q c = c
-quiet-then-end (t ∷ []) e q c = (q.0, c)
-quiet-then-end (t ∷ s ∷ u) e q c = (q.0, quiet-then-end (s ∷ u) e q.1 c)
-
-pub whole-ends : {A : Type 0} (p : Limits → Rel A) (c : Limits) (r : Reader A) → ReadsExactly p c the_end r → (ts : List Token) (x : A) → whole p c ts x → EndsOnce ts
-whole-ends {A} p c r good ts x h = go (r ts) (good.at ts)
-  where
-    ended : is_last h.value.1.bare.kind ≡ true
-    ended = end-last h.value.1.bare h.holds.second.1
-
-    joined : ts ≡ h.holds.front ++ h.value.1 ∷ []
-    joined = h.holds.joined ∙ ap (λ (l : List Token). h.holds.front ++ l) h.holds.second.0
-
-    begins : Begins the_end h.holds.back
-    begins = subst (λ (l : List Token). Begins the_end l) (sym h.holds.second.0) h.holds.second.1
-
-    ends-at : (u : List Token) → Quiet u → h.holds.front ≡ u → EndsOnce ts
-    ends-at u q e = subst EndsOnce (sym (joined ∙ ap (λ (l : List Token). l ++ h.value.1 ∷ []) e)) (quiet-then-end u h.value.1 q ended)
-
-    go : (o : Outcome A) → Exact p c the_end ts o → EndsOnce ts
-    go (Read a []) m = absurd (quiet-last h.holds.front h.value.1 ended (subst Quiet (sym (append-nil m.used) ∙ sym m.split ∙ joined) m.quiet))
-    go (Read a (e ∷ after)) m = ends-at m.used m.quiet (m.only c h.holds.front h.holds.back after h.value.0 h.holds.first begins (sym h.holds.joined ∙ m.split ∙ sym (append_assoc m.used (e ∷ []) after))).0
-    go (Refused v []) m = absurd (quiet-last h.holds.front h.value.1 ended (subst Quiet (sym (append-nil m.before) ∙ sym m.split ∙ joined) m.quiet))
-    go (Refused v (t ∷ after)) m = absurd (dead-here v m.dead)
-      where
-        kill : IsDead (p c) the_end (m.before ++ t ∷ []) → ⊥
-        kill d = d h.holds.front h.holds.back after h.value.0 h.holds.first begins (sym h.holds.joined ∙ m.split ∙ sym (append_assoc m.before (t ∷ []) after))
-
-        dead-here : (v : Verdict) → Dead p c the_end v (m.before ++ t ∷ []) → ⊥
-        dead-here syntax d = kill (d c)
-        dead-here limit d = kill d.0
+pub ignores-whole : {A : Type 0} {p : Limits → Rel A} {placeless : A → A} → IgnoresPlaces p placeless → IgnoresPlaces (whole p) placeless
+ignores-whole h = ignores-mapped (λ a. refl) (ignores-then h (ignores-one the_end))
 
 -- all trees of a list that ends are equal
 pub one-tree : {A : Type 0} (p : Limits → Rel A) (b : Limits) (r : Reader A) → ReadsExactly p b the_end r → (ts : List Token) (c : Limits) (x y : A) → whole p b ts x → whole p c ts y → y ≡ x
-one-tree {A} p b r good ts c x y h k = go (r ts) (good.at ts)
+one-tree {A} p b r exact ts c x y h k = go (r ts) (exact.at ts)
   where
     behind : (n : List Token) (e : Token) → one the_end n e → Begins the_end n
     behind n e m = subst (λ (l : List Token). Begins the_end l) (sym m.0) m.1
@@ -275,10 +241,10 @@ one-tree {A} p b r good ts c x y h k = go (r ts) (good.at ts)
         dead-here limit d = kill d.0
 
 pub whole-answers : {A : Type 0} {p : Limits → Rel A} {placeless : A → A} {b : Limits} {r : Reader A} → HasPhrase p → IgnoresPlaces p placeless → ReadsExactly p b the_end r → (ts : List Token) → EndsOnce ts → AreProperButFaults ts → Says (whole p) placeless b ts (whole_at r ts)
-whole-answers {A} {p} {placeless} {b} {r} has blind good ts ends cuts = go (r ts) (good.at ts)
+whole-answers {A} {p} {placeless} {b} {r} has ignores exact ts ends cuts = go (r ts) (exact.at ts)
   where
     as-whole : (v : Verdict) (rest : List Token) → IsStopped (λ c. p c ⨾ one the_end) b anything ts v rest → Says (whole p) placeless b ts (Refused v rest)
-    as-whole v rest r = refused (whole p) placeless b ts v rest (has-whole has) (blind-whole blind) ends cuts (IsStopped-map (λ c. p c ⨾ one the_end) (whole p) (λ x. x.0) b anything ts v rest (λ c x t h. record { value = t; holds = h; is = refl }) (λ c x t h. (h.value, h.holds)) r)
+    as-whole v rest r = refused (whole p) placeless b ts v rest (has-whole has) (ignores-whole ignores) ends cuts (IsStopped-map (λ c. p c ⨾ one the_end) (whole p) (λ x. x.0) b anything ts v rest (λ c x t h. record { value = t; holds = h; is = refl }) (λ c x t h. (h.value, h.holds)) r)
 
     at-end : (d : A) (e : Token) (after : List Token) → IsRead p b the_end ts d (e ∷ after) → (w : Bool) → the_end e.bare ≡ w → Says (whole p) placeless b ts (first-of (cond w (Read e after) (Refused syntax (e ∷ after)) >>= pair-up d))
     at-end d e after r true is-end =
@@ -286,9 +252,9 @@ whole-answers {A} {p} {placeless} {b} {r} has blind good ts ends cuts = go (r ts
         let joined : ts ≡ r.used ++ e ∷ [] = r.split ∙ ap (λ (l : List Token). r.used ++ e ∷ l) nothing in
         let holds : whole p b ts d = record { value = (d, e); holds = record { front = r.used; back = e ∷ []; joined = joined; first = r.holds b (omega arith); second = (refl, is-end) }; is = refl } in (
           nothing,
-          accepts (whole p) placeless b ts d (blind-whole blind) (subst AreProper (sym joined) (proper-append r.used (e ∷ []) (quiet-proper r.used (e ∷ after) r.quiet (subst AreProperButFaults r.split cuts)) (end-proper e is-end (cut-behind r.used (e ∷ after) (subst AreProperButFaults r.split cuts)).0, tt))) holds
-              (λ c other h. one-tree p b _ good ts c d other holds h)
-              (λ c other another h k. one-tree p b _ good (without_places ts) c another other h k),
+          accepts (whole p) placeless b ts d (ignores-whole ignores) (subst AreProper (sym joined) (proper-append r.used (e ∷ []) (quiet-proper r.used (e ∷ after) r.quiet (subst AreProperButFaults r.split cuts)) (end-proper e is-end (cut-behind r.used (e ∷ after) (subst AreProperButFaults r.split cuts)).0, tt))) holds
+              (λ c other h. one-tree p b _ exact ts c d other holds h)
+              (λ c other another h k. one-tree p b _ exact (without_places ts) c another other h k),
         )
       where
         end-proper : (e : Token) → the_end e.bare ≡ true → (e.bare.kind ≡ Fault) ⊎ IsProper e → IsProper e
@@ -339,26 +305,7 @@ refusal-bare {A} g limits ts us k v e r = record {
     told limit m = viable-bare (take k ts) (take k us) (same k) m
 
 -- and so do trees, up to places
-pub trees-bare : {A : Type 0} {g : Limits → Rel A} {placeless : A → A} {limits : Limits} {ts us : List Token} {a b : A} → IgnoresPlaces g placeless → bares ts ≡ bares us → IsTheTree g placeless limits ts a → IsTheTree g placeless limits us b → placeless a ≡ placeless b
-trees-bare {A} {g} {placeless} {limits} {ts} {us} {a} {b} blind e h k =
-    let s = blind.by limits ts us a h.within e in
-    sym s.same ∙ ap placeless (k.only s.tree (limits, s.holds))
-
--- a list that ends has a tree within the limits or a refused token, and never both
-pub record HasTree {A : Type 0} (g : Grammar A) (placeless : A → A) (limits : Limits) (ts : List Token) : Type 0 where
-  pub tree : A
-  pub is : Accepts g placeless limits ts tree
-
-pub record HasRefusal {A : Type 0} (g : Grammar A) (limits : Limits) (ts : List Token) : Type 0 where
-  pub k : ℕ
-  pub verdict : Verdict
-  pub is : IsRefused g limits ts k verdict
-  pub none : (tree : A) → g limits ts tree → ⊥
-
-pub decided : {A : Type 0} {p : Limits → Rel A} {placeless : A → A} {b : Limits} {r : Reader A} → HasPhrase p → IgnoresPlaces p placeless → ReadsExactly p b the_end r → (ts : List Token) → EndsOnce ts → AreProperButFaults ts → HasTree (whole p) placeless b ts ⊎ HasRefusal (whole p) b ts
-decided {A} {p} {placeless} {b} {r} has blind good ts ends cuts = go (whole_at r ts) (whole-answers has blind good ts ends cuts)
-  where
-    go : (o : Outcome A) → Says (whole p) placeless b ts o → HasTree (whole p) placeless b ts ⊎ HasRefusal (whole p) b ts
-    go (Read a rest) h = inl (record { tree = a; is = h.1 })
-    go (Refused v []) h = absurd h
-    go (Refused v (t ∷ after)) h = inr (record { k = suc (length h.before); verdict = v; is = h.refusal; none = h.none })
+pub trees-bare : {A : Type 0} {p : Limits → Rel A} {placeless : A → A} {b : Limits} {r : Reader A} → IgnoresPlaces p placeless → ReadsExactly p b the_end r → (ts us : List Token) (x y : A) → bares ts ≡ bares us → whole p b ts x → whole p b us y → placeless x ≡ placeless y
+trees-bare {p = p} {placeless = placeless} {b = b} {r = r} ignores exact ts us x y e h k =
+    let s = (ignores-whole ignores).by b ts us x h e in
+    sym s.same ∙ ap placeless (one-tree p b r exact us b y s.tree k s.holds)

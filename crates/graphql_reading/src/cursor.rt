@@ -60,11 +60,11 @@ impl<'a> Model for Cursor<'a> {
 
     ghost Value = { Ahead };
 
-    ghost use Rattle.graphql_reading.specs.reading.Cursor.{shown, IsReading};
+    ghost use Rattle.graphql_reading.specs.reading.Cursor.{shown, IsWellCut};
 
     ghost view = { shown };
 
-    ghost invariant = { IsReading };
+    ghost invariant = { IsWellCut };
 }
 
 impl<'a> Cursor<'a> {

@@ -13,6 +13,6 @@
 
 pub mod cursor;
 pub mod limits;
-pub mod list;
 pub mod names;
+pub mod nodes;
 pub mod production;

@@ -9,7 +9,7 @@ ghost use Rattle.graphql_reading.specs.reading.Outcome.{Reader, Takes, mapped_at
 ghost use Rattle.graphql_reading.specs.reading.Spelled.{punct_of};
 
 use crate::cursor::{Cursor, Reading};
-use crate::list::push;
+use crate::nodes::add_node;
 use std::alloc::Global;
 
 /// A production of the grammar: the tokens that its phrases begin with, and how one of them is read.
@@ -55,7 +55,7 @@ pub fn one_or_more<P: Production>(
     let mut nodes = Vec::with_capacity(alloc, 1)?;
     loop {
         let node = P::read(alloc, cursor, budget)?;
-        push(&mut nodes, node)?;
+        add_node(&mut nodes, node)?;
         if !P::is_next(cursor) {
             return Ok(nodes);
         }

@@ -1,29 +1,26 @@
 -- In each request that the grammar relates to tokens no object has a name twice.
-use Rattle.std.proofs.Common.{◌≡◌, ℕ, zero, suc, true, Option, Some, None, List, [], ◌∷◌, sym, subst}
+use Rattle.std.proofs.Common.{ℕ, zero, suc, true, Option, Some, None, List, [], ◌∷◌, sym, subst}
 use Rattle.std.specs.List.{AllByRecursion}
 use Rattle.graphql_tokens.specs.declared.pos.Positioned.{Positioned}
 use Rattle.graphql_tokens.specs.tokens.Edition.{Current}
 use Rattle.graphql_tokens.specs.tokens.Token.{Token}
-use Rattle.graphql_syntax.specs.trees.Request.{Name, Directives, VariableDefinition, Selection, set_of, OperationDefinition, FragmentDefinition, single, multiple}
+use Rattle.graphql_syntax.specs.trees.Request.{Name, Directives, VariableDefinition, Selection, set_of, OperationDefinition}
 use Rattle.graphql_grammar.specs.answers.Language.{grammar}
-use Rattle.graphql_grammar.specs.grammar.Distinct.{IsDistinctValue, AreDistinctArguments, IsDistinctDirective, AreDistinctDirectives}
+use Rattle.graphql_grammar.specs.grammar.Distinct.{IsDistinctValue, AreDistinctArguments, AreDistinctDirectives}
 use Rattle.graphql_grammar.specs.grammar.Operations.{operation_type}
 use Rattle.graphql_grammar.specs.grammar.Types.{type_reference}
 use Rattle.graphql_grammar.specs.grammar.Values.{Value}
 use Rattle.graphql_grammar.proofs.DistinctValues.{keeps-arguments, given-distinct, keeps-directive, keeps-directives, keeps-default}
 use Rattle.graphql_reading.specs.grammar.Limits.{Limits}
-use Rattle.graphql_reading.specs.grammar.Relations.{Rel, one, never, opt, given}
+use Rattle.graphql_reading.specs.grammar.Relations.{Rel, one, opt, given}
 use Rattle.graphql_reading.specs.grammar.Tests.{punct, keyword, any_name}
-use Rattle.graphql_reading.proofs.Keeps.{Keeps, Anything, BothOf, OfOption, keeps-any, keeps-never, keeps-mapped, keeps-then, keeps-either, keeps-opt, keeps-plus}
+use Rattle.graphql_reading.proofs.Keeps.{Keeps, Anything, BothOf, OfOption, keeps-any, keeps-never, keeps-more, keeps-mapped, keeps-then, keeps-either, keeps-opt, keeps-plus}
 use Rattle.graphql_requests.specs.grammar.Documents.{named_operations, fragments, operations_beside}
 use Rattle.graphql_requests.specs.grammar.Laws.{IsDistinctDefault, IsDistinctVariable, IsDistinctSelection, IsDistinctSet, HasDistinctObjects, FragmentHasDistinctObjects, OperationsHaveDistinctObjects}
-use Rattle.graphql_requests.specs.grammar.Request.{Definition, operation, fragment, own_set, a_short_operation, a_full_operation, a_fragment, a_definition, definitions}
+use Rattle.graphql_requests.specs.grammar.Request.{Definition, operation, fragment, own_set, a_definition}
 use Rattle.graphql_requests.specs.grammar.Requests.{requests}
 use Rattle.graphql_requests.specs.grammar.Selections.{Set, set_or_none, aliased, fragment_name, a_type_condition, a_selection, selection_set}
 use Rattle.graphql_requests.specs.grammar.Variables.{default_and_directives, a_variable_definition, variable_definitions}
-
-keeps-more : {A : Type 0} {p : Rel A} {P Q : A → Type 0} → ((a : A) → P a → Q a) → Keeps p P → Keeps p Q
-keeps-more h k = record { by = λ x t m. h t (k.by x t m) }
 
 -- ---- variable definitions
 

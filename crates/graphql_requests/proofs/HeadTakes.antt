@@ -16,7 +16,7 @@ use Rattle.graphql_reading.proofs.Theory.{Exact}
 use Rattle.graphql_reading.proofs.TokenTests.{punct-within}
 use Rattle.graphql_reading.proofs.ReadsExactly.{ReadsExactly}
 use Rattle.graphql_reading.proofs.Loop.{Takes}
-use Rattle.graphql_grammar.proofs.ArgumentProductions.{good-maybe_arguments, good-directives}
+use Rattle.graphql_grammar.proofs.ArgumentProductions.{exact-maybe_arguments, exact-directives}
 use Rattle.graphql_requests.proofs.SelectionProductions.{takes-selection}
 
 pub item-takes : (values s : ℕ) → Takes (item_at values s)
@@ -55,8 +55,8 @@ below-deep A n test [] = tt
 below-deep A n test (t ∷ ts) = below-cond n (test t.bare) _ _ tt tt
 
 -- what is read exactly is a beginning
-below-good : {A : Type 0} {p : Limits → Rel A} {b : Limits} {f : Test} {r : Reader A} → ReadsExactly p b f r → (n : ℕ) (ts : List Token) → length ts < n → Below n (r ts)
-below-good {A} {p} {b} {f} {r} good n ts lt = go (r ts) (good.at ts)
+below-exact : {A : Type 0} {p : Limits → Rel A} {b : Limits} {f : Test} {r : Reader A} → ReadsExactly p b f r → (n : ℕ) (ts : List Token) → length ts < n → Below n (r ts)
+below-exact {A} {p} {b} {f} {r} exact n ts lt = go (r ts) (exact.at ts)
   where
     go : (o : Outcome A) → Exact p b f ts o → Below n o
     go (Read a rest) h = omega (arith, lt, ap length h.split, length-append h.used rest)
@@ -66,10 +66,10 @@ abbrev budget : ℕ → Limits
 budget values = record { selections = 0; values = values; types = 0 }
 
 below-arguments : (values n : ℕ) (ts : List Token) → length ts < n → Below n (maybe_arguments_at true values ts)
-below-arguments values = below-good (good-maybe_arguments true {b = budget values} {f = punct "}"} (punct-within "}" refl))
+below-arguments values = below-exact (exact-maybe_arguments true {b = budget values} {f = punct "}"} (punct-within "}" refl))
 
 below-directives : (values n : ℕ) (ts : List Token) → length ts < n → Below n (directives_at true values ts)
-below-directives values = below-good (good-directives true {b = budget values} {f = punct "}"} (punct-within "}" refl) (punct-within "}" refl))
+below-directives values = below-exact (exact-directives true {b = budget values} {f = punct "}"} (punct-within "}" refl) (punct-within "}" refl))
 
 -- ---- the parts of a selection
 

@@ -7,7 +7,7 @@ use Rattle.graphql_syntax.specs.trees.Request.{placed, Name, Arguments, Directiv
 use Rattle.graphql_reading.specs.grammar.Relations.{given}
 use Rattle.graphql_reading.specs.grammar.Fronts.{syntax, limit}
 use Rattle.graphql_reading.specs.grammar.Places.{name_of}
-use Rattle.graphql_requests.specs.grammar.Selections.{Set, alias_of, field_of, inline_of, fragment_name, selections_of}
+use Rattle.graphql_requests.specs.grammar.Selections.{Set, alias_of, field_of, inline_of, fragment_name, selection_set_of}
 use Rattle.graphql_reading.specs.grammar.Tests.{punct, any_name}
 use Rattle.graphql_grammar.specs.reading.Arguments.{maybe_arguments_at, directives_at}
 use Rattle.graphql_requests.specs.reading.SelectionSteps.{Heading, with_set, may_nest, maybe_brace_at, given_arguments_at, Names, as_names, behind_colon_at, names_at, bare_field, bare_spread, bare_inline, maybe_condition_at, inline_head_at, behind_dots_at, field_head_at, head_at, deeper_at, rest_at, item_at, closed, close_at, behind_rest, more, begun, wanted_rest, headed}
@@ -25,7 +25,7 @@ set-is values zero ts = refl
 set-is values (suc s) ts = refl
 
 abbrev set-read : Token × (List (Positioned Selection) × Token) → List Token → Outcome Set
-set-read x rest = Read (selections_of x) rest
+set-read x rest = Read (selection_set_of x) rest
 
 pub set-law : (values s : ℕ) (ts : List Token) → selection_set_at values s ts ≡ (one_at (punct "{") ts >>= λ t rest. wanted_rest values s (begun t.pos) rest)
 unfolding plus_at behind_rest

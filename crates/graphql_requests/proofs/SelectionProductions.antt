@@ -9,17 +9,17 @@ use Rattle.graphql_reading.specs.grammar.Tests.{Test, punct, keyword, any_name}
 use Rattle.graphql_reading.specs.grammar.Limits.{Limits}
 use Rattle.graphql_reading.specs.grammar.Relations.{Rel, one, never, ◌⨾◌, ◌∪◌, mapped, plus, opt}
 use Rattle.graphql_grammar.specs.grammar.Arguments.{arguments, directive_of, a_directive, directives}
-use Rattle.graphql_requests.specs.grammar.Selections.{Set, aliased, a_field, fragment_name, spread_of, a_spread, condition_of, a_type_condition, inline_of, an_inline_fragment, a_selection, selections_of, a_set, selection_set}
+use Rattle.graphql_requests.specs.grammar.Selections.{Set, aliased, a_field, fragment_name, spread_of, a_spread, condition_of, a_type_condition, inline_of, an_inline_fragment, a_selection, selection_set_of, a_set, selection_set}
 use Rattle.graphql_reading.specs.reading.Outcome.{Reader, one_at, then_at, mapped_at, choose_at, opt_at, deep_at}
 use Rattle.graphql_grammar.specs.reading.Arguments.{maybe_arguments_at, directives_at}
 use Rattle.graphql_requests.specs.reading.Selections.{as_alias, aliased_at, field_at, type_condition_at, Inline, inline_first, inline_at, AfterDots, a_name, an_inline, dotted, dots_at, selection_first, selection_at, a_set_at, selection_set_at}
 use Rattle.graphql_reading.proofs.Parts.{nested, below, of_selections}
 use Rattle.graphql_reading.proofs.Theory.{Extends, IsSubset, outside, anything}
 use Rattle.graphql_reading.proofs.TokenTests.{punctuator, itself, within-either, punct-within, keyword-within, any_name-within, sample, word_of, HasSample, punct-sample, keyword-sample, name-sample, name-spells}
-use Rattle.graphql_reading.proofs.ReadsExactly.{ReadsExactly, HasPhrase, BeginsWith, good-punct, good-keyword, good-name, good-name_but, good-mapped, good-next, good-led, good-choose, good-nested, good-deep, good-same, led-one, led-within, led-same, led-mapped, led-then, led-either, led-nested, has-token, has-pair, has-map, has-plus, has-first, opens}
-use Rattle.graphql_reading.proofs.Extra.{Opens, good-seq, opens-led, opens-opt, opens-then, good-plus-ahead, has-opt, good-opt, led-opt, led-star, either-way, factored, sets-behind, then-same, both-ways}
+use Rattle.graphql_reading.proofs.ReadsExactly.{ReadsExactly, HasPhrase, BeginsWith, exact-punct, exact-keyword, exact-name, exact-name_but, exact-mapped, exact-next, exact-then-some, exact-choose, exact-nested, exact-deep, exact-same, begins-one, begins-within, begins-same, begins-mapped, begins-then, begins-either, begins-nested, has-token, has-pair, has-map, has-plus, has-first, extends-one}
+use Rattle.graphql_reading.proofs.Extra.{FirstWithin, exact-seq, first-begins, first-opt, first-then, exact-plus-ahead, has-opt, exact-opt, begins-opt, begins-star, either-way, factored, sets-behind, then-same, both-ways}
 use Rattle.graphql_reading.proofs.Loop.{Takes, takes-one}
-use Rattle.graphql_grammar.proofs.ArgumentProductions.{good-maybe_arguments, opens-maybe_arguments, has-maybe_arguments, led-directive, good-directives, opens-directives, has-directives}
+use Rattle.graphql_grammar.proofs.ArgumentProductions.{exact-maybe_arguments, first-maybe_arguments, has-maybe_arguments, begins-directive, exact-directives, first-directives, has-directives}
 
 -- ---- names and aliases
 
@@ -63,13 +63,13 @@ factor x t m = go t.0 m.first
       is = refl;
     }
 
-pub good-aliased : {b : Limits} {f : Test} → IsSubset f (outside (punct ":")) → ReadsExactly (λ c. aliased) b f aliased_at
-good-aliased away =
-    good-same {p = λ c. turned} (λ c x t. (unfactor x t, factor x t)) (good-mapped (good-next (has-opt {p = λ c. second-name}) good-name
-    (good-opt (led-mapped (led-then led-one)) away (good-mapped (good-next (has-token name-sample) (good-punct ":") good-name)))))
+pub exact-aliased : {b : Limits} {f : Test} → IsSubset f (outside (punct ":")) → ReadsExactly (λ c. aliased) b f aliased_at
+exact-aliased away =
+    exact-same {p = λ c. turned} (λ c x t. (unfactor x t, factor x t)) (exact-mapped (exact-next (has-opt {p = λ c. second-name}) exact-name
+    (exact-opt (begins-mapped (begins-then begins-one)) away (exact-mapped (exact-next (has-token name-sample) (exact-punct ":") exact-name)))))
 
-pub led-aliased : BeginsWith (λ c. aliased) any_name
-led-aliased = led-same {p = λ c. turned} (λ c x t. (unfactor x t, factor x t)) (led-mapped {p = λ c. one any_name ⨾ opt second-name} (led-then led-one))
+pub begins-aliased : BeginsWith (λ c. aliased) any_name
+begins-aliased = begins-same {p = λ c. turned} (λ c x t. (unfactor x t, factor x t)) (begins-mapped {p = λ c. one any_name ⨾ opt second-name} (begins-then begins-one))
 
 pub has-aliased : HasPhrase (λ c. aliased)
 has-aliased = has-pair (has-opt {p = λ c. mapped (λ x. x.0) (one any_name ⨾ one (punct ":"))}) (has-token name-sample)
@@ -107,14 +107,14 @@ nothing-or-set = after-within (any_name-within (λ w. refl)) (punct-within "..."
 abbrev behind-arguments : (Limits → Rel Set) → Limits → Rel (Directives × Option Set)
 behind-arguments set c = directives Current true c.values ⨾ opt (set c)
 
-good-behind-arguments : {set : Limits → Rel Set} {b : Limits} {r : Reader Set} → BeginsWith set (punct "{") → ReadsExactly set b after_selection r → ReadsExactly (behind-arguments set) b after_selection (then_at (directives_at true b.values) (opt_at (punct "{") r))
-good-behind-arguments {set} led h =
-    good-seq {g = after_directives} (opens-opt led (punct-within "{" refl) nothing-or-set) (has-opt {p = set})
-    (good-directives true (within-either (punct-within "{" refl) no-arguments) (within-either (punct-within "{" refl) no-directive))
-    (good-opt led no-set h)
+exact-behind-arguments : {set : Limits → Rel Set} {b : Limits} {r : Reader Set} → BeginsWith set (punct "{") → ReadsExactly set b after_selection r → ReadsExactly (behind-arguments set) b after_selection (then_at (directives_at true b.values) (opt_at (punct "{") r))
+exact-behind-arguments {set} leads h =
+    exact-seq {g = after_directives} (first-opt leads (punct-within "{" refl) nothing-or-set) (has-opt {p = set})
+    (exact-directives true (within-either (punct-within "{" refl) no-arguments) (within-either (punct-within "{" refl) no-directive))
+    (exact-opt leads no-set h)
 
-opens-behind-arguments : {set : Limits → Rel Set} {g : Test} → IsTrue (g (punctuator "@")) → IsTrue (g (punctuator "{")) → IsSubset after_selection g → BeginsWith set (punct "{") → Opens (behind-arguments set) after_selection g
-opens-behind-arguments {g = g} at brace away led = opens-then (opens-directives true {g = g} at itself) (opens-opt led (punct-within "{" brace) away)
+first-behind-arguments : {set : Limits → Rel Set} {g : Test} → IsTrue (g (punctuator "@")) → IsTrue (g (punctuator "{")) → IsSubset after_selection g → BeginsWith set (punct "{") → FirstWithin (behind-arguments set) after_selection g
+first-behind-arguments {g = g} at brace away leads = first-then (first-directives true {g = g} at itself) (first-opt leads (punct-within "{" brace) away)
 
 has-behind-arguments : {set : Limits → Rel Set} → HasPhrase (behind-arguments set)
 has-behind-arguments {set} = has-pair (has-directives true) (has-opt {p = set})
@@ -122,26 +122,26 @@ has-behind-arguments {set} = has-pair (has-directives true) (has-opt {p = set})
 abbrev behind-names : (Limits → Rel Set) → Limits → Rel (Option Arguments × (Directives × Option Set))
 behind-names set c = opt (arguments Current true c.values) ⨾ behind-arguments set c
 
-good-behind-names : {set : Limits → Rel Set} {b : Limits} {r : Reader Set} → BeginsWith set (punct "{") → ReadsExactly set b after_selection r → ReadsExactly (behind-names set) b after_selection (then_at (maybe_arguments_at true b.values) (then_at (directives_at true b.values) (opt_at (punct "{") r)))
-good-behind-names {set} led h =
-    good-seq {g = outside (punct "(")} (opens-behind-arguments refl refl no-arguments led) (has-behind-arguments {set = set})
-    (good-maybe_arguments true itself)
-    (good-behind-arguments led h)
+exact-behind-names : {set : Limits → Rel Set} {b : Limits} {r : Reader Set} → BeginsWith set (punct "{") → ReadsExactly set b after_selection r → ReadsExactly (behind-names set) b after_selection (then_at (maybe_arguments_at true b.values) (then_at (directives_at true b.values) (opt_at (punct "{") r)))
+exact-behind-names {set} leads h =
+    exact-seq {g = outside (punct "(")} (first-behind-arguments refl refl no-arguments leads) (has-behind-arguments {set = set})
+    (exact-maybe_arguments true itself)
+    (exact-behind-arguments leads h)
 
-opens-behind-names : {set : Limits → Rel Set} {g : Test} → IsTrue (g (punctuator "(")) → IsTrue (g (punctuator "@")) → IsTrue (g (punctuator "{")) → IsSubset after_selection g → BeginsWith set (punct "{") → Opens (behind-names set) after_selection g
-opens-behind-names {g = g} paren at brace away led = opens-then (opens-maybe_arguments true {g = g} paren itself) (opens-behind-arguments at brace away led)
+first-behind-names : {set : Limits → Rel Set} {g : Test} → IsTrue (g (punctuator "(")) → IsTrue (g (punctuator "@")) → IsTrue (g (punctuator "{")) → IsSubset after_selection g → BeginsWith set (punct "{") → FirstWithin (behind-names set) after_selection g
+first-behind-names {g = g} paren at brace away leads = first-then (first-maybe_arguments true {g = g} paren itself) (first-behind-arguments at brace away leads)
 
 has-behind-names : {set : Limits → Rel Set} → HasPhrase (behind-names set)
 has-behind-names {set} = has-pair (has-maybe_arguments true) (has-behind-arguments {set = set})
 
-pub good-field : {set : Limits → Rel Set} {b : Limits} {r : Reader Set} → BeginsWith set (punct "{") → ReadsExactly set b after_selection r → ReadsExactly (λ c. a_field Current c.values (set c)) b after_selection (field_at b.values r)
-good-field {set} led h =
-    good-mapped (good-seq {g = outside (punct ":")} (opens-behind-names refl refl refl no-alias led) (has-behind-names {set = set})
-    (good-aliased itself)
-    (good-behind-names led h))
+pub exact-field : {set : Limits → Rel Set} {b : Limits} {r : Reader Set} → BeginsWith set (punct "{") → ReadsExactly set b after_selection r → ReadsExactly (λ c. a_field Current c.values (set c)) b after_selection (field_at b.values r)
+exact-field {set} leads h =
+    exact-mapped (exact-seq {g = outside (punct ":")} (first-behind-names refl refl refl no-alias leads) (has-behind-names {set = set})
+    (exact-aliased itself)
+    (exact-behind-names leads h))
 
-pub led-field : {set : Limits → Rel Set} → BeginsWith (λ c. a_field Current c.values (set c)) any_name
-led-field {set} = led-mapped {p = λ c. aliased ⨾ behind-names set c} (led-then led-aliased)
+pub begins-field : {set : Limits → Rel Set} → BeginsWith (λ c. a_field Current c.values (set c)) any_name
+begins-field {set} = begins-mapped {p = λ c. aliased ⨾ behind-names set c} (begins-then begins-aliased)
 
 pub has-field : {set : Limits → Rel Set} → HasPhrase (λ c. a_field Current c.values (set c))
 has-field {set} = has-map (has-pair has-aliased (has-behind-names {set = set}))
@@ -151,11 +151,11 @@ has-field {set} = has-map (has-pair has-aliased (has-behind-names {set = set}))
 pub fragment-sample : HasSample fragment_name
 fragment-sample = record { token = sample (word_of "a"); passes = refl; proper = name-spells (codes "a") refl (refl, tt) }
 
-pub good-type_condition : {b : Limits} {f : Test} → ReadsExactly (λ c. a_type_condition) b f type_condition_at
-good-type_condition = good-mapped (good-next (has-token name-sample) (good-keyword "on") good-name)
+pub exact-type_condition : {b : Limits} {f : Test} → ReadsExactly (λ c. a_type_condition) b f type_condition_at
+exact-type_condition = exact-mapped (exact-next (has-token name-sample) (exact-keyword "on") exact-name)
 
-pub led-type_condition : BeginsWith (λ c. a_type_condition) (keyword "on")
-led-type_condition = led-mapped {p = λ c. one (keyword "on") ⨾ one any_name} (led-then led-one)
+pub begins-type_condition : BeginsWith (λ c. a_type_condition) (keyword "on")
+begins-type_condition = begins-mapped {p = λ c. one (keyword "on") ⨾ one any_name} (begins-then begins-one)
 
 on-sample : HasSample (keyword "on")
 on-sample = keyword-sample "on" refl (refl, (refl, tt))
@@ -170,20 +170,20 @@ dots-sample = punct-sample "..." refl (inr refl)
 abbrev inline : (Limits → Rel Set) → Limits → Rel Inline
 inline set c = opt a_type_condition ⨾ directives Current true c.values ⨾ set c
 
-led-inline : {set : Limits → Rel Set} {g : Test} → IsSubset (keyword "on") g → IsSubset (punct "@") g → IsSubset (punct "{") g → BeginsWith set (punct "{") → BeginsWith (inline set) g
-led-inline {set} on at brace led = led-opt {q = λ c. directives Current true c.values ⨾ set c} (led-within on led-type_condition) (led-star {p = λ c. a_directive Current true c.values} {q = set} (led-within at (led-directive true)) (led-within brace led))
+begins-inline : {set : Limits → Rel Set} {g : Test} → IsSubset (keyword "on") g → IsSubset (punct "@") g → IsSubset (punct "{") g → BeginsWith set (punct "{") → BeginsWith (inline set) g
+begins-inline {set} on at brace leads = begins-opt {q = λ c. directives Current true c.values ⨾ set c} (begins-within on begins-type_condition) (begins-star {p = λ c. a_directive Current true c.values} {q = set} (begins-within at (begins-directive true)) (begins-within brace leads))
 
-led-inline-first : {set : Limits → Rel Set} → BeginsWith set (punct "{") → BeginsWith (inline set) inline_first
-led-inline-first led = led-inline (keyword-within "on" refl) (punct-within "@" refl) (punct-within "{" refl) led
+begins-inline-first : {set : Limits → Rel Set} → BeginsWith set (punct "{") → BeginsWith (inline set) inline_first
+begins-inline-first leads = begins-inline (keyword-within "on" refl) (punct-within "@" refl) (punct-within "{" refl) leads
 
-pub good-spread : {b : Limits} {f : Test} → IsSubset f (outside (punct "(")) → IsSubset f (outside (punct "@")) → ReadsExactly (λ c. one fragment_name ⨾ directives Current true c.values) b f (then_at (one_at fragment_name) (directives_at true b.values))
-good-spread away apart = good-next (has-directives true) (good-name_but ("on" ∷ [])) (good-directives true away apart)
+pub exact-spread : {b : Limits} {f : Test} → IsSubset f (outside (punct "(")) → IsSubset f (outside (punct "@")) → ReadsExactly (λ c. one fragment_name ⨾ directives Current true c.values) b f (then_at (one_at fragment_name) (directives_at true b.values))
+exact-spread away apart = exact-next (has-directives true) (exact-name_but ("on" ∷ [])) (exact-directives true away apart)
 
-pub led-spread : BeginsWith (λ c. a_spread Current c.values) (punct "...")
-led-spread = led-mapped {p = λ c. one (punct "...") ⨾ one fragment_name ⨾ directives Current true c.values} (led-then led-one)
+pub begins-spread : BeginsWith (λ c. a_spread Current c.values) (punct "...")
+begins-spread = begins-mapped {p = λ c. one (punct "...") ⨾ one fragment_name ⨾ directives Current true c.values} (begins-then begins-one)
 
-pub led-inline_fragment : {set : Limits → Rel Set} → BeginsWith (λ c. an_inline_fragment Current c.values (set c)) (punct "...")
-led-inline_fragment {set} = led-mapped {p = λ c. one (punct "...") ⨾ inline set c} (led-then led-one)
+pub begins-inline_fragment : {set : Limits → Rel Set} → BeginsWith (λ c. an_inline_fragment Current c.values (set c)) (punct "...")
+begins-inline_fragment {set} = begins-mapped {p = λ c. one (punct "...") ⨾ inline set c} (begins-then begins-one)
 
 pub has-spread : HasPhrase (λ c. a_spread Current c.values)
 has-spread = has-map (has-pair (has-token dots-sample) (has-pair (has-token fragment-sample) (has-directives true)))
@@ -195,12 +195,12 @@ has-inline_fragment {set} has = has-map (has-pair (has-token dots-sample) (has-p
 abbrev after-dots : (Limits → Rel Set) → Limits → Rel AfterDots
 after-dots set c = mapped a_name (one fragment_name ⨾ directives Current true c.values) ∪ mapped an_inline (inline set c)
 
-good-after-dots : {set : Limits → Rel Set} {b : Limits} {r : Reader Inline} → BeginsWith set (punct "{") → ReadsExactly (inline set) b after_selection r → ReadsExactly (after-dots set) b after_selection (choose_at fragment_name (mapped_at a_name (then_at (one_at fragment_name) (directives_at true b.values))) (mapped_at an_inline r))
-good-after-dots {set} led h =
-    good-choose (led-mapped {p = λ c. one fragment_name ⨾ directives Current true c.values} (led-then led-one))
-    (led-mapped {p = inline set} (led-inline (keyword-within "on" refl) (punct-within "@" refl) (punct-within "{" refl) led))
-    (good-mapped (good-spread no-arguments no-directive))
-    (good-mapped h)
+exact-after-dots : {set : Limits → Rel Set} {b : Limits} {r : Reader Inline} → BeginsWith set (punct "{") → ReadsExactly (inline set) b after_selection r → ReadsExactly (after-dots set) b after_selection (choose_at fragment_name (mapped_at a_name (then_at (one_at fragment_name) (directives_at true b.values))) (mapped_at an_inline r))
+exact-after-dots {set} leads h =
+    exact-choose (begins-mapped {p = λ c. one fragment_name ⨾ directives Current true c.values} (begins-then begins-one))
+    (begins-mapped {p = inline set} (begins-inline (keyword-within "on" refl) (punct-within "@" refl) (punct-within "{" refl) leads))
+    (exact-mapped (exact-spread no-arguments no-directive))
+    (exact-mapped h)
 
 has-after-dots : {set : Limits → Rel Set} → HasPhrase (after-dots set)
 has-after-dots {set} = has-first {p = λ c. mapped a_name (one fragment_name ⨾ directives Current true c.values)} {q = λ c. mapped an_inline (inline set c)} (has-map (has-pair (has-token fragment-sample) (has-directives true)))
@@ -209,24 +209,24 @@ has-after-dots {set} = has-first {p = λ c. mapped a_name (one fragment_name ⨾
 is-dotted : (set : Limits → Rel Set) (c : Limits) (x : List Token) (t : Positioned Selection) → mapped dotted (one (punct "...") ⨾ after-dots set c) x t ↔ (a_spread Current c.values ∪ an_inline_fragment Current c.values (set c)) x t
 is-dotted set c = factored (one (punct "...")) (one fragment_name ⨾ directives Current true c.values) (inline set c) a_name an_inline spread_of inline_of dotted (λ a b. refl) (λ a d. refl)
 
-pub good-dots : {set : Limits → Rel Set} {b : Limits} {r : Reader Inline} → BeginsWith set (punct "{") → ReadsExactly (inline set) b after_selection r → ReadsExactly (λ c. a_spread Current c.values ∪ an_inline_fragment Current c.values (set c)) b after_selection (dots_at b.values r)
-good-dots {set} led h = good-same (is-dotted set) (good-mapped (good-next (has-after-dots {set = set}) (good-punct "...") (good-after-dots led h)))
+pub exact-dots : {set : Limits → Rel Set} {b : Limits} {r : Reader Inline} → BeginsWith set (punct "{") → ReadsExactly (inline set) b after_selection r → ReadsExactly (λ c. a_spread Current c.values ∪ an_inline_fragment Current c.values (set c)) b after_selection (dots_at b.values r)
+exact-dots {set} leads h = exact-same (is-dotted set) (exact-mapped (exact-next (has-after-dots {set = set}) (exact-punct "...") (exact-after-dots leads h)))
 
 -- ---- selections
 
-pub led-selection : {set : Limits → Rel Set} → BeginsWith (λ c. a_selection Current c.values (set c)) selection_first
-led-selection {set} = led-either {p = λ c. a_field Current c.values (set c)} (led-within (any_name-within (λ w. refl)) (led-field {set = set})) (led-either {q = λ c. an_inline_fragment Current c.values (set c)} (led-within (punct-within "..." refl) led-spread) (led-within (punct-within "..." refl) (led-inline_fragment {set = set})))
+pub begins-selection : {set : Limits → Rel Set} → BeginsWith (λ c. a_selection Current c.values (set c)) selection_first
+begins-selection {set} = begins-either {p = λ c. a_field Current c.values (set c)} (begins-within (any_name-within (λ w. refl)) (begins-field {set = set})) (begins-either {q = λ c. an_inline_fragment Current c.values (set c)} (begins-within (punct-within "..." refl) begins-spread) (begins-within (punct-within "..." refl) (begins-inline_fragment {set = set})))
 
 pub has-selection : {set : Limits → Rel Set} → HasPhrase (λ c. a_selection Current c.values (set c))
 has-selection {set} = has-first {q = λ c. a_spread Current c.values ∪ an_inline_fragment Current c.values (set c)} (has-field {set = set})
 
-pub good-selection : {set : Limits → Rel Set} {b : Limits} {r : Reader Set} {s : Reader Inline} → BeginsWith set (punct "{") → ReadsExactly set b after_selection r → ReadsExactly (inline set) b after_selection s → ReadsExactly (λ c. a_selection Current c.values (set c)) b after_selection (selection_at b.values r s)
-good-selection {set} led h k =
-    good-same (λ c. either-way (a_spread Current c.values ∪ an_inline_fragment Current c.values (set c)) (a_field Current c.values (set c))) (good-choose
-    (led-either {q = λ c. an_inline_fragment Current c.values (set c)} led-spread (led-inline_fragment {set = set}))
-    (led-within (any_name-within (λ w. refl)) (led-field {set = set}))
-    (good-dots led k)
-    (good-field led h))
+pub exact-selection : {set : Limits → Rel Set} {b : Limits} {r : Reader Set} {s : Reader Inline} → BeginsWith set (punct "{") → ReadsExactly set b after_selection r → ReadsExactly (inline set) b after_selection s → ReadsExactly (λ c. a_selection Current c.values (set c)) b after_selection (selection_at b.values r s)
+exact-selection {set} leads h k =
+    exact-same (λ c. either-way (a_spread Current c.values ∪ an_inline_fragment Current c.values (set c)) (a_field Current c.values (set c))) (exact-choose
+    (begins-either {q = λ c. an_inline_fragment Current c.values (set c)} begins-spread (begins-inline_fragment {set = set}))
+    (begins-within (any_name-within (λ w. refl)) (begins-field {set = set}))
+    (exact-dots leads k)
+    (exact-field leads h))
 
 -- ---- sets
 
@@ -236,18 +236,18 @@ open-sample = punct-sample "{" refl (inl (123, refl, refl))
 close-sample : HasSample (punct "}")
 close-sample = punct-sample "}" refl (inl (125, refl, refl))
 
-pub led-a_set : {selection : Limits → Rel (Positioned Selection)} → BeginsWith (λ c. a_set (selection c)) (punct "{")
-led-a_set {selection} = led-mapped {p = λ c. one (punct "{") ⨾ plus (selection c) ⨾ one (punct "}")} (led-then led-one)
+pub begins-a_set : {selection : Limits → Rel (Positioned Selection)} → BeginsWith (λ c. a_set (selection c)) (punct "{")
+begins-a_set {selection} = begins-mapped {p = λ c. one (punct "{") ⨾ plus (selection c) ⨾ one (punct "}")} (begins-then begins-one)
 
 pub has-a_set : {set : Limits → Rel Set} → HasPhrase (λ c. a_set (a_selection Current c.values (set c)))
 has-a_set {set} = has-map {p = λ c. one (punct "{") ⨾ plus (a_selection Current c.values (set c)) ⨾ one (punct "}")} (has-pair (has-token open-sample) (has-pair (has-plus (has-selection {set = set})) (has-token close-sample)))
 
-pub good-a_set : {set : Limits → Rel Set} {b : Limits} {f : Test} {r : Reader Set} {s : Reader Inline} → BeginsWith set (punct "{") → ReadsExactly set b after_selection r → ReadsExactly (inline set) b after_selection s → ReadsExactly (λ c. a_set (a_selection Current c.values (set c))) b f (a_set_at (selection_at b.values r s))
-good-a_set {set} led h k =
-    good-mapped (good-next (has-pair (has-plus (has-selection {set = set})) (has-token close-sample)) (good-punct "{")
-    (good-led {g = punct "}"} led-one (has-token close-sample)
-    (good-plus-ahead {g = after_selection} (led-selection {set = set}) (within-either (any_name-within (λ w. refl)) (punct-within "..." refl)) (punct-within "}" refl) (punct-within "}" refl) (good-selection led h k))
-    (good-punct "}")))
+pub exact-a_set : {set : Limits → Rel Set} {b : Limits} {f : Test} {r : Reader Set} {s : Reader Inline} → BeginsWith set (punct "{") → ReadsExactly set b after_selection r → ReadsExactly (inline set) b after_selection s → ReadsExactly (λ c. a_set (a_selection Current c.values (set c))) b f (a_set_at (selection_at b.values r s))
+exact-a_set {set} leads h k =
+    exact-mapped (exact-next (has-pair (has-plus (has-selection {set = set})) (has-token close-sample)) (exact-punct "{")
+    (exact-then-some {g = punct "}"} begins-one (has-token close-sample)
+    (exact-plus-ahead {g = after_selection} (begins-selection {set = set}) (within-either (any_name-within (λ w. refl)) (punct-within "..." refl)) (punct-within "}" refl) (punct-within "}" refl) (exact-selection leads h k))
+    (exact-punct "}")))
 
 -- ---- sets within limits
 
@@ -264,8 +264,8 @@ is-set c x t = at c.selections
     at zero = (λ h. h, λ h. h)
     at (suc n) = (λ h. h, λ h. h)
 
-pub led-sets : BeginsWith sets (punct "{")
-led-sets = led-same is-set (led-a_set {selection = λ c. a_selection Current c.values (inner-sets c)})
+pub begins-sets : BeginsWith sets (punct "{")
+begins-sets = begins-same is-set (begins-a_set {selection = λ c. a_selection Current c.values (inner-sets c)})
 
 pub has-sets : HasPhrase sets
 has-sets = record { some = λ c. some c c.selections }
@@ -274,14 +274,14 @@ has-sets = record { some = λ c. some c c.selections }
     some c zero = (has-a_set {set = λ c. never}).some c
     some c (suc n) = (has-a_set {set = λ c. selection_set Current c.values n}).some c
 
-opens-set : (c : Limits) (t : Token) → IsTrue (punct "{" t.bare) → Extends (sets c) (t ∷ [])
-opens-set c t e =
-    let m = opens {f = selections_of} {q = λ c. plus (a_selection Current c.values (inner-sets c)) ⨾ one (punct "}")} (punct "{") (has-pair (has-plus (has-selection {set = inner-sets})) (has-token close-sample)) c t e in
+extends-set : (c : Limits) (t : Token) → IsTrue (punct "{" t.bare) → Extends (sets c) (t ∷ [])
+extends-set c t e =
+    let m = extends-one {f = selection_set_of} {q = λ c. plus (a_selection Current c.values (inner-sets c)) ⨾ one (punct "}")} (punct "{") (has-pair (has-plus (has-selection {set = inner-sets})) (has-token close-sample)) c t e in
     record { tail = m.tail; tree = m.tree; holds = (is-set c (t ∷ m.tail) m.tree).0 m.holds; proper = m.proper }
 
 -- what can follow `...` where a set may follow it
-opens-inline : (c : Limits) (t : Token) → IsTrue (inline_first t.bare) → Extends (inline sets c) (t ∷ [])
-opens-inline c t e = go (keyword "on" t.bare) refl (punct "@" t.bare) refl e
+extends-inline : (c : Limits) (t : Token) → IsTrue (inline_first t.bare) → Extends (inline sets c) (t ∷ [])
+extends-inline c t e = go (keyword "on" t.bare) refl (punct "@" t.bare) refl e
   where
     n : Token
     n = sample (word_of "a")
@@ -307,14 +307,14 @@ opens-inline c t e = go (keyword "on" t.bare) refl (punct "@" t.bare) refl e
           proper = (proper, m.proper);
         }
     go false on false at e =
-        let m = opens-set c t e in
+        let m = extends-set c t e in
         record { tail = m.tail; tree = (None, ([], m.tree)); holds = record { front = []; back = t ∷ m.tail; joined = refl; first = refl; second = record { front = []; back = t ∷ m.tail; joined = refl; first = refl; second = m.holds } }; proper = m.proper }
 
-good-inline : {b : Limits} {f : Test} {r : Reader Set} → ReadsExactly sets b f r → ReadsExactly (inline sets) b f (inline_at b.values r)
-good-inline h =
-    good-seq {g = outside (keyword "on")} (opens-then (opens-directives true {g = outside (keyword "on")} refl itself) (opens-led led-sets (punct-within "{" refl))) (has-pair (has-directives true) has-sets)
-    (good-opt led-type_condition itself good-type_condition)
-    (good-led led-sets has-sets (good-directives true (punct-within "{" refl) (punct-within "{" refl)) h)
+exact-inline : {b : Limits} {f : Test} {r : Reader Set} → ReadsExactly sets b f r → ReadsExactly (inline sets) b f (inline_at b.values r)
+exact-inline h =
+    exact-seq {g = outside (keyword "on")} (first-then (first-directives true {g = outside (keyword "on")} refl itself) (first-begins begins-sets (punct-within "{" refl))) (has-pair (has-directives true) has-sets)
+    (exact-opt begins-type_condition itself exact-type_condition)
+    (exact-then-some begins-sets has-sets (exact-directives true (punct-within "{" refl) (punct-within "{" refl)) h)
 
 inner-inline : (c : Limits) (x : List Token) (t : Inline) → nested of_selections (inline sets) c x t ↔ inline inner-sets c x t
 inner-inline c x t = both-ways (sets-behind (λ n. opt a_type_condition) (λ c. directives Current true c.values ⨾ sets c) c x t) (then-same (opt a_type_condition) (nested of_selections (λ c. directives Current true c.values ⨾ sets c) c) (directives Current true c.values ⨾ inner-sets c) (sets-behind (directives Current true) sets c) x t)
@@ -334,35 +334,35 @@ record GoodInside (b : Limits) (n : ℕ) : Type 0 where
   pub set : ReadsExactly inner-sets b after_selection (inner-set-at b.values n)
   pub inline : ReadsExactly (inline inner-sets) b after_selection (inner-inline-at b.values n)
 
-good-outside : (n : ℕ) {b : Limits} {f : Test} → GoodInside b n → ReadsExactly sets b f (selection_set_at b.values n)
+exact-outside : (n : ℕ) {b : Limits} {f : Test} → GoodInside b n → ReadsExactly sets b f (selection_set_at b.values n)
 unfolding selection_set_at
-good-outside zero h = good-same is-set (good-a_set (led-nested of_selections led-sets) h.set h.inline)
-good-outside (suc n) h = good-same is-set (good-a_set (led-nested of_selections led-sets) h.set h.inline)
+exact-outside zero h = exact-same is-set (exact-a_set (begins-nested of_selections begins-sets) h.set h.inline)
+exact-outside (suc n) h = exact-same is-set (exact-a_set (begins-nested of_selections begins-sets) h.set h.inline)
 
-good-inside : (n : ℕ) (b : Limits) → b.selections ≡ n → GoodInside b n
-good-inside zero b e = record {
-  set = good-deep of_selections e opens-set led-sets;
-  inline = good-same inner-inline (good-deep of_selections e opens-inline (led-inline-first led-sets));
+exact-inside : (n : ℕ) (b : Limits) → b.selections ≡ n → GoodInside b n
+exact-inside zero b e = record {
+  set = exact-deep of_selections e extends-set begins-sets;
+  inline = exact-same inner-inline (exact-deep of_selections e extends-inline (begins-inline-first begins-sets));
 }
-good-inside (suc n) b e =
+exact-inside (suc n) b e =
     let inner : Limits = record b { selections = n } in
-    let h : GoodInside inner n = good-inside n inner refl in
+    let h : GoodInside inner n = exact-inside n inner refl in
     subst (λ (k : ℕ). GoodInside (record b { selections = k }) (suc n)) (sym e) (record {
-      set = good-nested of_selections (good-outside n h);
-      inline = good-same inner-inline (good-nested of_selections (good-inline (good-outside n h)));
+      set = exact-nested of_selections (exact-outside n h);
+      inline = exact-same inner-inline (exact-nested of_selections (exact-inline (exact-outside n h)));
     })
 
-pub good-sets : (n : ℕ) (b : Limits) {f : Test} → b.selections ≡ n → ReadsExactly sets b f (selection_set_at b.values n)
-good-sets n b e = good-outside n (good-inside n b e)
+pub exact-sets : (n : ℕ) (b : Limits) {f : Test} → b.selections ≡ n → ReadsExactly sets b f (selection_set_at b.values n)
+exact-sets n b e = exact-outside n (exact-inside n b e)
 
 -- one selection in a set
-pub good-selections : (n : ℕ) (b : Limits) → b.selections ≡ n → ReadsExactly (λ c. a_selection Current c.values (inner-sets c)) b after_selection (selection_at b.values (inner-set-at b.values n) (inner-inline-at b.values n))
-good-selections n b e =
-    let h = good-inside n b e in
-    good-selection (led-nested of_selections led-sets) h.set h.inline
+pub exact-selections : (n : ℕ) (b : Limits) → b.selections ≡ n → ReadsExactly (λ c. a_selection Current c.values (inner-sets c)) b after_selection (selection_at b.values (inner-set-at b.values n) (inner-inline-at b.values n))
+exact-selections n b e =
+    let h = exact-inside n b e in
+    exact-selection (begins-nested of_selections begins-sets) h.set h.inline
 
 pub takes-selection : (values n : ℕ) → Takes (selection_at values (inner-set-at values n) (inner-inline-at values n))
-takes-selection values n = takes-one (good-selections n (record { selections = n; values = values; types = 0 }) refl) (led-selection {set = inner-sets})
+takes-selection values n = takes-one (exact-selections n (record { selections = n; values = values; types = 0 }) refl) (begins-selection {set = inner-sets})
 
 pub takes-set : (values n : ℕ) → Takes (selection_set_at values n)
-takes-set values n = takes-one (good-sets n (record { selections = n; values = values; types = 0 }) {f = anything} refl) led-sets
+takes-set values n = takes-one (exact-sets n (record { selections = n; values = values; types = 0 }) {f = anything} refl) begins-sets

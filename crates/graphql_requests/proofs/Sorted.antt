@@ -81,7 +81,7 @@ none-first : {A : Type 0} (x : Option A) (y : Option A) → or_else x y ≡ None
 none-first None y e = refl
 none-first (Some a) y e = absurd cc
 
-none-second : {A : Type 0} (x : Option A) (y : Option A) → or_else x y ≡ None → y ≡ None
+pub none-second : {A : Type 0} (x : Option A) (y : Option A) → or_else x y ≡ None → y ≡ None
 none-second None y e = e
 none-second (Some a) y e = absurd cc
 

@@ -21,13 +21,13 @@ use Rattle.graphql_reading.proofs.Parts.{none}
 use Rattle.graphql_reading.proofs.Theory.{IsSubset, outside}
 use Rattle.graphql_reading.proofs.TokenTests.{punctuator, itself, punct-within, within-both, within-first, within-second, within-either, name-sample}
 use Rattle.graphql_reading.proofs.PunctSamples.{has-open, has-close, has-colon, has-dollar}
-use Rattle.graphql_reading.proofs.ReadsExactly.{ReadsExactly, HasPhrase, BeginsWith, good-punct, good-name, good-mapped, good-next, good-led, good-same, led-one, led-mapped, led-then, has-token, has-pair, has-map, has-plus, has-first}
-use Rattle.graphql_reading.proofs.Extra.{Opens, good-seq, opens-led, opens-opt, opens-then, good-plus-ahead, good-opt, has-opt}
-use Rattle.graphql_reading.proofs.Optional.{good-choose_ahead, good-none, good-reader, opens-none, opens-either, opt-left, with-some, opt-then, plus-star, star-plus}
-use Rattle.graphql_reading.proofs.IgnoresPlaces.{IgnoresPlaces, on-option, blind-one, blind-then, blind-mapped, blind-either, blind-plus, blind-opt}
+use Rattle.graphql_reading.proofs.ReadsExactly.{ReadsExactly, HasPhrase, BeginsWith, exact-punct, exact-name, exact-mapped, exact-next, exact-then-some, exact-same, begins-one, begins-mapped, begins-then, has-token, has-pair, has-map, has-plus, has-first}
+use Rattle.graphql_reading.proofs.Extra.{FirstWithin, exact-seq, first-begins, first-opt, first-then, exact-plus-ahead, exact-opt, has-opt}
+use Rattle.graphql_reading.proofs.Optional.{exact-choose_ahead, exact-none, exact-reader, first-none, first-either, opt-left, with-some, opt-then, plus-star, star-plus}
+use Rattle.graphql_reading.proofs.IgnoresPlaces.{IgnoresPlaces, on-option, ignores-one, ignores-then, ignores-mapped, ignores-either, ignores-plus, ignores-opt}
 use Rattle.graphql_reading.proofs.Loop.{Takes, takes-one, many-plus, many-stops}
-use Rattle.graphql_grammar.proofs.TypeProductions.{good-type, has-type, blind-type}
-use Rattle.graphql_grammar.proofs.ArgumentProductions.{budget, good-directive, led-directive, good-directives, opens-directives, has-directives, blind-directive, blind-directives, good-default, led-default, blind-default, takes-directive}
+use Rattle.graphql_grammar.proofs.TypeProductions.{exact-type, has-type, ignores-type}
+use Rattle.graphql_grammar.proofs.ArgumentProductions.{budget, exact-directive, begins-directive, exact-directives, first-directives, has-directives, ignores-directive, ignores-directives, exact-default, begins-default, ignores-default, takes-directive}
 
 -- ---- a default and directives, in either order
 
@@ -108,33 +108,33 @@ reads-by-first values (t ∷ ts) = go (punct "=" t.bare) refl
 abbrev past-directives : Test
 past-directives t = outside (punct "(") t && outside (punct "@") t
 
-good-default-first : {b : Limits} {f : Test} → IsSubset f (outside (punct "(")) → IsSubset f (outside (punct "@")) → ReadsExactly default-first b f (default-first_at b.values)
-good-default-first away last = good-mapped (good-next (has-directives true) good-default (good-directives true away last))
+exact-default-first : {b : Limits} {f : Test} → IsSubset f (outside (punct "(")) → IsSubset f (outside (punct "@")) → ReadsExactly default-first b f (default-first_at b.values)
+exact-default-first away last = exact-mapped (exact-next (has-directives true) exact-default (exact-directives true away last))
 
-good-directives-first : {b : Limits} {f : Test} → IsSubset f (outside (punct "(")) → IsSubset f (outside (punct "@")) → IsSubset f (outside (punct "=")) → ReadsExactly directives-first b f (directives-first_at b.values)
-good-directives-first away last none =
-    good-mapped (good-seq {g = past-directives} (opens-opt led-default (punct-within "=" refl) (within-both away last)) (has-opt {p = λ c. a_default Current c.values})
-    (good-plus-ahead {g = outside (punct "(")} (led-directive true) (punct-within "@" refl) (within-first _ _) (within-second _ _) (good-directive true itself))
-    (good-opt led-default none good-default))
+exact-directives-first : {b : Limits} {f : Test} → IsSubset f (outside (punct "(")) → IsSubset f (outside (punct "@")) → IsSubset f (outside (punct "=")) → ReadsExactly directives-first b f (directives-first_at b.values)
+exact-directives-first away last none =
+    exact-mapped (exact-seq {g = past-directives} (first-opt begins-default (punct-within "=" refl) (within-both away last)) (has-opt {p = λ c. a_default Current c.values})
+    (exact-plus-ahead {g = outside (punct "(")} (begins-directive true) (punct-within "@" refl) (within-first _ _) (within-second _ _) (exact-directive true itself))
+    (exact-opt begins-default none exact-default))
 
-led-default-first : BeginsWith default-first (punct "=")
-led-default-first = led-mapped (led-then led-default)
+begins-default-first : BeginsWith default-first (punct "=")
+begins-default-first = begins-mapped (begins-then begins-default)
 
-led-directives-first : BeginsWith directives-first (punct "@")
-led-directives-first = led-mapped (led-then (led-mapped (led-then (led-directive true))))
+begins-directives-first : BeginsWith directives-first (punct "@")
+begins-directives-first = begins-mapped (begins-then (begins-mapped (begins-then (begins-directive true))))
 
-pub good-default_and_directives : {b : Limits} {f : Test} → IsSubset f (outside (punct "(")) → IsSubset f (outside (punct "@")) → IsSubset f (outside (punct "=")) → ReadsExactly (λ c. default_and_directives Current c.values) b f (default_and_directives_at b.values)
-good-default_and_directives {b} away last none =
-    good-reader (reads-by-first b.values)
-    (good-same is-by-first
-    (good-choose_ahead led-default-first (opens-either (opens-led led-directives-first (punct-within "@" refl)) (opens-none none))
-    (good-default-first away last)
-    (good-choose_ahead led-directives-first (opens-none last) (good-directives-first away last none) good-none)))
+pub exact-default_and_directives : {b : Limits} {f : Test} → IsSubset f (outside (punct "(")) → IsSubset f (outside (punct "@")) → IsSubset f (outside (punct "=")) → ReadsExactly (λ c. default_and_directives Current c.values) b f (default_and_directives_at b.values)
+exact-default_and_directives {b} away last none =
+    exact-reader (reads-by-first b.values)
+    (exact-same is-by-first
+    (exact-choose_ahead begins-default-first (first-either (first-begins begins-directives-first (punct-within "@" refl)) (first-none none))
+    (exact-default-first away last)
+    (exact-choose_ahead begins-directives-first (first-none last) (exact-directives-first away last none) exact-none)))
 
-pub opens-default_and_directives : {f g : Test} → IsTrue (g (punctuator "=")) → IsTrue (g (punctuator "@")) → IsSubset f g → Opens (λ c. default_and_directives Current c.values) f g
-opens-default_and_directives default-in directive-in h =
-    opens-either (opens-then (opens-opt led-default (punct-within "=" default-in) itself) (opens-directives true directive-in h))
-    (opens-led (led-mapped (led-then (led-mapped (led-then (led-directive true))))) (punct-within "@" directive-in))
+pub first-default_and_directives : {f g : Test} → IsTrue (g (punctuator "=")) → IsTrue (g (punctuator "@")) → IsSubset f g → FirstWithin (λ c. default_and_directives Current c.values) f g
+first-default_and_directives default-in directive-in h =
+    first-either (first-then (first-opt begins-default (punct-within "=" default-in) itself) (first-directives true directive-in h))
+    (first-begins (begins-mapped (begins-then (begins-mapped (begins-then (begins-directive true))))) (punct-within "@" directive-in))
 
 pub has-default_and_directives : HasPhrase (λ c. default_and_directives Current c.values)
 has-default_and_directives = has-first {p = λ c. opt (a_default Current c.values) ⨾ directives Current true c.values} (has-pair (has-opt {p = λ c. a_default Current c.values}) (has-directives true))
@@ -142,26 +142,26 @@ has-default_and_directives = has-first {p = λ c. opt (a_default Current c.value
 abbrev pub placeless-both : Both → Both
 placeless-both x = (on-option bare_node x.0, placeless_directives x.1)
 
-pub blind-default_and_directives : IgnoresPlaces (λ c. default_and_directives Current c.values) placeless-both
-blind-default_and_directives =
-    blind-either (blind-then (blind-opt blind-default) (blind-directives true))
-    (blind-mapped (λ x. refl) (blind-then (blind-plus (blind-directive true)) blind-default))
+pub ignores-default_and_directives : IgnoresPlaces (λ c. default_and_directives Current c.values) placeless-both
+ignores-default_and_directives =
+    ignores-either (ignores-then (ignores-opt ignores-default) (ignores-directives true))
+    (ignores-mapped (λ x. refl) (ignores-then (ignores-plus (ignores-directive true)) ignores-default))
 
 -- ---- variable definitions
 
-pub good-variable_definition : {b : Limits} {f : Test} → IsSubset f (outside (punct "!")) → IsSubset f (outside (punct "(")) → IsSubset f (outside (punct "@")) → IsSubset f (outside (punct "=")) → ReadsExactly (λ c. a_variable_definition Current c.values c.types) b f (variable_definition_at b.values b.types)
-good-variable_definition marked away last none =
-    good-mapped (good-next (has-pair (has-token name-sample) (has-pair has-colon has-behind)) (good-punct "$")
-    (good-next (has-pair has-colon has-behind) good-name
-    (good-next has-behind (good-punct ":")
-    (good-seq {g = outside (punct "!")} (opens-default_and_directives refl refl marked) has-default_and_directives (good-type itself)
-    (good-default_and_directives away last none)))))
+pub exact-variable_definition : {b : Limits} {f : Test} → IsSubset f (outside (punct "!")) → IsSubset f (outside (punct "(")) → IsSubset f (outside (punct "@")) → IsSubset f (outside (punct "=")) → ReadsExactly (λ c. a_variable_definition Current c.values c.types) b f (variable_definition_at b.values b.types)
+exact-variable_definition marked away last none =
+    exact-mapped (exact-next (has-pair (has-token name-sample) (has-pair has-colon has-behind)) (exact-punct "$")
+    (exact-next (has-pair has-colon has-behind) exact-name
+    (exact-next has-behind (exact-punct ":")
+    (exact-seq {g = outside (punct "!")} (first-default_and_directives refl refl marked) has-default_and_directives (exact-type itself)
+    (exact-default_and_directives away last none)))))
   where
     has-behind : HasPhrase (λ c. type_reference c.types ⨾ default_and_directives Current c.values)
     has-behind = has-pair has-type has-default_and_directives
 
-pub led-variable_definition : BeginsWith (λ c. a_variable_definition Current c.values c.types) (punct "$")
-led-variable_definition = led-mapped (led-then led-one)
+pub begins-variable_definition : BeginsWith (λ c. a_variable_definition Current c.values c.types) (punct "$")
+begins-variable_definition = begins-mapped (begins-then begins-one)
 
 pub has-variable_definition : HasPhrase (λ c. a_variable_definition Current c.values c.types)
 has-variable_definition = has-map (has-pair has-dollar (has-pair (has-token name-sample) (has-pair has-colon (has-pair has-type has-default_and_directives))))
@@ -170,10 +170,10 @@ on-option-map : {A : Type 0} (f : A → A) (o : Option A) → option_map f o ≡
 on-option-map f None = refl
 on-option-map f (Some a) = refl
 
-pub blind-variable_definition : IgnoresPlaces (λ c. a_variable_definition Current c.values c.types) (unplaced placeless_variable)
-blind-variable_definition =
-    blind-mapped (λ x. ap (λ (v : Option Value). at {A = VariableDefinition} (without_place x.0) (record { name = name_of (without_place x.1.0); var_type = bare_node x.1.1.1.0; directives = placeless_directives x.1.1.1.1.1; default_value = v })) (on-option-map bare_node x.1.1.1.1.0))
-    (blind-then (blind-one (punct "$")) (blind-then (blind-one any_name) (blind-then (blind-one (punct ":")) (blind-then blind-type blind-default_and_directives))))
+pub ignores-variable_definition : IgnoresPlaces (λ c. a_variable_definition Current c.values c.types) (unplaced placeless_variable)
+ignores-variable_definition =
+    ignores-mapped (λ x. ap (λ (v : Option Value). at {A = VariableDefinition} (without_place x.0) (record { name = name_of (without_place x.1.0); var_type = bare_node x.1.1.1.0; directives = placeless_directives x.1.1.1.1.1; default_value = v })) (on-option-map bare_node x.1.1.1.1.0))
+    (ignores-then (ignores-one (punct "$")) (ignores-then (ignores-one any_name) (ignores-then (ignores-one (punct ":")) (ignores-then ignores-type ignores-default_and_directives))))
 
 -- another one, or the end of the list
 abbrev next-definition : Test
@@ -182,24 +182,24 @@ next-definition t = punct "$" t || punct ")" t
 follows : {g : Test} → IsTrue (g (punctuator "$")) → IsTrue (g (punctuator ")")) → IsSubset next-definition g
 follows h k = within-either (punct-within "$" h) (punct-within ")" k)
 
-good-next-definition : {b : Limits} → ReadsExactly (λ c. a_variable_definition Current c.values c.types) b next-definition (variable_definition_at b.values b.types)
-good-next-definition = good-variable_definition (follows refl refl) (follows refl refl) (follows refl refl) (follows refl refl)
+exact-next-definition : {b : Limits} → ReadsExactly (λ c. a_variable_definition Current c.values c.types) b next-definition (variable_definition_at b.values b.types)
+exact-next-definition = exact-variable_definition (follows refl refl) (follows refl refl) (follows refl refl) (follows refl refl)
 
 pub takes-variable_definition : (values types : ℕ) → Takes (variable_definition_at values types)
-takes-variable_definition values types = takes-one {b = budget values types} good-next-definition led-variable_definition
+takes-variable_definition values types = takes-one {b = budget values types} exact-next-definition begins-variable_definition
 
 -- nothing is looked ahead at after `)`
-pub good-variable_definitions : {b : Limits} {f : Test} → ReadsExactly (λ c. variable_definitions Current c.values c.types) b f (variable_definitions_at b.values b.types)
-good-variable_definitions =
-    good-mapped (good-next (has-pair (has-plus has-variable_definition) has-close) (good-punct "(")
-    (good-led led-one has-close (good-plus-ahead {g = next-definition} led-variable_definition (punct-within "$" refl) (punct-within ")" refl) (punct-within ")" refl) good-next-definition)
-    (good-punct ")")))
+pub exact-variable_definitions : {b : Limits} {f : Test} → ReadsExactly (λ c. variable_definitions Current c.values c.types) b f (variable_definitions_at b.values b.types)
+exact-variable_definitions =
+    exact-mapped (exact-next (has-pair (has-plus has-variable_definition) has-close) (exact-punct "(")
+    (exact-then-some begins-one has-close (exact-plus-ahead {g = next-definition} begins-variable_definition (punct-within "$" refl) (punct-within ")" refl) (punct-within ")" refl) exact-next-definition)
+    (exact-punct ")")))
 
-pub led-variable_definitions : BeginsWith (λ c. variable_definitions Current c.values c.types) (punct "(")
-led-variable_definitions = led-mapped (led-then led-one)
+pub begins-variable_definitions : BeginsWith (λ c. variable_definitions Current c.values c.types) (punct "(")
+begins-variable_definitions = begins-mapped (begins-then begins-one)
 
 pub has-variable_definitions : HasPhrase (λ c. variable_definitions Current c.values c.types)
 has-variable_definitions = has-map (has-pair has-open (has-pair (has-plus has-variable_definition) has-close))
 
-pub blind-variable_definitions : IgnoresPlaces (λ c. variable_definitions Current c.values c.types) (map (unplaced placeless_variable))
-blind-variable_definitions = blind-mapped (λ x. refl) (blind-then (blind-one (punct "(")) (blind-then (blind-plus blind-variable_definition) (blind-one (punct ")"))))
+pub ignores-variable_definitions : IgnoresPlaces (λ c. variable_definitions Current c.values c.types) (map (unplaced placeless_variable))
+ignores-variable_definitions = ignores-mapped (λ x. refl) (ignores-then (ignores-one (punct "(")) (ignores-then (ignores-plus ignores-variable_definition) (ignores-one (punct ")"))))

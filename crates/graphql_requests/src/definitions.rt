@@ -8,9 +8,9 @@ ghost use Rattle.graphql_requests.specs.grammar.Selections.{fragment_name};
 ghost use Rattle.graphql_reading.specs.reading.Given.{trees_in};
 ghost use Rattle.graphql_grammar.specs.reading.Arguments.{directives_at};
 ghost use Rattle.graphql_requests.specs.reading.Definitions.{definition_tree, in_definitions, maybe_name_at, given_variables_at, worded_at};
-ghost use Rattle.graphql_reading.specs.reading.Given.{Gives, GivesWhole};
+ghost use Rattle.graphql_reading.specs.reading.Given.{Gives};
 ghost use Rattle.graphql_reading.specs.reading.Outcome.{one_at};
-ghost use Rattle.graphql_requests.specs.reading.Request.{own_set_at, short_operation_at, fragment_at, definition_first, definition_at, definitions_at, request_at};
+ghost use Rattle.graphql_requests.specs.reading.Request.{own_set_at, short_operation_at, fragment_at, definition_first, definition_at, definitions_at};
 
 use crate::selections::{is_at_fragment_name, read_selection_set, read_type_condition};
 use crate::variables::read_maybe_variable_definitions;
@@ -188,20 +188,15 @@ impl Production for Definition {
     }
 }
 
-/// `Definition+`
-fn read_definitions(alloc: Global, cursor: &mut Cursor, limits: Limits) -> Reading<Vec<Definition>>
+/// The definitions of a request, up to its end.
+///
+/// `Definition+` (GraphQL October 2021, section 2.2)
+pub fn read_definitions(
+    alloc: Global,
+    cursor: &mut Cursor,
+    limits: Limits,
+) -> Reading<Vec<Definition>>
     ensures { Gives in_definitions result cursor.old cursor.new (definitions_at limits) }
 {
     one_or_more::<Definition>(alloc, cursor, limits)
-}
-
-/// The definitions of a request. The end of the text stays in hand.
-///
-/// `Document : Definition+ End` (GraphQL October 2021, section 2.2)
-pub fn read_request(alloc: Global, cursor: &mut Cursor, limits: Limits) -> Reading<Vec<Definition>>
-    ensures { GivesWhole in_definitions result cursor.old cursor.new (request_at limits) }
-{
-    let definitions = read_definitions(alloc, cursor, limits)?;
-    cursor.expect_end()?;
-    Ok(definitions)
 }

@@ -17,52 +17,53 @@ ghost use Rattle.graphql_tokens.specs.tokens.Cuts.{Cuts, HasNoFault};
 ghost use Rattle.graphql_tokens.specs.tokens.Edition.{Former, Current};
 ghost use Rattle.graphql_tokens.specs.tokens.Cuts.{IsCutInto};
 ghost use Rattle.graphql_tokens.specs.tokens.Token.{Token as SpecToken, left};
-ghost use Rattle.graphql_grammar.specs.answers.Answers.{Answers, AreTheDefinitions, HasOneTree, IsDecided, TakenFor};
+ghost use Rattle.graphql_grammar.specs.answers.Answers.{Answers, AreTheDefinitions, HasOneTree, IsDecided, RestsOnBareTokens, TakenFor};
 ghost use Rattle.graphql_grammar.specs.answers.Language.{grammar};
+ghost use Rattle.graphql_grammar.specs.reading.DocumentOf.{IsDocumentOf};
 ghost use Rattle.graphql_reading.specs.grammar.Limits.{default_limits};
 ghost use Rattle.graphql_syntax.specs.trees.RequestViews.{document_tree};
 ghost use Rattle.graphql_requests.specs.grammar.Laws.{IsLawful};
 ghost use Rattle.graphql_requests.specs.grammar.Request.{Definition as SpecDefinition};
 ghost use Rattle.graphql_requests.specs.grammar.Requests.{requests};
+ghost use Rattle.graphql_requests.specs.reading.Definitions.{definition_tree};
+ghost use Rattle.graphql_requests.specs.reading.Request.{definitions_at};
+ghost use Rattle.graphql_requests.specs.reading.Sorting.{definition_trees};
 
 mod definitions;
 mod rules;
 mod selections;
 mod variables;
 
-use definitions::read_request;
+use definitions::{Definition, read_definitions};
+use graphql_grammar::document::read_document;
 use graphql_grammar::error::Result;
-use graphql_grammar::refusals::error_of;
-use graphql_reading::cursor::Cursor;
+use graphql_reading::cursor::{Cursor, Reading};
 use graphql_reading::limits::Limits;
 use graphql_syntax::types::ExecutableDocument;
 use graphql_tokens::lexer::Tokens;
 use rules::document_of;
 use std::alloc::Global;
-use std::mem;
 
-// The definitions are read whole before the first rule is looked at.
-fn read_document(
-    alloc: Global,
-    tokens: &mut Tokens<'_>,
-    limits: Limits,
-) -> Result<ExecutableDocument>
-    requires { left tokens.old ≢ [] }
-    ensures answer { Answers requests limits (left tokens.old) result }
-    ensures only { (ds : List SpecDefinition) → grammar requests Current limits (left tokens.old) ds → AreTheDefinitions requests limits (left tokens.old) ds }
-    ensures one_tree { HasOneTree requests (left tokens.old) }
-    ensures decided { IsDecided requests limits (left tokens.old) }
-    ensures lawful { IfOk result (λ document. IsLawful (document_tree document)) }
-    ensures taken { (count : ℕ) × (tokens.new.taken ≡ tokens.old.taken + count) × TakenFor requests limits (left tokens.old) result count }
-    ensures whole { tokens.new.whole ≡ tokens.old.whole }
-{
-    let mut cursor = Cursor::new(mem::replace(tokens, Tokens::new("")));
-    let answer = match read_request(alloc, &mut cursor, limits) {
-        Ok(definitions) => document_of(alloc, definitions),
-        Err(refusal) => Err(error_of(alloc, &cursor, refusal)),
-    };
-    *tokens = cursor.into_tokens();
-    answer
+impl graphql_grammar::document::Definition for Definition {
+    type Document = ExecutableDocument;
+
+    ghost Tree = { SpecDefinition };
+
+    ghost tree = { definition_tree };
+
+    ghost language = { requests };
+
+    ghost reader = { definitions_at };
+
+    fn read_all(alloc: Global, cursor: &mut Cursor, limits: Limits) -> Reading<Vec<Definition>> {
+        read_definitions(alloc, cursor, limits)
+    }
+
+    fn document_of(alloc: Global, definitions: Vec<Definition>) -> Result<ExecutableDocument>
+        ensures { IsDocumentOf requests (definition_trees definitions.items) result }
+    {
+        document_of(alloc, definitions)
+    }
 }
 
 /// Reads a request (GraphQL October 2021, section 2): gives its one tree, with the place of each node.
@@ -84,9 +85,10 @@ pub fn parse_query(alloc: Global, text: &str) -> Result<ExecutableDocument>
     ensures former { (tokens : List SpecToken) (ds : List SpecDefinition) → Cuts Former [] (chars text.now) tokens → grammar requests Former default_limits tokens ds → IsCutInto text.now tokens × AreTheDefinitions requests default_limits tokens ds }
     // The tokens of a text that the former edition cuts without a fault are those of now.
     ensures former_tokens { (tokens : List SpecToken) → HasNoFault tokens → Cuts Former [] (chars text.now) tokens → Answers requests default_limits tokens result }
-    // These two hold of each text, also where memory runs out.
+    // These three hold of each text, also where memory runs out.
     ensures one_tree { (tokens : List SpecToken) → IsCutInto text.now tokens → HasOneTree requests tokens }
     ensures decided { (tokens : List SpecToken) → IsCutInto text.now tokens → IsDecided requests default_limits tokens }
+    ensures bare { (tokens : List SpecToken) → IsCutInto text.now tokens → RestsOnBareTokens requests default_limits tokens }
     // Operations have distinct names, or there is one without a name; fragments have distinct names; and so have the
     // fields of each object.
     ensures lawful { IfOk result (λ document. IsLawful (document_tree document)) }
@@ -101,10 +103,11 @@ pub fn parse_query_limited(alloc: Global, text: &str, limits: Limits) -> Result<
     ensures former_tokens { (tokens : List SpecToken) → HasNoFault tokens → Cuts Former [] (chars text.now) tokens → Answers requests limits tokens result }
     ensures one_tree { (tokens : List SpecToken) → IsCutInto text.now tokens → HasOneTree requests tokens }
     ensures decided { (tokens : List SpecToken) → IsCutInto text.now tokens → IsDecided requests limits tokens }
+    ensures bare { (tokens : List SpecToken) → IsCutInto text.now tokens → RestsOnBareTokens requests limits tokens }
     ensures lawful { IfOk result (λ document. IsLawful (document_tree document)) }
 {
     let mut tokens = Tokens::new(text);
-    read_document(alloc, &mut tokens, limits)
+    read_document::<Definition>(alloc, &mut tokens, limits)
 }
 
 /// As [`parse_query`], over the tokens that are not yet taken, with the places that they have in the whole
@@ -118,9 +121,10 @@ pub fn parse_query_from(alloc: Global, tokens: &mut Tokens<'_>) -> Result<Execut
     ensures answer { Answers requests default_limits (left tokens.old) result }
     ensures one_tree { HasOneTree requests (left tokens.old) }
     ensures decided { IsDecided requests default_limits (left tokens.old) }
+    ensures bare { RestsOnBareTokens requests default_limits (left tokens.old) }
     ensures lawful { IfOk result (λ document. IsLawful (document_tree document)) }
     ensures taken { (count : ℕ) × (tokens.new.taken ≡ tokens.old.taken + count) × TakenFor requests default_limits (left tokens.old) result count }
     ensures whole { tokens.new.whole ≡ tokens.old.whole }
 {
-    read_document(alloc, tokens, Limits::default())
+    read_document::<Definition>(alloc, tokens, Limits::default())
 }

@@ -9,11 +9,11 @@ use Rattle.graphql_reading.specs.grammar.Tests.{Test, punct, keyword, any_name}
 use Rattle.graphql_reading.specs.reading.Outcome.{Reader}
 use Rattle.graphql_reading.proofs.Theory.{IsSubset, outside}
 use Rattle.graphql_reading.proofs.TokenTests.{word_of, punct-within, keyword-within, within-either, HasSample, keyword-sample, name-sample}
-use Rattle.graphql_reading.proofs.ReadsExactly.{ReadsExactly, HasPhrase, BeginsWith, good-keyword, good-name, good-mapped, good-next, good-choose, led-one, led-within, led-mapped, led-then, led-either, has-token, has-pair, has-map, has-plus, has-first}
-use Rattle.graphql_reading.proofs.IgnoresPlaces.{IgnoresPlaces, blind-one, blind-then, blind-mapped, blind-either, blind-plus}
+use Rattle.graphql_reading.proofs.ReadsExactly.{ReadsExactly, HasPhrase, BeginsWith, exact-keyword, exact-name, exact-mapped, exact-next, exact-choose, begins-one, begins-within, begins-mapped, begins-then, begins-either, has-token, has-pair, has-map, has-plus, has-first}
+use Rattle.graphql_reading.proofs.IgnoresPlaces.{IgnoresPlaces, ignores-one, ignores-then, ignores-mapped, ignores-either, ignores-plus}
 use Rattle.graphql_grammar.specs.grammar.Arguments.{a_directive, directives}
 use Rattle.graphql_grammar.specs.grammar.Placeless.{bare_node, placeless_directives}
-use Rattle.graphql_grammar.proofs.ArgumentProductions.{has-directive, good-directives, has-directives, blind-directive, blind-directives}
+use Rattle.graphql_grammar.proofs.ArgumentProductions.{has-directive, exact-directives, has-directives, ignores-directive, ignores-directives}
 use Rattle.graphql_schemas.specs.grammar.Placeless.{placeless_kind}
 use Rattle.graphql_schemas.specs.grammar.Types.{parts, some_parts, field_parts, some_field_parts, Rest, Body, body_of, a_body, scalar_rest, fields_rest, list_rest, body, extended_body}
 use Rattle.graphql_schemas.specs.reading.Types.{part_first, field_part_first, scalar_rest_at, list_rest_at, fields_rest_at, union_rest_at, enum_rest_at, input_rest_at, a_body_at, body_at, body_first}
@@ -26,10 +26,10 @@ use Prim.Native.String.{String}
 -- ---- a keyword, a name and the rest
 
 pub exact-a_body : (word : String) {rest : Limits → Rel Rest} {b : Limits} {f : Test} {r : Reader Rest} → HasPhrase rest → ReadsExactly rest b f r → ReadsExactly (λ c. a_body word (rest c)) b f (a_body_at word r)
-exact-a_body word has h = good-mapped (good-next (has-pair (has-token name-sample) has) (good-keyword word) (good-next has good-name h))
+exact-a_body word has h = exact-mapped (exact-next (has-pair (has-token name-sample) has) (exact-keyword word) (exact-next has exact-name h))
 
 pub begins-a_body : (word : String) {rest : Limits → Rel Rest} → BeginsWith (λ c. a_body word (rest c)) (keyword word)
-begins-a_body word = led-mapped (led-then led-one)
+begins-a_body word = begins-mapped (begins-then begins-one)
 
 abbrev pub placeless-rest : Rest → Rest
 placeless-rest x = (placeless_directives x.0, placeless_kind x.1)
@@ -38,7 +38,7 @@ abbrev pub placeless-body : Body → Body
 placeless-body x = (without_place x.0, (bare_node x.1.0, placeless-rest x.1.1))
 
 pub ignores-a_body : (word : String) {rest : Limits → Rel Rest} → IgnoresPlaces rest placeless-rest → IgnoresPlaces (λ c. a_body word (rest c)) placeless-body
-ignores-a_body word h = blind-mapped {k = body_of} (λ x. refl) (blind-then (blind-one (keyword word)) (blind-then (blind-one any_name) h))
+ignores-a_body word h = ignores-mapped {k = body_of} (λ x. refl) (ignores-then (ignores-one (keyword word)) (ignores-then (ignores-one any_name) h))
 
 -- a rest that has a phrase and is read exactly
 record IsReadRest (rest : Limits → Rel Rest) (b : Limits) (f : Test) (r : Reader Rest) : Type 0 where
@@ -46,7 +46,7 @@ record IsReadRest (rest : Limits → Rel Rest) (b : Limits) (f : Test) (r : Read
   exact : ReadsExactly rest b f r
 
 begins-word : (word : String) {rest : Limits → Rel Rest} {g : Test} → IsTrue (g (word_of word)) → BeginsWith (λ c. a_body word (rest c)) g
-begins-word word {rest} h = led-within (keyword-within word h) (begins-a_body word {rest = rest})
+begins-word word {rest} h = begins-within (keyword-within word h) (begins-a_body word {rest = rest})
 
 -- ---- the six kinds, whatever their rests say
 
@@ -66,28 +66,28 @@ abbrev bodies : (Limits → Rel Rest) → (Limits → Rel Rest) → (Limits → 
 bodies s o i u e n c = a_body "scalar" (s c) ∪ last-five o i u e n c
 
 begins-two : {e n : Limits → Rel Rest} {g : Test} → IsTrue (g (word_of "enum")) → IsTrue (g (word_of "input")) → BeginsWith (last-two e n) g
-begins-two {e} {n} an-enum an-input = led-either (begins-word "enum" {rest = e} an-enum) (begins-word "input" {rest = n} an-input)
+begins-two {e} {n} an-enum an-input = begins-either (begins-word "enum" {rest = e} an-enum) (begins-word "input" {rest = n} an-input)
 
 begins-three : {u e n : Limits → Rel Rest} {g : Test} → IsTrue (g (word_of "union")) → IsTrue (g (word_of "enum")) → IsTrue (g (word_of "input")) → BeginsWith (last-three u e n) g
-begins-three {u} {e} {n} a-union an-enum an-input = led-either (begins-word "union" {rest = u} a-union) (begins-two {e = e} {n = n} an-enum an-input)
+begins-three {u} {e} {n} a-union an-enum an-input = begins-either (begins-word "union" {rest = u} a-union) (begins-two {e = e} {n = n} an-enum an-input)
 
 begins-four : {i u e n : Limits → Rel Rest} {g : Test} → IsTrue (g (word_of "interface")) → IsTrue (g (word_of "union")) → IsTrue (g (word_of "enum")) → IsTrue (g (word_of "input")) → BeginsWith (last-four i u e n) g
-begins-four {i} {u} {e} {n} an-interface a-union an-enum an-input = led-either (begins-word "interface" {rest = i} an-interface) (begins-three {u = u} {e = e} {n = n} a-union an-enum an-input)
+begins-four {i} {u} {e} {n} an-interface a-union an-enum an-input = begins-either (begins-word "interface" {rest = i} an-interface) (begins-three {u = u} {e = e} {n = n} a-union an-enum an-input)
 
 begins-five : {o i u e n : Limits → Rel Rest} {g : Test} → IsTrue (g (word_of "type")) → IsTrue (g (word_of "interface")) → IsTrue (g (word_of "union")) → IsTrue (g (word_of "enum")) → IsTrue (g (word_of "input")) → BeginsWith (last-five o i u e n) g
-begins-five {o} {i} {u} {e} {n} a-type an-interface a-union an-enum an-input = led-either (begins-word "type" {rest = o} a-type) (begins-four {i = i} {u = u} {e = e} {n = n} an-interface a-union an-enum an-input)
+begins-five {o} {i} {u} {e} {n} a-type an-interface a-union an-enum an-input = begins-either (begins-word "type" {rest = o} a-type) (begins-four {i = i} {u = u} {e = e} {n = n} an-interface a-union an-enum an-input)
 
 begins-bodies : {s o i u e n : Limits → Rel Rest} → BeginsWith (bodies s o i u e n) body_first
-begins-bodies {s} {o} {i} {u} {e} {n} = led-either (begins-word "scalar" {rest = s} refl) (begins-five {o = o} {i = i} {u = u} {e = e} {n = n} refl refl refl refl refl)
+begins-bodies {s} {o} {i} {u} {e} {n} = begins-either (begins-word "scalar" {rest = s} refl) (begins-five {o = o} {i = i} {u = u} {e = e} {n = n} refl refl refl refl refl)
 
 -- by the keyword in sight
 exact-bodies : {s o i u e n : Limits → Rel Rest} {b : Limits} {f : Test} (extend : Bool) → IsReadRest s b f (scalar_rest_at extend b) → IsReadRest o b f (fields_rest_at object extend b) → IsReadRest i b f (fields_rest_at interface extend b) → IsReadRest u b f (union_rest_at extend b) → IsReadRest e b f (enum_rest_at extend b) → IsReadRest n b f (input_rest_at extend b) → ReadsExactly (bodies s o i u e n) b f (body_at extend b)
 exact-bodies {s} {o} {i} {u} {e} {n} extend scalar an-object an-interface a-union an-enum an-input =
-    good-choose (begins-a_body "scalar" {rest = s}) (begins-five {o = o} {i = i} {u = u} {e = e} {n = n} refl refl refl refl refl) (exact-a_body "scalar" scalar.has scalar.exact)
-    (good-choose (begins-a_body "type" {rest = o}) (begins-four {i = i} {u = u} {e = e} {n = n} refl refl refl refl) (exact-a_body "type" an-object.has an-object.exact)
-    (good-choose (begins-a_body "interface" {rest = i}) (begins-three {u = u} {e = e} {n = n} refl refl refl) (exact-a_body "interface" an-interface.has an-interface.exact)
-    (good-choose (begins-a_body "union" {rest = u}) (begins-two {e = e} {n = n} refl refl) (exact-a_body "union" a-union.has a-union.exact)
-    (good-choose (begins-a_body "enum" {rest = e}) (begins-word "input" {rest = n} refl) (exact-a_body "enum" an-enum.has an-enum.exact)
+    exact-choose (begins-a_body "scalar" {rest = s}) (begins-five {o = o} {i = i} {u = u} {e = e} {n = n} refl refl refl refl refl) (exact-a_body "scalar" scalar.has scalar.exact)
+    (exact-choose (begins-a_body "type" {rest = o}) (begins-four {i = i} {u = u} {e = e} {n = n} refl refl refl refl) (exact-a_body "type" an-object.has an-object.exact)
+    (exact-choose (begins-a_body "interface" {rest = i}) (begins-three {u = u} {e = e} {n = n} refl refl refl) (exact-a_body "interface" an-interface.has an-interface.exact)
+    (exact-choose (begins-a_body "union" {rest = u}) (begins-two {e = e} {n = n} refl refl) (exact-a_body "union" a-union.has a-union.exact)
+    (exact-choose (begins-a_body "enum" {rest = e}) (begins-word "input" {rest = n} refl) (exact-a_body "enum" an-enum.has an-enum.exact)
     (exact-a_body "input" an-input.has an-input.exact)))))
 
 scalar-sample : HasSample (keyword "scalar")
@@ -98,20 +98,20 @@ has-bodies {s} {o} {i} {u} {e} {n} has = has-first {p = λ c. a_body "scalar" (s
 
 ignores-bodies : {s o i u e n : Limits → Rel Rest} → IgnoresPlaces s placeless-rest → IgnoresPlaces o placeless-rest → IgnoresPlaces i placeless-rest → IgnoresPlaces u placeless-rest → IgnoresPlaces e placeless-rest → IgnoresPlaces n placeless-rest → IgnoresPlaces (bodies s o i u e n) placeless-body
 ignores-bodies scalar an-object an-interface a-union an-enum an-input =
-    blind-either (ignores-a_body "scalar" scalar)
-    (blind-either (ignores-a_body "type" an-object)
-    (blind-either (ignores-a_body "interface" an-interface)
-    (blind-either (ignores-a_body "union" a-union)
-    (blind-either (ignores-a_body "enum" an-enum)
+    ignores-either (ignores-a_body "scalar" scalar)
+    (ignores-either (ignores-a_body "type" an-object)
+    (ignores-either (ignores-a_body "interface" an-interface)
+    (ignores-either (ignores-a_body "union" a-union)
+    (ignores-either (ignores-a_body "enum" an-enum)
     (ignores-a_body "input" an-input)))))
 
 -- ---- definitions
 
 free-fields : {b : Limits} {f : Test} (kind : Fields → TypeKind) → IsSubset f no-punctuator → IsSubset f (outside (keyword "implements")) → IsReadRest (λ c. mapped (fields_rest kind) (field_parts Current c)) b f (fields_rest_at kind false b)
-free-fields {b} kind ends apart = record { has = has-map has-field_parts; exact = good-mapped (exact-free field_part_first (no-field_parts b) (exact-field_parts ends apart)) }
+free-fields {b} kind ends apart = record { has = has-map has-field_parts; exact = exact-mapped (exact-free field_part_first (no-field_parts b) (exact-field_parts ends apart)) }
 
 free-list : {A : Type 0} {p : Limits → Rel (List A)} {b : Limits} {f first : Test} {r : Reader (List A)} (kind : List A → TypeKind) → BeginsWith p first → IsSubset first past-directives → IsSubset f past-directives → IsSubset f (outside first) → ReadsExactly p b f r → IsReadRest (λ c. mapped (list_rest kind) (parts Current c (p c))) b f (list_rest_at kind false b first r)
-free-list {p = p} {b = b} {first = first} {r = r} kind begins apart away none h = record { has = has-map (has-parts {p = p}); exact = good-mapped (exact-free (part_first first) (no-parts b first r) (exact-parts begins apart away none h)) }
+free-list {p = p} {b = b} {first = first} {r = r} kind begins apart away none h = record { has = has-map (has-parts {p = p}); exact = exact-mapped (exact-free (part_first first) (no-parts b first r) (exact-parts begins apart away none h)) }
 
 pub exact-body : {b : Limits} {f : Test} → IsSubset f no-punctuator → IsSubset f (outside (keyword "implements")) → ReadsExactly (body Current) b f (body_at false b)
 exact-body {b} {f} ends apart =
@@ -121,7 +121,7 @@ exact-body {b} {f} ends apart =
     (free-list input_object begins-input_fields (punct-within "{" refl) (past-parts ends) (past-punctuator "{" ends) exact-input_fields)
   where
     scalar : IsReadRest (λ c. mapped scalar_rest (directives Current false c.values)) b f (scalar_rest_at false b)
-    scalar = record { has = has-map (has-directives false); exact = good-mapped (exact-free (punct "@") (no-directives b) (good-directives false (past-punctuator "(" ends) (past-punctuator "@" ends))) }
+    scalar = record { has = has-map (has-directives false); exact = exact-mapped (exact-free (punct "@") (no-directives b) (exact-directives false (past-punctuator "(" ends) (past-punctuator "@" ends))) }
 
 pub begins-body : BeginsWith (body Current) body_first
 begins-body = begins-bodies
@@ -131,20 +131,20 @@ has-body = has-bodies (has-map (has-directives false))
 
 pub ignores-body : IgnoresPlaces (body Current) placeless-body
 ignores-body =
-    ignores-bodies (blind-mapped (λ x. refl) (blind-directives false))
-    (blind-mapped {k = fields_rest object} (λ x. refl) ignores-field_parts)
-    (blind-mapped {k = fields_rest interface} (λ x. refl) ignores-field_parts)
-    (blind-mapped {k = list_rest union} (λ x. refl) (ignores-parts ignores-members))
-    (blind-mapped {k = list_rest enumeration} (λ x. refl) (ignores-parts ignores-enum_values))
-    (blind-mapped {k = list_rest input_object} (λ x. refl) (ignores-parts ignores-input_fields))
+    ignores-bodies (ignores-mapped (λ x. refl) (ignores-directives false))
+    (ignores-mapped {k = fields_rest object} (λ x. refl) ignores-field_parts)
+    (ignores-mapped {k = fields_rest interface} (λ x. refl) ignores-field_parts)
+    (ignores-mapped {k = list_rest union} (λ x. refl) (ignores-parts ignores-members))
+    (ignores-mapped {k = list_rest enumeration} (λ x. refl) (ignores-parts ignores-enum_values))
+    (ignores-mapped {k = list_rest input_object} (λ x. refl) (ignores-parts ignores-input_fields))
 
 -- ---- extensions
 
 owed-fields : {b : Limits} {f : Test} (kind : Fields → TypeKind) → IsSubset f no-punctuator → IsSubset f (outside (keyword "implements")) → IsReadRest (λ c. mapped (fields_rest kind) (some_field_parts Current c)) b f (fields_rest_at kind true b)
-owed-fields kind ends apart = record { has = has-map has-some_field_parts; exact = good-mapped (exact-some_field_parts ends apart) }
+owed-fields kind ends apart = record { has = has-map has-some_field_parts; exact = exact-mapped (exact-some_field_parts ends apart) }
 
 owed-list : {A : Type 0} {p : Limits → Rel (List A)} {b : Limits} {f first : Test} {r : Reader (List A)} (kind : List A → TypeKind) → BeginsWith p first → IsSubset first past-directives → IsSubset f past-directives → IsSubset f (outside first) → ReadsExactly p b f r → IsReadRest (λ c. mapped (list_rest kind) (some_parts Current c (p c))) b f (list_rest_at kind true b first r)
-owed-list {p = p} kind begins apart away none h = record { has = has-map (has-some_parts {p = p}); exact = good-mapped (exact-some_parts begins apart away none h) }
+owed-list {p = p} kind begins apart away none h = record { has = has-map (has-some_parts {p = p}); exact = exact-mapped (exact-some_parts begins apart away none h) }
 
 pub exact-extended_body : {b : Limits} {f : Test} → IsSubset f no-punctuator → IsSubset f (outside (keyword "implements")) → ReadsExactly (extended_body Current) b f (body_at true b)
 exact-extended_body {b} {f} ends apart =
@@ -154,7 +154,7 @@ exact-extended_body {b} {f} ends apart =
     (owed-list input_object begins-input_fields (punct-within "{" refl) (past-parts ends) (past-punctuator "{" ends) exact-input_fields)
   where
     scalar : IsReadRest (λ c. mapped scalar_rest (plus (a_directive Current false c.values))) b f (scalar_rest_at true b)
-    scalar = record { has = has-map (has-plus (has-directive false)); exact = good-mapped (exact-some-directives (past-parts ends)) }
+    scalar = record { has = has-map (has-plus (has-directive false)); exact = exact-mapped (exact-some-directives (past-parts ends)) }
 
 pub begins-extended_body : BeginsWith (extended_body Current) body_first
 begins-extended_body = begins-bodies
@@ -164,12 +164,12 @@ has-extended_body = has-bodies (has-map (has-plus (has-directive false)))
 
 pub ignores-extended_body : IgnoresPlaces (extended_body Current) placeless-body
 ignores-extended_body =
-    ignores-bodies (blind-mapped (λ x. refl) (blind-plus (blind-directive false)))
-    (blind-mapped {k = fields_rest object} (λ x. refl) ignores-some_field_parts)
-    (blind-mapped {k = fields_rest interface} (λ x. refl) ignores-some_field_parts)
-    (blind-mapped {k = list_rest union} (λ x. refl) (ignores-some_parts ignores-members))
-    (blind-mapped {k = list_rest enumeration} (λ x. refl) (ignores-some_parts ignores-enum_values))
-    (blind-mapped {k = list_rest input_object} (λ x. refl) (ignores-some_parts ignores-input_fields))
+    ignores-bodies (ignores-mapped (λ x. refl) (ignores-plus (ignores-directive false)))
+    (ignores-mapped {k = fields_rest object} (λ x. refl) ignores-some_field_parts)
+    (ignores-mapped {k = fields_rest interface} (λ x. refl) ignores-some_field_parts)
+    (ignores-mapped {k = list_rest union} (λ x. refl) (ignores-some_parts ignores-members))
+    (ignores-mapped {k = list_rest enumeration} (λ x. refl) (ignores-some_parts ignores-enum_values))
+    (ignores-mapped {k = list_rest input_object} (λ x. refl) (ignores-some_parts ignores-input_fields))
 
 -- ---- what a body begins with
 

@@ -11,10 +11,10 @@ use Rattle.graphql_reading.specs.grammar.Relations.{Rel, opt, given}
 use Rattle.graphql_reading.specs.grammar.Tests.{Test, any_name, any_string, any_block}
 use Rattle.graphql_reading.proofs.Theory.{IsSubset, outside}
 use Rattle.graphql_reading.proofs.TokenTests.{any_name-within, within-either}
-use Rattle.graphql_reading.proofs.ReadsExactly.{ReadsExactly, HasPhrase, BeginsWith, good-mapped, good-choose, led-within, led-mapped, led-either}
-use Rattle.graphql_reading.proofs.Meaning.{good-meaning, led-meaning, blind-meaning}
-use Rattle.graphql_reading.proofs.Extra.{Opens, good-opt, has-opt, opens-opt}
-use Rattle.graphql_reading.proofs.IgnoresPlaces.{IgnoresPlaces, on-option, blind-mapped, blind-either, blind-opt}
+use Rattle.graphql_reading.proofs.ReadsExactly.{ReadsExactly, HasPhrase, BeginsWith, exact-mapped, exact-choose, begins-within, begins-mapped, begins-either}
+use Rattle.graphql_reading.proofs.Meaning.{exact-meaning, begins-meaning, ignores-meaning}
+use Rattle.graphql_reading.proofs.Extra.{FirstWithin, exact-opt, has-opt, first-opt}
+use Rattle.graphql_reading.proofs.IgnoresPlaces.{IgnoresPlaces, on-option, ignores-mapped, ignores-either, ignores-opt}
 use Rattle.graphql_grammar.proofs.StringMeanings.{string-decides, block-decides}
 use Rattle.graphql_grammar.proofs.ValueTests.{quoted, block, any_string-within, any_block-within, any_string-inner, any_block-inner}
 use Rattle.graphql_schemas.specs.grammar.Descriptions.{text_of, a_description, described}
@@ -28,7 +28,7 @@ option-alike f None = refl
 option-alike f (Some a) = refl
 
 pub ignores-optional : {A : Type 0} {p : Limits → Rel A} {f : A → A} → IgnoresPlaces p f → IgnoresPlaces (λ c. opt (p c)) (option_map f)
-ignores-optional {A} {p} {f} h = subst (λ (g : Option A → Option A). IgnoresPlaces (λ c. opt (p c)) g) (λ i o. option-alike f o i) (blind-opt h)
+ignores-optional {A} {p} {f} h = subst (λ (g : Option A → Option A). IgnoresPlaces (λ c. opt (p c)) g) (λ i o. option-alike f o i) (ignores-opt h)
 
 -- a list that isn't there has no places
 pub map-given : {A : Type 0} (f : A → A) (list : Option (List A)) → map f (given list) ≡ given (option_map (map f) list)
@@ -48,29 +48,29 @@ name-no-text = any_name-within (λ spelling. refl)
 
 pub exact-description : {b : Limits} {f : Test} → ReadsExactly (λ c. a_description Current) b f description_at
 exact-description =
-    good-choose (led-mapped (led-meaning any_string (StringStands Current)))
-    (led-mapped (led-within (any_block-within (λ spelling. refl)) (led-meaning any_block BlockStands)))
-    (good-mapped (good-meaning any_string-inner string-decides))
-    (good-mapped (good-meaning any_block-inner block-decides))
+    exact-choose (begins-mapped (begins-meaning any_string (StringStands Current)))
+    (begins-mapped (begins-within (any_block-within (λ spelling. refl)) (begins-meaning any_block BlockStands)))
+    (exact-mapped (exact-meaning any_string-inner string-decides))
+    (exact-mapped (exact-meaning any_block-inner block-decides))
 
 pub begins-description : BeginsWith (λ c. a_description Current) is_text
 begins-description =
-    led-either (led-mapped (led-within (any_string-within (λ spelling. refl)) (led-meaning any_string (StringStands Current))))
-    (led-mapped (led-within (any_block-within (λ spelling. refl)) (led-meaning any_block BlockStands)))
+    begins-either (begins-mapped (begins-within (any_string-within (λ spelling. refl)) (begins-meaning any_string (StringStands Current))))
+    (begins-mapped (begins-within (any_block-within (λ spelling. refl)) (begins-meaning any_block BlockStands)))
 
 pub ignores-description : IgnoresPlaces (λ c. a_description Current) bare_node
 ignores-description =
-    blind-either (blind-mapped {k = text_of} (λ x. refl) (blind-meaning any_string (StringStands Current)))
-    (blind-mapped {k = text_of} (λ x. refl) (blind-meaning any_block BlockStands))
+    ignores-either (ignores-mapped {k = text_of} (λ x. refl) (ignores-meaning any_string (StringStands Current)))
+    (ignores-mapped {k = text_of} (λ x. refl) (ignores-meaning any_block BlockStands))
 
 -- ---- descriptions, where there are any
 
 -- what follows is neither a string nor a block string
 pub exact-maybe_description : {b : Limits} {f : Test} → IsSubset f (outside is_text) → ReadsExactly (λ c. opt (a_description Current)) b f maybe_description_at
-exact-maybe_description away = good-opt begins-description away exact-description
+exact-maybe_description away = exact-opt begins-description away exact-description
 
-pub first-maybe_description : {f g : Test} → IsSubset is_text g → IsSubset f g → Opens (λ c. opt (a_description Current)) f g
-first-maybe_description text h = opens-opt begins-description text h
+pub first-maybe_description : {f g : Test} → IsSubset is_text g → IsSubset f g → FirstWithin (λ c. opt (a_description Current)) f g
+first-maybe_description text h = first-opt begins-description text h
 
 pub has-maybe_description : HasPhrase (λ c. opt (a_description Current))
 has-maybe_description = has-opt {p = λ c. a_description Current}

@@ -13,10 +13,10 @@ use Rattle.graphql_reading.specs.reading.Outcome.{one_at, then_at, opt_at, after
 use Rattle.graphql_reading.proofs.Theory.{IsSubset, outside}
 use Rattle.graphql_reading.proofs.TokenTests.{itself, keyword-within, any_name-within, keyword-inner, HasSample, keyword-sample, name-sample}
 use Rattle.graphql_reading.proofs.PunctSamples.{has-at}
-use Rattle.graphql_reading.proofs.ReadsExactly.{ReadsExactly, HasPhrase, BeginsWith, good-punct, good-keyword, good-name, good-next, good-led, led-one, led-within, led-then, has-token, has-pair}
-use Rattle.graphql_reading.proofs.Extra.{good-opt, has-opt, led-opt}
-use Rattle.graphql_reading.proofs.IgnoresPlaces.{IgnoresPlaces, blind-one, blind-then}
-use Rattle.graphql_reading.proofs.Separated.{good-after, led-after, has-after, blind-after, good-separated, has-separated, blind-separated}
+use Rattle.graphql_reading.proofs.ReadsExactly.{ReadsExactly, HasPhrase, BeginsWith, exact-punct, exact-keyword, exact-name, exact-next, exact-then-some, begins-one, begins-within, begins-then, has-token, has-pair}
+use Rattle.graphql_reading.proofs.Extra.{exact-opt, has-opt, begins-opt}
+use Rattle.graphql_reading.proofs.IgnoresPlaces.{IgnoresPlaces, ignores-one, ignores-then}
+use Rattle.graphql_reading.proofs.Separated.{exact-after, begins-after, has-after, ignores-after, exact-separated, has-separated, ignores-separated}
 use Rattle.graphql_grammar.specs.grammar.Placeless.{bare_node}
 use Rattle.graphql_schemas.specs.grammar.Directives.{a_location}
 use Rattle.graphql_schemas.specs.grammar.InputValues.{arguments_definition}
@@ -38,17 +38,17 @@ on-sample = keyword-sample "on" refl (refl, (refl, tt))
 -- another location belongs to them
 exact-locations : {b : Limits} {f : Test} → IsSubset f (outside (punct "|")) → ReadsExactly locations b f (after_at (keyword "on") (separated_at (punct "|") location_at))
 exact-locations away =
-    good-after (keyword-inner "on") (has-separated (punct "|") has-location)
-    (good-separated "|" begins-location (any_name-within (λ spelling. refl)) away has-location exact-location)
+    exact-after (keyword-inner "on") (has-separated (punct "|") has-location)
+    (exact-separated "|" begins-location (any_name-within (λ spelling. refl)) away has-location exact-location)
 
 begins-locations : BeginsWith locations (keyword "on")
-begins-locations = led-after
+begins-locations = begins-after
 
 has-locations : HasPhrase locations
 has-locations = has-after (keyword "on") (has-token on-sample) (has-separated (punct "|") has-location)
 
 ignores-locations : IgnoresPlaces locations (map bare_node)
-ignores-locations = blind-after (keyword "on") (blind-separated (punct "|") ignores-location)
+ignores-locations = ignores-after (keyword "on") (ignores-separated (punct "|") ignores-location)
 
 -- ---- 'repeatable', where it stands, and locations
 
@@ -59,10 +59,10 @@ abbrev repeatable-and-locations : Limits → Rel (Option Token × List (Position
 repeatable-and-locations c = repeatable c ⨾ locations c
 
 exact-repeatable-and-locations : {b : Limits} {f : Test} → IsSubset f (outside (punct "|")) → ReadsExactly repeatable-and-locations b f (then_at (opt_at (keyword "repeatable") (one_at (keyword "repeatable"))) (after_at (keyword "on") (separated_at (punct "|") location_at)))
-exact-repeatable-and-locations away = good-led begins-locations has-locations (good-opt led-one (keyword-within "on" refl) (good-keyword "repeatable")) (exact-locations away)
+exact-repeatable-and-locations away = exact-then-some begins-locations has-locations (exact-opt begins-one (keyword-within "on" refl) (exact-keyword "repeatable")) (exact-locations away)
 
 begins-repeatable-and-locations : {g : Test} → IsSubset (keyword "repeatable") g → IsSubset (keyword "on") g → BeginsWith repeatable-and-locations g
-begins-repeatable-and-locations word on = led-opt {q = locations} (led-within word led-one) (led-within on begins-locations)
+begins-repeatable-and-locations word on = begins-opt {q = locations} (begins-within word begins-one) (begins-within on begins-locations)
 
 has-repeatable-and-locations : HasPhrase repeatable-and-locations
 has-repeatable-and-locations = has-pair (has-opt {p = λ c. one (keyword "repeatable")}) has-locations
@@ -90,17 +90,17 @@ has-after-name = has-pair has-maybe_arguments_definition has-repeatable-and-loca
 
 pub exact-directive-rest : {b : Limits} {f : Test} → IsSubset f no-punctuator → ReadsExactly directive-rest b f (directive_rest_at b)
 exact-directive-rest ends =
-    good-next (has-pair has-at (has-pair (has-token name-sample) has-after-name)) (good-keyword "directive")
-    (good-next (has-pair (has-token name-sample) has-after-name) (good-punct "@")
-    (good-next has-after-name good-name
-    (good-led {g = outside (punct "(")} (begins-repeatable-and-locations (keyword-within "repeatable" refl) (keyword-within "on" refl)) has-repeatable-and-locations (exact-maybe_arguments_definition itself)
+    exact-next (has-pair has-at (has-pair (has-token name-sample) has-after-name)) (exact-keyword "directive")
+    (exact-next (has-pair (has-token name-sample) has-after-name) (exact-punct "@")
+    (exact-next has-after-name exact-name
+    (exact-then-some {g = outside (punct "(")} (begins-repeatable-and-locations (keyword-within "repeatable" refl) (keyword-within "on" refl)) has-repeatable-and-locations (exact-maybe_arguments_definition itself)
     (exact-repeatable-and-locations (past-punctuator "|" ends)))))
 
 pub begins-directive-rest : BeginsWith directive-rest (keyword "directive")
-begins-directive-rest = led-then led-one
+begins-directive-rest = begins-then begins-one
 
 pub has-directive-rest : HasPhrase directive-rest
 has-directive-rest = has-pair (has-token directive-sample) (has-pair has-at (has-pair (has-token name-sample) has-after-name))
 
 pub ignores-directive-rest : IgnoresPlaces directive-rest placeless-directive-rest
-ignores-directive-rest = blind-then (blind-one (keyword "directive")) (blind-then (blind-one (punct "@")) (blind-then (blind-one any_name) (blind-then ignores-maybe_arguments_definition (blind-then (ignores-optional (blind-one (keyword "repeatable"))) ignores-locations))))
+ignores-directive-rest = ignores-then (ignores-one (keyword "directive")) (ignores-then (ignores-one (punct "@")) (ignores-then (ignores-one any_name) (ignores-then ignores-maybe_arguments_definition (ignores-then (ignores-optional (ignores-one (keyword "repeatable"))) ignores-locations))))

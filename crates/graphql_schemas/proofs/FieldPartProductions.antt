@@ -12,10 +12,10 @@ use Rattle.graphql_reading.specs.grammar.Tests.{Test, punct, keyword}
 use Rattle.graphql_reading.specs.reading.Outcome.{Outcome, Read, Refused, Reader, ◌>>=◌, then_at, mapped_at, choose_at, opt_at}
 use Rattle.graphql_reading.proofs.Theory.{IsSubset, outside}
 use Rattle.graphql_reading.proofs.TokenTests.{punct-within, within-both, within-first, within-second}
-use Rattle.graphql_reading.proofs.ReadsExactly.{ReadsExactly, HasPhrase, good-mapped, good-choose, led-mapped, led-then, has-pair, has-map, has-first}
-use Rattle.graphql_reading.proofs.Extra.{Opens, good-seq, good-opt, has-opt}
-use Rattle.graphql_reading.proofs.Optional.{good-reader, opt-left, with-some, opt-then}
-use Rattle.graphql_reading.proofs.IgnoresPlaces.{IgnoresPlaces, blind-then, blind-mapped, blind-either}
+use Rattle.graphql_reading.proofs.ReadsExactly.{ReadsExactly, HasPhrase, exact-mapped, exact-choose, begins-mapped, begins-then, has-pair, has-map, has-first}
+use Rattle.graphql_reading.proofs.Extra.{FirstWithin, exact-seq, exact-opt, has-opt}
+use Rattle.graphql_reading.proofs.Optional.{exact-reader, opt-left, with-some, opt-then}
+use Rattle.graphql_reading.proofs.IgnoresPlaces.{IgnoresPlaces, ignores-then, ignores-mapped, ignores-either}
 use Rattle.graphql_grammar.specs.grammar.Placeless.{unplaced, bare_node}
 use Rattle.graphql_schemas.specs.grammar.Fields.{fields}
 use Rattle.graphql_schemas.specs.grammar.Members.{implements}
@@ -44,7 +44,7 @@ past-implements t = outside (keyword "implements") t && outside (punct "&") t
 exact-body-parts : {b : Limits} {f : Test} → IsSubset f no-punctuator → ReadsExactly body-parts b f (parts_at b (punct "{") (fields_at b))
 exact-body-parts ends = exact-parts begins-fields (punct-within "{" refl) (past-parts ends) (past-punctuator "{" ends) exact-fields
 
-first-body-parts : {f : Test} → IsSubset f no-punctuator → IsSubset f (outside (keyword "implements")) → Opens body-parts f past-implements
+first-body-parts : {f : Test} → IsSubset f no-punctuator → IsSubset f (outside (keyword "implements")) → FirstWithin body-parts f past-implements
 first-body-parts ends apart = first-parts begins-fields refl (punct-within "{" refl) (within-both apart (past-punctuator "&" ends))
 
 has-body-parts : HasPhrase body-parts
@@ -54,8 +54,8 @@ has-body-parts = has-parts {p = fields Current}
 
 pub exact-field_parts : {b : Limits} {f : Test} → IsSubset f no-punctuator → IsSubset f (outside (keyword "implements")) → ReadsExactly (field_parts Current) b f (field_parts_at b)
 exact-field_parts ends apart =
-    good-mapped (good-seq {g = past-implements} (first-body-parts ends apart) has-body-parts
-    (good-opt begins-implements (within-first _ _) (exact-implements (within-second _ _)))
+    exact-mapped (exact-seq {g = past-implements} (first-body-parts ends apart) has-body-parts
+    (exact-opt begins-implements (within-first _ _) (exact-implements (within-second _ _)))
     (exact-body-parts ends))
 
 pub has-field_parts : HasPhrase (field_parts Current)
@@ -66,8 +66,8 @@ placeless-members x = (placeless_names x.0, placeless-parts (unplaced placeless_
 
 pub ignores-field_parts : IgnoresPlaces (field_parts Current) placeless-members
 ignores-field_parts =
-    blind-mapped (λ x. ap (λ (l : Names). (l, placeless-parts (unplaced placeless_field) x.1)) (map-given bare_node x.0))
-    (blind-then (ignores-optional ignores-implements) (ignores-parts ignores-fields))
+    ignores-mapped (λ x. ap (λ (l : Names). (l, placeless-parts (unplaced placeless_field) x.1)) (map-given bare_node x.0))
+    (ignores-then (ignores-optional ignores-implements) (ignores-parts ignores-fields))
 
 pub no-field_parts : (limits : Limits) → field_parts_at limits [] ≡ Refused syntax []
 unfolding opt_at
@@ -111,13 +111,13 @@ interfaces-first c = implements ⨾ body-parts c
 
 pub exact-some_field_parts : {b : Limits} {f : Test} → IsSubset f no-punctuator → IsSubset f (outside (keyword "implements")) → ReadsExactly (some_field_parts Current) b f (some_field_parts_at true b)
 exact-some_field_parts {b} ends apart =
-    good-reader (reads-by-first b)
-    (good-choose (led-then {q = body-parts} begins-implements) (led-mapped (begins-some_parts begins-fields refl (punct-within "{" refl)))
-    (good-seq {g = past-implements} (first-body-parts ends apart) has-body-parts (exact-implements (within-second _ _)) (exact-body-parts ends))
-    (good-mapped (exact-some_parts begins-fields (punct-within "{" refl) (past-parts ends) (past-punctuator "{" ends) exact-fields)))
+    exact-reader (reads-by-first b)
+    (exact-choose (begins-then {q = body-parts} begins-implements) (begins-mapped (begins-some_parts begins-fields refl (punct-within "{" refl)))
+    (exact-seq {g = past-implements} (first-body-parts ends apart) has-body-parts (exact-implements (within-second _ _)) (exact-body-parts ends))
+    (exact-mapped (exact-some_parts begins-fields (punct-within "{" refl) (past-parts ends) (past-punctuator "{" ends) exact-fields)))
 
 pub has-some_field_parts : HasPhrase (some_field_parts Current)
 has-some_field_parts = has-first {p = interfaces-first} (has-pair has-implements has-body-parts)
 
 pub ignores-some_field_parts : IgnoresPlaces (some_field_parts Current) placeless-members
-ignores-some_field_parts = blind-either (blind-then ignores-implements (ignores-parts ignores-fields)) (blind-mapped (λ x. refl) (ignores-some_parts ignores-fields))
+ignores-some_field_parts = ignores-either (ignores-then ignores-implements (ignores-parts ignores-fields)) (ignores-mapped (λ x. refl) (ignores-some_parts ignores-fields))

@@ -16,12 +16,12 @@ use Rattle.graphql_reading.specs.grammar.Tests.{Test, punct, any_name}
 use Rattle.graphql_reading.proofs.Theory.{IsSubset, outside}
 use Rattle.graphql_reading.proofs.TokenTests.{itself, punct-within, name-sample}
 use Rattle.graphql_reading.proofs.PunctSamples.{has-open_object, has-close_object, has-colon}
-use Rattle.graphql_reading.proofs.ReadsExactly.{ReadsExactly, HasPhrase, BeginsWith, good-punct, good-name, good-mapped, good-next, good-led, led-one, led-mapped, led-then, has-token, has-pair, has-map, has-plus}
-use Rattle.graphql_reading.proofs.Extra.{good-seq, good-plus-ahead}
-use Rattle.graphql_reading.proofs.IgnoresPlaces.{IgnoresPlaces, blind-one, blind-then, blind-mapped, blind-plus}
+use Rattle.graphql_reading.proofs.ReadsExactly.{ReadsExactly, HasPhrase, BeginsWith, exact-punct, exact-name, exact-mapped, exact-next, exact-then-some, begins-one, begins-mapped, begins-then, has-token, has-pair, has-map, has-plus}
+use Rattle.graphql_reading.proofs.Extra.{exact-seq, exact-plus-ahead}
+use Rattle.graphql_reading.proofs.IgnoresPlaces.{IgnoresPlaces, ignores-one, ignores-then, ignores-mapped, ignores-plus}
 use Rattle.graphql_reading.proofs.Loop.{Takes, takes-one}
-use Rattle.graphql_grammar.proofs.TypeProductions.{good-type, has-type, blind-type}
-use Rattle.graphql_grammar.proofs.ArgumentProductions.{good-directives, opens-directives, has-directives, blind-directives}
+use Rattle.graphql_grammar.proofs.TypeProductions.{exact-type, has-type, ignores-type}
+use Rattle.graphql_grammar.proofs.ArgumentProductions.{exact-directives, first-directives, has-directives, ignores-directives}
 use Rattle.graphql_schemas.specs.grammar.Descriptions.{described}
 use Rattle.graphql_schemas.specs.grammar.Fields.{field_definition_of, a_field_definition, fields}
 use Rattle.graphql_schemas.specs.grammar.Placeless.{placeless_description, placeless_input_value, placeless_field}
@@ -40,15 +40,15 @@ has-typed = has-pair has-colon (has-pair has-type (has-directives false))
 -- `!` belongs to the type, `@` and `(` to the directives
 pub exact-field_definition : {b : Limits} {f : Test} → IsSubset f (outside (punct "!")) → IsSubset f (outside (punct "(")) → IsSubset f (outside (punct "@")) → ReadsExactly (a_field_definition Current) b f (field_definition_at b)
 exact-field_definition marked away last =
-    good-mapped (good-led {g = any_name} (led-then led-one) (has-pair (has-token name-sample) (has-pair has-maybe_arguments_definition has-typed)) (exact-maybe_description name-no-text)
-    (good-next (has-pair has-maybe_arguments_definition has-typed) good-name
-    (good-led {g = punct ":"} (led-then led-one) has-typed (exact-maybe_arguments_definition (punct-within ":" refl))
-    (good-next (has-pair has-type (has-directives false)) (good-punct ":")
-    (good-seq {g = outside (punct "!")} (opens-directives false refl marked) (has-directives false) (good-type itself)
-    (good-directives false away last))))))
+    exact-mapped (exact-then-some {g = any_name} (begins-then begins-one) (has-pair (has-token name-sample) (has-pair has-maybe_arguments_definition has-typed)) (exact-maybe_description name-no-text)
+    (exact-next (has-pair has-maybe_arguments_definition has-typed) exact-name
+    (exact-then-some {g = punct ":"} (begins-then begins-one) has-typed (exact-maybe_arguments_definition (punct-within ":" refl))
+    (exact-next (has-pair has-type (has-directives false)) (exact-punct ":")
+    (exact-seq {g = outside (punct "!")} (first-directives false refl marked) (has-directives false) (exact-type itself)
+    (exact-directives false away last))))))
 
 pub begins-field_definition : BeginsWith (a_field_definition Current) member_first
-begins-field_definition = led-mapped (begins-member (led-then led-one))
+begins-field_definition = begins-mapped (begins-member (begins-then begins-one))
 
 pub has-field_definition : HasPhrase (a_field_definition Current)
 has-field_definition = has-map (has-pair has-maybe_description (has-pair (has-token name-sample) (has-pair has-maybe_arguments_definition has-typed)))
@@ -59,8 +59,8 @@ with-arguments x arguments = described (placeless_description x.0) (without_plac
 
 pub ignores-field_definition : IgnoresPlaces (a_field_definition Current) (unplaced placeless_field)
 ignores-field_definition =
-    blind-mapped {k = field_definition_of} (λ x. described-nowhere placeless_field x.0 x.1.0 (field_definition_of x).node ∙ ap (with-arguments x) (map-given (unplaced placeless_input_value) x.1.1.0))
-    (blind-then ignores-maybe_description (blind-then (blind-one any_name) (blind-then ignores-maybe_arguments_definition (blind-then (blind-one (punct ":")) (blind-then blind-type (blind-directives false))))))
+    ignores-mapped {k = field_definition_of} (λ x. described-nowhere placeless_field x.0 x.1.0 (field_definition_of x).node ∙ ap (with-arguments x) (map-given (unplaced placeless_input_value) x.1.1.0))
+    (ignores-then ignores-maybe_description (ignores-then (ignores-one any_name) (ignores-then ignores-maybe_arguments_definition (ignores-then (ignores-one (punct ":")) (ignores-then ignores-type (ignores-directives false))))))
 
 -- another one or a bracket follows
 exact-next-field_definition : {b : Limits} → ReadsExactly (a_field_definition Current) b after_member (field_definition_at b)
@@ -72,15 +72,15 @@ takes-field_definition limits = takes-one {b = limits} exact-next-field_definiti
 -- nothing is looked ahead at after `}`
 pub exact-fields : {b : Limits} {f : Test} → ReadsExactly (fields Current) b f (fields_at b)
 exact-fields =
-    good-mapped (good-next (has-pair (has-plus has-field_definition) has-close_object) (good-punct "{")
-    (good-led led-one has-close_object (good-plus-ahead {g = after_member} begins-field_definition member-goes-on (punct-within "}" refl) (punct-within "}" refl) exact-next-field_definition)
-    (good-punct "}")))
+    exact-mapped (exact-next (has-pair (has-plus has-field_definition) has-close_object) (exact-punct "{")
+    (exact-then-some begins-one has-close_object (exact-plus-ahead {g = after_member} begins-field_definition member-goes-on (punct-within "}" refl) (punct-within "}" refl) exact-next-field_definition)
+    (exact-punct "}")))
 
 pub begins-fields : BeginsWith (fields Current) (punct "{")
-begins-fields = led-mapped (led-then led-one)
+begins-fields = begins-mapped (begins-then begins-one)
 
 pub has-fields : HasPhrase (fields Current)
 has-fields = has-map (has-pair has-open_object (has-pair (has-plus has-field_definition) has-close_object))
 
 pub ignores-fields : IgnoresPlaces (fields Current) (map (unplaced placeless_field))
-ignores-fields = blind-mapped (λ x. refl) (blind-then (blind-one (punct "{")) (blind-then (blind-plus ignores-field_definition) (blind-one (punct "}"))))
+ignores-fields = ignores-mapped (λ x. refl) (ignores-then (ignores-one (punct "{")) (ignores-then (ignores-plus ignores-field_definition) (ignores-one (punct "}"))))

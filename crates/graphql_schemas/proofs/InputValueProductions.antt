@@ -14,12 +14,12 @@ use Rattle.graphql_reading.specs.reading.Outcome.{opt_at, plus_at}
 use Rattle.graphql_reading.proofs.Theory.{IsSubset, outside}
 use Rattle.graphql_reading.proofs.TokenTests.{punctuator, named, itself, punct-within, any_name-within, within-either, name-sample}
 use Rattle.graphql_reading.proofs.PunctSamples.{has-open, has-close, has-open_object, has-close_object, has-colon}
-use Rattle.graphql_reading.proofs.ReadsExactly.{ReadsExactly, HasPhrase, BeginsWith, good-punct, good-name, good-mapped, good-next, good-led, led-one, led-within, led-mapped, led-then, has-token, has-pair, has-map, has-plus}
-use Rattle.graphql_reading.proofs.Extra.{Opens, good-seq, opens-opt, opens-then, good-plus-ahead, good-opt, has-opt, led-opt}
-use Rattle.graphql_reading.proofs.IgnoresPlaces.{IgnoresPlaces, blind-one, blind-then, blind-mapped, blind-plus}
+use Rattle.graphql_reading.proofs.ReadsExactly.{ReadsExactly, HasPhrase, BeginsWith, exact-punct, exact-name, exact-mapped, exact-next, exact-then-some, begins-one, begins-within, begins-mapped, begins-then, has-token, has-pair, has-map, has-plus}
+use Rattle.graphql_reading.proofs.Extra.{FirstWithin, exact-seq, first-opt, first-then, exact-plus-ahead, exact-opt, has-opt, begins-opt}
+use Rattle.graphql_reading.proofs.IgnoresPlaces.{IgnoresPlaces, ignores-one, ignores-then, ignores-mapped, ignores-plus}
 use Rattle.graphql_reading.proofs.Loop.{Takes, takes-one}
-use Rattle.graphql_grammar.proofs.TypeProductions.{good-type, has-type, blind-type}
-use Rattle.graphql_grammar.proofs.ArgumentProductions.{good-directives, opens-directives, has-directives, blind-directives, good-default, led-default, blind-default}
+use Rattle.graphql_grammar.proofs.TypeProductions.{exact-type, has-type, ignores-type}
+use Rattle.graphql_grammar.proofs.ArgumentProductions.{exact-directives, first-directives, has-directives, ignores-directives, exact-default, begins-default, ignores-default}
 use Rattle.graphql_grammar.proofs.ValueTests.{quoted, block}
 use Rattle.graphql_schemas.specs.grammar.Descriptions.{a_description}
 use Rattle.graphql_schemas.specs.grammar.InputValues.{input_value_of, an_input_value, arguments_definition, input_fields}
@@ -40,7 +40,7 @@ name-in-members = any_name-within (λ spelling. refl)
 
 -- a description, where there is one, and what begins with a name
 pub begins-member : {B : Type 0} {q : Limits → Rel B} → BeginsWith q any_name → BeginsWith (λ c. opt (a_description Current) ⨾ q c) member_first
-begins-member {q = q} led = led-opt {q = q} (led-within text-in-members begins-description) (led-within name-in-members led)
+begins-member {q = q} led = begins-opt {q = q} (begins-within text-in-members begins-description) (begins-within name-in-members led)
 
 -- after a member: another one, or the bracket that closes the list
 abbrev pub after_member : Test
@@ -67,26 +67,26 @@ has-default-and-directives = has-pair (has-opt {p = λ c. a_default Current c.va
 -- `!` belongs to the type, `=` to the input value, `@` and `(` to its directives
 pub exact-input_value : {b : Limits} {f : Test} → IsSubset f (outside (punct "!")) → IsSubset f (outside (punct "(")) → IsSubset f (outside (punct "@")) → IsSubset f (outside (punct "=")) → ReadsExactly (an_input_value Current) b f (input_value_at b)
 exact-input_value marked away last none =
-    good-mapped (good-led {g = any_name} (led-then led-one) (has-pair (has-token name-sample) (has-pair has-colon has-typed)) (exact-maybe_description name-no-text)
-    (good-next (has-pair has-colon has-typed) good-name
-    (good-next has-typed (good-punct ":")
-    (good-seq {g = outside (punct "!")} (opens-then (opens-opt led-default (punct-within "=" refl) itself) (opens-directives false refl marked)) has-default-and-directives (good-type itself)
-    (good-seq {g = outside (punct "=")} (opens-directives false refl none) (has-directives false) (good-opt led-default itself good-default)
-    (good-directives false away last))))))
+    exact-mapped (exact-then-some {g = any_name} (begins-then begins-one) (has-pair (has-token name-sample) (has-pair has-colon has-typed)) (exact-maybe_description name-no-text)
+    (exact-next (has-pair has-colon has-typed) exact-name
+    (exact-next has-typed (exact-punct ":")
+    (exact-seq {g = outside (punct "!")} (first-then (first-opt begins-default (punct-within "=" refl) itself) (first-directives false refl marked)) has-default-and-directives (exact-type itself)
+    (exact-seq {g = outside (punct "=")} (first-directives false refl none) (has-directives false) (exact-opt begins-default itself exact-default)
+    (exact-directives false away last))))))
   where
     has-typed : HasPhrase (λ c. type_reference c.types ⨾ default-and-directives c)
     has-typed = has-pair has-type has-default-and-directives
 
 pub begins-input_value : BeginsWith (an_input_value Current) member_first
-begins-input_value = led-mapped (begins-member (led-then led-one))
+begins-input_value = begins-mapped (begins-member (begins-then begins-one))
 
 pub has-input_value : HasPhrase (an_input_value Current)
 has-input_value = has-map (has-pair has-maybe_description (has-pair (has-token name-sample) (has-pair has-colon (has-pair has-type has-default-and-directives))))
 
 pub ignores-input_value : IgnoresPlaces (an_input_value Current) (unplaced placeless_input_value)
 ignores-input_value =
-    blind-mapped {k = input_value_of} (λ x. described-nowhere placeless_input_value x.0 x.1.0 (input_value_of x).node)
-    (blind-then ignores-maybe_description (blind-then (blind-one any_name) (blind-then (blind-one (punct ":")) (blind-then blind-type (blind-then (ignores-optional blind-default) (blind-directives false))))))
+    ignores-mapped {k = input_value_of} (λ x. described-nowhere placeless_input_value x.0 x.1.0 (input_value_of x).node)
+    (ignores-then ignores-maybe_description (ignores-then (ignores-one any_name) (ignores-then (ignores-one (punct ":")) (ignores-then ignores-type (ignores-then (ignores-optional ignores-default) (ignores-directives false))))))
 
 -- another one or a bracket follows
 exact-next-input_value : {b : Limits} → ReadsExactly (an_input_value Current) b after_member (input_value_at b)
@@ -99,33 +99,33 @@ abbrev input-values : Limits → Rel InputValues
 input-values c = plus (an_input_value Current c)
 
 exact-input_values : {b : Limits} {f : Test} → IsSubset f after_member → IsSubset f (outside member_first) → ReadsExactly input-values b f (plus_at member_first (input_value_at b))
-exact-input_values h away = good-plus-ahead {g = after_member} begins-input_value member-goes-on h away exact-next-input_value
+exact-input_values h away = exact-plus-ahead {g = after_member} begins-input_value member-goes-on h away exact-next-input_value
 
 -- ---- definitions of arguments
 
 -- nothing is looked ahead at after `)`
 pub exact-arguments_definition : {b : Limits} {f : Test} → ReadsExactly (arguments_definition Current) b f (arguments_definition_at b)
 exact-arguments_definition =
-    good-mapped (good-next (has-pair (has-plus has-input_value) has-close) (good-punct "(")
-    (good-led led-one has-close (exact-input_values (punct-within ")" refl) (punct-within ")" refl))
-    (good-punct ")")))
+    exact-mapped (exact-next (has-pair (has-plus has-input_value) has-close) (exact-punct "(")
+    (exact-then-some begins-one has-close (exact-input_values (punct-within ")" refl) (punct-within ")" refl))
+    (exact-punct ")")))
 
 pub begins-arguments_definition : BeginsWith (arguments_definition Current) (punct "(")
-begins-arguments_definition = led-mapped (led-then led-one)
+begins-arguments_definition = begins-mapped (begins-then begins-one)
 
 pub has-arguments_definition : HasPhrase (arguments_definition Current)
 has-arguments_definition = has-map (has-pair has-open (has-pair (has-plus has-input_value) has-close))
 
 pub ignores-arguments_definition : IgnoresPlaces (arguments_definition Current) placeless_input_values
-ignores-arguments_definition = blind-mapped (λ x. refl) (blind-then (blind-one (punct "(")) (blind-then (blind-plus ignores-input_value) (blind-one (punct ")"))))
+ignores-arguments_definition = ignores-mapped (λ x. refl) (ignores-then (ignores-one (punct "(")) (ignores-then (ignores-plus ignores-input_value) (ignores-one (punct ")"))))
 
 -- where there are any
 
 pub exact-maybe_arguments_definition : {b : Limits} {f : Test} → IsSubset f (outside (punct "(")) → ReadsExactly (λ c. opt (arguments_definition Current c)) b f (opt_at (punct "(") (arguments_definition_at b))
-exact-maybe_arguments_definition away = good-opt begins-arguments_definition away exact-arguments_definition
+exact-maybe_arguments_definition away = exact-opt begins-arguments_definition away exact-arguments_definition
 
-pub first-maybe_arguments_definition : {f g : Test} → IsTrue (g (punctuator "(")) → IsSubset f g → Opens (λ c. opt (arguments_definition Current c)) f g
-first-maybe_arguments_definition here h = opens-opt begins-arguments_definition (punct-within "(" here) h
+pub first-maybe_arguments_definition : {f g : Test} → IsTrue (g (punctuator "(")) → IsSubset f g → FirstWithin (λ c. opt (arguments_definition Current c)) f g
+first-maybe_arguments_definition here h = first-opt begins-arguments_definition (punct-within "(" here) h
 
 pub has-maybe_arguments_definition : HasPhrase (λ c. opt (arguments_definition Current c))
 has-maybe_arguments_definition = has-opt {p = arguments_definition Current}
@@ -136,25 +136,25 @@ ignores-maybe_arguments_definition = ignores-optional ignores-arguments_definiti
 -- a list of them, which may be empty
 
 pub exact-given_arguments : {b : Limits} {f : Test} → IsSubset f (outside (punct "(")) → ReadsExactly (λ c. mapped given (opt (arguments_definition Current c))) b f (given_arguments_at b)
-exact-given_arguments away = good-mapped (exact-maybe_arguments_definition away)
+exact-given_arguments away = exact-mapped (exact-maybe_arguments_definition away)
 
 pub ignores-given_arguments : IgnoresPlaces (λ c. mapped given (opt (arguments_definition Current c))) placeless_input_values
-ignores-given_arguments = blind-mapped (map-given (unplaced placeless_input_value)) ignores-maybe_arguments_definition
+ignores-given_arguments = ignores-mapped (map-given (unplaced placeless_input_value)) ignores-maybe_arguments_definition
 
 -- ---- fields of input objects
 
 -- nothing is looked ahead at after `}`
 pub exact-input_fields : {b : Limits} {f : Test} → ReadsExactly (input_fields Current) b f (input_fields_at b)
 exact-input_fields =
-    good-mapped (good-next (has-pair (has-plus has-input_value) has-close_object) (good-punct "{")
-    (good-led led-one has-close_object (exact-input_values (punct-within "}" refl) (punct-within "}" refl))
-    (good-punct "}")))
+    exact-mapped (exact-next (has-pair (has-plus has-input_value) has-close_object) (exact-punct "{")
+    (exact-then-some begins-one has-close_object (exact-input_values (punct-within "}" refl) (punct-within "}" refl))
+    (exact-punct "}")))
 
 pub begins-input_fields : BeginsWith (input_fields Current) (punct "{")
-begins-input_fields = led-mapped (led-then led-one)
+begins-input_fields = begins-mapped (begins-then begins-one)
 
 pub has-input_fields : HasPhrase (input_fields Current)
 has-input_fields = has-map (has-pair has-open_object (has-pair (has-plus has-input_value) has-close_object))
 
 pub ignores-input_fields : IgnoresPlaces (input_fields Current) placeless_input_values
-ignores-input_fields = blind-mapped (λ x. refl) (blind-then (blind-one (punct "{")) (blind-then (blind-plus ignores-input_value) (blind-one (punct "}"))))
+ignores-input_fields = ignores-mapped (λ x. refl) (ignores-then (ignores-one (punct "{")) (ignores-then (ignores-plus ignores-input_value) (ignores-one (punct "}"))))

@@ -6,10 +6,10 @@ use Rattle.graphql_syntax.specs.declared.types.service.DirectiveLocation.{Direct
 use Rattle.graphql_syntax.specs.declared.types.service.DirectiveLocation.TheVariants as locations
 use Rattle.graphql_reading.specs.grammar.Limits.{Limits}
 use Rattle.graphql_reading.specs.grammar.Tests.{Test, any_name}
-use Rattle.graphql_reading.proofs.Meaning.{Decides, good-meaning, led-meaning, has-meaning, blind-meaning}
+use Rattle.graphql_reading.proofs.Meaning.{Decides, exact-meaning, begins-meaning, has-meaning, ignores-meaning}
 use Rattle.graphql_reading.proofs.TokenTests.{any_name-inner, sample, word_of, HasSample, name-spells}
-use Rattle.graphql_reading.proofs.ReadsExactly.{ReadsExactly, HasPhrase, BeginsWith, good-mapped, led-mapped, has-map}
-use Rattle.graphql_reading.proofs.IgnoresPlaces.{IgnoresPlaces, blind-mapped}
+use Rattle.graphql_reading.proofs.ReadsExactly.{ReadsExactly, HasPhrase, BeginsWith, exact-mapped, begins-mapped, has-map}
+use Rattle.graphql_reading.proofs.IgnoresPlaces.{IgnoresPlaces, ignores-mapped}
 use Rattle.graphql_grammar.specs.grammar.Placeless.{bare_node}
 use Rattle.graphql_schemas.specs.grammar.Directives.{location_word, IsLocation, a_location}
 use Rattle.graphql_schemas.specs.reading.Directives.{all_locations, location_among, location_named, location_at}
@@ -51,10 +51,10 @@ location-decides = record { sound = λ t l e. among-sound t.spelling all_locatio
 -- ---- one location
 
 pub exact-location : {b : Limits} {f : Test} → ReadsExactly (λ c. a_location) b f location_at
-exact-location = good-mapped (good-meaning any_name-inner location-decides)
+exact-location = exact-mapped (exact-meaning any_name-inner location-decides)
 
 pub begins-location : BeginsWith (λ c. a_location) any_name
-begins-location = led-mapped (led-meaning any_name IsLocation)
+begins-location = begins-mapped (begins-meaning any_name IsLocation)
 
 abbrev field-sample : HasSample any_name
 field-sample = record { token = sample (word_of "FIELD"); passes = refl; proper = name-spells (codes "FIELD") refl (refl, (refl, (refl, (refl, (refl, tt))))) }
@@ -63,4 +63,4 @@ pub has-location : HasPhrase (λ c. a_location)
 has-location = has-map (has-meaning IsLocation field-sample locations.Field refl)
 
 pub ignores-location : IgnoresPlaces (λ c. a_location) bare_node
-ignores-location = blind-mapped (λ x. refl) (blind-meaning any_name IsLocation)
+ignores-location = ignores-mapped (λ x. refl) (ignores-meaning any_name IsLocation)

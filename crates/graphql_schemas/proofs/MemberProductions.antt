@@ -10,12 +10,12 @@ use Rattle.graphql_reading.specs.grammar.Tests.{Test, is_among, punct, keyword, 
 use Rattle.graphql_reading.proofs.Theory.{IsSubset, outside}
 use Rattle.graphql_reading.proofs.TokenTests.{any_name-within, punct-inner, keyword-inner, keyword-sample, punctuator, named, word_of, sample, punct-within, name_but-within, within-either, HasSample, name-spells, name-sample}
 use Rattle.graphql_reading.proofs.PunctSamples.{has-equals, has-open_object, has-close_object}
-use Rattle.graphql_reading.proofs.ReadsExactly.{ReadsExactly, HasPhrase, BeginsWith, good-punct, good-name, good-name_but, good-mapped, good-next, good-led, led-one, led-within, led-mapped, led-then, has-token, has-pair, has-map, has-plus}
-use Rattle.graphql_reading.proofs.Separated.{good-after, led-after, has-after, blind-after, good-separated, has-separated, blind-separated}
-use Rattle.graphql_reading.proofs.Extra.{good-plus-ahead, led-opt}
-use Rattle.graphql_reading.proofs.IgnoresPlaces.{IgnoresPlaces, blind-one, blind-then, blind-mapped, blind-plus}
+use Rattle.graphql_reading.proofs.ReadsExactly.{ReadsExactly, HasPhrase, BeginsWith, exact-punct, exact-name, exact-name_but, exact-mapped, exact-next, exact-then-some, begins-one, begins-within, begins-mapped, begins-then, has-token, has-pair, has-map, has-plus}
+use Rattle.graphql_reading.proofs.Separated.{exact-after, begins-after, has-after, ignores-after, exact-separated, has-separated, ignores-separated}
+use Rattle.graphql_reading.proofs.Extra.{exact-plus-ahead, begins-opt}
+use Rattle.graphql_reading.proofs.IgnoresPlaces.{IgnoresPlaces, ignores-one, ignores-then, ignores-mapped, ignores-plus}
 use Rattle.graphql_reading.proofs.Loop.{Takes, takes-one}
-use Rattle.graphql_grammar.proofs.ArgumentProductions.{good-directives, has-directives, blind-directives}
+use Rattle.graphql_grammar.proofs.ArgumentProductions.{exact-directives, has-directives, ignores-directives}
 use Rattle.graphql_grammar.proofs.ValueTests.{quoted, block}
 use Rattle.graphql_schemas.specs.grammar.Members.{a_name, implements, members, enum_name, enum_value_of, an_enum_value, enum_values}
 use Rattle.graphql_schemas.specs.grammar.Placeless.{placeless_names, placeless_enum_value}
@@ -26,16 +26,16 @@ use Prim.Native.String.{String}
 -- ---- names
 
 pub exact-placed_name : {b : Limits} {f : Test} → ReadsExactly (λ c. a_name) b f name_at
-exact-placed_name = good-mapped good-name
+exact-placed_name = exact-mapped exact-name
 
 pub begins-placed_name : BeginsWith (λ c. a_name) any_name
-begins-placed_name = led-mapped led-one
+begins-placed_name = begins-mapped begins-one
 
 pub has-placed_name : HasPhrase (λ c. a_name)
 has-placed_name = has-map (has-token name-sample)
 
 pub ignores-placed_name : IgnoresPlaces (λ c. a_name) bare_node
-ignores-placed_name = blind-mapped (λ t. refl) (blind-one any_name)
+ignores-placed_name = ignores-mapped (λ t. refl) (ignores-one any_name)
 
 -- ---- interfaces and types of unions
 
@@ -48,29 +48,29 @@ implements-sample = keyword-sample "implements" refl (refl, (refl, (refl, (refl,
 
 -- a `&` goes on with another name
 pub exact-implements : {b : Limits} {f : Test} → IsSubset f (outside (punct "&")) → ReadsExactly (λ c. implements) b f implements_at
-exact-implements away = good-after (keyword-inner "implements") (has-separated (punct "&") has-placed_name) (good-separated "&" begins-placed_name (name-no-mark "&") away has-placed_name exact-placed_name)
+exact-implements away = exact-after (keyword-inner "implements") (has-separated (punct "&") has-placed_name) (exact-separated "&" begins-placed_name (name-no-mark "&") away has-placed_name exact-placed_name)
 
 pub begins-implements : BeginsWith (λ c. implements) (keyword "implements")
-begins-implements = led-after
+begins-implements = begins-after
 
 pub has-implements : HasPhrase (λ c. implements)
 has-implements = has-after (keyword "implements") (has-token implements-sample) (has-separated (punct "&") has-placed_name)
 
 pub ignores-implements : IgnoresPlaces (λ c. implements) placeless_names
-ignores-implements = blind-after (keyword "implements") (blind-separated (punct "&") ignores-placed_name)
+ignores-implements = ignores-after (keyword "implements") (ignores-separated (punct "&") ignores-placed_name)
 
 -- a `|` goes on with another name
 pub exact-members : {b : Limits} {f : Test} → IsSubset f (outside (punct "|")) → ReadsExactly (λ c. members) b f members_at
-exact-members away = good-after (punct-inner "=") (has-separated (punct "|") has-placed_name) (good-separated "|" begins-placed_name (name-no-mark "|") away has-placed_name exact-placed_name)
+exact-members away = exact-after (punct-inner "=") (has-separated (punct "|") has-placed_name) (exact-separated "|" begins-placed_name (name-no-mark "|") away has-placed_name exact-placed_name)
 
 pub begins-members : BeginsWith (λ c. members) (punct "=")
-begins-members = led-after
+begins-members = begins-after
 
 pub has-members : HasPhrase (λ c. members)
 has-members = has-after (punct "=") has-equals (has-separated (punct "|") has-placed_name)
 
 pub ignores-members : IgnoresPlaces (λ c. members) placeless_names
-ignores-members = blind-after (punct "=") (blind-separated (punct "|") ignores-placed_name)
+ignores-members = ignores-after (punct "=") (ignores-separated (punct "|") ignores-placed_name)
 
 -- ---- values of an enum
 
@@ -101,22 +101,22 @@ enum-values-outside word brace = within-either (enum-value-first-within (λ spel
 -- `@` and `(` belong to the directives
 pub exact-enum_value : {b : Limits} {f : Test} → IsSubset f (outside (punct "(")) → IsSubset f (outside (punct "@")) → ReadsExactly (an_enum_value Current) b f (enum_value_at b)
 exact-enum_value away last =
-    good-mapped (good-led {g = enum_name} (led-then led-one) (has-pair (has-token enum-name-sample) (has-directives false)) (exact-maybe_description (enum-name-within (λ spelling h. refl)))
-    (good-next (has-directives false) (good-name_but words)
-    (good-directives false away last)))
+    exact-mapped (exact-then-some {g = enum_name} (begins-then begins-one) (has-pair (has-token enum-name-sample) (has-directives false)) (exact-maybe_description (enum-name-within (λ spelling h. refl)))
+    (exact-next (has-directives false) (exact-name_but words)
+    (exact-directives false away last)))
 
 pub begins-enum_value : BeginsWith (an_enum_value Current) enum_value_first
 begins-enum_value =
-    led-mapped (led-opt {q = λ c. one enum_name ⨾ directives Current false c.values} (led-within (text-within (λ spelling. refl) (λ spelling. refl)) begins-description)
-    (led-then (led-within (enum-name-within (λ spelling h. h)) led-one)))
+    begins-mapped (begins-opt {q = λ c. one enum_name ⨾ directives Current false c.values} (begins-within (text-within (λ spelling. refl) (λ spelling. refl)) begins-description)
+    (begins-then (begins-within (enum-name-within (λ spelling h. h)) begins-one)))
 
 pub has-enum_value : HasPhrase (an_enum_value Current)
 has-enum_value = has-map (has-pair has-maybe_description (has-pair (has-token enum-name-sample) (has-directives false)))
 
 pub ignores-enum_value : IgnoresPlaces (an_enum_value Current) (unplaced placeless_enum_value)
 ignores-enum_value =
-    blind-mapped {k = enum_value_of} (λ x. described-nowhere placeless_enum_value x.0 x.1.0 (enum_value_of x).node)
-    (blind-then ignores-maybe_description (blind-then (blind-one enum_name) (blind-directives false)))
+    ignores-mapped {k = enum_value_of} (λ x. described-nowhere placeless_enum_value x.0 x.1.0 (enum_value_of x).node)
+    (ignores-then ignores-maybe_description (ignores-then (ignores-one enum_name) (ignores-directives false)))
 
 -- another one or the bracket follows
 exact-next-enum_value : {b : Limits} → ReadsExactly (an_enum_value Current) b after_enum_value (enum_value_at b)
@@ -128,15 +128,15 @@ takes-enum_value limits = takes-one {b = limits} exact-next-enum_value begins-en
 -- nothing is looked ahead at after `}`
 pub exact-enum_values : {b : Limits} {f : Test} → ReadsExactly (enum_values Current) b f (enum_values_at b)
 exact-enum_values =
-    good-mapped (good-next (has-pair (has-plus has-enum_value) has-close_object) (good-punct "{")
-    (good-led led-one has-close_object (good-plus-ahead {g = after_enum_value} begins-enum_value enum-value-goes-on (punct-within "}" refl) (punct-within "}" refl) exact-next-enum_value)
-    (good-punct "}")))
+    exact-mapped (exact-next (has-pair (has-plus has-enum_value) has-close_object) (exact-punct "{")
+    (exact-then-some begins-one has-close_object (exact-plus-ahead {g = after_enum_value} begins-enum_value enum-value-goes-on (punct-within "}" refl) (punct-within "}" refl) exact-next-enum_value)
+    (exact-punct "}")))
 
 pub begins-enum_values : BeginsWith (enum_values Current) (punct "{")
-begins-enum_values = led-mapped (led-then led-one)
+begins-enum_values = begins-mapped (begins-then begins-one)
 
 pub has-enum_values : HasPhrase (enum_values Current)
 has-enum_values = has-map (has-pair has-open_object (has-pair (has-plus has-enum_value) has-close_object))
 
 pub ignores-enum_values : IgnoresPlaces (enum_values Current) (map (unplaced placeless_enum_value))
-ignores-enum_values = blind-mapped (λ x. refl) (blind-then (blind-one (punct "{")) (blind-then (blind-plus ignores-enum_value) (blind-one (punct "}"))))
+ignores-enum_values = ignores-mapped (λ x. refl) (ignores-then (ignores-one (punct "{")) (ignores-then (ignores-plus ignores-enum_value) (ignores-one (punct "}"))))

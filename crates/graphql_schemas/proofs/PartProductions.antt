@@ -13,15 +13,15 @@ use Rattle.graphql_reading.specs.grammar.Tests.{Test, punct}
 use Rattle.graphql_reading.specs.reading.Outcome.{Outcome, Read, Refused, Reader, ◌>>=◌, then_at, mapped_at, choose_at, opt_at, plus_at}
 use Rattle.graphql_reading.proofs.Theory.{Dead, IfHead, peek, IsSubset, outside}
 use Rattle.graphql_reading.proofs.TokenTests.{punctuator, itself, punct-within, within-first, within-second, within-then, within-both}
-use Rattle.graphql_reading.proofs.ReadsExactly.{ReadsExactly, HasPhrase, BeginsWith, good-mapped, good-choose, good-same, led-mapped, led-then, led-within, led-either, has-pair, has-map, has-plus, has-first}
-use Rattle.graphql_reading.proofs.Extra.{Opens, good-seq, opens-opt, opens-then, good-plus-ahead, good-opt, has-opt}
-use Rattle.graphql_reading.proofs.Optional.{good-reader, opt-taken}
-use Rattle.graphql_reading.proofs.IgnoresPlaces.{IgnoresPlaces, blind-then, blind-mapped, blind-either, blind-plus}
+use Rattle.graphql_reading.proofs.ReadsExactly.{ReadsExactly, HasPhrase, BeginsWith, exact-mapped, exact-choose, exact-same, begins-mapped, begins-then, begins-within, begins-either, has-pair, has-map, has-plus, has-first}
+use Rattle.graphql_reading.proofs.Extra.{FirstWithin, exact-seq, first-opt, first-then, exact-plus-ahead, exact-opt, has-opt}
+use Rattle.graphql_reading.proofs.Optional.{exact-reader, opt-taken}
+use Rattle.graphql_reading.proofs.IgnoresPlaces.{IgnoresPlaces, ignores-then, ignores-mapped, ignores-either, ignores-plus}
 use Rattle.graphql_reading.proofs.Loop.{many-plus, many-stops, many-nothing}
 use Rattle.graphql_grammar.specs.grammar.Arguments.{a_directive}
 use Rattle.graphql_grammar.specs.grammar.Placeless.{placeless_directives}
 use Rattle.graphql_grammar.specs.reading.Arguments.{directive_at, directives_at}
-use Rattle.graphql_grammar.proofs.ArgumentProductions.{good-directive, led-directive, has-directive, good-directives, opens-directives, has-directives, blind-directive, blind-directives, takes-directive}
+use Rattle.graphql_grammar.proofs.ArgumentProductions.{exact-directive, begins-directive, has-directive, exact-directives, first-directives, has-directives, ignores-directive, ignores-directives, takes-directive}
 use Rattle.graphql_schemas.specs.grammar.Types.{parts_of, parts, list_alone, some_parts}
 use Rattle.graphql_schemas.specs.reading.Types.{owed_at, parts_at, some_parts_at}
 use Rattle.graphql_schemas.proofs.DescriptionProductions.{ignores-optional, map-given}
@@ -29,7 +29,7 @@ use Prim.Native.String.{String}
 
 -- ---- what begins what is made of a tree
 
-pub first-mapped : {A B : Type 0} {k : A → B} {p : Limits → Rel A} {f g : Test} → Opens p f g → Opens (λ c. mapped k (p c)) f g
+pub first-mapped : {A B : Type 0} {k : A → B} {p : Limits → Rel A} {f g : Test} → FirstWithin p f g → FirstWithin (λ c. mapped k (p c)) f g
 first-mapped o = record { by = λ c x y t m begins. o.by c x y m.value m.holds begins }
 
 -- ---- a part that is owed
@@ -54,7 +54,7 @@ by-first false x y = refl
 
 -- it is read by the token in sight
 pub exact-owed : {A : Type 0} {p : Limits → Rel A} {b : Limits} {f first : Test} {r : Reader A} → BeginsWith p first → ReadsExactly p b f r → ReadsExactly p b f (owed_at true first r)
-exact-owed {A} {p} {b} {f} {first} {r} begins h = good-reader same (good-same (λ c. or-never (p c)) (good-choose begins (begins-never {A = A}) h exact-never))
+exact-owed {A} {p} {b} {f} {first} {r} begins h = exact-reader same (exact-same (λ c. or-never (p c)) (exact-choose begins (begins-never {A = A}) h exact-never))
   where
     same : (ts : List Token) → choose_at first r (λ ts. Refused syntax ts) ts ≡ owed_at true first r ts
     same [] = refl
@@ -62,7 +62,7 @@ exact-owed {A} {p} {b} {f} {first} {r} begins h = good-reader same (good-same (�
 
 -- where nothing is owed
 pub exact-free : {A : Type 0} {p : Limits → Rel A} {b : Limits} {f : Test} {r : Reader A} (first : Test) → r [] ≡ Refused syntax [] → ReadsExactly p b f r → ReadsExactly p b f (owed_at false first r)
-exact-free {A} {p} {b} {f} {r} first nothing h = good-reader same h
+exact-free {A} {p} {b} {f} {r} first nothing h = exact-reader same h
   where
     same : (ts : List Token) → r ts ≡ owed_at false first r ts
     same [] = nothing
@@ -81,13 +81,13 @@ pub no-directives : (limits : Limits) → directives_at false limits.values [] �
 no-directives limits = many-nothing (punct "@") (directive_at false limits.values)
 
 exact-plus-directives : {b : Limits} {f : Test} → IsSubset f past-directives → ReadsExactly some-directives b f (plus_at (punct "@") (directive_at false b.values))
-exact-plus-directives away = good-plus-ahead {g = outside (punct "(")} (led-directive false) (punct-within "@" refl) (within-then away (within-first _ _)) (within-then away (within-second _ _)) (good-directive false itself)
+exact-plus-directives away = exact-plus-ahead {g = outside (punct "(")} (begins-directive false) (punct-within "@" refl) (within-then away (within-first _ _)) (within-then away (within-second _ _)) (exact-directive false itself)
 
 pub begins-some-directives : BeginsWith (λ c. plus (a_directive Current false c.values)) (punct "@")
-begins-some-directives = led-mapped (led-then (led-directive false))
+begins-some-directives = begins-mapped (begins-then (begins-directive false))
 
 pub exact-some-directives : {b : Limits} {f : Test} → IsSubset f past-directives → ReadsExactly (λ c. plus (a_directive Current false c.values)) b f (owed_at true (punct "@") (directives_at false b.values))
-exact-some-directives {b} away = good-reader same (exact-owed begins-some-directives (exact-plus-directives away))
+exact-some-directives {b} away = exact-reader same (exact-owed begins-some-directives (exact-plus-directives away))
   where
     same : (ts : List Token) → owed_at true (punct "@") (plus_at (punct "@") (directive_at false b.values)) ts ≡ owed_at true (punct "@") (directives_at false b.values) ts
     same [] = refl
@@ -101,12 +101,12 @@ exact-some-directives {b} away = good-reader same (exact-owed begins-some-direct
 
 pub exact-parts : {A : Type 0} {p : Limits → Rel (List A)} {b : Limits} {f first : Test} {r : Reader (List A)} → BeginsWith p first → IsSubset first past-directives → IsSubset f past-directives → IsSubset f (outside first) → ReadsExactly p b f r → ReadsExactly (λ c. parts Current c (p c)) b f (parts_at b first r)
 exact-parts {p = p} begins apart away none h =
-    good-mapped (good-seq {g = past-directives} (opens-opt begins apart away) (has-opt {p = p})
-    (good-directives false (within-first _ _) (within-second _ _))
-    (good-opt begins none h))
+    exact-mapped (exact-seq {g = past-directives} (first-opt begins apart away) (has-opt {p = p})
+    (exact-directives false (within-first _ _) (within-second _ _))
+    (exact-opt begins none h))
 
-pub first-parts : {A : Type 0} {p : Limits → Rel (List A)} {f first g : Test} → BeginsWith p first → IsTrue (g (punctuator "@")) → IsSubset first g → IsSubset f g → Opens (λ c. parts Current c (p c)) f g
-first-parts {p = p} {g = g} begins at here h = first-mapped (opens-then (opens-directives false {g = g} at itself) (opens-opt begins here h))
+pub first-parts : {A : Type 0} {p : Limits → Rel (List A)} {f first g : Test} → BeginsWith p first → IsTrue (g (punctuator "@")) → IsSubset first g → IsSubset f g → FirstWithin (λ c. parts Current c (p c)) f g
+first-parts {p = p} {g = g} begins at here h = first-mapped (first-then (first-directives false {g = g} at itself) (first-opt begins here h))
 
 pub has-parts : {A : Type 0} {p : Limits → Rel (List A)} → HasPhrase (λ c. parts Current c (p c))
 has-parts {p = p} = has-map (has-pair (has-directives false) (has-opt {p = p}))
@@ -115,7 +115,7 @@ abbrev pub placeless-parts : {A : Type 0} → (A → A) → Directives × List A
 placeless-parts f x = (placeless_directives x.0, map f x.1)
 
 pub ignores-parts : {A : Type 0} {p : Limits → Rel (List A)} {f : A → A} → IgnoresPlaces p (map f) → IgnoresPlaces (λ c. parts Current c (p c)) (placeless-parts f)
-ignores-parts {A} {f = f} h = blind-mapped (λ x. ap (λ (l : List A). (placeless_directives x.0, l)) (map-given f x.1)) (blind-then (blind-directives false) (ignores-optional h))
+ignores-parts {A} {f = f} h = ignores-mapped (λ x. ap (λ (l : List A). (placeless_directives x.0, l)) (map-given f x.1)) (ignores-then (ignores-directives false) (ignores-optional h))
 
 -- ---- one of the two at least
 
@@ -153,28 +153,28 @@ reads-by-first {A} limits first r (t ∷ ts) = go (punct "@" t.bare) refl
     go false e = other (first t.bare) refl e
 
 begins-directives-first : {A : Type 0} {p : Limits → Rel (List A)} → BeginsWith (λ c. mapped parts_of (some-directives c ⨾ opt (p c))) (punct "@")
-begins-directives-first {p = p} = led-mapped {p = λ c. some-directives c ⨾ opt (p c)} (led-then begins-some-directives)
+begins-directives-first {p = p} = begins-mapped {p = λ c. some-directives c ⨾ opt (p c)} (begins-then begins-some-directives)
 
 begins-list-first : {A : Type 0} {p : Limits → Rel (List A)} {first : Test} → BeginsWith p first → BeginsWith (λ c. mapped list_alone (p c)) first
-begins-list-first begins = led-mapped begins
+begins-list-first begins = begins-mapped begins
 
 pub exact-some_parts : {A : Type 0} {p : Limits → Rel (List A)} {b : Limits} {f first : Test} {r : Reader (List A)} → BeginsWith p first → IsSubset first past-directives → IsSubset f past-directives → IsSubset f (outside first) → ReadsExactly p b f r → ReadsExactly (λ c. some_parts Current c (p c)) b f (some_parts_at true b first r)
 exact-some_parts {p = p} {b = b} {first = first} {r = r} begins apart away none h =
-    good-reader (reads-by-first b first r)
-    (good-choose (begins-directives-first {p = p}) (led-within (within-then apart (within-second _ _)) (begins-list-first begins))
-    (good-mapped (good-seq {g = past-directives} (opens-opt begins apart away) (has-opt {p = p}) (exact-plus-directives itself) (good-opt begins none h)))
-    (exact-owed (begins-list-first begins) (good-mapped h)))
+    exact-reader (reads-by-first b first r)
+    (exact-choose (begins-directives-first {p = p}) (begins-within (within-then apart (within-second _ _)) (begins-list-first begins))
+    (exact-mapped (exact-seq {g = past-directives} (first-opt begins apart away) (has-opt {p = p}) (exact-plus-directives itself) (exact-opt begins none h)))
+    (exact-owed (begins-list-first begins) (exact-mapped h)))
 
 pub begins-some_parts : {A : Type 0} {p : Limits → Rel (List A)} {first g : Test} → BeginsWith p first → IsTrue (g (punctuator "@")) → IsSubset first g → BeginsWith (λ c. some_parts Current c (p c)) g
-begins-some_parts {p = p} begins at here = led-either (led-within (punct-within "@" at) (begins-directives-first {p = p})) (led-within here (begins-list-first begins))
+begins-some_parts {p = p} begins at here = begins-either (begins-within (punct-within "@" at) (begins-directives-first {p = p})) (begins-within here (begins-list-first begins))
 
 pub has-some_parts : {A : Type 0} {p : Limits → Rel (List A)} → HasPhrase (λ c. some_parts Current c (p c))
 has-some_parts {p = p} = has-first {q = λ c. mapped list_alone (p c)} (has-map {f = parts_of} (has-pair (has-plus (has-directive false)) (has-opt {p = p})))
 
 pub ignores-some_parts : {A : Type 0} {p : Limits → Rel (List A)} {f : A → A} → IgnoresPlaces p (map f) → IgnoresPlaces (λ c. some_parts Current c (p c)) (placeless-parts f)
 ignores-some_parts {A} {f = f} h =
-    blind-either (blind-mapped (λ x. ap (λ (l : List A). (placeless_directives x.0, l)) (map-given f x.1)) (blind-then (blind-plus (blind-directive false)) (ignores-optional h)))
-    (blind-mapped (λ x. refl) h)
+    ignores-either (ignores-mapped (λ x. ap (λ (l : List A). (placeless_directives x.0, l)) (map-given f x.1)) (ignores-then (ignores-plus (ignores-directive false)) (ignores-optional h)))
+    (ignores-mapped (λ x. refl) h)
 
 -- ---- what follows a definition
 

@@ -8,9 +8,9 @@ use Rattle.graphql_reading.specs.grammar.Relations.{Rel, one, ◌⨾◌, ◌∪�
 use Rattle.graphql_reading.specs.grammar.Tests.{Test, keyword, any_name, the_end}
 use Rattle.graphql_reading.proofs.Theory.{IsSubset, outside}
 use Rattle.graphql_reading.proofs.TokenTests.{word_of, keyword-within, the_end-within, within-either}
-use Rattle.graphql_reading.proofs.ReadsExactly.{ReadsExactly, HasPhrase, BeginsWith, good-keyword, good-mapped, good-next, good-led, good-choose, good-same, led-one, led-within, led-same, led-mapped, led-then, led-either, has-pair, has-map, has-plus, has-first}
-use Rattle.graphql_reading.proofs.Extra.{good-plus-ahead, led-opt, both-ways}
-use Rattle.graphql_reading.proofs.IgnoresPlaces.{IgnoresPlaces, blind-one, blind-then, blind-mapped, blind-either, blind-plus}
+use Rattle.graphql_reading.proofs.ReadsExactly.{ReadsExactly, HasPhrase, BeginsWith, exact-keyword, exact-mapped, exact-next, exact-then-some, exact-choose, exact-same, begins-one, begins-within, begins-same, begins-mapped, begins-then, begins-either, has-pair, has-map, has-plus, has-first}
+use Rattle.graphql_reading.proofs.Extra.{exact-plus-ahead, begins-opt, both-ways}
+use Rattle.graphql_reading.proofs.IgnoresPlaces.{IgnoresPlaces, ignores-one, ignores-then, ignores-mapped, ignores-either, ignores-plus}
 use Rattle.graphql_reading.proofs.Loop.{Takes, takes-one}
 use Rattle.graphql_grammar.specs.grammar.Placeless.{unplaced}
 use Rattle.graphql_grammar.proofs.Languages.{IsRead}
@@ -83,15 +83,15 @@ undescribed c = mapped of_schema (schema-rest c) ∪ mapped of_directive (direct
 
 exact-undescribed : {b : Limits} {f : Test} → IsSubset f no-punctuator → IsSubset f (outside (keyword "implements")) → ReadsExactly undescribed b f (undescribed_at b)
 exact-undescribed ends apart =
-    good-choose (led-mapped begins-schema-rest) (led-either (led-mapped (led-within (keyword-within "directive" refl) begins-directive-rest)) (led-mapped (led-within (bodies-within refl refl refl refl refl refl) begins-body)))
-    (good-mapped exact-schema-rest)
-    (good-choose (led-mapped begins-directive-rest) (led-mapped (led-within (bodies-within refl refl refl refl refl refl) begins-body))
-    (good-mapped (exact-directive-rest ends))
-    (good-mapped (exact-body ends apart)))
+    exact-choose (begins-mapped begins-schema-rest) (begins-either (begins-mapped (begins-within (keyword-within "directive" refl) begins-directive-rest)) (begins-mapped (begins-within (bodies-within refl refl refl refl refl refl) begins-body)))
+    (exact-mapped exact-schema-rest)
+    (exact-choose (begins-mapped begins-directive-rest) (begins-mapped (begins-within (bodies-within refl refl refl refl refl refl) begins-body))
+    (exact-mapped (exact-directive-rest ends))
+    (exact-mapped (exact-body ends apart)))
 
 begins-undescribed : {g : Test} → IsSubset (keyword "schema") g → IsSubset (keyword "directive") g → IsSubset body_first g → BeginsWith undescribed g
 begins-undescribed a-schema a-directive a-body =
-    led-either (led-mapped (led-within a-schema begins-schema-rest)) (led-either (led-mapped (led-within a-directive begins-directive-rest)) (led-mapped (led-within a-body begins-body)))
+    begins-either (begins-mapped (begins-within a-schema begins-schema-rest)) (begins-either (begins-mapped (begins-within a-directive begins-directive-rest)) (begins-mapped (begins-within a-body begins-body)))
 
 has-undescribed : HasPhrase undescribed
 has-undescribed = has-first {q = λ c. mapped of_directive (directive-rest c) ∪ mapped of_type (body Current c)} (has-map has-schema-rest)
@@ -117,13 +117,13 @@ is-described c x t =
 
 exact-described : {b : Limits} {f : Test} → IsSubset f no-punctuator → IsSubset f (outside (keyword "implements")) → ReadsExactly described b f (described_at b)
 exact-described ends apart =
-    good-same is-described (good-mapped (good-led {g = any_name} (begins-undescribed (keyword-within "schema" refl) (keyword-within "directive" refl) (bodies-within refl refl refl refl refl refl)) has-undescribed
+    exact-same is-described (exact-mapped (exact-then-some {g = any_name} (begins-undescribed (keyword-within "schema" refl) (keyword-within "directive" refl) (bodies-within refl refl refl refl refl refl)) has-undescribed
     (exact-maybe_description name-no-text)
     (exact-undescribed ends apart)))
 
 begins-described : {g : Test} → IsSubset is_text g → IsSubset (keyword "schema") g → IsSubset (keyword "directive") g → IsSubset body_first g → BeginsWith described g
 begins-described a-text a-schema a-directive a-body =
-    led-same is-described (led-mapped (led-opt {q = undescribed} (led-within a-text begins-description) (begins-undescribed a-schema a-directive a-body)))
+    begins-same is-described (begins-mapped (begins-opt {q = undescribed} (begins-within a-text begins-description) (begins-undescribed a-schema a-directive a-body)))
 
 -- ---- extensions
 
@@ -146,13 +146,13 @@ has-extended = has-first {q = λ c. mapped extends_type (extended_body Current c
 
 exact-extension : {b : Limits} {f : Test} → IsSubset f no-punctuator → IsSubset f (outside (keyword "implements")) → ReadsExactly extensions b f (extension_at b)
 exact-extension ends apart =
-    good-same is-extension (good-mapped (good-next has-extended (good-keyword "extend")
-    (good-choose (led-mapped begins-extended-schema) (led-mapped (led-within (bodies-within refl refl refl refl refl refl) begins-extended_body))
-    (good-mapped (exact-extended-schema (past-parts ends) (past-punctuator "{" ends)))
-    (good-mapped (exact-extended_body ends apart)))))
+    exact-same is-extension (exact-mapped (exact-next has-extended (exact-keyword "extend")
+    (exact-choose (begins-mapped begins-extended-schema) (begins-mapped (begins-within (bodies-within refl refl refl refl refl refl) begins-extended_body))
+    (exact-mapped (exact-extended-schema (past-parts ends) (past-punctuator "{" ends)))
+    (exact-mapped (exact-extended_body ends apart)))))
 
 begins-extension : BeginsWith extensions (keyword "extend")
-begins-extension = led-same is-extension (led-mapped (led-then {q = extended} led-one))
+begins-extension = begins-same is-extension (begins-mapped (begins-then {q = extended} begins-one))
 
 -- ---- both
 
@@ -179,14 +179,14 @@ is-definition c = in-order (mapped schema (a_schema Current c)) (mapped schema (
 
 pub exact-definition : {b : Limits} {f : Test} → IsSubset f no-punctuator → IsSubset f (outside (keyword "implements")) → ReadsExactly (a_definition Current) b f (definition_at b)
 exact-definition ends apart =
-    good-same is-definition (good-choose begins-extension
+    exact-same is-definition (exact-choose begins-extension
     (begins-described (text-within (λ spelling. refl) (λ spelling. refl)) (keyword-within "schema" refl) (keyword-within "directive" refl) (bodies-within refl refl refl refl refl refl))
     (exact-extension ends apart)
     (exact-described ends apart))
 
 pub begins-definition : BeginsWith (a_definition Current) definition_first
 begins-definition =
-    led-same is-definition (led-either (led-within (keyword-within "extend" refl) begins-extension)
+    begins-same is-definition (begins-either (begins-within (keyword-within "extend" refl) begins-extension)
     (begins-described (text-within (λ spelling. refl) (λ spelling. refl)) (keyword-within "schema" refl) (keyword-within "directive" refl) (bodies-within refl refl refl refl refl refl)))
 
 pub has-definition : HasPhrase (a_definition Current)
@@ -199,20 +199,20 @@ schema-nowhere (None, more) = refl
 schema-nowhere (Some text, more) = refl
 
 ignores-schema : IgnoresPlaces (a_schema Current) (unplaced placeless_schema)
-ignores-schema = blind-mapped {k = schema_of} schema-nowhere (blind-then ignores-maybe_description ignores-schema-rest)
+ignores-schema = ignores-mapped {k = schema_of} schema-nowhere (ignores-then ignores-maybe_description ignores-schema-rest)
 
 ignores-schema_extension : IgnoresPlaces (a_schema_extension Current) (unplaced placeless_schema)
-ignores-schema_extension = blind-mapped {k = schema_extension_of} (λ x. refl) (blind-then (blind-one (keyword "extend")) ignores-extended-schema)
+ignores-schema_extension = ignores-mapped {k = schema_extension_of} (λ x. refl) (ignores-then (ignores-one (keyword "extend")) ignores-extended-schema)
 
 type-nowhere : (x : Description × Body) → unplaced placeless_type (type_definition_of x) ≡ type_definition_of (placeless_description x.0, placeless-body x.1)
 type-nowhere (None, more) = refl
 type-nowhere (Some text, more) = refl
 
 ignores-type_definition : IgnoresPlaces (a_type_definition Current) (unplaced placeless_type)
-ignores-type_definition = blind-mapped {k = type_definition_of} type-nowhere (blind-then ignores-maybe_description ignores-body)
+ignores-type_definition = ignores-mapped {k = type_definition_of} type-nowhere (ignores-then ignores-maybe_description ignores-body)
 
 ignores-type_extension : IgnoresPlaces (a_type_extension Current) (unplaced placeless_type)
-ignores-type_extension = blind-mapped {k = type_extension_of} (λ x. refl) (blind-then (blind-one (keyword "extend")) ignores-extended_body)
+ignores-type_extension = ignores-mapped {k = type_extension_of} (λ x. refl) (ignores-then (ignores-one (keyword "extend")) ignores-extended_body)
 
 directive-nowhere : (x : Description × DirectiveRest) → unplaced placeless_directive_definition (directive_definition_of x) ≡ directive_definition_of (placeless_description x.0, placeless-directive-rest x.1)
 directive-nowhere (None, (word, (sign, (name, (None, (None, locations)))))) = refl
@@ -225,15 +225,15 @@ directive-nowhere (Some text, (word, (sign, (name, (Some arguments, (None, locat
 directive-nowhere (Some text, (word, (sign, (name, (Some arguments, (Some repeatable, locations)))))) = refl
 
 ignores-directive_definition : IgnoresPlaces (a_directive_definition Current) (unplaced placeless_directive_definition)
-ignores-directive_definition = blind-mapped {k = directive_definition_of} directive-nowhere (blind-then ignores-maybe_description ignores-directive-rest)
+ignores-directive_definition = ignores-mapped {k = directive_definition_of} directive-nowhere (ignores-then ignores-maybe_description ignores-directive-rest)
 
 pub ignores-definition : IgnoresPlaces (a_definition Current) placeless_definition
 ignores-definition =
-    blind-either (blind-mapped {k = schema} (λ s. refl) ignores-schema)
-    (blind-either (blind-mapped {k = schema} (λ s. refl) ignores-schema_extension)
-    (blind-either (blind-mapped {k = type_def} (λ t. refl) ignores-type_definition)
-    (blind-either (blind-mapped {k = type_def} (λ t. refl) ignores-type_extension)
-    (blind-mapped {k = directive} (λ d. refl) ignores-directive_definition))))
+    ignores-either (ignores-mapped {k = schema} (λ s. refl) ignores-schema)
+    (ignores-either (ignores-mapped {k = schema} (λ s. refl) ignores-schema_extension)
+    (ignores-either (ignores-mapped {k = type_def} (λ t. refl) ignores-type_definition)
+    (ignores-either (ignores-mapped {k = type_def} (λ t. refl) ignores-type_extension)
+    (ignores-mapped {k = directive} (λ d. refl) ignores-directive_definition))))
 
 -- ---- schema files
 
@@ -262,13 +262,13 @@ takes-definition limits = takes-one {b = limits} exact-next-definition begins-de
 
 -- the end of the text ends the list
 pub exact-definitions : {b : Limits} → ReadsExactly (definitions Current) b the_end (definitions_at b)
-exact-definitions = good-plus-ahead {g = after_definition} begins-definition definition-goes-on (the_end-within (λ spelling. refl)) (the_end-within (λ spelling. refl)) exact-next-definition
+exact-definitions = exact-plus-ahead {g = after_definition} begins-definition definition-goes-on (the_end-within (λ spelling. refl)) (the_end-within (λ spelling. refl)) exact-next-definition
 
 pub has-definitions : HasPhrase (definitions Current)
 has-definitions = has-plus has-definition
 
 pub ignores-definitions : IgnoresPlaces (definitions Current) placeless_definitions
-ignores-definitions = blind-plus ignores-definition
+ignores-definitions = ignores-plus ignores-definition
 
 pub schemas-are-read : IsRead schemas definitions_at
-schemas-are-read = record { has = has-definitions; blind = ignores-definitions; good = λ b. exact-definitions {b = b}; includes = includes-definitions }
+schemas-are-read = record { has_phrase = has-definitions; ignores_places = ignores-definitions; reads_exactly = λ b. exact-definitions {b = b}; includes = includes-definitions }

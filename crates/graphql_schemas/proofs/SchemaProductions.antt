@@ -10,12 +10,12 @@ use Rattle.graphql_reading.specs.grammar.Tests.{Test, punct, keyword, any_name}
 use Rattle.graphql_reading.proofs.Theory.{IsSubset, outside, anything}
 use Rattle.graphql_reading.proofs.TokenTests.{punct-within, HasSample, keyword-sample, name-sample}
 use Rattle.graphql_reading.proofs.PunctSamples.{has-open_object, has-close_object, has-colon}
-use Rattle.graphql_reading.proofs.ReadsExactly.{ReadsExactly, HasPhrase, BeginsWith, good-punct, good-keyword, good-name, good-mapped, good-next, good-led, good-plus, led-one, led-mapped, led-then, has-token, has-pair, has-map, has-plus}
-use Rattle.graphql_reading.proofs.IgnoresPlaces.{IgnoresPlaces, blind-one, blind-then, blind-mapped, blind-plus}
+use Rattle.graphql_reading.proofs.ReadsExactly.{ReadsExactly, HasPhrase, BeginsWith, exact-punct, exact-keyword, exact-name, exact-mapped, exact-next, exact-then-some, exact-plus, begins-one, begins-mapped, begins-then, has-token, has-pair, has-map, has-plus}
+use Rattle.graphql_reading.proofs.IgnoresPlaces.{IgnoresPlaces, ignores-one, ignores-then, ignores-mapped, ignores-plus}
 use Rattle.graphql_reading.proofs.Loop.{Takes, takes-one}
 use Rattle.graphql_grammar.specs.grammar.Arguments.{directives}
-use Rattle.graphql_grammar.proofs.ArgumentProductions.{budget, good-directives, has-directives, blind-directives}
-use Rattle.graphql_grammar.proofs.OperationKinds.{good-operation_type, led-operation_type, has-operation_type, blind-operation_type}
+use Rattle.graphql_grammar.proofs.ArgumentProductions.{budget, exact-directives, has-directives, ignores-directives}
+use Rattle.graphql_grammar.proofs.OperationKinds.{exact-operation_type, begins-operation_type, has-operation_type, ignores-operation_type}
 use Rattle.graphql_schemas.specs.grammar.Placeless.{placeless_root}
 use Rattle.graphql_schemas.specs.grammar.Schema.{Root, a_root, roots}
 use Rattle.graphql_schemas.specs.grammar.Types.{some_parts}
@@ -25,16 +25,16 @@ use Rattle.graphql_schemas.proofs.PartProductions.{past-directives, placeless-pa
 -- ---- roots
 
 pub exact-root : {b : Limits} {f : Test} → ReadsExactly (λ c. a_root) b f root_at
-exact-root = good-mapped (good-next (has-pair has-colon (has-token name-sample)) good-operation_type (good-next (has-token name-sample) (good-punct ":") good-name))
+exact-root = exact-mapped (exact-next (has-pair has-colon (has-token name-sample)) exact-operation_type (exact-next (has-token name-sample) (exact-punct ":") exact-name))
 
 pub begins-root : BeginsWith (λ c. a_root) root_first
-begins-root = led-mapped (led-then (led-operation_type refl refl refl))
+begins-root = begins-mapped (begins-then (begins-operation_type refl refl refl))
 
 pub has-root : HasPhrase (λ c. a_root)
 has-root = has-map (has-pair has-operation_type (has-pair has-colon (has-token name-sample)))
 
 pub ignores-root : IgnoresPlaces (λ c. a_root) placeless_root
-ignores-root = blind-mapped (λ x. refl) (blind-then blind-operation_type (blind-then (blind-one (punct ":")) (blind-one any_name)))
+ignores-root = ignores-mapped (λ x. refl) (ignores-then ignores-operation_type (ignores-then (ignores-one (punct ":")) (ignores-one any_name)))
 
 pub takes-root : Takes root_at
 takes-root = takes-one {b = budget 0 0} {f = anything} exact-root begins-root
@@ -42,18 +42,18 @@ takes-root = takes-one {b = budget 0 0} {f = anything} exact-root begins-root
 -- nothing is looked ahead at after `}`
 pub exact-roots : {b : Limits} {f : Test} → ReadsExactly (λ c. roots) b f roots_at
 exact-roots =
-    good-mapped (good-next (has-pair (has-plus has-root) has-close_object) (good-punct "{")
-    (good-led led-one has-close_object (good-plus begins-root (punct-within "}" refl) exact-root)
-    (good-punct "}")))
+    exact-mapped (exact-next (has-pair (has-plus has-root) has-close_object) (exact-punct "{")
+    (exact-then-some begins-one has-close_object (exact-plus begins-root (punct-within "}" refl) exact-root)
+    (exact-punct "}")))
 
 pub begins-roots : BeginsWith (λ c. roots) (punct "{")
-begins-roots = led-mapped (led-then led-one)
+begins-roots = begins-mapped (begins-then begins-one)
 
 pub has-roots : HasPhrase (λ c. roots)
 has-roots = has-map (has-pair has-open_object (has-pair (has-plus has-root) has-close_object))
 
 pub ignores-roots : IgnoresPlaces (λ c. roots) (map placeless_root)
-ignores-roots = blind-mapped (λ x. refl) (blind-then (blind-one (punct "{")) (blind-then (blind-plus ignores-root) (blind-one (punct "}"))))
+ignores-roots = ignores-mapped (λ x. refl) (ignores-then (ignores-one (punct "{")) (ignores-then (ignores-plus ignores-root) (ignores-one (punct "}"))))
 
 -- ---- definitions and extensions
 
@@ -73,30 +73,30 @@ schema-sample = keyword-sample "schema" refl (refl, (refl, (refl, (refl, (refl, 
 
 pub exact-schema-rest : {b : Limits} {f : Test} → ReadsExactly schema-rest b f (schema_rest_at b)
 exact-schema-rest =
-    good-next (has-pair (has-directives false) has-roots) (good-keyword "schema")
-    (good-led begins-roots has-roots (good-directives false (punct-within "{" refl) (punct-within "{" refl)) exact-roots)
+    exact-next (has-pair (has-directives false) has-roots) (exact-keyword "schema")
+    (exact-then-some begins-roots has-roots (exact-directives false (punct-within "{" refl) (punct-within "{" refl)) exact-roots)
 
 pub begins-schema-rest : BeginsWith schema-rest (keyword "schema")
-begins-schema-rest = led-then led-one
+begins-schema-rest = begins-then begins-one
 
 pub has-schema-rest : HasPhrase schema-rest
 has-schema-rest = has-pair (has-token schema-sample) (has-pair (has-directives false) has-roots)
 
 pub ignores-schema-rest : IgnoresPlaces schema-rest placeless-schema-rest
-ignores-schema-rest = blind-then (blind-one (keyword "schema")) (blind-then (blind-directives false) ignores-roots)
+ignores-schema-rest = ignores-then (ignores-one (keyword "schema")) (ignores-then (ignores-directives false) ignores-roots)
 
 -- what an extension says after its 'extend'
 abbrev pub extended-schema : Limits → Rel SchemaRest
 extended-schema c = one (keyword "schema") ⨾ some_parts Current c roots
 
 pub exact-extended-schema : {b : Limits} {f : Test} → IsSubset f past-directives → IsSubset f (outside (punct "{")) → ReadsExactly extended-schema b f (extended_schema_at b)
-exact-extended-schema away none = good-next (has-some_parts {p = λ c. roots}) (good-keyword "schema") (exact-some_parts begins-roots (punct-within "{" refl) away none exact-roots)
+exact-extended-schema away none = exact-next (has-some_parts {p = λ c. roots}) (exact-keyword "schema") (exact-some_parts begins-roots (punct-within "{" refl) away none exact-roots)
 
 pub begins-extended-schema : BeginsWith extended-schema (keyword "schema")
-begins-extended-schema = led-then led-one
+begins-extended-schema = begins-then begins-one
 
 pub has-extended-schema : HasPhrase extended-schema
 has-extended-schema = has-pair (has-token schema-sample) (has-some_parts {p = λ c. roots})
 
 pub ignores-extended-schema : IgnoresPlaces extended-schema placeless-schema-rest
-ignores-extended-schema = blind-then (blind-one (keyword "schema")) (ignores-some_parts ignores-roots)
+ignores-extended-schema = ignores-then (ignores-one (keyword "schema")) (ignores-some_parts ignores-roots)

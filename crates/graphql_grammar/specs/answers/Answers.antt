@@ -7,7 +7,7 @@ use Rattle.graphql_grammar.specs.answers.Language.{Language, grammar}
 use Rattle.graphql_grammar.specs.declared.error.Error.{Error}
 use Rattle.graphql_grammar.specs.declared.error.Error.TheVariants.{Syntax, RecursionLimitExceeded, OutOfMemory}
 use Rattle.graphql_grammar.specs.errors.Errors.{syntax_message}
-use Rattle.graphql_reading.specs.grammar.Fronts.{IsTheTree, IsRefused, RefusedToken, Verdict, syntax, limit, unlimited, without_places}
+use Rattle.graphql_reading.specs.grammar.Fronts.{IsTheTree, IsRefused, RefusedToken, Verdict, syntax, limit, unlimited, bares, without_places}
 use Rattle.graphql_reading.specs.grammar.Limits.{Limits}
 
 -- ---- definitions that break a rule, or none
@@ -76,7 +76,15 @@ pub record HasOneTree {D Document : Type 0} (language : Language D Document) (to
   pub same : (one other : List D) → unlimited (grammar language Current) tokens one → unlimited (grammar language Current) tokens other → one ≡ other
   pub same_placeless : (one other : List D) → unlimited (grammar language Current) (without_places tokens) one → unlimited (grammar language Current) (without_places tokens) other → one ≡ other
 
--- the tokens have a tree within the limits, or a refused token, and never both
+-- The tokens have a tree within the limits, or a refused token, and never both; and they are refused in one way alone.
 pub record IsDecided {D Document : Type 0} (language : Language D Document) (limits : Limits) (tokens : List Token) : Type 0 where
   pub either : ((ds : List D) × grammar language Current limits tokens ds) ⊎ ((verdict : Verdict) × RefusedToken (grammar language Current) limits tokens verdict)
   pub never_both : (ds : List D) → grammar language Current limits tokens ds → (count : ℕ) (verdict : Verdict) → ¬ (IsRefused (grammar language Current) limits tokens count verdict)
+  pub one_refusal : (count other : ℕ) (verdict another : Verdict) → IsRefused (grammar language Current) limits tokens count verdict → IsRefused (grammar language Current) limits tokens other another → (count ≡ other) × (verdict ≡ another)
+
+-- What is ignored makes no difference, but for the places: other tokens with the same bare tokens have a tree where
+-- these have one, the same but for its places, and are refused where these are, with the same verdict.
+pub record RestsOnBareTokens {D Document : Type 0} (language : Language D Document) (limits : Limits) (tokens : List Token) : Type 0 where
+  pub has_tree : (others : List Token) → bares tokens ≡ bares others → (ds : List D) → grammar language Current limits tokens ds → (es : List D) × grammar language Current limits others es
+  pub same_tree : (others : List Token) → bares tokens ≡ bares others → (ds es : List D) → grammar language Current limits tokens ds → grammar language Current limits others es → language.placeless ds ≡ language.placeless es
+  pub same_refusal : (others : List Token) → bares tokens ≡ bares others → (count : ℕ) (verdict : Verdict) → IsRefused (grammar language Current) limits tokens count verdict → IsRefused (grammar language Current) limits others count verdict

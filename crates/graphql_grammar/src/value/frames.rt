@@ -1,7 +1,7 @@
 //! Lists and objects that are open while a value inside them is read.
 ghost use Rattle.std.specs.Prelude.{◌≡◌, ◌+◌, ◌<◌, [], ◌∷◌, ◌++◌, length, IfOk, IfNone, option_to_list};
 
-use graphql_reading::list::push;
+use graphql_reading::nodes::add_node;
 use graphql_syntax::value::{Literal, Name};
 use std::alloc::{AllocError, AllocFailed, Global};
 
@@ -29,11 +29,11 @@ impl<V: Literal> Frame<V> {
     {
         match self {
             Frame::List(mut items) => {
-                push(&mut items, value)?;
+                add_node(&mut items, value)?;
                 Ok(Open::List(items))
             }
             Frame::Object(mut fields, name) => {
-                push(&mut fields, (name, value))?;
+                add_node(&mut fields, (name, value))?;
                 Ok(Open::Object(fields))
             }
         }

@@ -11,5 +11,5 @@ abbrev pub shown : Inside → Ahead
 shown a = record { whole = a.tokens.whole; hand = seen a.hand; behind = left a.tokens; taken = a.tokens.taken }
 
 -- the tokens ahead end once, and each but a fault is proper; and no more are taken than there are
-abbrev pub IsReading : Inside → Type 0
-IsReading a = EndsOnce (tokens (shown a)) × AreProperButFaults (tokens (shown a)) × (a.tokens.taken ≤ length a.tokens.whole)
+abbrev pub IsWellCut : Inside → Type 0
+IsWellCut a = EndsOnce (tokens (shown a)) × AreProperButFaults (tokens (shown a)) × (a.tokens.taken ≤ length a.tokens.whole)

@@ -8,8 +8,15 @@ use Rattle.graphql_grammar.proofs.Languages.{EndsWell, ends-well, former-tree}
 use Rattle.graphql_requests.specs.grammar.Request.{definitions}
 use Rattle.graphql_requests.specs.grammar.Requests.{requests}
 use Rattle.graphql_requests.specs.reading.Request.{definitions_at}
-use Rattle.graphql_requests.proofs.RequestProductions.{requests-are-read}
+use Rattle.graphql_requests.proofs.Laws.{lawful-answer}
+use Rattle.graphql_requests.proofs.RequestProductions.{requests-are-read, requests-read-by}
 use Rattle.graphql_requests.proofs.parse_query_limited.Goals as goal
+
+pub read_document-requires-clause-read : goal.read_document-requires-clause-read
+read_document-requires-clause-read c = requests-read-by
+
+pub returns-clause-lawful : goal.returns-clause-lawful
+returns-clause-lawful c = lawful-answer c.args.limits (left c.new-tokens.result) _ c.read_document.ensures.answer
 
 pub returns-clause-former : goal.returns-clause-former
 returns-clause-former c ts ds cuts h =

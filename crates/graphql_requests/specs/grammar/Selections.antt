@@ -82,12 +82,12 @@ an_inline_fragment edition values set = mapped inline_of (one (punct "...") ⨾ 
 abbrev pub a_selection : Edition → ℕ → Rel Set → Rel (Positioned Selection)
 a_selection edition values set = a_field edition values set ∪ a_spread edition values ∪ an_inline_fragment edition values set
 
-abbrev pub selections_of : Token × (List (Positioned Selection) × Token) → Set
-selections_of (opening, (selections, closing)) = at opening (set_of selections)
+abbrev pub selection_set_of : Token × (List (Positioned Selection) × Token) → Set
+selection_set_of (opening, (selections, closing)) = at opening (set_of selections)
 
 -- SelectionSet : '{' Selection+ '}'
 abbrev pub a_set : Rel (Positioned Selection) → Rel Set
-a_set selection = mapped selections_of (one (punct "{") ⨾ plus selection ⨾ one (punct "}"))
+a_set selection = mapped selection_set_of (one (punct "{") ⨾ plus selection ⨾ one (punct "}"))
 
 -- A set in whose fields and inline fragments sets nest at most so deep. A spread has none.
 abbrev pub selection_set : Edition → ℕ → ℕ → Rel Set

@@ -7,7 +7,7 @@ use Rattle.graphql_reading.specs.grammar.Tests.{Test, punct, keyword, any_name}
 use Rattle.graphql_grammar.specs.reading.Arguments.{directives_at}
 use Rattle.graphql_grammar.specs.reading.Operations.{operation_type_at}
 use Rattle.graphql_requests.specs.reading.Variables.{variable_definitions_at}
-use Rattle.graphql_reading.specs.reading.Outcome.{Reader, one_at, then_at, mapped_at, choose_at, opt_at, plus_at, whole_at}
+use Rattle.graphql_reading.specs.reading.Outcome.{Reader, one_at, then_at, mapped_at, choose_at, opt_at, plus_at}
 use Rattle.graphql_requests.specs.reading.Selections.{type_condition_at, selection_set_at}
 
 abbrev pub own_set_at : Limits → Reader Set
@@ -33,6 +33,3 @@ definition_at limits = choose_at (punct "{") (short_operation_at limits) (choose
 
 abbrev pub definitions_at : Limits → Reader (List Definition)
 definitions_at limits = plus_at definition_first (definition_at limits)
-
-abbrev pub request_at : Limits → Reader (List Definition)
-request_at limits = whole_at (definitions_at limits)

@@ -3,7 +3,7 @@ use Rattle.std.specs.Prelude.{ℕ, zero, suc, true, ◌||◌, Option, Some, None
 use Rattle.graphql_tokens.specs.declared.pos.Positioned.{Positioned}
 use Rattle.graphql_tokens.specs.tokens.Token.{Token}
 use Rattle.graphql_syntax.specs.trees.Request.{Directives, TypeCondition, Selection}
-use Rattle.graphql_requests.specs.grammar.Selections.{Set, field_of, fragment_name, spread_of, condition_of, inline_of, selections_of}
+use Rattle.graphql_requests.specs.grammar.Selections.{Set, field_of, fragment_name, spread_of, condition_of, inline_of, selection_set_of}
 use Rattle.graphql_reading.specs.grammar.Tests.{Test, punct, keyword, any_name}
 use Rattle.graphql_grammar.specs.reading.Arguments.{maybe_arguments_at, directives_at}
 use Rattle.graphql_reading.specs.reading.Outcome.{Reader, one_at, then_at, mapped_at, choose_at, opt_at, deep_at, plus_at}
@@ -57,7 +57,7 @@ abbrev pub selection_at : ℕ → Reader Set → Reader Inline → Reader (Posit
 selection_at values set inline = choose_at (punct "...") (dots_at values inline) (field_at values set)
 
 abbrev pub a_set_at : Reader (Positioned Selection) → Reader Set
-a_set_at selection = mapped_at selections_of (then_at (one_at (punct "{")) (then_at (plus_at selection_first selection) (one_at (punct "}"))))
+a_set_at selection = mapped_at selection_set_of (then_at (one_at (punct "{")) (then_at (plus_at selection_first selection) (one_at (punct "}"))))
 
 unfoldable pub selection_set_at : ℕ → ℕ → Reader Set
 selection_set_at values zero ts = a_set_at (selection_at values (deep_at (punct "{")) (deep_at inline_first)) ts

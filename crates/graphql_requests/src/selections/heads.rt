@@ -10,8 +10,8 @@ ghost use Rattle.graphql_requests.specs.reading.Selections.{type_condition_at, i
 
 use graphql_grammar::arguments::{read_directives, read_maybe_arguments};
 use graphql_reading::cursor::{Cursor, Reading, Refusal};
-use graphql_reading::list;
 use graphql_reading::names::{name_in, read_name};
+use graphql_reading::nodes::add_node;
 use graphql_syntax::lexer::Token;
 use graphql_syntax::pos::{Pos, Positioned};
 use graphql_syntax::types::{
@@ -51,10 +51,10 @@ pub(super) fn is_at_selection(cursor: &Cursor) -> bool
 }
 
 #[inline(always)]
-fn push(items: &mut Selections, selection: Positioned<Selection>) -> Result<(), AllocError>
+fn add_selection(items: &mut Selections, selection: Positioned<Selection>) -> Result<(), AllocError>
     ensures { IfOk result (λ _. selection_trees items.new.items ≡ selection_trees items.old.items ++ request.placed selection_tree selection ∷ []) }
 {
-    list::push(items, selection)
+    add_node(items, selection)
 }
 
 /// An alias, if there is one, and a name.
@@ -128,7 +128,7 @@ fn read_field(
     let arguments = read_maybe_arguments(alloc, cursor, values)?;
     let directives = read_directives(alloc, cursor, values)?;
     let place = read_maybe_brace(cursor, nests)?;
-    push(items, bare_field(alloc, names, arguments, directives))?;
+    add_selection(items, bare_field(alloc, names, arguments, directives))?;
     Ok(place)
 }
 
@@ -152,7 +152,7 @@ fn read_spread(
         directives,
     };
     let node = Selection::FragmentSpread(Positioned::new(spread, dots));
-    push(items, Positioned::new(node, dots))?;
+    add_selection(items, Positioned::new(node, dots))?;
     Ok(None)
 }
 
@@ -215,7 +215,7 @@ fn read_inline(
     let condition = read_maybe_condition(alloc, cursor)?;
     let directives = read_directives(alloc, cursor, values)?;
     let brace = cursor.expect_punct("{")?;
-    push(items, bare_inline(alloc, dots, condition, directives))?;
+    add_selection(items, bare_inline(alloc, dots, condition, directives))?;
     Ok(brace.pos)
 }
 

@@ -7,13 +7,13 @@ use Rattle.graphql_grammar.proofs.value.go_on.Goals as goal
 pub returns-in_ok-merge-in-None-2 : goal.returns-in_ok-merge-in-None-2
 returns-in_ok-merge-in-None-2 g c =
     let tree = g.V.Literal.tree in
-    let held = c.fill_object.new.fields.items in
+    let held = c.read_fields.new.fields.items in
     let made : tree c.object.result ≡ object_tree (map (field_tree tree) held) =
     c.object.ensures
     ∙ ap (λ (l : List (List ℕ × g.row.V.Denot)). object (fields_of (map (field_tree tree) l))) c.in_ok-merge-in-None-2.ensures
     ∙ ap (λ (l : List Field). object (fields_of l)) (sym (merged-map tree held)) in
-    let told = rw c.in-None-2.is at c.in_ok-fill_object-in-Object.ensures in
+    let told = rw c.in-None-2.is at c.in_ok-read_fields-in-Object.ensures in
     rw c.in-Object.is (
-      subst (λ (t : Tree). MeetsAt g.V.Literal.VARIABLES c.args.left (closes t) c.args.cursor.now c.fill_object.new.cursor (object_rest g.V.Literal.VARIABLES c.args.left (map (field_tree tree) c.in-Object.fields.items))) (sym made) told.0,
+      subst (λ (t : Tree). MeetsAt g.V.Literal.VARIABLES c.args.left (closes t) c.args.cursor.now c.read_fields.new.cursor (object_rest g.V.Literal.VARIABLES c.args.left (map (field_tree tree) c.in-Object.fields.items))) (sym made) told.0,
       told.1,
     )

@@ -10,10 +10,10 @@ returns-in_err-node g c =
     rw (p.1, p.2) (stops g.P.Production.tree (trees_in g.P.Production.tree) g.P.Production.first (g.P.Production.reader c.args.budget) c.args.cursor.now c.loop-nodes.cursor c.read.new.cursor _ _ c.loop-nodes.invariant c.in_err-node.ensures)
 
 pub returns-then-not-is_next : goal.returns-then-not-is_next
-returns-then-not-is_next g c = ends g.P.Production.tree g.P.Production.first (g.P.Production.reader c.args.budget) c.args.cursor.now c.loop-nodes.cursor c.read.new.cursor _ _ _ c.loop-nodes.invariant c.in_ok-node.ensures (sym c.is_next.ensures ∙ c.if-not-is_next.true) c.in_ok-push.ensures
+returns-then-not-is_next g c = ends g.P.Production.tree g.P.Production.first (g.P.Production.reader c.args.budget) c.args.cursor.now c.loop-nodes.cursor c.read.new.cursor _ _ _ c.loop-nodes.invariant c.in_ok-node.ensures (sym c.is_next.ensures ∙ c.if-not-is_next.true) c.in_ok-add_node.ensures
 
 pub loop-nodes-smaller : goal.loop-nodes-smaller
 loop-nodes-smaller g c = shorter g.P.Production.tree (g.P.Production.reader c.args.budget) c.loop-nodes.cursor c.read.new.cursor _ c.requires c.in_ok-node.ensures
 
 pub loop-nodes-preserved : goal.loop-nodes-preserved
-loop-nodes-preserved g c = goes g.P.Production.tree g.P.Production.first (g.P.Production.reader c.args.budget) c.args.cursor.now c.loop-nodes.cursor c.read.new.cursor _ _ _ c.requires c.loop-nodes.invariant c.in_ok-node.ensures (sym c.is_next.ensures ∙ c.if-not-is_next.false) c.in_ok-push.ensures
+loop-nodes-preserved g c = goes g.P.Production.tree g.P.Production.first (g.P.Production.reader c.args.budget) c.args.cursor.now c.loop-nodes.cursor c.read.new.cursor _ _ _ c.requires c.loop-nodes.invariant c.in_ok-node.ensures (sym c.is_next.ensures ∙ c.if-not-is_next.false) c.in_ok-add_node.ensures

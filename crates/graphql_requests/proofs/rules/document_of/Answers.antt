@@ -4,7 +4,7 @@ use Rattle.graphql_requests.specs.reading.Definitions.{definition_tree}
 use Rattle.graphql_requests.specs.reading.Sorting.{definition_trees, IsSorted}
 use Rattle.graphql_requests.proofs.OneMore.{map-last}
 use Rattle.graphql_requests.specs.grammar.Requests.{requests}
-use Rattle.graphql_grammar.proofs.Languages.{breaks}
+use Rattle.graphql_grammar.proofs.Answering.{breaks}
 use Rattle.graphql_requests.proofs.Sorted.{trees-split}
 use Rattle.graphql_requests.proofs.rules.document_of.Goals as goal
 

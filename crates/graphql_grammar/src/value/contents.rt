@@ -1,4 +1,4 @@
-//! Lists and objects filled with what stands alone, up to their end or to a list or an object inside them.
+//! What lists and objects contain, read up to their end or to a list or an object inside them.
 ghost use Rattle.std.specs.Prelude.{map, option_map};
 ghost use Rattle.graphql_grammar.specs.reading.OpenValues.{field_tree, opened, list_stop, object_stop, key_at, enter_at, list_rest, object_rest, Meets};
 ghost use Rattle.graphql_reading.specs.reading.Given.{Gives};
@@ -51,7 +51,7 @@ fn read_key(alloc: Global, cursor: &mut Cursor) -> Reading<Option<Name>>
 /// Gives what begins inside the list, or None at its end.
 ///
 /// `List : '[' Value* ']'` (GraphQL October 2021, section 2.9.7)
-pub fn fill_list<V: Literal>(
+pub fn read_items<V: Literal>(
     alloc: Global,
     cursor: &mut Cursor,
     items: &mut Vec<V>,
@@ -71,7 +71,7 @@ pub fn fill_list<V: Literal>(
 /// Gives what begins inside the object, with its name, or None at its end.
 ///
 /// `Object : '{' (Name ':' Value)* '}'` (GraphQL October 2021, section 2.9.8)
-pub fn fill_object<V: Literal>(
+pub fn read_fields<V: Literal>(
     alloc: Global,
     cursor: &mut Cursor,
     fields: &mut Vec<(Name, V)>,

@@ -4,8 +4,8 @@ use Rattle.std.proofs.lemmas.Result.{err_from_is_err_and}
 use Rattle.graphql_syntax.specs.trees.ValueTree.{Tree}
 use Rattle.graphql_reading.specs.reading.Ahead.{tokens}
 use Rattle.graphql_grammar.specs.reading.OpenValues.{opened, list_rest}
-use Rattle.graphql_grammar.proofs.ValueFill.{wants-item, ends-list, meets-inside, stops-inside, stops-alone, falls, fills}
-use Rattle.graphql_grammar.proofs.value.fill.fill_list.Goals as goal
+use Rattle.graphql_grammar.proofs.ValueContents.{wants-item, ends-list, meets-inside, stops-inside, stops-alone, falls, adds}
+use Rattle.graphql_grammar.proofs.value.contents.read_items.Goals as goal
 
 pub returns-in_err-inner : goal.returns-in_err-inner
 returns-in_err-inner g c =
@@ -35,7 +35,7 @@ loop-alloc-preserved g c =
     let none = rw c.in_default.is at c.in_ok-inner.ensures in
     let t : Tree = tree c.in_ok-read_simple.field-0 in
     let pushed : map tree c.push.new.self.items ≡ map tree held ++ t ∷ [] = ap (map tree) c.in_ok-push.ensures.items ∙ map_push tree held c.in_ok-read_simple.field-0 in
-    fills c.loop-alloc.invariant wants record { none = none.0; on = none.1 } t c.read_simple.new.cursor (map tree c.push.new.self.items) c.in_ok-read_simple.ensures.0 c.in_ok-read_simple.ensures.1 (ap (λ (l : List Tree). list_rest vars c.args.left l (tokens c.read_simple.new.cursor)) (sym pushed))
+    adds c.loop-alloc.invariant wants record { none = none.0; on = none.1 } t c.read_simple.new.cursor (map tree c.push.new.self.items) c.in_ok-read_simple.ensures.0 c.in_ok-read_simple.ensures.1 (ap (λ (l : List Tree). list_rest vars c.args.left l (tokens c.read_simple.new.cursor)) (sym pushed))
 
 pub loop-alloc-smaller : goal.loop-alloc-smaller
 loop-alloc-smaller g c =

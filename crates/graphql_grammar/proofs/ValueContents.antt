@@ -1,4 +1,4 @@
--- What the loops keep that fill a list or an object, and each way on.
+-- What the loops keep that read the contents of a list or an object, and each way on.
 use Rattle.std.proofs.Common.{◌≡◌, ℕ, ◌<◌, ◌≤◌, Bool, true, false, List, Option, Some, None, Ok, Err, length, refl, ap, ◌∙◌, arith}
 use Rattle.graphql_tokens.specs.tokens.Token.{Token}
 use Rattle.graphql_syntax.specs.trees.ValueTree.{Tree}
@@ -15,12 +15,12 @@ use Rattle.graphql_reading.proofs.Loops.{go-on, stays}
 use Rattle.graphql_grammar.proofs.ValueFrames.{value-law, begun, entered, list-law, after-item, object-law, after-key, taken, not-taken, takes-key, takes-node}
 
 -- From the first token on, all that is read comes of what is held now and of the tokens ahead.
-pub record Filling {A : Type 0} (r : List A → Reader Tree) (initial now : Ahead) (before held : List A) : Type 0 where
+pub record HeldSoFar {A : Type 0} (r : List A → Reader Tree) (initial now : Ahead) (before held : List A) : Type 0 where
   pub told : r before (tokens initial) ≡ r held (tokens now)
   pub within : length (tokens now) ≤ length (tokens initial)
   pub on : GoesOn initial now
 
-pub begins : {A : Type 0} (r : List A → Reader Tree) (initial : Ahead) (before : List A) → Filling r initial initial before before
+pub begins : {A : Type 0} (r : List A → Reader Tree) (initial : Ahead) (before : List A) → HeldSoFar r initial initial before before
 begins r initial before = record { told = refl; within = omega arith; on = stays initial }
 
 -- what is held waits for a value, and the cursor has come to it
@@ -50,18 +50,18 @@ wants-field vars b held now mid name gives = record {
   on = gives.1;
 }
 
-ends : {A : Type 0} (r : List A → Reader Tree) (vars : Bool) (b : ℕ) (t : Tree) (initial now next : Ahead) (before held : List A) → Filling r initial now before held → r held (tokens now) ≡ Read t (tokens next) → length (tokens next) < length (tokens now) → GoesOn now next → MeetsAt vars b (closes t) initial next (r before) × GoesOn initial next
+ends : {A : Type 0} (r : List A → Reader Tree) (vars : Bool) (b : ℕ) (t : Tree) (initial now next : Ahead) (before held : List A) → HeldSoFar r initial now before held → r held (tokens now) ≡ Read t (tokens next) → length (tokens next) < length (tokens now) → GoesOn now next → MeetsAt vars b (closes t) initial next (r before) × GoesOn initial next
 ends r vars b t initial now next before held k e less on = (record { told = k.told ∙ e; less = omega (arith, less, k.within); room = tt }, go-on initial now next k.on on)
 
-pub ends-list : (vars : Bool) (b : ℕ) (initial now next : Ahead) (before held : List Tree) → Filling (list_rest vars b) initial now before held → Gives (λ t. t) (Ok true) now next (take_at (punct "]")) → MeetsAt vars b (closes (list_tree held)) initial next (list_rest vars b before) × GoesOn initial next
+pub ends-list : (vars : Bool) (b : ℕ) (initial now next : Ahead) (before held : List Tree) → HeldSoFar (list_rest vars b) initial now before held → Gives (λ t. t) (Ok true) now next (take_at (punct "]")) → MeetsAt vars b (closes (list_tree held)) initial next (list_rest vars b before) × GoesOn initial next
 ends-list vars b initial now next before held k gives = ends (list_rest vars b) vars b (list_tree held) initial now next before held k (list-law vars b held (tokens now) ∙ ap (λ (o : Outcome Bool). o >>= after-item vars b held) gives.0) (taken (punct "]") (tokens now) (tokens next) gives.0) gives.1
 
-pub ends-object : (vars : Bool) (b : ℕ) (initial now next : Ahead) (before held : List Field) → Filling (object_rest vars b) initial now before held → Gives (λ k. k) (Ok None) now next key_at → MeetsAt vars b (closes (object_tree held)) initial next (object_rest vars b before) × GoesOn initial next
+pub ends-object : (vars : Bool) (b : ℕ) (initial now next : Ahead) (before held : List Field) → HeldSoFar (object_rest vars b) initial now before held → Gives (λ k. k) (Ok None) now next key_at → MeetsAt vars b (closes (object_tree held)) initial next (object_rest vars b before) × GoesOn initial next
 ends-object vars b initial now next before held k gives = ends (object_rest vars b) vars b (object_tree held) initial now next before held k (object-law vars b held (tokens now) ∙ ap (λ (o : Outcome (Option (List ℕ))). o >>= after-key vars b held) gives.0) (takes-key (tokens now) None (tokens next) gives.0) gives.1
 
 -- ---- where a part is refused, all is
 
-stops : {A X Y : Type 0} (r : List A → Reader Tree) (initial now mid next : Ahead) (before held : List A) (view : X → Y) (q : Reader Y) (e : Refusal) → Filling r initial now before held → GoesOn now mid → ((v : Verdict) (rest : List Token) → q (tokens mid) ≡ Refused v rest → r held (tokens now) ≡ Refused v rest) → Gives view (Err e) mid next q → Refuses e initial next (r before) × GoesOn initial next
+stops : {A X Y : Type 0} (r : List A → Reader Tree) (initial now mid next : Ahead) (before held : List A) (view : X → Y) (q : Reader Y) (e : Refusal) → HeldSoFar r initial now before held → GoesOn now mid → ((v : Verdict) (rest : List Token) → q (tokens mid) ≡ Refused v rest → r held (tokens now) ≡ Refused v rest) → Gives view (Err e) mid next q → Refuses e initial next (r before) × GoesOn initial next
 stops r initial now mid next before held view q e k on same gives = (by e gives.0, go-on initial mid next (go-on initial now mid k.on on) gives.1)
   where
     by : (e : Refusal) → Refuses e mid next q → Refuses e initial next (r before)
@@ -69,12 +69,12 @@ stops r initial now mid next before held view q e k on same gives = (by e gives.
     by Syntax h = k.told ∙ same syntax (tokens next) h
     by Limit h = k.told ∙ same limit (tokens next) h
 
-pub stops-field : {X : Type 0} (vars : Bool) (b : ℕ) (initial now next : Ahead) (before held : List Field) (view : X → Option (List ℕ)) (e : Refusal) → Filling (object_rest vars b) initial now before held → Gives view (Err e) now next key_at → Refuses e initial next (object_rest vars b before) × GoesOn initial next
+pub stops-field : {X : Type 0} (vars : Bool) (b : ℕ) (initial now next : Ahead) (before held : List Field) (view : X → Option (List ℕ)) (e : Refusal) → HeldSoFar (object_rest vars b) initial now before held → Gives view (Err e) now next key_at → Refuses e initial next (object_rest vars b before) × GoesOn initial next
 stops-field vars b initial now next before held view e k = stops (object_rest vars b) initial now now next before held view key_at e k (stays now) (λ v rest h. object-law vars b held (tokens now) ∙ ap (λ (o : Outcome (Option (List ℕ))). o >>= after-key vars b held) h)
 
 -- ---- the value that is wanted
 
-module _ {A : Type 0} {r : List A → Reader Tree} {vars : Bool} {b : ℕ} {w : Waiting} {initial now mid : Ahead} {before held : List A} (k : Filling r initial now before held) (wants : Wants r vars b w now mid held) where
+module _ {A : Type 0} {r : List A → Reader Tree} {vars : Bool} {b : ℕ} {w : Waiting} {initial now mid : Ahead} {before held : List A} (k : HeldSoFar r initial now before held) (wants : Wants r vars b w now mid held) where
   -- a list or an object begins
   pub meets-inside : (o : Opened) (next : Ahead) → enter_at b (tokens mid) ≡ Read (Some o) (tokens next) → GoesOn mid next → MeetsAt vars b (enters w o) initial next (r before) × GoesOn initial next
   meets-inside o next e on =
@@ -103,8 +103,8 @@ module _ {A : Type 0} {r : List A → Reader Tree} {vars : Bool} {b : ℕ} {w : 
         let less : length (tokens next) < length (tokens mid) = takes-node vars b (tokens mid) t (tokens next) (simply ∙ e) in
         omega (arith, less, wants.within)
 
-    pub fills : (t : Tree) (next : Ahead) (more : List A) → node_at (simple_at vars) (tokens alone) ≡ Read t (tokens next) → GoesOn alone next → open_rest vars b (add w t) (tokens next) ≡ r more (tokens next) → Filling r initial next before more
-    fills t next more e on same =
+    pub adds : (t : Tree) (next : Ahead) (more : List A) → node_at (simple_at vars) (tokens alone) ≡ Read t (tokens next) → GoesOn alone next → open_rest vars b (add w t) (tokens next) ≡ r more (tokens next) → HeldSoFar r initial next before more
+    adds t next more e on same =
         let less : length (tokens next) < length (tokens now) = falls t next e in
         record {
           told = k.told ∙ wants.told ∙ ap (filled vars b w) (simply ∙ e) ∙ same;

@@ -1,11 +1,11 @@
 use Rattle.std.proofs.Common.{length, map}
 use Rattle.graphql_reading.specs.reading.Ahead.{tokens}
 use Rattle.graphql_grammar.specs.reading.OpenValues.{list_rest}
-use Rattle.graphql_grammar.proofs.ValueFill.{Filling}
-use Rattle.graphql_grammar.proofs.value.fill.fill_list.Given as goal
+use Rattle.graphql_grammar.proofs.ValueContents.{HeldSoFar}
+use Rattle.graphql_grammar.proofs.value.contents.read_items.Given as goal
 
 abbrev pub invariant-loop-alloc : goal.invariant-loop-alloc
-invariant-loop-alloc g l = Filling (list_rest g.V.Literal.VARIABLES l.left) l.fn.cursor l.cursor (map g.V.Literal.tree l.fn.items.items) (map g.V.Literal.tree l.items.items)
+invariant-loop-alloc g l = HeldSoFar (list_rest g.V.Literal.VARIABLES l.left) l.fn.cursor l.cursor (map g.V.Literal.tree l.fn.items.items) (map g.V.Literal.tree l.items.items)
 
 abbrev pub decreases-loop-alloc : goal.decreases-loop-alloc
 decreases-loop-alloc g l = length (tokens l.cursor)

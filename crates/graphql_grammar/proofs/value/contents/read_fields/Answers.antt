@@ -4,8 +4,8 @@ use Rattle.std.proofs.lemmas.Result.{err_from_is_err_and}
 use Rattle.graphql_syntax.specs.trees.ValueTree.{Tree}
 use Rattle.graphql_reading.specs.reading.Ahead.{tokens}
 use Rattle.graphql_grammar.specs.reading.OpenValues.{Field, field_tree, opened, object_rest}
-use Rattle.graphql_grammar.proofs.ValueFill.{wants-field, ends-object, stops-field, meets-inside, stops-inside, stops-alone, falls, fills}
-use Rattle.graphql_grammar.proofs.value.fill.fill_object.Goals as goal
+use Rattle.graphql_grammar.proofs.ValueContents.{wants-field, ends-object, stops-field, meets-inside, stops-inside, stops-alone, falls, adds}
+use Rattle.graphql_grammar.proofs.value.contents.read_fields.Goals as goal
 
 pub returns-in_err-name : goal.returns-in_err-name
 returns-in_err-name g c =
@@ -46,7 +46,7 @@ loop-name-preserved g c =
     let pair : List ℕ × g.row.V.Denot = (c.in-Some.name, c.in_ok-read_simple.field-0) in
     let items : c.push.new.self.items ≡ held ++ pair ∷ [] = search rules in
     let pushed : map (field_tree tree) c.push.new.self.items ≡ map (field_tree tree) held ++ (c.in-Some.name, t) ∷ [] = ap (map (field_tree tree)) items ∙ map_push (field_tree tree) held (c.in-Some.name, c.in_ok-read_simple.field-0) in
-    fills c.loop-name.invariant wants record { none = none.0; on = none.1 } t c.read_simple.new.cursor (map (field_tree tree) c.push.new.self.items) c.in_ok-read_simple.ensures.0 c.in_ok-read_simple.ensures.1 (ap (λ (l : List Field). object_rest vars c.args.left l (tokens c.read_simple.new.cursor)) (sym pushed))
+    adds c.loop-name.invariant wants record { none = none.0; on = none.1 } t c.read_simple.new.cursor (map (field_tree tree) c.push.new.self.items) c.in_ok-read_simple.ensures.0 c.in_ok-read_simple.ensures.1 (ap (λ (l : List Field). object_rest vars c.args.left l (tokens c.read_simple.new.cursor)) (sym pushed))
 
 pub loop-name-smaller : goal.loop-name-smaller
 loop-name-smaller g c =

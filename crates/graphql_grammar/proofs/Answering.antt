@@ -1,0 +1,88 @@
+-- The answer of a parser, and how many tokens are taken for it, from what the reader of its language tells and what
+-- the rules of the code make of the definitions. Proved once, for each language.
+use Rattle.std.proofs.Common.{◌≡◌, ℕ, suc, ◌+◌, ◌-◌, ◌≤◌, ◌⊎◌, inl, inr, Result, Ok, Err, List, [], ◌∷◌, ◌++◌, length, drop, refl, sym, ap, ◌∙◌, subst, length-drop, length-append, arith}
+use Rattle.graphql_tokens.specs.declared.lexer.TokenKind.TheVariants.{End}
+use Rattle.graphql_tokens.specs.tokens.Cuts.{EndsOnce}
+use Rattle.graphql_tokens.specs.tokens.Edition.{Former, Current}
+use Rattle.graphql_tokens.specs.tokens.Proper.{AreProperButFaults}
+use Rattle.graphql_tokens.specs.tokens.Token.{Bare, Token}
+use Rattle.graphql_grammar.specs.answers.Answers.{Answers, TakenFor, AreTheDefinitions, AreUnbroken, HasOneTree, IsDecided, RestsOnBareTokens}
+use Rattle.graphql_grammar.specs.answers.Language.{Language, grammar}
+use Rattle.graphql_grammar.specs.declared.error.Error.{Error}
+use Rattle.graphql_grammar.specs.declared.error.Error.TheVariants as errors
+use Rattle.graphql_grammar.specs.reading.DocumentOf.{IsDocumentOf, TellsBreach, TellsOf}
+use Rattle.graphql_grammar.specs.reading.Errors.{IsErrorOf}
+use Rattle.graphql_grammar.specs.reading.ReadBy.{RefusedHere, IsReadBy}
+use Rattle.graphql_reading.specs.declared.cursor.Refusal.{Refusal}
+use Rattle.graphql_reading.specs.grammar.Fronts.{IsRefused, RefusedToken, Verdict, syntax, limit, without_places, whole}
+use Rattle.graphql_reading.specs.grammar.Limits.{Limits}
+use Rattle.graphql_reading.specs.grammar.Relations.{Rel}
+use Rattle.graphql_reading.specs.grammar.Tests.{the_end}
+use Rattle.graphql_reading.specs.reading.Ahead.{Ahead, tokens}
+use Rattle.graphql_reading.specs.reading.Given.{Refuses}
+use Rattle.graphql_reading.specs.reading.Outcome.{Outcome, Read, Refused, Reader, whole_at}
+use Rattle.graphql_reading.proofs.IgnoresPlaces.{IgnoresPlaces}
+use Rattle.graphql_reading.proofs.ReadsExactly.{ReadsExactly, HasPhrase}
+use Rattle.graphql_reading.proofs.Includes.{Includes, includes-whole}
+use Rattle.graphql_reading.proofs.TokenTests.{the_end-is}
+use Rattle.graphql_reading.proofs.Whole.{Says, whole-answers, one-tree, ignores-whole, one-refusal, refusal-bare, trees-bare}
+
+-- ---- the answer where there is a tree
+
+pub document-answers : {D Document : Type 0} (language : Language D Document) (limits : Limits) (ts : List Token) (ds : List D) (result : Result Document Error) → AreTheDefinitions language limits ts ds → IsDocumentOf language ds result → Answers language limits ts result
+document-answers language limits ts ds (Ok document) h is = (ds, h, is)
+document-answers language limits ts ds (Err (errors.Syntax message start end)) h is = absurd is
+document-answers language limits ts ds (Err errors.RecursionLimitExceeded) h is = absurd is
+document-answers language limits ts ds (Err errors.OutOfMemory) h is = tt
+document-answers language limits ts ds (Err error) h is = record { definitions = ds; tree = h; broken = is }
+
+pub document-taken : {D Document : Type 0} (language : Language D Document) (limits : Limits) (ts : List Token) (ds : List D) (result : Result Document Error) (count : ℕ) → count ≡ length ts → IsDocumentOf language ds result → TakenFor language limits ts result count
+document-taken language limits ts ds (Ok document) count all is = all
+document-taken language limits ts ds (Err (errors.Syntax message start end)) count all is = absurd is
+document-taken language limits ts ds (Err errors.RecursionLimitExceeded) count all is = absurd is
+document-taken language limits ts ds (Err errors.OutOfMemory) count all is = omega (arith, all)
+document-taken language limits ts ds (Err error) count all is = all
+
+-- the first definition that breaks a rule
+pub breaks : {D Document : Type 0} (language : Language D Document) (ds before : List D) (d : D) (after : List D) (error : Error) → ds ≡ before ++ d ∷ after → AreUnbroken language before → TellsOf (language.breach before d) error → TellsBreach language ds error
+breaks language ds before d after (errors.Syntax message start end) split unbroken e = absurd e
+breaks language ds before d after errors.RecursionLimitExceeded split unbroken e = absurd e
+breaks language ds before d after errors.OutOfMemory split unbroken e = tt
+breaks language ds before d after error split unbroken e = inl (record { before = before; broken = d; after = after; split = split; unbroken_before = unbroken; is = e })
+
+-- ---- the answer where there is none
+
+pub refusal-answers : {D Document : Type 0} (language : Language D Document) (reader : Limits → Reader (List D)) → IsReadBy language reader → (limits : Limits) (old new : Ahead) (stop : Refusal) (error : Error) → EndsOnce (tokens old) → AreProperButFaults (tokens old) → Refuses stop old new (whole_at (reader limits)) → IsErrorOf stop new.hand.pos error → Answers language limits (tokens old) (Err error)
+refusal-answers language reader read limits old new stop (errors.Syntax message start end) ends proper h is =
+    let m = read.refuses limits (tokens old) ends proper syntax new.hand new.behind (subst (λ (s : Refusal). Refuses s old new (whole_at (reader limits))) is.0 h) in
+    (m.0, is.1 ∙ ap (λ (t : Token). t.pos) (sym m.1), is.2, is.3)
+refusal-answers language reader read limits old new stop errors.RecursionLimitExceeded ends proper h is =
+    (read.refuses limits (tokens old) ends proper limit new.hand new.behind (subst (λ (s : Refusal). Refuses s old new (whole_at (reader limits))) is h)).0
+refusal-answers language reader read limits old new stop errors.OutOfMemory ends proper h is = tt
+refusal-answers language reader read limits old new stop error ends proper h is = absurd is
+
+-- the tokens up to the refused one
+up-to : {D Document : Type 0} (language : Language D Document) (limits : Limits) (ts after : List Token) (t : Token) (v : Verdict) (count : ℕ) → length ts ≡ count + length after → RefusedHere language limits ts v t after → IsRefused (grammar language Current) limits ts count v
+up-to language limits ts after t v count long h =
+    let all : length ts ≡ length h.0.before + suc (length after) = ap length (h.0.split ∙ ap (λ (l : List Token). h.0.before ++ l) (λ i. h.1 i ∷ h.2 i)) ∙ length-append h.0.before (t ∷ after) in
+    let same : suc (length h.0.before) ≡ count = omega (arith, long, all) in
+    subst (λ (n : ℕ). IsRefused (grammar language Current) limits ts n v) same h.0.refused
+
+pub refusal-taken : {D Document : Type 0} (language : Language D Document) (reader : Limits → Reader (List D)) → IsReadBy language reader → (limits : Limits) (old new : Ahead) (stop : Refusal) (error : Error) (count : ℕ) → length (tokens old) ≡ count + length new.behind → EndsOnce (tokens old) → AreProperButFaults (tokens old) → Refuses stop old new (whole_at (reader limits)) → IsErrorOf stop new.hand.pos error → TakenFor language limits (tokens old) (Err error) count
+refusal-taken language reader read limits old new stop (errors.Syntax message start end) count long ends proper h is =
+    up-to language limits (tokens old) new.behind new.hand syntax count long
+    (read.refuses limits (tokens old) ends proper syntax new.hand new.behind (subst (λ (s : Refusal). Refuses s old new (whole_at (reader limits))) is.0 h))
+refusal-taken language reader read limits old new stop errors.RecursionLimitExceeded count long ends proper h is =
+    up-to language limits (tokens old) new.behind new.hand limit count long
+    (read.refuses limits (tokens old) ends proper limit new.hand new.behind (subst (λ (s : Refusal). Refuses s old new (whole_at (reader limits))) is h))
+refusal-taken language reader read limits old new stop errors.OutOfMemory count long ends proper h is = omega (arith, long)
+refusal-taken language reader read limits old new stop error count long ends proper h is = absurd is
+
+-- ---- counts
+
+-- between two counts of tokens of one list stand as many as the one is more than the other
+pub taken-between : (whole old behind : List Token) (before now : ℕ) → old ≡ drop before whole → behind ≡ drop now whole → before ≤ now → now ≤ length whole → length old ≡ (now - before) + length behind
+taken-between whole old behind before now o b le within =
+    let p : length old ≡ length whole - before = ap length o ∙ length-drop before whole in
+    let q : length behind ≡ length whole - now = ap length b ∙ length-drop now whole in
+    omega (arith, p, q, le, within)

@@ -1,0 +1,77 @@
+//! Documents, whichever language they are of: the definitions are read whole before the first rule is looked at.
+ghost use Rattle.std.specs.Prelude.{◌≡◌, ◌≢◌, ◌+◌, ℕ, List, [], map};
+ghost use Rattle.graphql_tokens.specs.tokens.Edition.{Current};
+ghost use Rattle.graphql_tokens.specs.tokens.Token.{left};
+ghost use Rattle.graphql_grammar.specs.answers.Answers.{Answers, AreTheDefinitions, HasOneTree, IsDecided, RestsOnBareTokens, TakenFor};
+ghost use Rattle.graphql_grammar.specs.answers.Language.{Language, grammar};
+ghost use Rattle.graphql_grammar.specs.reading.DocumentOf.{IsDocumentOf};
+ghost use Rattle.graphql_grammar.specs.reading.ReadBy.{IsReadBy};
+ghost use Rattle.graphql_reading.specs.grammar.Limits.{Limits as SpecLimits};
+ghost use Rattle.graphql_reading.specs.reading.Given.{Gives, GivesWhole, trees_in};
+ghost use Rattle.graphql_reading.specs.reading.Outcome.{Reader, whole_at};
+
+use crate::error::Result;
+use crate::refusals::error_of;
+use graphql_reading::cursor::{Cursor, Reading};
+use graphql_reading::limits::Limits;
+use graphql_tokens::lexer::Tokens;
+use std::alloc::Global;
+use std::mem;
+
+/// A definition of a language: how all that a text has are read, and the document that they make.
+pub trait Definition: Drop {
+    /// What is made of a text.
+    type Document;
+
+    // The tree that a definition stands for.
+    ghost Tree: { Type 0 };
+
+    ghost tree: { Self → Self.Tree };
+
+    // The language of the definitions.
+    ghost language: { Language Self.Tree Self.Document };
+
+    // How they are read from a list of tokens, up to its end.
+    ghost reader: { SpecLimits → Reader (List Self.Tree) };
+
+    /// Reads the definitions of a text, up to its end.
+    fn read_all(alloc: Global, cursor: &mut Cursor, limits: Limits) -> Reading<Vec<Self>>
+        ensures { Gives (trees_in Self.tree) result cursor.old cursor.new (Self.reader limits) };
+
+    /// The document of the definitions, or the first of the rules that they break, in source order.
+    fn document_of(alloc: Global, definitions: Vec<Self>) -> Result<Self::Document>
+        ensures { IsDocumentOf Self.language (map Self.tree definitions.items) result };
+}
+
+fn read_whole<D: Definition>(alloc: Global, cursor: &mut Cursor, limits: Limits) -> Reading<Vec<D>>
+    ensures { GivesWhole (trees_in D.tree) result cursor.old cursor.new (whole_at (D.reader limits)) }
+{
+    let definitions = D::read_all(alloc, cursor, limits)?;
+    cursor.expect_end()?;
+    Ok(definitions)
+}
+
+/// Reads the tokens that are left as a document.
+pub fn read_document<D: Definition>(
+    alloc: Global,
+    tokens: &mut Tokens<'_>,
+    limits: Limits,
+) -> Result<D::Document>
+    requires some { left tokens.old ≢ [] }
+    requires read { IsReadBy D.language D.reader }
+    ensures answer { Answers D.language limits (left tokens.old) result }
+    ensures only { (ds : List D.Tree) → grammar D.language Current limits (left tokens.old) ds → AreTheDefinitions D.language limits (left tokens.old) ds }
+    ensures one_tree { HasOneTree D.language (left tokens.old) }
+    ensures decided { IsDecided D.language limits (left tokens.old) }
+    ensures bare { RestsOnBareTokens D.language limits (left tokens.old) }
+    ensures taken { (count : ℕ) × (tokens.new.taken ≡ tokens.old.taken + count) × TakenFor D.language limits (left tokens.old) result count }
+    ensures whole { tokens.new.whole ≡ tokens.old.whole }
+{
+    let mut cursor = Cursor::new(mem::replace(tokens, Tokens::new("")));
+    let answer = match read_whole::<D>(alloc, &mut cursor, limits) {
+        Ok(definitions) => D::document_of(alloc, definitions),
+        Err(refusal) => Err(error_of(alloc, &cursor, refusal)),
+    };
+    *tokens = cursor.into_tokens();
+    answer
+}
