@@ -79,7 +79,7 @@ pub fn separated<P: Production>(
     let mut nodes = Vec::with_capacity(alloc, 1)?;
     loop {
         let node = P::read(alloc, cursor, budget)?;
-        push(&mut nodes, node)?;
+        add_node(&mut nodes, node)?;
         if !cursor.take_punct(mark) {
             return Ok(nodes);
         }

@@ -13,10 +13,10 @@ returns-in_err-node g c =
     rw (p.1, p.2) (stops-members g.P.Production.tree (trees_in g.P.Production.tree) (punct_of c.args.mark.now) (g.P.Production.reader c.args.budget) c.args.cursor.now c.loop-nodes.cursor c.read.new.cursor _ _ c.loop-nodes.invariant c.in_err-node.ensures)
 
 pub returns-then-not-take_punct : goal.returns-then-not-take_punct
-returns-then-not-take_punct g c = ends-members g.P.Production.tree (punct_of c.args.mark.now) (g.P.Production.reader c.args.budget) c.args.cursor.now c.loop-nodes.cursor c.read.new.cursor c.take_punct-in-loop-nodes.new.self _ _ _ c.take_punct-in-loop-nodes.result c.loop-nodes.invariant c.in_ok-node.ensures c.take_punct-in-loop-nodes.ensures c.if-not-take_punct.true c.in_ok-push.ensures
+returns-then-not-take_punct g c = ends-members g.P.Production.tree (punct_of c.args.mark.now) (g.P.Production.reader c.args.budget) c.args.cursor.now c.loop-nodes.cursor c.read.new.cursor c.take_punct-in-loop-nodes.new.self _ _ _ c.take_punct-in-loop-nodes.result c.loop-nodes.invariant c.in_ok-node.ensures c.take_punct-in-loop-nodes.ensures c.if-not-take_punct.true c.in_ok-add_node.ensures
 
 pub loop-nodes-smaller : goal.loop-nodes-smaller
 loop-nodes-smaller g c = shorter-members g.P.Production.tree (punct_of c.args.mark.now) (g.P.Production.reader c.args.budget) c.loop-nodes.cursor c.read.new.cursor c.take_punct-in-loop-nodes.new.self _ c.take_punct-in-loop-nodes.result c.requires c.in_ok-node.ensures c.take_punct-in-loop-nodes.ensures c.if-not-take_punct.false
 
 pub loop-nodes-preserved : goal.loop-nodes-preserved
-loop-nodes-preserved g c = goes-members g.P.Production.tree (punct_of c.args.mark.now) (g.P.Production.reader c.args.budget) c.args.cursor.now c.loop-nodes.cursor c.read.new.cursor c.take_punct-in-loop-nodes.new.self _ _ _ c.take_punct-in-loop-nodes.result c.requires c.loop-nodes.invariant c.in_ok-node.ensures c.take_punct-in-loop-nodes.ensures c.if-not-take_punct.false c.in_ok-push.ensures
+loop-nodes-preserved g c = goes-members g.P.Production.tree (punct_of c.args.mark.now) (g.P.Production.reader c.args.budget) c.args.cursor.now c.loop-nodes.cursor c.read.new.cursor c.take_punct-in-loop-nodes.new.self _ _ _ c.take_punct-in-loop-nodes.result c.requires c.loop-nodes.invariant c.in_ok-node.ensures c.take_punct-in-loop-nodes.ensures c.if-not-take_punct.false c.in_ok-add_node.ensures
