@@ -9,7 +9,9 @@ mod directives;
 mod fields;
 mod input_values;
 mod members;
+mod rules;
 mod schema;
 mod types;
 
 pub use definitions::read_schema_file;
+pub use rules::document_of;

@@ -1,5 +1,5 @@
 -- The rules that the definitions of a schema file keep (GraphQL October 2021, section 3.3.1).
-use Rattle.std.specs.Prelude.{Bool, true, false, cond, ◌||◌, Option, Some, None, option_map, List, [], ◌∷◌}
+use Rattle.std.specs.Prelude.{Bool, true, false, cond, is_some, Option, Some, None, option_map, List, [], ◌∷◌, ◌++◌}
 use Rattle.graphql_tokens.specs.declared.pos.Positioned.{Positioned}
 use Rattle.graphql_syntax.specs.declared.types.OperationType.{OperationType}
 use Rattle.graphql_syntax.specs.declared.types.OperationType.TheVariants.{Query, Mutation, Subscription}
@@ -19,15 +19,10 @@ abbrev pub first_of_kind : OperationType → List Root → Option Root
 first_of_kind kind [] = None
 first_of_kind kind (root ∷ roots) = cond (same_kind kind root.kind) (Some root) (first_of_kind kind roots)
 
--- one of these roots has this kind
-abbrev pub has_kind : OperationType → List Root → Bool
-has_kind kind [] = false
-has_kind kind (root ∷ roots) = same_kind kind root.kind || has_kind kind roots
-
 -- the first root whose kind one of those before it has
 abbrev pub first_repeated : List Root → List Root → Option Root
 first_repeated before [] = None
-first_repeated before (root ∷ roots) = cond (has_kind root.kind before) (Some root) (first_repeated (root ∷ before) roots)
+first_repeated before (root ∷ roots) = cond (is_some (first_of_kind root.kind before)) (Some root) (first_repeated (before ++ root ∷ []) roots)
 
 -- ---- what a definition breaks
 

@@ -14,12 +14,15 @@ use Rattle.graphql_schemas.specs.grammar.SchemaFile.{Definition, schema, type_de
 abbrev pub root_tree : code_root.Root → Root
 root_tree r = record { kind = r.kind; pos = r.pos; name = r.name }
 
+abbrev pub root_trees : List code_root.Root → List Root
+root_trees roots = map root_tree roots
+
 abbrev pub schema_tree : code_schema.Schema → Schema
 schema_tree s = record {
   description = description_tree s.description;
   extend = s.extend;
   directives = const_directives_tree s.directives.items;
-  roots = map root_tree s.roots.items;
+  roots = root_trees s.roots.items;
 }
 
 abbrev pub definition_tree : code.Definition → Definition
