@@ -11,3 +11,4 @@ pub mod BodyProductions
 pub mod DirectiveProductions
 pub mod FormerSchemas
 pub mod SchemaFileProductions
+pub mod Roots

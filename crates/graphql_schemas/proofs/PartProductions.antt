@@ -34,7 +34,7 @@ first-mapped o = record { by = λ c x y t m begins. o.by c x y m.value m.holds b
 
 -- ---- a part that is owed
 
--- no phrase is read nowhere
+-- where there are no phrases, each list is refused at its first token
 exact-never : {A : Type 0} {b : Limits} {f : Test} → ReadsExactly (λ c. never {A = A}) b f (λ ts. Refused syntax ts)
 exact-never {A} {b} {f} = record { at = λ ts. record { before = []; split = refl; quiet = tt; alive = inl refl; dead = none ts } }
   where
@@ -48,19 +48,19 @@ begins-never = record { by = λ c x y a m. absurd m }
 or-never : {A : Type 0} (p : Rel A) (x : List Token) (t : A) → (p ∪ never) x t ↔ p x t
 or-never p x t = (λ h. elim h [ inl k ↦ k | inr k ↦ absurd k ], λ h. inl h)
 
-by-first : {A : Type 0} (w : Bool) (x y : A) → cond w x y ≡ cond (not w) y x
-by-first true x y = refl
-by-first false x y = refl
+turned-round : {A : Type 0} (w : Bool) (x y : A) → cond w x y ≡ cond (not w) y x
+turned-round true x y = refl
+turned-round false x y = refl
 
--- it is read by the token in sight
+-- a part that is owed is read by the token in sight
 pub exact-owed : {A : Type 0} {p : Limits → Rel A} {b : Limits} {f first : Test} {r : Reader A} → BeginsWith p first → ReadsExactly p b f r → ReadsExactly p b f (owed_at true first r)
 exact-owed {A} {p} {b} {f} {first} {r} begins h = exact-reader same (exact-same (λ c. or-never (p c)) (exact-choose begins (begins-never {A = A}) h exact-never))
   where
     same : (ts : List Token) → choose_at first r (λ ts. Refused syntax ts) ts ≡ owed_at true first r ts
     same [] = refl
-    same (t ∷ ts) = by-first (first t.bare) (r (t ∷ ts)) (Refused syntax (t ∷ ts))
+    same (t ∷ ts) = turned-round (first t.bare) (r (t ∷ ts)) (Refused syntax (t ∷ ts))
 
--- where nothing is owed
+-- where nothing is owed the reader is as it was
 pub exact-free : {A : Type 0} {p : Limits → Rel A} {b : Limits} {f : Test} {r : Reader A} (first : Test) → r [] ≡ Refused syntax [] → ReadsExactly p b f r → ReadsExactly p b f (owed_at false first r)
 exact-free {A} {p} {b} {f} {r} first nothing h = exact-reader same h
   where

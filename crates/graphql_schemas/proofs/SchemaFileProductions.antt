@@ -1,10 +1,12 @@
 -- Definitions, extensions and schema files are read exactly, have phrases, and don't look at places.
-use Rattle.std.proofs.Common.{◌≡◌, ◌||◌, IsTrue, ◌↔◌, inl, inr, Some, None, List, refl, sym, ap, ◌∙◌}
+use Rattle.std.proofs.Common.{◌≡◌, Bool, ◌||◌, IsTrue, ◌↔◌, inl, inr, Option, Some, None, List, option_map, refl, sym, ap, ◌∙◌}
+use Rattle.graphql_tokens.specs.declared.pos.Positioned.{Positioned}
 use Rattle.graphql_tokens.specs.tokens.Edition.{Current}
 use Rattle.graphql_tokens.specs.tokens.Token.{Token}
-use Rattle.graphql_syntax.specs.trees.Schema.{Description}
+use Rattle.graphql_syntax.specs.trees.Schema.{Description, InputValues, DirectiveDefinition}
+use Rattle.graphql_reading.specs.grammar.Fronts.{without_place}
 use Rattle.graphql_reading.specs.grammar.Limits.{Limits}
-use Rattle.graphql_reading.specs.grammar.Relations.{Rel, one, ◌⨾◌, ◌∪◌, mapped, opt}
+use Rattle.graphql_reading.specs.grammar.Relations.{Rel, one, ◌⨾◌, ◌∪◌, mapped, opt, given}
 use Rattle.graphql_reading.specs.grammar.Tests.{Test, keyword, any_name, the_end}
 use Rattle.graphql_reading.proofs.Theory.{IsSubset, outside}
 use Rattle.graphql_reading.proofs.TokenTests.{word_of, keyword-within, the_end-within, within-either}
@@ -14,22 +16,22 @@ use Rattle.graphql_reading.proofs.IgnoresPlaces.{IgnoresPlaces, ignores-one, ign
 use Rattle.graphql_reading.proofs.Loop.{Takes, takes-one}
 use Rattle.graphql_grammar.specs.grammar.Placeless.{unplaced}
 use Rattle.graphql_grammar.proofs.Languages.{IsRead}
-use Rattle.graphql_schemas.specs.grammar.Descriptions.{a_description}
-use Rattle.graphql_schemas.specs.grammar.Directives.{directive_definition_of, a_directive_definition}
-use Rattle.graphql_schemas.specs.grammar.Placeless.{placeless_description, placeless_type, placeless_schema, placeless_directive_definition, placeless_definition, placeless_definitions}
+use Rattle.graphql_schemas.specs.grammar.Descriptions.{a_description, described as describes}
+use Rattle.graphql_schemas.specs.grammar.Directives.{is_there, directive_definition_of, a_directive_definition}
+use Rattle.graphql_schemas.specs.grammar.Placeless.{placeless_description, placeless_input_value, placeless_input_values, placeless_type, placeless_schema, placeless_directive_definition, placeless_definition, placeless_definitions}
 use Rattle.graphql_schemas.specs.grammar.Schema.{schema_of, a_schema, schema_extension_of, a_schema_extension}
 use Rattle.graphql_schemas.specs.grammar.SchemaFile.{Definition, schema, type_def, directive, a_definition, definitions}
 use Rattle.graphql_schemas.specs.grammar.Schemas.{schemas}
-use Rattle.graphql_schemas.specs.grammar.Types.{Body, type_definition_of, a_type_definition, type_extension_of, a_type_extension, body, extended_body}
+use Rattle.graphql_schemas.specs.grammar.Types.{type_definition_of, a_type_definition, type_extension_of, a_type_extension, body, extended_body}
 use Rattle.graphql_schemas.specs.reading.Descriptions.{is_text}
 use Rattle.graphql_schemas.specs.reading.SchemaFile.{Undescribed, of_schema, of_type, of_directive, with_description, undescribed_at, described_at, Extended, a_schema as extends_schema, a_type as extends_type, extension_of, extension_at, definition_first, definition_at, definitions_at}
 use Rattle.graphql_schemas.specs.reading.Types.{body_first}
-use Rattle.graphql_schemas.proofs.BodyProductions.{placeless-body, exact-body, begins-body, ignores-body, exact-extended_body, begins-extended_body, ignores-extended_body, bodies-within}
-use Rattle.graphql_schemas.proofs.DescriptionProductions.{text-within, name-no-text, begins-description, exact-maybe_description, has-maybe_description, ignores-maybe_description}
+use Rattle.graphql_schemas.proofs.BodyProductions.{exact-body, begins-body, ignores-body, exact-extended_body, begins-extended_body, ignores-extended_body, bodies-within}
+use Rattle.graphql_schemas.proofs.DescriptionProductions.{map-given, described-nowhere, text-within, name-no-text, begins-description, exact-maybe_description, has-maybe_description, ignores-maybe_description}
 use Rattle.graphql_schemas.proofs.DirectiveProductions.{DirectiveRest, placeless-directive-rest, directive-rest, exact-directive-rest, begins-directive-rest, ignores-directive-rest}
 use Rattle.graphql_schemas.proofs.FormerSchemas.{includes-definitions}
 use Rattle.graphql_schemas.proofs.PartProductions.{no-punctuator, past-punctuator, past-parts}
-use Rattle.graphql_schemas.proofs.SchemaProductions.{SchemaRest, placeless-schema-rest, schema-rest, exact-schema-rest, begins-schema-rest, has-schema-rest, ignores-schema-rest, extended-schema, exact-extended-schema, begins-extended-schema, has-extended-schema, ignores-extended-schema}
+use Rattle.graphql_schemas.proofs.SchemaProductions.{schema-rest, exact-schema-rest, begins-schema-rest, has-schema-rest, ignores-schema-rest, extended-schema, exact-extended-schema, begins-extended-schema, has-extended-schema, ignores-extended-schema}
 
 -- ---- laws
 
@@ -194,35 +196,31 @@ has-definition = has-first {q = λ c. mapped schema (a_schema_extension Current 
 
 -- ---- places
 
-schema-nowhere : (x : Description × SchemaRest) → unplaced placeless_schema (schema_of x) ≡ schema_of (placeless_description x.0, placeless-schema-rest x.1)
-schema-nowhere (None, more) = refl
-schema-nowhere (Some text, more) = refl
-
 ignores-schema : IgnoresPlaces (a_schema Current) (unplaced placeless_schema)
-ignores-schema = ignores-mapped {k = schema_of} schema-nowhere (ignores-then ignores-maybe_description ignores-schema-rest)
+ignores-schema = ignores-mapped {k = schema_of} (λ x. described-nowhere placeless_schema x.0 x.1.0 (schema_of x).node) (ignores-then ignores-maybe_description ignores-schema-rest)
 
 ignores-schema_extension : IgnoresPlaces (a_schema_extension Current) (unplaced placeless_schema)
 ignores-schema_extension = ignores-mapped {k = schema_extension_of} (λ x. refl) (ignores-then (ignores-one (keyword "extend")) ignores-extended-schema)
 
-type-nowhere : (x : Description × Body) → unplaced placeless_type (type_definition_of x) ≡ type_definition_of (placeless_description x.0, placeless-body x.1)
-type-nowhere (None, more) = refl
-type-nowhere (Some text, more) = refl
-
 ignores-type_definition : IgnoresPlaces (a_type_definition Current) (unplaced placeless_type)
-ignores-type_definition = ignores-mapped {k = type_definition_of} type-nowhere (ignores-then ignores-maybe_description ignores-body)
+ignores-type_definition = ignores-mapped {k = type_definition_of} (λ x. described-nowhere placeless_type x.0 x.1.0 (type_definition_of x).node) (ignores-then ignores-maybe_description ignores-body)
 
 ignores-type_extension : IgnoresPlaces (a_type_extension Current) (unplaced placeless_type)
 ignores-type_extension = ignores-mapped {k = type_extension_of} (λ x. refl) (ignores-then (ignores-one (keyword "extend")) ignores-extended_body)
 
+-- the definition without places, with these arguments and repeatable or not
+abbrev with-arguments : Description × DirectiveRest → InputValues → Bool → Positioned DirectiveDefinition
+with-arguments x arguments repeatable = describes (placeless_description x.0) (without_place x.1.0) (record (placeless_directive_definition (directive_definition_of x).node) { arguments = arguments; is_repeatable = repeatable })
+
+still-there : (word : Option Token) → is_there word ≡ is_there (option_map without_place word)
+still-there None = refl
+still-there (Some word) = refl
+
 directive-nowhere : (x : Description × DirectiveRest) → unplaced placeless_directive_definition (directive_definition_of x) ≡ directive_definition_of (placeless_description x.0, placeless-directive-rest x.1)
-directive-nowhere (None, (word, (sign, (name, (None, (None, locations)))))) = refl
-directive-nowhere (None, (word, (sign, (name, (None, (Some repeatable, locations)))))) = refl
-directive-nowhere (None, (word, (sign, (name, (Some arguments, (None, locations)))))) = refl
-directive-nowhere (None, (word, (sign, (name, (Some arguments, (Some repeatable, locations)))))) = refl
-directive-nowhere (Some text, (word, (sign, (name, (None, (None, locations)))))) = refl
-directive-nowhere (Some text, (word, (sign, (name, (None, (Some repeatable, locations)))))) = refl
-directive-nowhere (Some text, (word, (sign, (name, (Some arguments, (None, locations)))))) = refl
-directive-nowhere (Some text, (word, (sign, (name, (Some arguments, (Some repeatable, locations)))))) = refl
+directive-nowhere x =
+    described-nowhere placeless_directive_definition x.0 x.1.0 (directive_definition_of x).node
+    ∙ ap (λ (arguments : InputValues). with-arguments x arguments (is_there x.1.1.1.1.1.0)) (map-given (unplaced placeless_input_value) x.1.1.1.1.0)
+    ∙ ap (with-arguments x (given (option_map placeless_input_values x.1.1.1.1.0))) (still-there x.1.1.1.1.1.0)
 
 ignores-directive_definition : IgnoresPlaces (a_directive_definition Current) (unplaced placeless_directive_definition)
 ignores-directive_definition = ignores-mapped {k = directive_definition_of} directive-nowhere (ignores-then ignores-maybe_description ignores-directive-rest)
