@@ -12,3 +12,4 @@ pub mod DirectiveProductions
 pub mod FormerSchemas
 pub mod SchemaFileProductions
 pub mod Roots
+pub mod Finished

@@ -9,6 +9,7 @@ use Rattle.graphql_syntax.specs.trees.Request.{Name, placed}
 use Rattle.graphql_syntax.specs.trees.SchemaViews as views
 use Rattle.graphql_grammar.specs.declared.error.Error.{Error}
 use Rattle.graphql_grammar.specs.declared.error.Error.TheVariants.{MultipleRoots}
+use Rattle.graphql_grammar.specs.reading.DocumentOf.{TellsOf}
 use Rattle.graphql_schemas.specs.declared.rules.Roots as code
 use Rattle.graphql_schemas.specs.grammar.Documents.{root_name, schema_tree_of, tree_of}
 use Rattle.graphql_schemas.specs.grammar.Rules.{first_repeated, repeats_a_root, lacks_a_query, or_else, breach_of}
@@ -49,8 +50,8 @@ breach_of_schema s = or_else (repeats_a_root s) (lacks_a_query s)
 
 abbrev pub IsFinishedSchema : Positioned Schema → Result (Positioned SchemaDefinition) Error → Type 0
 IsFinishedSchema s (Ok definition) = (breach_of_schema s ≡ None) × (placed views.schema_definition_tree definition ≡ placed schema_tree_of s)
-IsFinishedSchema s (Err error) = breach_of_schema s ≡ Some error
+IsFinishedSchema s (Err error) = TellsOf (breach_of_schema s) error
 
 abbrev pub IsFinished : Definition → Result TypeSystemDefinition Error → Type 0
 IsFinished d (Ok definition) = (breach_of [] d ≡ None) × (views.definition_tree definition ≡ tree_of d)
-IsFinished d (Err error) = breach_of [] d ≡ Some error
+IsFinished d (Err error) = TellsOf (breach_of [] d) error

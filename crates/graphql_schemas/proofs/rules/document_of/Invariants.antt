@@ -1,0 +1,16 @@
+use Rattle.std.proofs.Common.{◌≡◌, ◌++◌, map}
+use Rattle.std.specs.Vec.Iter.{into_iter_items}
+use Rattle.graphql_syntax.specs.trees.SchemaViews as views
+use Rattle.graphql_grammar.specs.answers.Answers.{AreUnbroken}
+use Rattle.graphql_schemas.specs.grammar.Documents as documents
+use Rattle.graphql_schemas.specs.grammar.Schemas.{schemas}
+use Rattle.graphql_schemas.specs.reading.Views.{definition_trees}
+use Rattle.graphql_schemas.proofs.rules.document_of.Given as goal
+
+abbrev pub invariant-loop-definition : goal.invariant-loop-definition
+invariant-loop-definition l =
+    (goal.iterator-loop-definition).can_next l.definition-iterator ×
+    (goal.iterator-loop-definition).is_finite l.definition-iterator ×
+    (l.fn.definitions.items ≡ l.yielded ++ into_iter_items l.definition-iterator) ×
+    AreUnbroken schemas (definition_trees l.yielded) ×
+    (map views.definition_tree l.finished.items ≡ documents.document_of (definition_trees l.yielded))
