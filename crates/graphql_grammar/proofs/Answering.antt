@@ -1,12 +1,11 @@
 -- The answer of a parser, and how many tokens are taken for it, from what the reader of its language tells and what
 -- the rules of the code make of the definitions. Proved once, for each language.
-use Rattle.std.proofs.Common.{◌≡◌, ℕ, suc, ◌+◌, ◌-◌, ◌≤◌, ◌⊎◌, inl, inr, Result, Ok, Err, List, [], ◌∷◌, ◌++◌, length, drop, refl, sym, ap, ◌∙◌, subst, length-drop, length-append, arith}
-use Rattle.graphql_tokens.specs.declared.lexer.TokenKind.TheVariants.{End}
+use Rattle.std.proofs.Common.{◌≡◌, ℕ, suc, ◌+◌, ◌-◌, ◌≤◌, inl, Result, Ok, Err, List, ◌∷◌, ◌++◌, length, drop, sym, ap, ◌∙◌, subst, length-drop, length-append, arith}
 use Rattle.graphql_tokens.specs.tokens.Cuts.{EndsOnce}
-use Rattle.graphql_tokens.specs.tokens.Edition.{Former, Current}
+use Rattle.graphql_tokens.specs.tokens.Edition.{Current}
 use Rattle.graphql_tokens.specs.tokens.Proper.{AreProperButFaults}
-use Rattle.graphql_tokens.specs.tokens.Token.{Bare, Token}
-use Rattle.graphql_grammar.specs.answers.Answers.{Answers, TakenFor, AreTheDefinitions, AreUnbroken, HasOneTree, IsDecided, RestsOnBareTokens}
+use Rattle.graphql_tokens.specs.tokens.Token.{Token}
+use Rattle.graphql_grammar.specs.answers.Answers.{Answers, TakenFor, AreTheDefinitions, AreUnbroken}
 use Rattle.graphql_grammar.specs.answers.Language.{Language, grammar}
 use Rattle.graphql_grammar.specs.declared.error.Error.{Error}
 use Rattle.graphql_grammar.specs.declared.error.Error.TheVariants as errors
@@ -14,18 +13,11 @@ use Rattle.graphql_grammar.specs.reading.DocumentOf.{IsDocumentOf, TellsBreach, 
 use Rattle.graphql_grammar.specs.reading.Errors.{IsErrorOf}
 use Rattle.graphql_grammar.specs.reading.ReadBy.{RefusedHere, IsReadBy}
 use Rattle.graphql_reading.specs.declared.cursor.Refusal.{Refusal}
-use Rattle.graphql_reading.specs.grammar.Fronts.{IsRefused, RefusedToken, Verdict, syntax, limit, without_places, whole}
+use Rattle.graphql_reading.specs.grammar.Fronts.{IsRefused, Verdict, syntax, limit, whole}
 use Rattle.graphql_reading.specs.grammar.Limits.{Limits}
-use Rattle.graphql_reading.specs.grammar.Relations.{Rel}
-use Rattle.graphql_reading.specs.grammar.Tests.{the_end}
 use Rattle.graphql_reading.specs.reading.Ahead.{Ahead, tokens}
 use Rattle.graphql_reading.specs.reading.Given.{Refuses}
-use Rattle.graphql_reading.specs.reading.Outcome.{Outcome, Read, Refused, Reader, whole_at}
-use Rattle.graphql_reading.proofs.IgnoresPlaces.{IgnoresPlaces}
-use Rattle.graphql_reading.proofs.ReadsExactly.{ReadsExactly, HasPhrase}
-use Rattle.graphql_reading.proofs.Includes.{Includes, includes-whole}
-use Rattle.graphql_reading.proofs.TokenTests.{the_end-is}
-use Rattle.graphql_reading.proofs.Whole.{Says, whole-answers, one-tree, ignores-whole, one-refusal, refusal-bare, trees-bare}
+use Rattle.graphql_reading.specs.reading.Outcome.{Reader, whole_at}
 
 -- ---- the answer where there is a tree
 

@@ -1,24 +1,18 @@
 -- A language whose reader follows its grammar exactly: what is known of each list of tokens. Proved once, for each
 -- language.
-use Rattle.std.proofs.Common.{◌≡◌, ℕ, suc, ◌+◌, ◌-◌, ◌≤◌, ◌⊎◌, inl, inr, Result, Ok, Err, List, [], ◌∷◌, ◌++◌, length, drop, refl, sym, ap, ◌∙◌, subst, length-drop, length-append, arith}
+use Rattle.std.proofs.Common.{◌≡◌, ℕ, ◌⊎◌, inl, inr, List, [], ◌∷◌, ◌++◌, refl, sym, ap, ◌∙◌, subst}
 use Rattle.graphql_tokens.specs.declared.lexer.TokenKind.TheVariants.{End}
 use Rattle.graphql_tokens.specs.tokens.Cuts.{EndsOnce}
 use Rattle.graphql_tokens.specs.tokens.Edition.{Former, Current}
 use Rattle.graphql_tokens.specs.tokens.Proper.{AreProperButFaults}
 use Rattle.graphql_tokens.specs.tokens.Token.{Bare, Token}
-use Rattle.graphql_grammar.specs.answers.Answers.{Answers, TakenFor, AreTheDefinitions, AreUnbroken, HasOneTree, IsDecided, RestsOnBareTokens}
+use Rattle.graphql_grammar.specs.answers.Answers.{AreTheDefinitions, HasOneTree, IsDecided, RestsOnBareTokens}
 use Rattle.graphql_grammar.specs.answers.Language.{Language, grammar}
-use Rattle.graphql_grammar.specs.declared.error.Error.{Error}
-use Rattle.graphql_grammar.specs.declared.error.Error.TheVariants as errors
-use Rattle.graphql_grammar.specs.reading.DocumentOf.{IsDocumentOf, TellsBreach, TellsOf}
 use Rattle.graphql_grammar.specs.reading.ReadBy.{RefusedHere, IsReadBy}
-use Rattle.graphql_reading.specs.declared.cursor.Refusal.{Refusal}
-use Rattle.graphql_reading.specs.grammar.Fronts.{IsRefused, RefusedToken, Verdict, syntax, limit, without_places, whole}
+use Rattle.graphql_reading.specs.grammar.Fronts.{IsRefused, RefusedToken, Verdict, without_places, whole}
 use Rattle.graphql_reading.specs.grammar.Limits.{Limits}
 use Rattle.graphql_reading.specs.grammar.Relations.{Rel}
 use Rattle.graphql_reading.specs.grammar.Tests.{the_end}
-use Rattle.graphql_reading.specs.reading.Ahead.{Ahead, tokens}
-use Rattle.graphql_reading.specs.reading.Given.{Refuses}
 use Rattle.graphql_reading.specs.reading.Outcome.{Outcome, Read, Refused, Reader, whole_at}
 use Rattle.graphql_reading.proofs.IgnoresPlaces.{IgnoresPlaces}
 use Rattle.graphql_reading.proofs.ReadsExactly.{ReadsExactly, HasPhrase}

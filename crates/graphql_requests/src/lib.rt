@@ -44,6 +44,7 @@ use graphql_tokens::lexer::Tokens;
 use rules::document_of;
 use std::alloc::Global;
 
+// Requests as a language: how their definitions are read, and the document that they make.
 impl graphql_grammar::document::Definition for Definition {
     type Document = ExecutableDocument;
 

@@ -59,6 +59,17 @@ impl Number {
         Ok(Some(Number(String::from_str(alloc, text)?)))
     }
 
+    /// The number of a literal, which isn't scanned again. The caller owes that the text is one; the text of a number
+    /// token is.
+    ///
+    /// It fails only where memory runs out for the text.
+    pub fn of_literal(alloc: Global, literal: &str) -> Result<Number, AllocError>
+        requires { IsNumber literal.now }
+        ensures { IfOk result (λ number. number ≡ literal.now) }
+    {
+        Ok(Number(String::from_str(alloc, literal)?))
+    }
+
     /// The literal, borrowed.
     pub fn as_str(&self) -> &str
         ensures text { result.now ≡ self.now }

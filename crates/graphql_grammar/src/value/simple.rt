@@ -41,9 +41,7 @@ fn read_number<V: Literal>(alloc: Global, cursor: &mut Cursor) -> Reading<V>
     if !token.kind.is_number() {
         return Err(Refusal::Syntax);
     }
-    let Some(number) = Number::new(alloc, token.text)? else {
-        unreachable!()
-    };
+    let number = Number::of_literal(alloc, token.text)?;
     cursor.advance();
     Ok(V::number(number))
 }
