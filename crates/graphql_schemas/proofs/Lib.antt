@@ -13,3 +13,4 @@ pub mod FormerSchemas
 pub mod SchemaFileProductions
 pub mod Roots
 pub mod Finished
+pub mod Laws

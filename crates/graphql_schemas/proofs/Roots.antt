@@ -57,8 +57,7 @@ fills kind before root e none =
 pub added : (kind : OperationType) (before : List Root) (root : Root) (schema : Pos) (result : Result Unit Error) (old found : Option (Positioned Name)) (new : code.Roots) → root.kind ≡ kind → old ≡ root_name kind before → IsPlaced old root schema result found → (found ≡ root_name kind (before ++ root ∷ []) → ((other : OperationType) → same_kind other kind ≡ false → root_name other (before ++ root ∷ []) ≡ root_name other before) → Holds (before ++ root ∷ []) new) → IsAdded before root schema result new
 added kind before root schema (Ok done) old found new is held placed make =
     let none : first_of_kind kind before ≡ None = none-mapped name-of (first_of_kind kind before) (sym held ∙ placed.0) in
-    let here : is_some (first_of_kind root.kind before) ≡ false = ap (λ (k : OperationType). is_some (first_of_kind k before)) is ∙ ap is_some none in
-    (
+    let here : is_some (first_of_kind root.kind before) ≡ false = ap (λ (k : OperationType). is_some (first_of_kind k before)) is ∙ ap is_some none in (
       λ rest. rw here refl,
       make (placed.1 ∙ sym (fills kind before root (ap (same_kind kind) is ∙ same-itself kind) none)) (λ other differs. stays other before root (ap (same_kind other) is ∙ differs)),
     )

@@ -15,7 +15,8 @@ use Rattle.graphql_reading.proofs.Extra.{exact-plus-ahead, begins-opt, both-ways
 use Rattle.graphql_reading.proofs.IgnoresPlaces.{IgnoresPlaces, ignores-one, ignores-then, ignores-mapped, ignores-either, ignores-plus}
 use Rattle.graphql_reading.proofs.Loop.{Takes, takes-one}
 use Rattle.graphql_grammar.specs.grammar.Placeless.{unplaced}
-use Rattle.graphql_grammar.proofs.Languages.{IsRead}
+use Rattle.graphql_grammar.proofs.Languages.{IsRead, is-read-by}
+use Rattle.graphql_grammar.specs.reading.ReadBy.{IsReadBy}
 use Rattle.graphql_schemas.specs.grammar.Descriptions.{a_description, described as describes}
 use Rattle.graphql_schemas.specs.grammar.Directives.{is_there, directive_definition_of, a_directive_definition}
 use Rattle.graphql_schemas.specs.grammar.Placeless.{placeless_description, placeless_input_value, placeless_input_values, placeless_type, placeless_schema, placeless_directive_definition, placeless_definition, placeless_definitions}
@@ -270,3 +271,6 @@ ignores-definitions = ignores-plus ignores-definition
 
 pub schemas-are-read : IsRead schemas definitions_at
 schemas-are-read = record { has_phrase = has-definitions; ignores_places = ignores-definitions; reads_exactly = λ b. exact-definitions {b = b}; includes = includes-definitions }
+
+pub schemas-read-by : IsReadBy schemas definitions_at
+schemas-read-by = is-read-by schemas definitions_at schemas-are-read

@@ -1,9 +1,9 @@
 //! Readers of definitions and of schema files, by GraphQL October 2021, section 3.1.
 ghost use Rattle.std.specs.Prelude.{◌≡◌};
-ghost use Rattle.graphql_reading.specs.reading.Given.{Gives, GivesWhole};
+ghost use Rattle.graphql_reading.specs.reading.Given.{Gives};
 ghost use Rattle.graphql_schemas.specs.reading.Depths.{limits_of};
 ghost use Rattle.graphql_schemas.specs.grammar.SchemaFile.{Definition as SpecDefinition};
-ghost use Rattle.graphql_schemas.specs.reading.SchemaFile.{described_at, extension_at, definition_first, definition_at, definitions_at, schema_file_at};
+ghost use Rattle.graphql_schemas.specs.reading.SchemaFile.{described_at, extension_at, definition_first, definition_at, definitions_at};
 ghost use Rattle.graphql_schemas.specs.reading.Types.{body_first};
 ghost use Rattle.graphql_schemas.specs.reading.Views.{definition_tree, in_definitions};
 
@@ -106,24 +106,15 @@ impl Production for Definition {
     }
 }
 
-/// `Definition+`
-fn read_definitions(alloc: Global, cursor: &mut Cursor, depths: Depths) -> Reading<Vec<Definition>>
-    ensures { Gives in_definitions result cursor.old cursor.new (definitions_at (limits_of depths)) }
-{
-    one_or_more::<Definition>(alloc, cursor, depths)
-}
-
-/// The definitions of a schema file. The end of the text stays in hand.
+/// The definitions of a schema file, up to its end.
 ///
-/// `Document : Definition+ End` (GraphQL October 2021, section 3.1)
-pub fn read_schema_file(
+/// `Definition+` (GraphQL October 2021, section 3.1)
+pub fn read_definitions(
     alloc: Global,
     cursor: &mut Cursor,
     depths: Depths,
 ) -> Reading<Vec<Definition>>
-    ensures { GivesWhole in_definitions result cursor.old cursor.new (schema_file_at (limits_of depths)) }
+    ensures { Gives in_definitions result cursor.old cursor.new (definitions_at (limits_of depths)) }
 {
-    let definitions = read_definitions(alloc, cursor, depths)?;
-    cursor.expect_end()?;
-    Ok(definitions)
+    one_or_more::<Definition>(alloc, cursor, depths)
 }

@@ -7,7 +7,7 @@ use Rattle.graphql_syntax.specs.trees.Request.{Directives}
 use Rattle.graphql_syntax.specs.trees.Schema.{Description, InputValues}
 use Rattle.graphql_reading.specs.grammar.Limits.{Limits}
 use Rattle.graphql_reading.specs.grammar.Tests.{Test, keyword}
-use Rattle.graphql_reading.specs.reading.Outcome.{Reader, one_at, then_at, mapped_at, choose_at, plus_at, whole_at}
+use Rattle.graphql_reading.specs.reading.Outcome.{Reader, one_at, then_at, mapped_at, choose_at, plus_at}
 use Rattle.graphql_schemas.specs.grammar.Directives.{directive_definition_of}
 use Rattle.graphql_schemas.specs.grammar.Schema.{Root, schema_of, schema_extension_of}
 use Rattle.graphql_schemas.specs.grammar.SchemaFile.{Definition, schema, type_def, directive}
@@ -60,6 +60,3 @@ definition_at limits = choose_at (keyword "extend") (extension_at limits) (descr
 
 abbrev pub definitions_at : Limits → Reader (List Definition)
 definitions_at limits = plus_at definition_first (definition_at limits)
-
-abbrev pub schema_file_at : Limits → Reader (List Definition)
-schema_file_at limits = whole_at (definitions_at limits)

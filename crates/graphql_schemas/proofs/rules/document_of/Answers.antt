@@ -1,6 +1,5 @@
 use Rattle.std.proofs.Common.{[], ◌∷◌, ap, sym, ◌∙◌, ◌++◌, append_assoc}
-use Rattle.std.proofs.lemmas.Result.{err_from_is_err_and}
-use Rattle.graphql_schemas.proofs.Finished.{unbroken-one-more, finished-one-more, breaks-here}
+use Rattle.graphql_schemas.proofs.Finished.{unbroken-one-more, finished-one-more}
 use Rattle.graphql_schemas.proofs.rules.document_of.Goals as goal
 
 pub loop-definition-preserved : goal.loop-definition-preserved
