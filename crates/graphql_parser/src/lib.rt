@@ -11,10 +11,12 @@
 //! contracts has to believe is given out by `specs/Lib.antt`.
 #![tactic(auto)]
 
+pub mod types;
+
 pub use graphql_grammar::error::{Error, Result};
 pub use graphql_grammar::positions::ErrorPositions;
 pub use graphql_reading::limits::Limits;
 pub use graphql_requests::{parse_query, parse_query_from, parse_query_limited};
-pub use graphql_syntax::{types, value};
+pub use graphql_syntax::value;
 pub use graphql_tokens::pos::{Pos, Positioned};
 pub use graphql_tokens::{lexer, pos, text};

@@ -5,7 +5,7 @@ use Rattle.graphql_tokens.specs.tokens.Token.{Token, left}
 use Rattle.graphql_grammar.specs.answers.Answers.{Answers, TakenFor, IsDecided, AreTheDefinitions}
 use Rattle.graphql_grammar.specs.answers.Language.{grammar}
 use Rattle.graphql_tokens.specs.tokens.Edition.{Current}
-use Rattle.graphql_syntax.specs.trees.RequestViews.{document_tree}
+use Rattle.graphql_request_trees.specs.trees.RequestViews.{document_tree}
 use Rattle.graphql_requests.specs.grammar.Laws.{IsLawful}
 use Rattle.graphql_requests.specs.grammar.Requests.{requests}
 use Rattle.graphql_requests.proofs.DistinctObjects.{all-distinct}
