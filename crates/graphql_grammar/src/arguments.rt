@@ -1,6 +1,7 @@
 //! Readers of arguments, directives and default values, by GraphQL October 2021, sections 2.6, 2.10 and 2.12.
 ghost use Rattle.std.specs.Prelude.{true, false, option_map};
 ghost use Rattle.graphql_tokens.specs.declared.pos.Positioned.{Positioned};
+ghost use Rattle.graphql_syntax.specs.trees.Parts.{placed};
 ghost use Rattle.graphql_syntax.specs.trees.Parts as trees;
 ghost use Rattle.graphql_syntax.specs.trees.PartViews.{directive_tree, const_directive_tree};
 ghost use Rattle.graphql_syntax.specs.trees.ValueTree.{Tree};
@@ -126,7 +127,7 @@ impl Production for DirectivePhrase {
 
     ghost Tree = { Positioned trees.Directive };
 
-    ghost tree = { trees.placed directive_tree };
+    ghost tree = { placed directive_tree };
 
     ghost first = { punct "@" };
 
@@ -158,7 +159,7 @@ pub fn read_directives(
     cursor: &mut Cursor,
     values: usize,
 ) -> Reading<Vec<Positioned<Directive>>>
-    ensures { Gives (trees_in (trees.placed directive_tree)) result cursor.old cursor.new (directives_at true values) }
+    ensures { Gives (trees_in (placed directive_tree)) result cursor.old cursor.new (directives_at true values) }
 {
     any_number::<DirectivePhrase>(alloc, cursor, values)
 }
@@ -173,7 +174,7 @@ impl Production for ConstDirectivePhrase {
 
     ghost Tree = { Positioned trees.Directive };
 
-    ghost tree = { trees.placed const_directive_tree };
+    ghost tree = { placed const_directive_tree };
 
     ghost first = { punct "@" };
 
@@ -204,7 +205,7 @@ pub fn read_const_directives(
     cursor: &mut Cursor,
     values: usize,
 ) -> Reading<Vec<Positioned<ConstDirective>>>
-    ensures { Gives (trees_in (trees.placed const_directive_tree)) result cursor.old cursor.new (directives_at false values) }
+    ensures { Gives (trees_in (placed const_directive_tree)) result cursor.old cursor.new (directives_at false values) }
 {
     any_number::<ConstDirectivePhrase>(alloc, cursor, values)
 }
@@ -219,7 +220,7 @@ impl Production for DefaultPhrase {
 
     ghost Tree = { Positioned Tree };
 
-    ghost tree = { trees.placed const_tree };
+    ghost tree = { placed const_tree };
 
     ghost first = { punct "=" };
 
@@ -245,7 +246,7 @@ pub fn read_maybe_default(
     cursor: &mut Cursor,
     values: usize,
 ) -> Reading<Option<Positioned<ConstValue>>>
-    ensures { Gives (option_map (trees.placed const_tree)) result cursor.old cursor.new (maybe_default_at values) }
+    ensures { Gives (option_map (placed const_tree)) result cursor.old cursor.new (maybe_default_at values) }
 {
     optional::<DefaultPhrase>(alloc, cursor, values)
 }
