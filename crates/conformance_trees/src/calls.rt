@@ -1,7 +1,8 @@
 //! The calls that the tables are about.
 use crate::literals_made::{VALUES, made};
 use crate::type_texts::{EQUALITY, TEXTS, shown};
-use graphql_syntax::types::{SelectionSet, Type};
+use graphql_request_trees::SelectionSet;
+use graphql_syntax::types::Type;
 use rows::{Subject, compared, failures, pair};
 use std::alloc::Global;
 use std::test::Fail;

@@ -1,8 +1,8 @@
 -- Arguments, directives and default values are read exactly, at every budget; and their places don't matter.
 use Rattle.std.proofs.Common.{◌≡◌, ℕ, Bool, false, IsTrue, Option, Some, None, map, refl, ap}
 use Rattle.graphql_tokens.specs.tokens.Edition.{Current}
-use Rattle.graphql_syntax.specs.trees.Request.{Argument, Directive, Directives}
-use Rattle.graphql_syntax.specs.trees.Request as trees
+use Rattle.graphql_syntax.specs.trees.Parts.{Argument, Directive, Directives}
+use Rattle.graphql_syntax.specs.trees.Parts as trees
 use Rattle.graphql_grammar.specs.grammar.Arguments.{an_argument, arguments, a_directive, directives, a_default}
 use Rattle.graphql_reading.specs.grammar.Relations.{given}
 use Rattle.graphql_reading.specs.grammar.Fronts.{without_place}

@@ -4,7 +4,7 @@ use Rattle.std.proofs.lemmas.Slice.Eq.{bytes_eq-Decides}
 use Rattle.std.specs.List.{AllByRecursion}
 use Rattle.std.specs.Str.{bytes_eq}
 use Rattle.graphql_tokens.specs.tokens.Edition.{Current}
-use Rattle.graphql_syntax.specs.trees.Request as trees
+use Rattle.graphql_syntax.specs.trees.Parts as trees
 use Rattle.graphql_syntax.specs.trees.ValueTree.{Tree, trees_of, fields_of}
 use Rattle.graphql_grammar.specs.grammar.Arguments.{an_argument, arguments, a_directive, directives, a_default}
 use Rattle.graphql_grammar.specs.grammar.Distinct.{HasNone, IsDistinct, AreDistinctItems, AreDistinctFields, IsDistinctValue, IsDistinctArgument, AreDistinctArguments, IsDistinctDirective, AreDistinctDirectives}

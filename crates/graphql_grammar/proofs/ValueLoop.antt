@@ -3,7 +3,7 @@ use Rattle.std.proofs.Common.{◌≡◌, ℕ, suc, pred, ◌+◌, ◌<◌, Bool,
 use Rattle.std.proofs.lemmas.List.{map_push}
 use Rattle.graphql_tokens.specs.declared.pos.Pos.{Pos}
 use Rattle.graphql_tokens.specs.declared.pos.Positioned.{Positioned}
-use Rattle.graphql_syntax.specs.trees.Request.{placed}
+use Rattle.graphql_syntax.specs.trees.Parts.{placed}
 use Rattle.graphql_syntax.specs.trees.ValueTree.{Tree}
 use Rattle.graphql_reading.specs.declared.cursor.Refusal.{Refusal}
 use Rattle.graphql_reading.specs.declared.cursor.Refusal.TheVariants.{Memory, Syntax, Limit}

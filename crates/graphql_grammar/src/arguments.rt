@@ -1,8 +1,9 @@
 //! Readers of arguments, directives and default values, by GraphQL October 2021, sections 2.6, 2.10 and 2.12.
 ghost use Rattle.std.specs.Prelude.{true, false, option_map};
 ghost use Rattle.graphql_tokens.specs.declared.pos.Positioned.{Positioned};
-ghost use Rattle.graphql_syntax.specs.trees.Request as request;
-ghost use Rattle.graphql_syntax.specs.trees.RequestViews.{directive_tree, const_directive_tree};
+ghost use Rattle.graphql_syntax.specs.trees.Parts.{placed};
+ghost use Rattle.graphql_syntax.specs.trees.Parts as trees;
+ghost use Rattle.graphql_syntax.specs.trees.PartViews.{directive_tree, const_directive_tree};
 ghost use Rattle.graphql_syntax.specs.trees.ValueTree.{Tree};
 ghost use Rattle.graphql_syntax.specs.trees.ValueViews.{const_tree};
 ghost use Rattle.graphql_grammar.specs.reading.ArgumentViews.{in_argument, in_directive};
@@ -39,7 +40,7 @@ impl<V: Literal> Production for ArgumentPhrase<V> {
 
     type Budget = usize;
 
-    ghost Tree = { request.Argument };
+    ghost Tree = { trees.Argument };
 
     ghost tree = { in_argument V.tree };
 
@@ -124,9 +125,9 @@ impl Production for DirectivePhrase {
 
     type Budget = usize;
 
-    ghost Tree = { Positioned request.Directive };
+    ghost Tree = { Positioned trees.Directive };
 
-    ghost tree = { request.placed directive_tree };
+    ghost tree = { placed directive_tree };
 
     ghost first = { punct "@" };
 
@@ -158,7 +159,7 @@ pub fn read_directives(
     cursor: &mut Cursor,
     values: usize,
 ) -> Reading<Vec<Positioned<Directive>>>
-    ensures { Gives (trees_in (request.placed directive_tree)) result cursor.old cursor.new (directives_at true values) }
+    ensures { Gives (trees_in (placed directive_tree)) result cursor.old cursor.new (directives_at true values) }
 {
     any_number::<DirectivePhrase>(alloc, cursor, values)
 }
@@ -171,9 +172,9 @@ impl Production for ConstDirectivePhrase {
 
     type Budget = usize;
 
-    ghost Tree = { Positioned request.Directive };
+    ghost Tree = { Positioned trees.Directive };
 
-    ghost tree = { request.placed const_directive_tree };
+    ghost tree = { placed const_directive_tree };
 
     ghost first = { punct "@" };
 
@@ -204,7 +205,7 @@ pub fn read_const_directives(
     cursor: &mut Cursor,
     values: usize,
 ) -> Reading<Vec<Positioned<ConstDirective>>>
-    ensures { Gives (trees_in (request.placed const_directive_tree)) result cursor.old cursor.new (directives_at false values) }
+    ensures { Gives (trees_in (placed const_directive_tree)) result cursor.old cursor.new (directives_at false values) }
 {
     any_number::<ConstDirectivePhrase>(alloc, cursor, values)
 }
@@ -219,7 +220,7 @@ impl Production for DefaultPhrase {
 
     ghost Tree = { Positioned Tree };
 
-    ghost tree = { request.placed const_tree };
+    ghost tree = { placed const_tree };
 
     ghost first = { punct "=" };
 
@@ -245,7 +246,7 @@ pub fn read_maybe_default(
     cursor: &mut Cursor,
     values: usize,
 ) -> Reading<Option<Positioned<ConstValue>>>
-    ensures { Gives (option_map (request.placed const_tree)) result cursor.old cursor.new (maybe_default_at values) }
+    ensures { Gives (option_map (placed const_tree)) result cursor.old cursor.new (maybe_default_at values) }
 {
     optional::<DefaultPhrase>(alloc, cursor, values)
 }

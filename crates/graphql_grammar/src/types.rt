@@ -1,6 +1,6 @@
 //! Readers of type references, by GraphQL October 2021, section 2.11.
 ghost use Rattle.std.specs.Prelude.{◌≡◌, ◌≤◌, ◌+◌, MatchResult, Ok};
-ghost use Rattle.graphql_syntax.specs.trees.Request as request;
+ghost use Rattle.graphql_syntax.specs.trees.Parts.{placed};
 ghost use Rattle.graphql_syntax.specs.trees.TypeTree.{type_tree};
 ghost use Rattle.graphql_reading.specs.declared.cursor.Refusal.TheVariants.{Limit};
 ghost use Rattle.graphql_reading.specs.reading.Given.{Gives};
@@ -114,7 +114,7 @@ fn close_lists(alloc: Global, cursor: &mut Cursor, item: Type, depth: Depth) -> 
 ///
 /// `Type : Name '!'? | '[' Type ']' '!'?`
 pub fn read_type(alloc: Global, cursor: &mut Cursor, limit: usize) -> Reading<Positioned<Type>>
-    ensures { Gives (request.placed type_tree) result cursor.old cursor.new (type_at limit) }
+    ensures { Gives (placed type_tree) result cursor.old cursor.new (type_at limit) }
 {
     let pos = cursor.hand().pos;
     let depth = open_lists(cursor, limit)?;

@@ -1,6 +1,6 @@
 //! Values: one loop over the lists and objects that are open.
 ghost use Rattle.std.specs.Prelude.{◌<◌, pred};
-ghost use Rattle.graphql_syntax.specs.trees.Request as request;
+ghost use Rattle.graphql_syntax.specs.trees.Parts.{placed};
 ghost use Rattle.graphql_grammar.specs.reading.OpenValues.{node_at, opened, met, open_rest, Meets};
 ghost use Rattle.graphql_reading.specs.reading.Given.{Gives};
 ghost use Rattle.graphql_grammar.specs.reading.Values.{value_at};
@@ -91,7 +91,7 @@ pub fn read_value<V: Literal>(
     cursor: &mut Cursor,
     limit: usize,
 ) -> Reading<Positioned<V>>
-    ensures { Gives (request.placed V.tree) result cursor.old cursor.new (value_at V.VARIABLES limit) }
+    ensures { Gives (placed V.tree) result cursor.old cursor.new (value_at V.VARIABLES limit) }
 {
     let pos = cursor.hand().pos;
     let node = read_node(alloc, cursor, limit)?;

@@ -1,9 +1,10 @@
 -- Public: what a reader of the public contracts has to believe, given out from the crates below.
+pub mod trees
+pub mod calls
 pub use Rattle.graphql_tokens.specs.tokens
-pub use Rattle.graphql_syntax.specs.trees
-pub use Rattle.graphql_syntax.specs.calls
 pub use Rattle.graphql_reading.specs.grammar as notation
 pub use Rattle.graphql_grammar.specs.grammar
 pub use Rattle.graphql_grammar.specs.answers
 pub use Rattle.graphql_grammar.specs.errors
 pub use Rattle.graphql_requests.specs.grammar as requests
+pub use Rattle.graphql_schemas.specs.grammar as schemas

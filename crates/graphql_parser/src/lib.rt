@@ -1,20 +1,23 @@
-//! A parser of GraphQL requests: a text goes in; one tree with the place of each node, or one named error,
-//! comes out. Schema files come next.
+//! A parser of GraphQL: a text goes in, a request or a schema file; one tree with the place of each node, or one
+//! named error, comes out.
 //!
-//! Proved of `parse_query`, `parse_query_limited` and `parse_query_from`, unless memory runs out: where the
-//! text's tokens have a tree within the limits, it is the only one, and it is given, or else the first rule
-//! that it breaks is told. Where they have none, the answer is `RecursionLimitExceeded` or `Syntax`, at the
-//! first token whose front no request completes, and which of the two it is depends on whether a deeper one
-//! does. The texts and the places of each `Error` are written definitions too.
+//! Proved of `parse_query` and `parse_schema`, and of their `_limited` and `_from` forms, unless memory runs out: where
+//! the text's tokens have a tree within the limits, it is the only one, and it is given, or else the first rule that it
+//! breaks is told. Where they have none, the answer is `RecursionLimitExceeded` or `Syntax`, at the first token whose
+//! front no document completes, and which of the two it is depends on whether a deeper one does. The texts and the
+//! places of each `Error` are written definitions too.
 //!
 //! A user names this crate alone: what stands here is given out from the crates below it. What a reader of the
 //! contracts has to believe is given out by `specs/Lib.antt`.
 #![tactic(auto)]
 
+pub mod types;
+
 pub use graphql_grammar::error::{Error, Result};
 pub use graphql_grammar::positions::ErrorPositions;
 pub use graphql_reading::limits::Limits;
 pub use graphql_requests::{parse_query, parse_query_from, parse_query_limited};
-pub use graphql_syntax::{types, value};
+pub use graphql_schemas::{parse_schema, parse_schema_from, parse_schema_limited};
+pub use graphql_syntax::value;
 pub use graphql_tokens::pos::{Pos, Positioned};
 pub use graphql_tokens::{lexer, pos, text};

@@ -4,7 +4,7 @@ use Rattle.std.proofs.lemmas.List.{take_all, drop_all, take-append-le, drop-appe
 use Rattle.graphql_tokens.specs.declared.pos.Pos.{Pos}
 use Rattle.graphql_tokens.specs.declared.pos.Positioned.{Positioned}
 use Rattle.graphql_tokens.specs.tokens.Token.{Token}
-use Rattle.graphql_syntax.specs.trees.Request.{Selection}
+use Rattle.graphql_request_trees.specs.trees.Request.{Selection}
 use Rattle.graphql_reading.specs.declared.cursor.Refusal.{Refusal}
 use Rattle.graphql_requests.specs.declared.selections.frames.OpenSet.{OpenSet}
 use Rattle.graphql_reading.specs.grammar.Fronts.{Verdict}

@@ -2,7 +2,8 @@
 use Rattle.graphql_tokens.specs.tokens.Edition.{Current}
 use Rattle.std.proofs.Common.{◌≡◌, ℕ, Bool, true, false, cond, ◌&&◌, ◌||◌, IsTrue, Option, Some, None, List, [], ◌∷◌, ◌++◌, map, option_map, ◌↔◌, inl, inr, refl, sym, ap, ◌∙◌, subst, append-nil}
 use Rattle.graphql_tokens.specs.tokens.Token.{Token}
-use Rattle.graphql_syntax.specs.trees.Request.{Directives, VariableDefinition}
+use Rattle.graphql_syntax.specs.trees.Parts.{Directives}
+use Rattle.graphql_request_trees.specs.trees.Request.{VariableDefinition}
 use Rattle.graphql_grammar.specs.grammar.Arguments.{a_directive, directives, a_default}
 use Rattle.graphql_requests.specs.grammar.Variables.{default_and_directives, a_variable_definition, variable_definitions}
 use Rattle.graphql_reading.specs.grammar.Fronts.{without_place}

@@ -1,8 +1,9 @@
 //! Readers of operations, fragments and requests.
 ghost use Rattle.std.specs.Prelude.{◌≡◌, true};
 ghost use Rattle.graphql_tokens.specs.tokens.Seen.{seen};
-ghost use Rattle.graphql_syntax.specs.trees.Request as request;
-ghost use Rattle.graphql_syntax.specs.trees.RequestViews.{directive_tree, variable_definition_tree, selection_set_tree};
+ghost use Rattle.graphql_syntax.specs.trees.Parts.{placed};
+ghost use Rattle.graphql_syntax.specs.trees.PartViews.{directive_tree};
+ghost use Rattle.graphql_request_trees.specs.trees.RequestViews.{variable_definition_tree, selection_set_tree};
 ghost use Rattle.graphql_requests.specs.grammar.Request.{Definition as SpecDefinition};
 ghost use Rattle.graphql_requests.specs.grammar.Selections.{fragment_name};
 ghost use Rattle.graphql_reading.specs.reading.Given.{trees_in};
@@ -19,12 +20,12 @@ use graphql_grammar::operations::read_operation_type;
 use graphql_reading::cursor::{Cursor, Reading, Refusal};
 use graphql_reading::limits::Limits;
 use graphql_reading::production::{Production, one_or_more};
+use graphql_request_trees::{
+    FragmentDefinition, OperationDefinition, SelectionSet, VariableDefinition,
+};
 use graphql_syntax::lexer::Token;
 use graphql_syntax::pos::Positioned;
-use graphql_syntax::types::{
-    Directive, FragmentDefinition, OperationDefinition, OperationType, SelectionSet,
-    VariableDefinition,
-};
+use graphql_syntax::types::{Directive, OperationType};
 use graphql_syntax::value::Name;
 use std::alloc::Global;
 
@@ -62,7 +63,7 @@ fn read_own_set(
     cursor: &mut Cursor,
     limits: Limits,
 ) -> Reading<Positioned<SelectionSet>>
-    ensures { Gives (request.placed selection_set_tree) result cursor.old cursor.new (own_set_at limits) }
+    ensures { Gives (placed selection_set_tree) result cursor.old cursor.new (own_set_at limits) }
 {
     read_selection_set(alloc, cursor, limits.values(), limits.selections())
 }
@@ -72,7 +73,7 @@ fn read_own_directives(
     cursor: &mut Cursor,
     limits: Limits,
 ) -> Reading<Vec<Positioned<Directive>>>
-    ensures { Gives (trees_in (request.placed directive_tree)) result cursor.old cursor.new (directives_at true limits.values) }
+    ensures { Gives (trees_in (placed directive_tree)) result cursor.old cursor.new (directives_at true limits.values) }
 {
     read_directives(alloc, cursor, limits.values())
 }
@@ -82,7 +83,7 @@ fn read_own_variables(
     cursor: &mut Cursor,
     limits: Limits,
 ) -> Reading<Vec<Positioned<VariableDefinition>>>
-    ensures { Gives (trees_in (request.placed variable_definition_tree)) result cursor.old cursor.new (given_variables_at limits) }
+    ensures { Gives (trees_in (placed variable_definition_tree)) result cursor.old cursor.new (given_variables_at limits) }
 {
     read_maybe_variable_definitions(alloc, cursor, limits.values(), limits.types())
 }

@@ -21,7 +21,7 @@ ghost use Rattle.graphql_grammar.specs.answers.Answers.{Answers, AreTheDefinitio
 ghost use Rattle.graphql_grammar.specs.answers.Language.{grammar};
 ghost use Rattle.graphql_grammar.specs.reading.DocumentOf.{IsDocumentOf};
 ghost use Rattle.graphql_reading.specs.grammar.Limits.{default_limits};
-ghost use Rattle.graphql_syntax.specs.trees.RequestViews.{document_tree};
+ghost use Rattle.graphql_request_trees.specs.trees.RequestViews.{document_tree};
 ghost use Rattle.graphql_requests.specs.grammar.Laws.{IsLawful};
 ghost use Rattle.graphql_requests.specs.grammar.Request.{Definition as SpecDefinition};
 ghost use Rattle.graphql_requests.specs.grammar.Requests.{requests};
@@ -39,7 +39,7 @@ use graphql_grammar::document::read_document;
 use graphql_grammar::error::Result;
 use graphql_reading::cursor::{Cursor, Reading};
 use graphql_reading::limits::Limits;
-use graphql_syntax::types::ExecutableDocument;
+use graphql_request_trees::ExecutableDocument;
 use graphql_tokens::lexer::Tokens;
 use rules::document_of;
 use std::alloc::Global;

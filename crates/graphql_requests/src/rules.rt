@@ -2,8 +2,8 @@
 ghost use Rattle.std.specs.Prelude.{◌≡◌, List, [], Some, None, option_map};
 ghost use Rattle.std.specs.Map.{lookup};
 ghost use Rattle.std.specs.Str.{bytes_eq};
-ghost use Rattle.graphql_syntax.specs.trees.RequestViews.{operation_tree, fragment_tree};
-ghost use Rattle.graphql_syntax.specs.trees.Request.{placed};
+ghost use Rattle.graphql_request_trees.specs.trees.RequestViews.{operation_tree, fragment_tree};
+ghost use Rattle.graphql_syntax.specs.trees.Parts.{placed};
 ghost use Rattle.graphql_requests.specs.grammar.Request.{Definition as SpecDefinition, operation as an_operation, fragment as a_fragment};
 ghost use Rattle.graphql_requests.specs.grammar.Rules.{or_else};
 ghost use Rattle.graphql_requests.specs.reading.Definitions.{definition_tree};
@@ -13,10 +13,10 @@ ghost use Rattle.graphql_requests.specs.grammar.Requests.{requests};
 
 use crate::definitions::Definition;
 use graphql_grammar::error::{Error, Result};
-use graphql_syntax::pos::{Pos, Positioned};
-use graphql_syntax::types::{
+use graphql_request_trees::{
     DocumentOperations, ExecutableDocument, FragmentDefinition, OperationDefinition,
 };
+use graphql_syntax::pos::{Pos, Positioned};
 use graphql_syntax::value::Name;
 use indexmap::IndexMap;
 use std::alloc::Global;

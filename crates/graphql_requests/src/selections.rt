@@ -1,6 +1,6 @@
 //! Readers of selection sets: one loop over the sets that are open.
-ghost use Rattle.graphql_syntax.specs.trees.Request as request;
-ghost use Rattle.graphql_syntax.specs.trees.RequestViews.{selection_set_tree};
+ghost use Rattle.graphql_syntax.specs.trees.Parts.{placed};
+ghost use Rattle.graphql_request_trees.specs.trees.RequestViews.{selection_set_tree};
 ghost use Rattle.graphql_reading.specs.reading.Given.{Gives};
 ghost use Rattle.graphql_requests.specs.reading.Selections.{selection_set_at};
 
@@ -9,8 +9,8 @@ mod heads;
 
 use frames::{Frames, OpenSet, fill_last};
 use graphql_reading::cursor::{Cursor, Reading};
+use graphql_request_trees::SelectionSet;
 use graphql_syntax::pos::Positioned;
-use graphql_syntax::types::SelectionSet;
 pub use heads::{is_at_fragment_name, read_type_condition};
 use std::alloc::Global;
 
@@ -24,7 +24,7 @@ pub fn read_selection_set(
     values: usize,
     selections: usize,
 ) -> Reading<Positioned<SelectionSet>>
-    ensures { Gives (request.placed selection_set_tree) result cursor.old cursor.new (selection_set_at values selections) }
+    ensures { Gives (placed selection_set_tree) result cursor.old cursor.new (selection_set_at values selections) }
 {
     let brace = cursor.expect_punct("{")?;
     // The selections of all sets that are open, the innermost set's last.

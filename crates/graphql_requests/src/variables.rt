@@ -1,8 +1,10 @@
 //! Readers of variable definitions, by GraphQL October 2021, section 2.10.
 ghost use Rattle.std.specs.Prelude.{option_map};
 ghost use Rattle.graphql_tokens.specs.declared.pos.Positioned.{Positioned};
-ghost use Rattle.graphql_syntax.specs.trees.Request as request;
-ghost use Rattle.graphql_syntax.specs.trees.RequestViews.{directive_tree, variable_definition_tree};
+ghost use Rattle.graphql_syntax.specs.trees.Parts.{placed};
+ghost use Rattle.graphql_request_trees.specs.trees.Request as request;
+ghost use Rattle.graphql_syntax.specs.trees.PartViews.{directive_tree};
+ghost use Rattle.graphql_request_trees.specs.trees.RequestViews.{variable_definition_tree};
 ghost use Rattle.graphql_syntax.specs.trees.ValueViews.{const_tree};
 ghost use Rattle.graphql_reading.specs.grammar.Relations.{given};
 ghost use Rattle.graphql_reading.specs.grammar.Tests.{punct};
@@ -15,8 +17,9 @@ use graphql_grammar::types::read_type;
 use graphql_reading::cursor::{Cursor, Reading};
 use graphql_reading::names::name_in;
 use graphql_reading::production::{Production, maybe_bracketed};
+use graphql_request_trees::VariableDefinition;
 use graphql_syntax::pos::Positioned;
-use graphql_syntax::types::{Directive, VariableDefinition};
+use graphql_syntax::types::Directive;
 use graphql_syntax::value::ConstValue;
 use std::alloc::Global;
 
@@ -28,7 +31,7 @@ fn read_default_and_directives(
     cursor: &mut Cursor,
     values: usize,
 ) -> Reading<(Option<Positioned<ConstValue>>, Vec<Positioned<Directive>>)>
-    ensures { Gives (λ both. (option_map (request.placed const_tree) both.0, trees_in (request.placed directive_tree) both.1)) result cursor.old cursor.new (default_and_directives_at values) }
+    ensures { Gives (λ both. (option_map (placed const_tree) both.0, trees_in (placed directive_tree) both.1)) result cursor.old cursor.new (default_and_directives_at values) }
 {
     if cursor.is_at_punct("=") {
         let default_value = read_maybe_default(alloc, cursor, values)?;
@@ -59,7 +62,7 @@ impl Production for VariablePhrase {
 
     ghost Tree = { Positioned request.VariableDefinition };
 
-    ghost tree = { request.placed variable_definition_tree };
+    ghost tree = { placed variable_definition_tree };
 
     ghost first = { punct "$" };
 
@@ -105,7 +108,7 @@ pub fn read_maybe_variable_definitions(
     values: usize,
     types: usize,
 ) -> Reading<Vec<Positioned<VariableDefinition>>>
-    ensures { Gives (trees_in (request.placed variable_definition_tree)) result cursor.old cursor.new (mapped_at given (opt_at (punct "(") (variable_definitions_at values types))) }
+    ensures { Gives (trees_in (placed variable_definition_tree)) result cursor.old cursor.new (mapped_at given (opt_at (punct "(") (variable_definitions_at values types))) }
 {
     maybe_bracketed::<VariablePhrase>(alloc, cursor, "(", ")", Depths { values, types })
 }

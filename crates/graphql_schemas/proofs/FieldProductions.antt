@@ -3,8 +3,8 @@ use Rattle.std.proofs.Common.{false, Option, map, refl, ap, ◌∙◌}
 use Rattle.graphql_tokens.specs.declared.pos.Positioned.{Positioned}
 use Rattle.graphql_tokens.specs.tokens.Edition.{Current}
 use Rattle.graphql_tokens.specs.tokens.Token.{Token}
-use Rattle.graphql_syntax.specs.trees.Request.{Directives}
-use Rattle.graphql_syntax.specs.trees.Schema.{Description, InputValues, FieldDefinition}
+use Rattle.graphql_syntax.specs.trees.Parts.{Directives}
+use Rattle.graphql_schema_trees.specs.trees.Schema.{Description, InputValues, FieldDefinition}
 use Rattle.graphql_syntax.specs.trees.TypeTree.{TypeTree}
 use Rattle.graphql_grammar.specs.grammar.Arguments.{directives}
 use Rattle.graphql_grammar.specs.grammar.Placeless.{unplaced}

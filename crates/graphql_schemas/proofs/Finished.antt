@@ -1,9 +1,9 @@
 -- Definitions that break no rule, each as it stands in the document, with one more after them.
 use Rattle.std.proofs.Common.{◌≡◌, None, Option, List, [], ◌∷◌, ◌++◌, map, refl, sym, ap, ap₂, ◌∙◌, subst}
 use Rattle.std.proofs.lemmas.List.{map-append}
-use Rattle.graphql_syntax.specs.declared.types.service.TypeSystemDefinition.{TypeSystemDefinition}
-use Rattle.graphql_syntax.specs.trees.Schema as trees
-use Rattle.graphql_syntax.specs.trees.SchemaViews as views
+use Rattle.graphql_schema_trees.specs.declared.service.TypeSystemDefinition.{TypeSystemDefinition}
+use Rattle.graphql_schema_trees.specs.trees.Schema as trees
+use Rattle.graphql_schema_trees.specs.trees.SchemaViews as views
 use Rattle.graphql_grammar.specs.answers.Answers.{AreUnbroken}
 use Rattle.graphql_grammar.specs.declared.error.Error.{Error}
 use Rattle.graphql_grammar.specs.reading.DocumentOf.{TellsOf, TellsBreach}

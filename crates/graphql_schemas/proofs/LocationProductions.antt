@@ -2,8 +2,8 @@
 use Rattle.std.proofs.Common.{◌≡◌, ℕ, Bool, true, false, cond, Some, List, [], ◌∷◌, codes, refl, sym, ap, ◌∙◌, subst}
 use Rattle.std.specs.Str.{bytes_eq}
 use Rattle.std.specs.Cmp.Lexicographic.{same_text}
-use Rattle.graphql_syntax.specs.declared.types.service.DirectiveLocation.{DirectiveLocation}
-use Rattle.graphql_syntax.specs.declared.types.service.DirectiveLocation.TheVariants as locations
+use Rattle.graphql_schema_trees.specs.declared.service.DirectiveLocation.{DirectiveLocation}
+use Rattle.graphql_schema_trees.specs.declared.service.DirectiveLocation.TheVariants as locations
 use Rattle.graphql_reading.specs.grammar.Limits.{Limits}
 use Rattle.graphql_reading.specs.grammar.Tests.{Test, any_name}
 use Rattle.graphql_reading.proofs.Meaning.{Decides, exact-meaning, begins-meaning, has-meaning, ignores-meaning}

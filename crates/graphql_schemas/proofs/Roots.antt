@@ -4,7 +4,7 @@ use Rattle.graphql_tokens.specs.declared.pos.Pos.{Pos}
 use Rattle.graphql_tokens.specs.declared.pos.Positioned.{Positioned}
 use Rattle.graphql_syntax.specs.declared.types.OperationType.{OperationType}
 use Rattle.graphql_syntax.specs.declared.types.OperationType.TheVariants.{Query, Mutation, Subscription}
-use Rattle.graphql_syntax.specs.trees.Request.{Name}
+use Rattle.graphql_syntax.specs.trees.Parts.{Name}
 use Rattle.graphql_grammar.specs.declared.error.Error.{Error}
 use Rattle.std.proofs.lemmas.List.{map-append}
 use Rattle.graphql_schemas.specs.declared.rules.Roots as code

@@ -1,8 +1,8 @@
 //! The reader of descriptions, by GraphQL October 2021, section 3.2.
 ghost use Rattle.std.specs.Prelude.{◌≡◌, string_bytes};
 ghost use Rattle.graphql_tokens.specs.tokens.Seen.{seen};
-ghost use Rattle.graphql_syntax.specs.trees.Request as request;
-ghost use Rattle.graphql_syntax.specs.trees.SchemaViews.{description_tree};
+ghost use Rattle.graphql_syntax.specs.trees.Parts.{placed};
+ghost use Rattle.graphql_schema_trees.specs.trees.SchemaViews.{description_tree};
 ghost use Rattle.graphql_reading.specs.reading.Given.{Gives};
 ghost use Rattle.graphql_schemas.specs.grammar.Descriptions as grammar;
 ghost use Rattle.graphql_schemas.specs.reading.Descriptions.{is_text, description_at, maybe_description_at};
@@ -24,7 +24,7 @@ pub fn is_at_description(cursor: &Cursor) -> bool
 
 /// `Description : String | Block`
 fn read_description(alloc: Global, cursor: &mut Cursor) -> Reading<Positioned<String>>
-    ensures { Gives (request.placed string_bytes) result cursor.old cursor.new description_at }
+    ensures { Gives (placed string_bytes) result cursor.old cursor.new description_at }
 {
     let quote = cursor.hand();
     let text = if quote.kind.is_string() {

@@ -1,9 +1,9 @@
 //! The reader of definitions of directives, by GraphQL October 2021, section 3.13.
 ghost use Rattle.std.specs.Prelude.{◌≡◌, true, option_map};
 ghost use Rattle.graphql_tokens.specs.declared.pos.Positioned.{Positioned};
-ghost use Rattle.graphql_syntax.specs.declared.types.service.DirectiveLocation.{DirectiveLocation};
-ghost use Rattle.graphql_syntax.specs.trees.Request as request;
-ghost use Rattle.graphql_syntax.specs.trees.SchemaViews.{description_tree, directive_definition_tree};
+ghost use Rattle.graphql_schema_trees.specs.declared.service.DirectiveLocation.{DirectiveLocation};
+ghost use Rattle.graphql_syntax.specs.trees.Parts.{placed};
+ghost use Rattle.graphql_schema_trees.specs.trees.SchemaViews.{description_tree, directive_definition_tree};
 ghost use Rattle.graphql_reading.specs.grammar.Tests.{any_name};
 ghost use Rattle.graphql_reading.specs.reading.Given.{Gives};
 ghost use Rattle.graphql_reading.specs.reading.Outcome.{mapped_at};
@@ -18,7 +18,7 @@ use graphql_reading::cursor::{Cursor, Reading, Refusal};
 use graphql_reading::names::name_in;
 use graphql_reading::production::{Production, separated};
 use graphql_syntax::pos::Positioned;
-use graphql_syntax::types::{DirectiveDefinition, DirectiveLocation};
+use graphql_schema_trees::{DirectiveDefinition, DirectiveLocation};
 use std::alloc::Global;
 
 /// The location that a word names, if it names one.
@@ -119,7 +119,7 @@ pub fn read_directive_definition(
     depths: Depths,
     description: Option<Positioned<String>>,
 ) -> Reading<Positioned<DirectiveDefinition>>
-    ensures { Gives (request.placed directive_definition_tree) result cursor.old cursor.new (mapped_at (λ rest. grammar.directive_definition_of (description_tree description, rest)) (directive_rest_at (limits_of depths))) }
+    ensures { Gives (placed directive_definition_tree) result cursor.old cursor.new (mapped_at (λ rest. grammar.directive_definition_of (description_tree description, rest)) (directive_rest_at (limits_of depths))) }
 {
     let word = cursor.expect_keyword("directive")?;
     let pos = place_of(&description, word);

@@ -1,8 +1,9 @@
 //! Readers of the fields of object types and interfaces, by GraphQL October 2021, section 3.6.
 ghost use Rattle.graphql_tokens.specs.declared.pos.Positioned.{Positioned};
-ghost use Rattle.graphql_syntax.specs.trees.Request as request;
-ghost use Rattle.graphql_syntax.specs.trees.Schema as trees;
-ghost use Rattle.graphql_syntax.specs.trees.SchemaViews.{field_definition_tree};
+ghost use Rattle.graphql_syntax.specs.trees.Parts.{placed};
+ghost use Rattle.graphql_syntax.specs.trees.Parts as trees;
+ghost use Rattle.graphql_schema_trees.specs.trees.Schema as trees;
+ghost use Rattle.graphql_schema_trees.specs.trees.SchemaViews.{field_definition_tree};
 ghost use Rattle.graphql_reading.specs.reading.Given.{Gives, trees_in};
 ghost use Rattle.graphql_schemas.specs.reading.Depths.{limits_of};
 ghost use Rattle.graphql_schemas.specs.reading.Fields.{field_definition_at, given_fields_at};
@@ -17,7 +18,7 @@ use graphql_reading::cursor::{Cursor, Reading};
 use graphql_reading::names::name_in;
 use graphql_reading::production::{Production, maybe_bracketed};
 use graphql_syntax::pos::Positioned;
-use graphql_syntax::types::FieldDefinition;
+use graphql_schema_trees::FieldDefinition;
 use std::alloc::Global;
 
 /// `Description? Name ArgumentsDef? ':' Type ConstDirectives?`
@@ -30,7 +31,7 @@ impl Production for FieldPhrase {
 
     ghost Tree = { Positioned trees.FieldDefinition };
 
-    ghost tree = { request.placed field_definition_tree };
+    ghost tree = { placed field_definition_tree };
 
     ghost first = { member_first };
 
@@ -73,7 +74,7 @@ pub fn read_maybe_fields(
     cursor: &mut Cursor,
     depths: Depths,
 ) -> Reading<Vec<Positioned<FieldDefinition>>>
-    ensures { Gives (trees_in (request.placed field_definition_tree)) result cursor.old cursor.new (given_fields_at (limits_of depths)) }
+    ensures { Gives (trees_in (placed field_definition_tree)) result cursor.old cursor.new (given_fields_at (limits_of depths)) }
 {
     maybe_bracketed::<FieldPhrase>(alloc, cursor, "{", "}", depths)
 }

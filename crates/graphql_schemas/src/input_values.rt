@@ -2,9 +2,10 @@
 //! 3.10.
 ghost use Rattle.std.specs.Prelude.{◌≡◌};
 ghost use Rattle.graphql_tokens.specs.declared.pos.Positioned.{Positioned};
-ghost use Rattle.graphql_syntax.specs.trees.Request as request;
-ghost use Rattle.graphql_syntax.specs.trees.Schema as trees;
-ghost use Rattle.graphql_syntax.specs.trees.SchemaViews.{input_value_tree};
+ghost use Rattle.graphql_syntax.specs.trees.Parts.{placed};
+ghost use Rattle.graphql_syntax.specs.trees.Parts as trees;
+ghost use Rattle.graphql_schema_trees.specs.trees.Schema as trees;
+ghost use Rattle.graphql_schema_trees.specs.trees.SchemaViews.{input_value_tree};
 ghost use Rattle.graphql_reading.specs.reading.Given.{Gives, trees_in};
 ghost use Rattle.graphql_schemas.specs.reading.Depths.{limits_of};
 ghost use Rattle.graphql_schemas.specs.reading.InputValues.{member_first, input_value_at, given_arguments_at, given_input_fields_at};
@@ -17,7 +18,7 @@ use graphql_reading::cursor::{Cursor, Reading};
 use graphql_reading::names::name_in;
 use graphql_reading::production::{Production, maybe_bracketed};
 use graphql_syntax::pos::Positioned;
-use graphql_syntax::types::InputValueDefinition;
+use graphql_schema_trees::InputValueDefinition;
 use std::alloc::Global;
 
 /// Whether a member with a name is in hand: its description, or its name.
@@ -38,7 +39,7 @@ impl Production for InputValuePhrase {
 
     ghost Tree = { Positioned trees.InputValueDefinition };
 
-    ghost tree = { request.placed input_value_tree };
+    ghost tree = { placed input_value_tree };
 
     ghost first = { member_first };
 
@@ -81,7 +82,7 @@ pub fn read_maybe_arguments_definition(
     cursor: &mut Cursor,
     depths: Depths,
 ) -> Reading<Vec<Positioned<InputValueDefinition>>>
-    ensures { Gives (trees_in (request.placed input_value_tree)) result cursor.old cursor.new (given_arguments_at (limits_of depths)) }
+    ensures { Gives (trees_in (placed input_value_tree)) result cursor.old cursor.new (given_arguments_at (limits_of depths)) }
 {
     maybe_bracketed::<InputValuePhrase>(alloc, cursor, "(", ")", depths)
 }
@@ -94,7 +95,7 @@ pub fn read_maybe_input_fields(
     cursor: &mut Cursor,
     depths: Depths,
 ) -> Reading<Vec<Positioned<InputValueDefinition>>>
-    ensures { Gives (trees_in (request.placed input_value_tree)) result cursor.old cursor.new (given_input_fields_at (limits_of depths)) }
+    ensures { Gives (trees_in (placed input_value_tree)) result cursor.old cursor.new (given_input_fields_at (limits_of depths)) }
 {
     maybe_bracketed::<InputValuePhrase>(alloc, cursor, "{", "}", depths)
 }

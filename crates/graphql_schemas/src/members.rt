@@ -3,9 +3,10 @@
 ghost use Rattle.std.specs.Prelude.{◌≡◌};
 ghost use Rattle.graphql_tokens.specs.declared.pos.Positioned.{Positioned};
 ghost use Rattle.graphql_tokens.specs.tokens.Seen.{seen};
-ghost use Rattle.graphql_syntax.specs.trees.Request as request;
-ghost use Rattle.graphql_syntax.specs.trees.Schema as trees;
-ghost use Rattle.graphql_syntax.specs.trees.SchemaViews.{enum_value_tree};
+ghost use Rattle.graphql_syntax.specs.trees.Parts.{placed};
+ghost use Rattle.graphql_syntax.specs.trees.Parts as trees;
+ghost use Rattle.graphql_schema_trees.specs.trees.Schema as trees;
+ghost use Rattle.graphql_schema_trees.specs.trees.SchemaViews.{enum_value_tree};
 ghost use Rattle.graphql_reading.specs.reading.Given.{Gives, trees_in};
 ghost use Rattle.graphql_reading.specs.reading.Outcome.{one_at};
 ghost use Rattle.graphql_schemas.specs.reading.Depths.{limits_of};
@@ -20,7 +21,7 @@ use graphql_reading::names::{NamePhrase, name_in};
 use graphql_reading::production::{Production, maybe_bracketed, separated};
 use graphql_syntax::lexer::Token;
 use graphql_syntax::pos::Positioned;
-use graphql_syntax::types::EnumValueDefinition;
+use graphql_schema_trees::EnumValueDefinition;
 use graphql_syntax::value::Name;
 use std::alloc::Global;
 
@@ -96,7 +97,7 @@ impl Production for EnumValuePhrase {
 
     ghost Tree = { Positioned trees.EnumValueDefinition };
 
-    ghost tree = { request.placed enum_value_tree };
+    ghost tree = { placed enum_value_tree };
 
     ghost first = { enum_value_first };
 
@@ -134,7 +135,7 @@ pub fn read_maybe_enum_values(
     cursor: &mut Cursor,
     depths: Depths,
 ) -> Reading<Vec<Positioned<EnumValueDefinition>>>
-    ensures { Gives (trees_in (request.placed enum_value_tree)) result cursor.old cursor.new (given_enum_values_at (limits_of depths)) }
+    ensures { Gives (trees_in (placed enum_value_tree)) result cursor.old cursor.new (given_enum_values_at (limits_of depths)) }
 {
     maybe_bracketed::<EnumValuePhrase>(alloc, cursor, "{", "}", depths)
 }

@@ -1,6 +1,6 @@
 //! The rules that the definitions of a schema file keep, and the document that they make.
 ghost use Rattle.std.specs.Prelude.{◌≡◌, [], List};
-ghost use Rattle.graphql_syntax.specs.trees.Request as request;
+ghost use Rattle.graphql_syntax.specs.trees.Parts.{placed};
 ghost use Rattle.graphql_schemas.specs.grammar.Schema.{Root as SpecRoot};
 ghost use Rattle.graphql_schemas.specs.grammar.Schemas.{schemas};
 ghost use Rattle.graphql_schemas.specs.reading.Finished.{Holds, IsPlaced, IsAdded, AreSorted, IsFinishedSchema, IsFinished};
@@ -12,9 +12,8 @@ use crate::schema::{Root, Schema};
 use graphql_grammar::error::{Error, Result};
 use graphql_reading::nodes::add_node;
 use graphql_syntax::pos::{Pos, Positioned};
-use graphql_syntax::types::{
-    OperationType, SchemaDefinition, ServiceDocument, TypeSystemDefinition,
-};
+use graphql_syntax::types::OperationType;
+use graphql_schema_trees::{SchemaDefinition, ServiceDocument, TypeSystemDefinition};
 use graphql_syntax::value::Name;
 use std::alloc::Global;
 
@@ -78,7 +77,7 @@ fn sorted(roots: Vec<Root>, schema: Pos) -> Result<Roots>
 /// A schema as it stands in a document, or the rule that it breaks: a kind of root comes once, and only an extension
 /// may leave the query root out.
 fn finish_schema(schema: Positioned<Schema>) -> Result<Positioned<SchemaDefinition>>
-    ensures { IsFinishedSchema (request.placed schema_tree schema) result }
+    ensures { IsFinishedSchema (placed schema_tree schema) result }
 {
     let Positioned { pos, node } = schema;
     let Schema {

@@ -1,8 +1,8 @@
 //! Readers of definitions and extensions of schemas, by GraphQL October 2021, section 3.3.
 ghost use Rattle.graphql_tokens.specs.declared.pos.Positioned.{Positioned};
 ghost use Rattle.graphql_tokens.specs.tokens.Seen.{seen};
-ghost use Rattle.graphql_syntax.specs.trees.Request as request;
-ghost use Rattle.graphql_syntax.specs.trees.SchemaViews.{description_tree};
+ghost use Rattle.graphql_syntax.specs.trees.Parts.{placed};
+ghost use Rattle.graphql_schema_trees.specs.trees.SchemaViews.{description_tree};
 ghost use Rattle.graphql_reading.specs.reading.Given.{Gives, trees_in};
 ghost use Rattle.graphql_reading.specs.reading.Outcome.{mapped_at};
 ghost use Rattle.graphql_schemas.specs.reading.Depths.{limits_of};
@@ -98,7 +98,7 @@ pub fn read_schema(
     depths: Depths,
     description: Option<Positioned<String>>,
 ) -> Reading<Positioned<Schema>>
-    ensures { Gives (request.placed schema_tree) result cursor.old cursor.new (mapped_at (λ rest. grammar.schema_of (description_tree description, rest)) (schema_rest_at (limits_of depths))) }
+    ensures { Gives (placed schema_tree) result cursor.old cursor.new (mapped_at (λ rest. grammar.schema_of (description_tree description, rest)) (schema_rest_at (limits_of depths))) }
 {
     let word = cursor.expect_keyword("schema")?;
     let pos = place_of(&description, word);
@@ -123,7 +123,7 @@ pub fn read_schema_extension(
     depths: Depths,
     extend: Token,
 ) -> Reading<Positioned<Schema>>
-    ensures { Gives (request.placed schema_tree) result cursor.old cursor.new (mapped_at (λ rest. grammar.schema_extension_of (seen extend.entry, rest)) (extended_schema_at (limits_of depths))) }
+    ensures { Gives (placed schema_tree) result cursor.old cursor.new (mapped_at (λ rest. grammar.schema_extension_of (seen extend.entry, rest)) (extended_schema_at (limits_of depths))) }
 {
     cursor.expect_keyword("schema")?;
     if !(cursor.is_at_punct("@") || cursor.is_at_punct("{")) {

@@ -2,9 +2,9 @@
 ghost use Rattle.std.specs.Prelude.{◌≡◌, false, true, not, ◌&&◌, MatchResult};
 ghost use Rattle.graphql_reading.specs.declared.cursor.Refusal.TheVariants.{Syntax};
 ghost use Rattle.graphql_tokens.specs.tokens.Seen.{seen};
-ghost use Rattle.graphql_syntax.specs.trees.Request as request;
-ghost use Rattle.graphql_syntax.specs.trees.Schema.{object, interface};
-ghost use Rattle.graphql_syntax.specs.trees.SchemaViews.{description_tree, type_definition_tree};
+ghost use Rattle.graphql_syntax.specs.trees.Parts.{placed};
+ghost use Rattle.graphql_schema_trees.specs.trees.Schema.{object, interface};
+ghost use Rattle.graphql_schema_trees.specs.trees.SchemaViews.{description_tree, type_definition_tree};
 ghost use Rattle.graphql_reading.specs.reading.Given.{Gives};
 ghost use Rattle.graphql_reading.specs.reading.Outcome.{mapped_at};
 ghost use Rattle.graphql_schemas.specs.reading.Depths.{limits_of};
@@ -22,10 +22,8 @@ use graphql_reading::cursor::{Cursor, Reading, Refusal};
 use graphql_reading::names::name_in;
 use graphql_syntax::lexer::Token;
 use graphql_syntax::pos::Positioned;
-use graphql_syntax::types::{
-    ConstDirective, EnumType, FieldDefinition, InputObjectType, InterfaceType, ObjectType,
-    TypeDefinition, TypeKind, UnionType,
-};
+use graphql_syntax::types::ConstDirective;
+use graphql_schema_trees::{EnumType, FieldDefinition, InputObjectType, InterfaceType, ObjectType, TypeDefinition, TypeKind, UnionType};
 use graphql_syntax::value::Name;
 use std::alloc::Global;
 
@@ -294,7 +292,7 @@ pub fn read_type_definition(
     depths: Depths,
     description: Option<Positioned<String>>,
 ) -> Reading<Positioned<TypeDefinition>>
-    ensures { Gives (request.placed type_definition_tree) result cursor.old cursor.new (mapped_at (λ body. grammar.type_definition_of (description_tree description, body)) (body_at false (limits_of depths))) }
+    ensures { Gives (placed type_definition_tree) result cursor.old cursor.new (mapped_at (λ body. grammar.type_definition_of (description_tree description, body)) (body_at false (limits_of depths))) }
 {
     let Body {
         word,
@@ -322,7 +320,7 @@ pub fn read_type_extension(
     depths: Depths,
     extend: Token,
 ) -> Reading<Positioned<TypeDefinition>>
-    ensures { Gives (request.placed type_definition_tree) result cursor.old cursor.new (mapped_at (λ body. grammar.type_extension_of (seen extend.entry, body)) (body_at true (limits_of depths))) }
+    ensures { Gives (placed type_definition_tree) result cursor.old cursor.new (mapped_at (λ body. grammar.type_extension_of (seen extend.entry, body)) (body_at true (limits_of depths))) }
 {
     let Body {
         word: _,

@@ -2,8 +2,7 @@
 use Rattle.std.proofs.Common.{◌≡◌, List, [], ◌∷◌, map, Option, Some, None, option_map, refl, ap}
 use Rattle.std.specs.List.{AllZip}
 use Rattle.graphql_tokens.specs.declared.pos.Positioned.{Positioned}
-use Rattle.graphql_syntax.specs.trees.Request.{Name, placed}
-use Rattle.graphql_syntax.specs.trees.RequestViews.{entry_tree}
+use Rattle.graphql_syntax.specs.trees.Parts.{Name, placed}
 use Rattle.graphql_syntax.specs.trees.ValueTree.{Tree}
 
 -- y is at the place of x, and its node has the same tree
@@ -70,12 +69,3 @@ same_optional_node None None clone = refl
 same_optional_node None (Some y) clone = absurd clone
 same_optional_node (Some x) None clone = absurd clone
 same_optional_node (Some x) (Some y) clone = ap Some (same_node x y clone)
-
--- the same of the entries of a map
-pub same_entries : {D T : Type 0} (tree : D → T) (es fs : List (Name × Positioned D)) → AllZip (λ x y. (y.0 ≡ x.0) × IsClone tree x.1 y.1) es fs →
-    map (entry_tree tree) fs ≡ map (entry_tree tree) es
-same_entries tree [] [] clones = refl
-same_entries tree [] (f ∷ fs) clones = absurd clones
-same_entries tree (e ∷ es) [] clones = absurd clones
-same_entries tree (e ∷ es) (f ∷ fs) clones =
-    λ i. (clones.0.0 i, same_placed tree e.1 f.1 clones.0.1 i) ∷ same_entries tree es fs clones.1 i

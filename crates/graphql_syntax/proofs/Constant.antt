@@ -7,7 +7,7 @@ use Rattle.graphql_syntax.specs.declared.value.ConstValue.TheFolds.{fold-roll-Co
 use Rattle.graphql_syntax.specs.declared.value.ConstValue.TheOpen.{ConstValue-F}
 use Rattle.graphql_syntax.specs.declared.value.Value.{Value}
 use Rattle.graphql_syntax.specs.calls.Constants.{arguments_have_variable}
-use Rattle.graphql_syntax.specs.trees.RequestViews.{const_arguments_tree}
+use Rattle.graphql_syntax.specs.trees.PartViews.{const_arguments_tree}
 use Rattle.graphql_syntax.specs.trees.ValueTree.{Tree, has_variable, trees_have_variable, fields_have_variable, trees_of, fields_of}
 use Rattle.graphql_syntax.specs.trees.ValueViews.{const_step, const_tree, const_field, value_tree}
 

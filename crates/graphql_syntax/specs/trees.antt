@@ -1,8 +1,6 @@
--- Public: the trees that values and types stand for.
-pub mod Request
-pub mod RequestViews
-pub mod Schema
-pub mod SchemaViews
+-- Public: the trees that values, types, arguments and directives stand for.
+pub mod PartViews
+pub mod Parts
 pub mod TreeEquality
 pub mod TypeEquality
 pub mod TypeTree

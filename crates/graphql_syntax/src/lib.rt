@@ -1,8 +1,8 @@
-//! The trees of GraphQL texts (October 2021): values, types, requests and schema files.
+//! What the trees of GraphQL texts (October 2021) share: values, types, directives and the kinds of operations.
 //!
 //! Proved of it: `Type::new` accepts exactly its texts; conversions keep trees, and a constant can be made a
-//! value and back; equality of values and types is that of their trees; a clone of a value, a type, a request or
-//! a schema file has the same tree; accessors give what stands in the tree.
+//! value and back; equality of values and types is that of their trees; a clone of a value, a type or a
+//! directive has the same tree; accessors give what stands in the tree.
 //!
 //! Places, names, numbers, tokens and what strings mean are those of `graphql_tokens`, whose modules this crate
 //! exports too. What a reader of the contracts has to believe stands in `specs/trees` and `specs/calls`, and in

@@ -1,14 +1,11 @@
-//! The trees of requests and of schema files, by the GraphQL specification, October 2021.
+//! What the trees of requests and of schema files share, by the GraphQL specification, October 2021.
 //!
 //! A tree keeps each node at its place: a node stands where its first token begins. All fields are
 //! public, and a tree that a caller builds is as good as one that was read.
 mod convert;
+mod directive_clones;
 mod equality;
-mod executable;
-mod lookup;
-mod request_clones;
-mod schema_clones;
-mod service;
+pub mod lookup;
 mod type_clones;
 mod type_text;
 
@@ -18,17 +15,7 @@ ghost use Rattle.graphql_syntax.specs.calls.Words.{operation_word};
 
 use crate::pos::Positioned;
 use crate::value::{ConstValue, Name, Value};
-pub use executable::{
-    DocumentOperations, ExecutableDocument, Field, FragmentDefinition, FragmentSpread,
-    InlineFragment, OperationDefinition, OperationsIter, Selection, SelectionSet, TypeCondition,
-    VariableDefinition,
-};
 use serde::{Deserialize, Serialize};
-pub use service::{
-    DirectiveDefinition, DirectiveLocation, EnumType, EnumValueDefinition, FieldDefinition,
-    InputObjectType, InputValueDefinition, InterfaceType, ObjectType, SchemaDefinition,
-    ServiceDocument, TypeDefinition, TypeKind, TypeSystemDefinition, UnionType,
-};
 use std::fmt;
 
 /// The kind of an operation (section 2.3), and of a root of a schema (section 3.3.1).

@@ -1,10 +1,10 @@
 //! The tree of a schema file, as text.
 use crate::parts::{write_default, write_directives, write_node};
-use graphql_syntax::pos::Positioned;
-use graphql_syntax::types::{
+use graphql_schema_trees::{
     DirectiveDefinition, FieldDefinition, InputValueDefinition, SchemaDefinition, ServiceDocument,
     TypeDefinition, TypeKind, TypeSystemDefinition,
 };
+use graphql_syntax::pos::Positioned;
 use graphql_syntax::value::Name;
 use rows::Shown;
 

@@ -2,10 +2,11 @@
 use crate::parts::{write_directives, write_value};
 use crate::request::write_request;
 use crate::values::Written;
-use graphql_syntax::pos::Positioned;
-use graphql_syntax::types::{
-    Directive, ExecutableDocument, Field, OperationDefinition, OperationsIter, Selection,
+use graphql_request_trees::{
+    ExecutableDocument, Field, OperationDefinition, OperationsIter, Selection,
 };
+use graphql_syntax::pos::Positioned;
+use graphql_syntax::types::Directive;
 use graphql_syntax::value::{Name, Value};
 use rows::Shown;
 use std::alloc::{AllocError, Global};

@@ -3,8 +3,8 @@ use Rattle.std.specs.Prelude.{ℕ, Bool, false, Option}
 use Rattle.graphql_tokens.specs.declared.pos.Positioned.{Positioned}
 use Rattle.graphql_tokens.specs.tokens.Edition.{Edition}
 use Rattle.graphql_tokens.specs.tokens.Token.{Token}
-use Rattle.graphql_syntax.specs.trees.Request.{Name, Argument, Directive, Directives}
-use Rattle.graphql_syntax.specs.trees.Request as trees
+use Rattle.graphql_syntax.specs.trees.Parts.{Name, Argument, Directive, Directives}
+use Rattle.graphql_syntax.specs.trees.Parts as trees
 use Rattle.graphql_grammar.specs.grammar.Values.{Value, value}
 use Rattle.graphql_reading.specs.grammar.Places.{at, name_of}
 use Rattle.graphql_reading.specs.grammar.Relations.{Rel, one, ◌⨾◌, mapped, star, plus, opt, given, between, after}

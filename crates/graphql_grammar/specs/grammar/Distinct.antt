@@ -3,7 +3,7 @@
 use Rattle.std.specs.Prelude.{◌≢◌, ℕ, List}
 use Rattle.std.specs.List.{AllByRecursion}
 use Rattle.graphql_tokens.specs.declared.pos.Positioned.{Positioned}
-use Rattle.graphql_syntax.specs.trees.Request.{Argument, Arguments, Directive, Directives}
+use Rattle.graphql_syntax.specs.trees.Parts.{Argument, Arguments, Directive, Directives}
 use Rattle.graphql_syntax.specs.trees.ValueTree.{Tree, Trees, Fields, variable, null, number, string, boolean, enumeration, list, object, no_trees, more_trees, no_fields, field}
 
 -- none of the fields has this name

@@ -2,7 +2,7 @@
 -- Source: this project's choice.
 use Rattle.std.specs.Prelude.{List, map}
 use Rattle.graphql_tokens.specs.declared.pos.Positioned.{Positioned}
-use Rattle.graphql_syntax.specs.trees.Request.{Argument, Directive}
+use Rattle.graphql_syntax.specs.trees.Parts.{Argument, Directive}
 use Rattle.graphql_reading.specs.grammar.Places.{nowhere}
 
 -- the node without its place, and what is inside it without places too

@@ -1,8 +1,8 @@
 -- Reading arguments, directives and default values from lists of tokens.
 use Rattle.std.specs.Prelude.{ℕ, Bool, false, Option}
 use Rattle.graphql_tokens.specs.declared.pos.Positioned.{Positioned}
-use Rattle.graphql_syntax.specs.trees.Request.{Argument, Directive, Directives}
-use Rattle.graphql_syntax.specs.trees.Request as trees
+use Rattle.graphql_syntax.specs.trees.Parts.{Argument, Directive, Directives}
+use Rattle.graphql_syntax.specs.trees.Parts as trees
 use Rattle.graphql_grammar.specs.grammar.Arguments.{argument_of, directive_of}
 use Rattle.graphql_reading.specs.grammar.Tests.{punct, any_name}
 use Rattle.graphql_grammar.specs.grammar.Values.{Value}

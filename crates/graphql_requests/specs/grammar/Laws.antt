@@ -5,7 +5,8 @@ use Rattle.std.specs.List.{AllByRecursion}
 use Rattle.std.specs.Map.{lookup}
 use Rattle.std.specs.Str.{bytes_eq}
 use Rattle.graphql_tokens.specs.declared.pos.Positioned.{Positioned}
-use Rattle.graphql_syntax.specs.trees.Request.{Name, VariableDefinition, Selection, SelectionSet, field, fragment_spread, inline_fragment, no_selections, selection_and, OperationDefinition, FragmentDefinition, Operations, single, multiple, Document}
+use Rattle.graphql_syntax.specs.trees.Parts.{Name}
+use Rattle.graphql_request_trees.specs.trees.Request.{VariableDefinition, Selection, SelectionSet, field, fragment_spread, inline_fragment, no_selections, selection_and, OperationDefinition, FragmentDefinition, Operations, single, multiple, Document}
 use Rattle.graphql_syntax.specs.trees.ValueTree.{Tree}
 use Rattle.graphql_grammar.specs.grammar.Distinct.{IsDistinctValue, AreDistinctArguments, AreDistinctDirectives}
 

@@ -3,7 +3,7 @@
 use Rattle.std.specs.Prelude.{Option, Some, None, option_map, cond, List, [], ◌∷◌}
 use Rattle.std.specs.Str.{bytes_eq}
 use Rattle.graphql_tokens.specs.declared.pos.Pos.{Pos}
-use Rattle.graphql_syntax.specs.trees.Request.{Name}
+use Rattle.graphql_syntax.specs.trees.Parts.{Name}
 use Rattle.graphql_grammar.specs.declared.error.Error.{Error}
 use Rattle.graphql_grammar.specs.declared.error.Error.TheVariants.{MultipleOperations, OperationDuplicated, FragmentDuplicated, MissingOperation}
 use Rattle.graphql_requests.specs.grammar.Request.{Definition, operation, fragment}

@@ -1,13 +1,13 @@
 //! The sets that are open around the one that is read.
 ghost use Rattle.std.specs.Prelude.{◌≡◌, ◌≤◌, true, ◌∷◌, [], suc, take, drop, IfOk, MatchOption};
 ghost use Rattle.std.specs.Vec.{vec_len};
-ghost use Rattle.graphql_syntax.specs.trees.Request as request;
-ghost use Rattle.graphql_syntax.specs.trees.RequestViews.{selection_tree, selection_trees, selection_set_tree};
+ghost use Rattle.graphql_syntax.specs.trees.Parts.{placed};
+ghost use Rattle.graphql_request_trees.specs.trees.RequestViews.{selection_tree, selection_trees, selection_set_tree};
 ghost use Rattle.graphql_requests.specs.reading.SelectionSteps.{with_set, fill_last, closed, may_nest};
 ghost use Rattle.graphql_requests.specs.reading.OpenSets.{part};
 
+use graphql_request_trees::{Selection, SelectionSet};
 use graphql_syntax::pos::{Pos, Positioned};
-use graphql_syntax::types::{Selection, SelectionSet};
 use std::alloc::{AllocError, Global};
 use std::marker::Model;
 
@@ -27,7 +27,7 @@ impl OpenSet {
         items: &mut Vec<Positioned<Selection>>,
     ) -> Result<Positioned<SelectionSet>, AllocError>
         requires { self.now.first ≤ vec_len items.old }
-        ensures set { IfOk result (λ set. request.placed selection_set_tree set ≡ closed (part self.now (selection_trees items.old.items))) }
+        ensures set { IfOk result (λ set. placed selection_set_tree set ≡ closed (part self.now (selection_trees items.old.items))) }
         ensures rest { IfOk result (λ _. selection_trees items.new.items ≡ take self.now.first (selection_trees items.old.items)) }
     {
         let own = items.split_off(self.first)?;
@@ -36,7 +36,7 @@ impl OpenSet {
 }
 
 fn give_set(selection: &mut Selection, set: Positioned<SelectionSet>)
-    ensures { selection_tree selection.new ≡ with_set (request.placed selection_set_tree set) (selection_tree selection.old) }
+    ensures { selection_tree selection.new ≡ with_set (placed selection_set_tree set) (selection_tree selection.old) }
 {
     match selection {
         Selection::Field(field) => field.node.selection_set = set,
@@ -47,7 +47,7 @@ fn give_set(selection: &mut Selection, set: Positioned<SelectionSet>)
 
 /// Gives the last selection its set.
 pub(super) fn fill_last(items: &mut Vec<Positioned<Selection>>, set: Positioned<SelectionSet>)
-    ensures { selection_trees items.new.items ≡ fill_last (selection_trees items.old.items) (request.placed selection_set_tree set) }
+    ensures { selection_trees items.new.items ≡ fill_last (selection_trees items.old.items) (placed selection_set_tree set) }
 {
     if let Some(last) = items.last_mut() {
         give_set(&mut last.node, set);

@@ -1,7 +1,8 @@
 //! Readers of selections up to their sets.
 ghost use Rattle.std.specs.Prelude.{◌≡◌, ◌++◌, ◌∷◌, [], None, Some, option_map, IfOk};
-ghost use Rattle.graphql_syntax.specs.trees.Request as request;
-ghost use Rattle.graphql_syntax.specs.trees.RequestViews.{arguments_tree, directives_tree, selection_tree, selection_trees, type_condition_tree};
+ghost use Rattle.graphql_syntax.specs.trees.Parts.{placed};
+ghost use Rattle.graphql_syntax.specs.trees.PartViews.{arguments_tree, directives_tree};
+ghost use Rattle.graphql_request_trees.specs.trees.RequestViews.{selection_tree, selection_trees, type_condition_tree};
 ghost use Rattle.graphql_tokens.specs.tokens.Seen.{seen};
 ghost use Rattle.graphql_requests.specs.grammar.Selections.{fragment_name};
 ghost use Rattle.graphql_requests.specs.reading.SelectionSteps.{names_at, maybe_brace_at, bare_field, bare_inline, onto, field_head_at, spread_at, inline_head_at, maybe_condition_at, behind_dots_at, head_at};
@@ -14,9 +15,8 @@ use graphql_reading::names::{name_in, read_name};
 use graphql_reading::nodes::add_node;
 use graphql_syntax::lexer::Token;
 use graphql_syntax::pos::{Pos, Positioned};
-use graphql_syntax::types::{
-    Directive, Field, FragmentSpread, InlineFragment, Selection, SelectionSet, TypeCondition,
-};
+use graphql_syntax::types::Directive;
+use graphql_request_trees::{Field, FragmentSpread, InlineFragment, Selection, SelectionSet, TypeCondition};
 use graphql_syntax::value::{Name, Value};
 use std::alloc::{AllocError, Global};
 
@@ -52,7 +52,7 @@ pub(super) fn is_at_selection(cursor: &Cursor) -> bool
 
 #[inline(always)]
 fn add_selection(items: &mut Selections, selection: Positioned<Selection>) -> Result<(), AllocError>
-    ensures { IfOk result (λ _. selection_trees items.new.items ≡ selection_trees items.old.items ++ request.placed selection_tree selection ∷ []) }
+    ensures { IfOk result (λ _. selection_trees items.new.items ≡ selection_trees items.old.items ++ placed selection_tree selection ∷ []) }
 {
     add_node(items, selection)
 }
@@ -95,7 +95,7 @@ fn bare_field(
     arguments: Arguments,
     directives: Vec<Positioned<Directive>>,
 ) -> Positioned<Selection>
-    ensures { request.placed selection_tree result ≡ bare_field names (arguments_tree arguments.items) (directives_tree directives.items) }
+    ensures { placed selection_tree result ≡ bare_field names (arguments_tree arguments.items) (directives_tree directives.items) }
 {
     let (alias, name) = names;
     let pos = match &alias {
@@ -160,7 +160,7 @@ fn read_spread(
 ///
 /// `TypeCondition : 'on' Name` (GraphQL October 2021, section 2.8)
 pub fn read_type_condition(alloc: Global, cursor: &mut Cursor) -> Reading<Positioned<TypeCondition>>
-    ensures { Gives (request.placed type_condition_tree) result cursor.old cursor.new type_condition_at }
+    ensures { Gives (placed type_condition_tree) result cursor.old cursor.new type_condition_at }
 {
     let word = cursor.expect_keyword("on")?;
     let on = read_name(alloc, cursor)?;
@@ -172,7 +172,7 @@ fn read_maybe_condition(
     alloc: Global,
     cursor: &mut Cursor,
 ) -> Reading<Option<Positioned<TypeCondition>>>
-    ensures { Gives (option_map (request.placed type_condition_tree)) result cursor.old cursor.new maybe_condition_at }
+    ensures { Gives (option_map (placed type_condition_tree)) result cursor.old cursor.new maybe_condition_at }
 {
     if !cursor.is_at_keyword("on") {
         return Ok(None);
@@ -187,7 +187,7 @@ fn bare_inline(
     type_condition: Option<Positioned<TypeCondition>>,
     directives: Vec<Positioned<Directive>>,
 ) -> Positioned<Selection>
-    ensures { request.placed selection_tree result ≡ bare_inline dots (option_map (request.placed type_condition_tree) type_condition) (directives_tree directives.items) }
+    ensures { placed selection_tree result ≡ bare_inline dots (option_map (placed type_condition_tree) type_condition) (directives_tree directives.items) }
 {
     let inline = InlineFragment {
         type_condition,

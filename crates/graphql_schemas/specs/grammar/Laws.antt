@@ -1,7 +1,7 @@
 -- What holds of each accepted schema file, whatever its text (GraphQL October 2021, sections 3.3.1 and 3.3.2).
 use Rattle.std.specs.Prelude.{◌≡◌, true, false, IsSome, None}
 use Rattle.std.specs.List.{AllByRecursion}
-use Rattle.graphql_syntax.specs.trees.Schema.{SchemaDefinition, Definition, schema, type_def, directive, Document}
+use Rattle.graphql_schema_trees.specs.trees.Schema.{SchemaDefinition, Definition, schema, type_def, directive, Document}
 
 -- a definition names the type at which queries begin, and an extension has no description
 pub record IsLawfulSchema (s : SchemaDefinition) : Type 0 where

@@ -1,8 +1,8 @@
 -- Schema files as a language: their grammar, their rules and their documents.
 -- Source: this project's choice.
 use Rattle.std.specs.Prelude.{◌≡◌}
-use Rattle.graphql_syntax.specs.declared.types.service.ServiceDocument.{ServiceDocument}
-use Rattle.graphql_syntax.specs.trees.SchemaViews.{schema_document_tree}
+use Rattle.graphql_schema_trees.specs.declared.service.ServiceDocument.{ServiceDocument}
+use Rattle.graphql_schema_trees.specs.trees.SchemaViews.{schema_document_tree}
 use Rattle.graphql_grammar.specs.answers.Language.{Language}
 use Rattle.graphql_schemas.specs.grammar.Documents.{document_of}
 use Rattle.graphql_schemas.specs.grammar.Placeless.{placeless_definitions}

@@ -2,10 +2,10 @@
 use Rattle.std.specs.Prelude.{Bool, false, map}
 use Rattle.graphql_tokens.specs.tokens.Seen.{seen}
 use Rattle.graphql_tokens.specs.tokens.Token.{Token}
-use Rattle.graphql_syntax.specs.trees.RequestViews.{const_directives_tree}
-use Rattle.graphql_syntax.specs.trees.Request.{placed}
-use Rattle.graphql_syntax.specs.trees.Schema.{object, interface}
-use Rattle.graphql_syntax.specs.trees.SchemaViews.{field_definition_tree, kind_tree}
+use Rattle.graphql_syntax.specs.trees.PartViews.{const_directives_tree}
+use Rattle.graphql_syntax.specs.trees.Parts.{placed}
+use Rattle.graphql_schema_trees.specs.trees.Schema.{object, interface}
+use Rattle.graphql_schema_trees.specs.trees.SchemaViews.{field_definition_tree, kind_tree}
 use Rattle.graphql_reading.specs.grammar.Limits.{Limits}
 use Rattle.graphql_grammar.specs.reading.Arguments.{directives_at}
 use Rattle.graphql_reading.specs.grammar.Places.{name_of}

@@ -1,7 +1,7 @@
 -- Reading definitions and extensions of schemas from lists of tokens.
 use Rattle.std.specs.Prelude.{true, false, ◌||◌, List}
 use Rattle.graphql_tokens.specs.tokens.Token.{Token}
-use Rattle.graphql_syntax.specs.trees.Request.{Directives}
+use Rattle.graphql_syntax.specs.trees.Parts.{Directives}
 use Rattle.graphql_grammar.specs.reading.Arguments.{directives_at}
 use Rattle.graphql_grammar.specs.reading.Operations.{operation_type_at}
 use Rattle.graphql_reading.specs.grammar.Limits.{Limits}

@@ -1,7 +1,7 @@
 -- Directives that are constant: in no argument of which a variable stands.
 -- Source: GraphQL October 2021, sections 2.12 (Directives) and 2.9 (Input Values), where they are marked `Const`.
 use Rattle.std.specs.Prelude.{[], ◌∷◌, Bool, false, ◌||◌}
-use Rattle.graphql_syntax.specs.trees.Request.{Arguments, Directive}
+use Rattle.graphql_syntax.specs.trees.Parts.{Arguments, Directive}
 use Rattle.graphql_syntax.specs.trees.ValueTree.{has_variable}
 
 -- whether a variable stands in one of the values, at any depth

@@ -1,7 +1,7 @@
 //! Directives in which variables may stand to directives in which none does, and back.
 ghost use Rattle.std.specs.Prelude.{◌≡◌, MatchOption, IfOk, Ok, None, true, false};
 ghost use Rattle.graphql_syntax.specs.calls.Constants.{arguments_have_variable, directive_has_variable};
-ghost use Rattle.graphql_syntax.specs.trees.RequestViews.{arguments_tree, const_arguments_tree, directive_tree, const_directive_tree};
+ghost use Rattle.graphql_syntax.specs.trees.PartViews.{arguments_tree, const_arguments_tree, directive_tree, const_directive_tree};
 
 use super::{ConstDirective, Directive};
 use crate::pos::Positioned;

@@ -1,5 +1,5 @@
 use Rattle.std.proofs.Common.{rules, Ok}
-use Rattle.graphql_syntax.specs.trees.Request.{placed}
+use Rattle.graphql_syntax.specs.trees.Parts.{placed}
 use Rattle.graphql_syntax.specs.trees.TypeTree.{type_tree}
 use Rattle.graphql_grammar.proofs.TypeSteps.{from-steps}
 use Rattle.graphql_grammar.proofs.types.read_type.Goals as goal

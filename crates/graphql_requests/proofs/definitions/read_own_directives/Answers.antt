@@ -1,6 +1,6 @@
 use Rattle.std.proofs.Common.{ℕ, true, subst}
-use Rattle.graphql_syntax.specs.trees.Request.{placed}
-use Rattle.graphql_syntax.specs.trees.RequestViews.{directive_tree}
+use Rattle.graphql_syntax.specs.trees.Parts.{placed}
+use Rattle.graphql_syntax.specs.trees.PartViews.{directive_tree}
 use Rattle.graphql_reading.specs.reading.Given.{trees_in}
 use Rattle.graphql_grammar.specs.reading.Arguments.{directives_at}
 use Rattle.graphql_reading.specs.reading.Given.{Gives}

@@ -1,6 +1,6 @@
 use Rattle.std.proofs.Common.{◌≡◌, ap₂, subst}
-use Rattle.graphql_syntax.specs.trees.Request.{placed}
-use Rattle.graphql_syntax.specs.trees.RequestViews.{variable_definition_tree}
+use Rattle.graphql_syntax.specs.trees.Parts.{placed}
+use Rattle.graphql_request_trees.specs.trees.RequestViews.{variable_definition_tree}
 use Rattle.graphql_reading.specs.grammar.Limits.{Limits}
 use Rattle.graphql_reading.specs.reading.Given.{trees_in}
 use Rattle.graphql_requests.specs.reading.Definitions.{given_variables_at}

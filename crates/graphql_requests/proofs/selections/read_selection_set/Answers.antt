@@ -2,8 +2,8 @@ use Rattle.std.proofs.Common.{sym, ap, ◌∙◌, arith}
 use Rattle.std.proofs.lemmas.List.{length-map}
 use Rattle.std.proofs.lemmas.Result.{err_from_is_err_and}
 use Rattle.graphql_tokens.specs.tokens.Seen.{seen}
-use Rattle.graphql_syntax.specs.trees.Request.{placed}
-use Rattle.graphql_syntax.specs.trees.RequestViews.{selection_tree, selection_trees}
+use Rattle.graphql_syntax.specs.trees.Parts.{placed}
+use Rattle.graphql_request_trees.specs.trees.RequestViews.{selection_tree, selection_trees}
 use Rattle.graphql_reading.specs.grammar.Tests.{punct}
 use Rattle.graphql_reading.specs.reading.Ahead.{tokens}
 use Rattle.graphql_requests.proofs.HeadTakes.{head-nests, onto-takes, one-takes}

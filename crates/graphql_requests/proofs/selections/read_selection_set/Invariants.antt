@@ -1,5 +1,5 @@
 use Rattle.std.proofs.Common.{length}
-use Rattle.graphql_syntax.specs.trees.RequestViews.{selection_trees}
+use Rattle.graphql_request_trees.specs.trees.RequestViews.{selection_trees}
 use Rattle.graphql_requests.proofs.OpenParts.{Wanted, Behind}
 use Rattle.graphql_requests.proofs.selections.read_selection_set.Given as goal
 

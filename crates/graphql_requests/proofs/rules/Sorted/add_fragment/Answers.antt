@@ -1,6 +1,6 @@
 use Rattle.std.proofs.Common.{option_map, sym, refl, ap, ◌∙◌}
-use Rattle.graphql_syntax.specs.trees.Request.{placed}
-use Rattle.graphql_syntax.specs.trees.RequestViews.{fragment_tree}
+use Rattle.graphql_syntax.specs.trees.Parts.{placed}
+use Rattle.graphql_request_trees.specs.trees.RequestViews.{fragment_tree}
 use Rattle.graphql_grammar.specs.declared.error.Error.TheVariants.{FragmentDuplicated}
 use Rattle.graphql_requests.proofs.OneMore.{insert-last, none-inside}
 use Rattle.graphql_requests.proofs.Sorted.{sorted-fragment, fragment-breach}

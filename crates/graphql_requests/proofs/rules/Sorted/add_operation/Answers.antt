@@ -1,6 +1,6 @@
 use Rattle.std.proofs.Common.{option_map, sym, refl, ap, ◌∙◌}
-use Rattle.graphql_syntax.specs.trees.Request.{placed}
-use Rattle.graphql_syntax.specs.trees.RequestViews.{operation_tree}
+use Rattle.graphql_syntax.specs.trees.Parts.{placed}
+use Rattle.graphql_request_trees.specs.trees.RequestViews.{operation_tree}
 use Rattle.graphql_grammar.specs.declared.error.Error.TheVariants.{OperationDuplicated}
 use Rattle.graphql_requests.proofs.OneMore.{insert-last, none-inside}
 use Rattle.graphql_requests.proofs.Sorted.{sorted-operation, operation-breaks, named-breach}

@@ -2,8 +2,8 @@ use Rattle.std.proofs.Common.{◌≡◌, ℕ, Bool, true, List, ◌∷◌, sym, 
 use Rattle.graphql_tokens.specs.declared.pos.Pos.{Pos}
 use Rattle.graphql_tokens.specs.declared.pos.Positioned.{Positioned}
 use Rattle.graphql_tokens.specs.tokens.Token.{Token}
-use Rattle.graphql_syntax.specs.trees.Request as request
-use Rattle.graphql_syntax.specs.trees.RequestViews.{selection_trees}
+use Rattle.graphql_request_trees.specs.trees.Request as request
+use Rattle.graphql_request_trees.specs.trees.RequestViews.{selection_trees}
 use Rattle.graphql_requests.specs.grammar.Selections.{fragment_name}
 use Rattle.graphql_requests.specs.reading.SelectionSteps.{behind_dots_at, spread_at, onto}
 use Rattle.graphql_reading.proofs.Steps.{gives-behind}

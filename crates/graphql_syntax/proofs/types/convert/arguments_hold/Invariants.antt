@@ -1,6 +1,6 @@
 use Rattle.std.proofs.Common.{◌≡◌, drop}
 use Rattle.graphql_syntax.specs.calls.Constants.{arguments_have_variable}
-use Rattle.graphql_syntax.specs.trees.RequestViews.{arguments_tree}
+use Rattle.graphql_syntax.specs.trees.PartViews.{arguments_tree}
 use Rattle.graphql_syntax.proofs.types.convert.arguments_hold.Given as goal
 
 abbrev pub invariant-loop-argument : goal.invariant-loop-argument

@@ -1,6 +1,6 @@
 use Rattle.std.proofs.Common.{◌≡◌, ◌++◌}
 use Rattle.std.specs.Vec.Iter.{into_iter_items}
-use Rattle.graphql_syntax.specs.trees.RequestViews.{arguments_tree, const_arguments_tree}
+use Rattle.graphql_syntax.specs.trees.PartViews.{arguments_tree, const_arguments_tree}
 use Rattle.graphql_syntax.proofs.types.convert.arguments_of.Given as goal
 
 abbrev pub invariant-loop-name : goal.invariant-loop-name

@@ -1,16 +1,17 @@
 use Rattle.std.proofs.Common.{List, sym, ap, ◌∙◌}
 use Rattle.std.proofs.lemmas.List.{take-map, drop-map}
 use Rattle.graphql_tokens.specs.declared.pos.Positioned.{Positioned}
-use Rattle.graphql_syntax.specs.trees.Request as request
-use Rattle.graphql_syntax.specs.trees.RequestViews.{selection_tree, selection_set_tree, selection_trees}
-use Rattle.graphql_syntax.proofs.Requests.{set_tree_roll}
+use Rattle.graphql_syntax.specs.trees.Parts.{placed}
+use Rattle.graphql_request_trees.specs.trees.Request as request
+use Rattle.graphql_request_trees.specs.trees.RequestViews.{selection_tree, selection_set_tree, selection_trees}
+use Rattle.graphql_request_trees.proofs.Requests.{set_tree_roll}
 use Rattle.graphql_requests.proofs.selections.frames.OpenSet.close.Goals as goal
 
 pub returns-clause-set : goal.returns-clause-set
 returns-clause-set c =
-    ap (request.placed selection_set_tree) c.new.ensures
+    ap (placed selection_set_tree) c.new.ensures
     ∙ ap (λ (t : request.SelectionSet). record { pos = c.args.self.now.place; node = t }) (set_tree_roll (record { items = c.in_ok-own.own })
-    ∙ ap (λ (xs : List (Positioned request.Selection)). request.set_of xs) (ap selection_trees c.in_ok-own.ensures.tail ∙ sym (drop-map (request.placed selection_tree) c.args.self.now.first c.args.items.now.items)))
+    ∙ ap (λ (xs : List (Positioned request.Selection)). request.set_of xs) (ap selection_trees c.in_ok-own.ensures.tail ∙ sym (drop-map (placed selection_tree) c.args.self.now.first c.args.items.now.items)))
 
 pub returns-clause-rest : goal.returns-clause-rest
-returns-clause-rest c = ap selection_trees c.in_ok-own.ensures.items ∙ sym (take-map (request.placed selection_tree) c.args.self.now.first c.args.items.now.items)
+returns-clause-rest c = ap selection_trees c.in_ok-own.ensures.items ∙ sym (take-map (placed selection_tree) c.args.self.now.first c.args.items.now.items)

@@ -1,0 +1,8 @@
+-- Public: what accessors and conversions give.
+pub use Rattle.graphql_syntax.specs.calls.Constants
+pub use Rattle.graphql_syntax.specs.calls.Named
+pub use Rattle.graphql_syntax.specs.calls.TypeText
+pub use Rattle.graphql_syntax.specs.calls.Words
+pub use Rattle.graphql_request_trees.specs.calls.Defaults
+pub use Rattle.graphql_request_trees.specs.calls.Lending
+pub use Rattle.graphql_request_trees.specs.calls.Operations

@@ -1,0 +1,4 @@
+-- Public: what accessors give.
+pub mod Defaults
+pub mod Lending
+pub mod Operations

@@ -1,0 +1,3 @@
+-- Public: the trees that requests stand for.
+pub mod Request
+pub mod RequestViews

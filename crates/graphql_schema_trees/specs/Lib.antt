@@ -1,0 +1,2 @@
+-- Public: what a reader of the public contracts has to believe.
+pub mod trees
