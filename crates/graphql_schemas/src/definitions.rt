@@ -14,8 +14,8 @@ use crate::schema::{Schema, read_schema, read_schema_extension};
 use crate::types::{read_type_definition, read_type_extension};
 use graphql_reading::cursor::{Cursor, Reading};
 use graphql_reading::production::{Production, one_or_more};
-use graphql_syntax::pos::Positioned;
 use graphql_schema_trees::{DirectiveDefinition, TypeDefinition};
+use graphql_syntax::pos::Positioned;
 use std::alloc::Global;
 
 /// A definition or an extension, before the rules of schema files are looked at.

@@ -17,8 +17,8 @@ use crate::input_values::read_maybe_arguments_definition;
 use graphql_reading::cursor::{Cursor, Reading, Refusal};
 use graphql_reading::names::name_in;
 use graphql_reading::production::{Production, separated};
-use graphql_syntax::pos::Positioned;
 use graphql_schema_trees::{DirectiveDefinition, DirectiveLocation};
+use graphql_syntax::pos::Positioned;
 use std::alloc::Global;
 
 /// The location that a word names, if it names one.

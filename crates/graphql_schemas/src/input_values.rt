@@ -17,8 +17,8 @@ use graphql_grammar::types::read_type;
 use graphql_reading::cursor::{Cursor, Reading};
 use graphql_reading::names::name_in;
 use graphql_reading::production::{Production, maybe_bracketed};
-use graphql_syntax::pos::Positioned;
 use graphql_schema_trees::InputValueDefinition;
+use graphql_syntax::pos::Positioned;
 use std::alloc::Global;
 
 /// Whether a member with a name is in hand: its description, or its name.

@@ -19,9 +19,9 @@ use graphql_grammar::arguments::read_const_directives;
 use graphql_reading::cursor::{Cursor, Reading, Refusal};
 use graphql_reading::names::{NamePhrase, name_in};
 use graphql_reading::production::{Production, maybe_bracketed, separated};
+use graphql_schema_trees::EnumValueDefinition;
 use graphql_syntax::lexer::Token;
 use graphql_syntax::pos::Positioned;
-use graphql_schema_trees::EnumValueDefinition;
 use graphql_syntax::value::Name;
 use std::alloc::Global;
 

@@ -11,9 +11,9 @@ use crate::definitions::Definition;
 use crate::schema::{Root, Schema};
 use graphql_grammar::error::{Error, Result};
 use graphql_reading::nodes::add_node;
+use graphql_schema_trees::{SchemaDefinition, ServiceDocument, TypeSystemDefinition};
 use graphql_syntax::pos::{Pos, Positioned};
 use graphql_syntax::types::OperationType;
-use graphql_schema_trees::{SchemaDefinition, ServiceDocument, TypeSystemDefinition};
 use graphql_syntax::value::Name;
 use std::alloc::Global;
 

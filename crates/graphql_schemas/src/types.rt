@@ -20,10 +20,13 @@ use crate::members::{read_maybe_enum_values, read_maybe_implements, read_maybe_m
 use graphql_grammar::arguments::read_const_directives;
 use graphql_reading::cursor::{Cursor, Reading, Refusal};
 use graphql_reading::names::name_in;
+use graphql_schema_trees::{
+    EnumType, FieldDefinition, InputObjectType, InterfaceType, ObjectType, TypeDefinition,
+    TypeKind, UnionType,
+};
 use graphql_syntax::lexer::Token;
 use graphql_syntax::pos::Positioned;
 use graphql_syntax::types::ConstDirective;
-use graphql_schema_trees::{EnumType, FieldDefinition, InputObjectType, InterfaceType, ObjectType, TypeDefinition, TypeKind, UnionType};
 use graphql_syntax::value::Name;
 use std::alloc::Global;
 

@@ -13,10 +13,12 @@ use graphql_grammar::arguments::{read_directives, read_maybe_arguments};
 use graphql_reading::cursor::{Cursor, Reading, Refusal};
 use graphql_reading::names::{name_in, read_name};
 use graphql_reading::nodes::add_node;
+use graphql_request_trees::{
+    Field, FragmentSpread, InlineFragment, Selection, SelectionSet, TypeCondition,
+};
 use graphql_syntax::lexer::Token;
 use graphql_syntax::pos::{Pos, Positioned};
 use graphql_syntax::types::Directive;
-use graphql_request_trees::{Field, FragmentSpread, InlineFragment, Selection, SelectionSet, TypeCondition};
 use graphql_syntax::value::{Name, Value};
 use std::alloc::{AllocError, Global};
 
