@@ -1,41 +1,22 @@
 //! The calls that the tables are about.
-use crate::answers::{of_each_call, seen};
 use crate::requests::{definitions, limits, selections, values};
 use crate::{chosen, errors, hostile, requests, sent, taken, views};
-use graphql_parser::{parse_query, parse_query_limited};
+use answer_text::{Asked, Call, Parser};
 use rows::{Subject, compared, failure, failures, pair};
 use std::alloc::Global;
 use std::test::Fail;
 use tree_text::View;
 
-/// A call, and what its rows say.
+// What is asked of the parser of requests.
+const fn query(asked: Asked) -> Call {
+    Call(Parser::Query, asked)
+}
+
+/// What the rows say of limits and of errors.
 #[derive(Clone, Copy)]
-enum Call {
-    /// What `parse_query` gives: the tree with all places, or the error.
-    Request,
-    /// The same, where of an accepted text nothing is said but that it is.
-    Accepted,
-    /// What is looked at in the tree. Before the request may stand the name that is asked for, with ` in `
-    /// between them.
-    Looked(View),
-    /// Whether `parse_query_from` accepts fresh tokens of a text, and how many it takes.
-    Taken,
-    /// What `parse_query_from` gives over the tokens that are left, in turn until they have ended. The
-    /// number of tokens that are passed first stands before the text, with ` in ` between them.
-    InTurn,
+enum Part {
     /// Whether `Limits::new` takes three numbers, and whether they are the default.
     NewLimits,
-    /// Whether `parse_query_limited` accepts a text. The limits stand before it, with ` in ` between them.
-    Limited,
-    /// How many beginnings a text has, if each of them is refused late or not at all.
-    Beginnings,
-    /// How many tokens a text has, if a quote before any of them but the end is refused at that quote.
-    Quotes,
-    /// How many tokens are taken of a text, if it gives the same when its tokens stand on lines of their own.
-    Lines,
-    /// How many of the texts are accepted that are at most four of these spellings with blanks between
-    /// them, and how many are refused.
-    ShortTexts,
     /// What an error prints, and its places as JSON.
     Error,
     /// How two errors compare.
@@ -45,56 +26,19 @@ enum Call {
     ErrorPlaces,
 }
 
-impl Subject for Call {
+impl Subject for Part {
     fn answer(&self, alloc: Global, text: &str) -> Result<String, Fail> {
         Ok(match self {
-            Call::Request => of_each_call(alloc, View::Whole, text)?,
-            Call::Accepted => of_each_call(alloc, View::Acceptance, text)?,
-            Call::Looked(view) => {
-                let (asked, request) = text.split_once(" in ").unwrap_or(("", text));
-                seen(alloc, *view, asked, parse_query(alloc, request))?
+            Part::NewLimits => chosen::new(alloc, text)?,
+            Part::Error => errors::printed(alloc, &errors::made(alloc, text)?)?,
+            Part::ErrorEquality => {
+                let (one, other) = pair(text, " and ")?;
+                let other = errors::made(alloc, other)?;
+                compared(alloc, &errors::made(alloc, one)?, &other)?
             }
-            Call::Taken => taken::counted(alloc, View::Acceptance, text)?,
-            Call::NewLimits => chosen::new(alloc, text)?,
-            Call::Beginnings => hostile::beginnings(alloc, text)?,
-            Call::Quotes => hostile::quotes(alloc, text)?,
-            Call::Lines => hostile::lines(alloc, text)?,
-            Call::ShortTexts => hostile::short_texts(alloc, text)?,
-            Call::Error => errors::printed(alloc, &errors::made(alloc, text)?)?,
-            two_parts => two_parts.of_two(alloc, text)?,
-        })
-    }
-}
-
-impl Call {
-    // The answers of those whose texts have two parts.
-    fn of_two(&self, alloc: Global, text: &str) -> Result<String, Fail> {
-        let between = match self {
-            Call::ErrorEquality => " and ",
-            Call::ErrorPlaces => ": ",
-            _ => " in ",
-        };
-        let (one, other) = pair(text, between)?;
-        Ok(match self {
-            Call::ErrorEquality => compared(
-                alloc,
-                &errors::made(alloc, one)?,
-                &errors::made(alloc, other)?,
-            )?,
-            Call::ErrorPlaces => errors::stepped(
-                alloc,
-                errors::made(alloc, one)?.positions(),
-                other,
-            )?,
-            Call::InTurn => taken::in_turn(alloc, one.parse()?, other)?,
-            _ => {
-                let limits = chosen::limits(one).ok_or("no such limits")?;
-                seen(
-                    alloc,
-                    View::Acceptance,
-                    "",
-                    parse_query_limited(alloc, other, limits),
-                )?
+            Part::ErrorPlaces => {
+                let (error, steps) = pair(text, ": ")?;
+                errors::stepped(alloc, errors::made(alloc, error)?.positions(), steps)?
             }
         })
     }
@@ -103,20 +47,16 @@ impl Call {
 #[test]
 fn requests_are_answered(rt: HostRuntime) -> Result<(), Fail> {
     let tables = [
-        (Call::Request, requests::REQUESTS),
-        (Call::Request, definitions::DEFINITIONS),
-        (Call::Request, selections::SELECTIONS),
-        (Call::Request, values::VALUES),
-        (Call::Request, limits::DEEP_TREES),
-        (Call::Request, sent::IN_ONE_TEXT),
-        (Call::Accepted, limits::NESTED),
-        (Call::NewLimits, chosen::NUMBERS),
-        (Call::Limited, chosen::LIMITED),
-        (Call::Taken, taken::TAKEN),
-        (Call::InTurn, taken::IN_TURN),
-        (Call::Error, errors::PRINTED),
-        (Call::ErrorEquality, errors::EQUALITY),
-        (Call::ErrorPlaces, errors::PLACES),
+        (query(Asked::Whole), requests::REQUESTS),
+        (query(Asked::Whole), definitions::DEFINITIONS),
+        (query(Asked::Whole), selections::SELECTIONS),
+        (query(Asked::Whole), values::VALUES),
+        (query(Asked::Whole), limits::DEEP_TREES),
+        (query(Asked::Whole), sent::IN_ONE_TEXT),
+        (query(Asked::Accepted), limits::NESTED),
+        (query(Asked::Limited), chosen::LIMITED),
+        (query(Asked::Taken), taken::TAKEN),
+        (query(Asked::InTurn), taken::IN_TURN),
     ];
     let failures = failures(rt.alloc(), &tables)?;
     assert_eq!(rt; failures.as_str(), "");
@@ -126,7 +66,7 @@ fn requests_are_answered(rt: HostRuntime) -> Result<(), Fail> {
 #[test]
 fn requests_that_were_sent_are_answered(rt: HostRuntime) -> Result<(), Fail> {
     for (name, request, tree) in sent::REQUESTS {
-        let failure = failure(rt.alloc(), &Call::Request, request, tree, name)?;
+        let failure = failure(rt.alloc(), &query(Asked::Whole), request, tree, name)?;
         assert_eq!(rt; failure.as_str(), "");
     }
     Ok(())
@@ -135,16 +75,22 @@ fn requests_that_were_sent_are_answered(rt: HostRuntime) -> Result<(), Fail> {
 #[test]
 fn trees_are_looked_at(rt: HostRuntime) -> Result<(), Fail> {
     let tables = [
-        (Call::Looked(View::Argument), views::ARGUMENTS),
-        (Call::Looked(View::ResponseKey), views::RESPONSE_KEYS),
-        (Call::Looked(View::Defaults), views::DEFAULTS),
-        (Call::Looked(View::Directives), views::DIRECTIVES),
-        (Call::Looked(View::Operations), views::OPERATIONS),
-        (Call::Looked(View::Named), views::DEFINITIONS_OF_A_NAME),
-        (Call::Looked(View::IntoConst), views::CONSTANTS),
-        (Call::Looked(View::Equality), views::EQUALITY),
+        (query(Asked::Looked(View::Argument)), views::ARGUMENTS),
         (
-            Call::Looked(View::DirectiveIntoConst),
+            query(Asked::Looked(View::ResponseKey)),
+            views::RESPONSE_KEYS,
+        ),
+        (query(Asked::Looked(View::Defaults)), views::DEFAULTS),
+        (query(Asked::Looked(View::Directives)), views::DIRECTIVES),
+        (query(Asked::Looked(View::Operations)), views::OPERATIONS),
+        (
+            query(Asked::Looked(View::Named)),
+            views::DEFINITIONS_OF_A_NAME,
+        ),
+        (query(Asked::Looked(View::IntoConst)), views::CONSTANTS),
+        (query(Asked::Looked(View::Equality)), views::EQUALITY),
+        (
+            query(Asked::Looked(View::DirectiveIntoConst)),
             views::CONSTANT_DIRECTIVES,
         ),
     ];
@@ -156,10 +102,10 @@ fn trees_are_looked_at(rt: HostRuntime) -> Result<(), Fail> {
 #[test]
 fn hostile_texts_are_answered(rt: HostRuntime) -> Result<(), Fail> {
     let tables = [
-        (Call::Beginnings, hostile::BEGINNINGS),
-        (Call::Quotes, hostile::QUOTES),
-        (Call::Lines, hostile::LINES),
-        (Call::Looked(View::Sizes), hostile::HUGE_PARTS),
+        (query(Asked::Beginnings), hostile::BEGINNINGS),
+        (query(Asked::Quotes), hostile::QUOTES),
+        (query(Asked::Lines), hostile::LINES),
+        (query(Asked::Looked(View::Sizes)), hostile::HUGE_PARTS),
     ];
     let failures = failures(rt.alloc(), &tables)?;
     assert_eq!(rt; failures.as_str(), "");
@@ -168,7 +114,20 @@ fn hostile_texts_are_answered(rt: HostRuntime) -> Result<(), Fail> {
 
 #[test]
 fn every_short_text_is_answered(rt: HostRuntime) -> Result<(), Fail> {
-    let tables = [(Call::ShortTexts, hostile::SHORT_TEXTS)];
+    let tables = [(query(Asked::ShortTexts), hostile::SHORT_TEXTS)];
+    let failures = failures(rt.alloc(), &tables)?;
+    assert_eq!(rt; failures.as_str(), "");
+    Ok(())
+}
+
+#[test]
+fn limits_and_errors_are_made(rt: HostRuntime) -> Result<(), Fail> {
+    let tables = [
+        (Part::NewLimits, chosen::NUMBERS),
+        (Part::Error, errors::PRINTED),
+        (Part::ErrorEquality, errors::EQUALITY),
+        (Part::ErrorPlaces, errors::PLACES),
+    ];
     let failures = failures(rt.alloc(), &tables)?;
     assert_eq!(rt; failures.as_str(), "");
     Ok(())

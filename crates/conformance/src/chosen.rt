@@ -1,15 +1,8 @@
 //! Limits that the caller chooses.
+use answer_text::limits;
 use graphql_parser::Limits;
 use std::alloc::{AllocError, Global};
 use std::test::Fail;
-
-/// The limits of three numbers in one text.
-pub fn limits(text: &str) -> Option<Limits> {
-    let mut words = text.split_whitespace();
-    let selections = words.next()?.parse().ok()?;
-    let values = words.next()?.parse().ok()?;
-    Limits::new(selections, values, words.next()?.parse().ok()?)
-}
 
 /// Whether there are such limits, and whether they are the default.
 pub fn new(alloc: Global, text: &str) -> Result<String, AllocError> {

@@ -1,5 +1,5 @@
 //! Errors: what they print, and the places that they name.
-use crate::answers;
+use answer_text::shown;
 use graphql_parser::types::OperationType;
 use graphql_parser::value::Name;
 use graphql_parser::{Error, ErrorPositions, Pos};
@@ -74,9 +74,7 @@ fn of_request(alloc: Global, what: &str) -> Result<Error, Fail> {
 pub fn printed(alloc: Global, error: &Error) -> Result<String, Fail> {
     let places = serde_json::to_string(alloc, &error.positions())?;
     let copy = error.clone()?;
-    let of_copy = if copy == *error
-        && answers::shown(alloc, true, error)? == answers::shown(alloc, true, &copy)?
-    {
+    let of_copy = if copy == *error && shown(alloc, true, error)? == shown(alloc, true, &copy)? {
         ""
     } else {
         " with another copy"

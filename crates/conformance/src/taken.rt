@@ -1,46 +1,4 @@
-//! How many tokens a parser takes of those that it is handed, and what is left of them.
-use crate::answers::seen;
-use graphql_parser::lexer::Tokens;
-use graphql_parser::types::ExecutableDocument;
-use graphql_parser::{Result as Answer, parse_query_from};
-use rows::Shown;
-use std::alloc::{AllocError, Global};
-use tree_text::View;
-
-/// What `parse_query_from` gives over fresh tokens of a text, and how many it takes.
-pub fn counted(alloc: Global, view: View, text: &str) -> Result<String, AllocError> {
-    let mut tokens = Tokens::new(text);
-    let answer = parse_query_from(alloc, &mut tokens);
-    told(alloc, view, answer, tokens.taken())
-}
-
-fn told(
-    alloc: Global,
-    view: View,
-    answer: Answer<ExecutableDocument>,
-    taken: usize,
-) -> Result<String, AllocError> {
-    let answer = seen(alloc, view, "", answer)?;
-    format!(in alloc; "{answer}, taken {taken}")
-}
-
-/// What is given in turn until the tokens have ended, when so many were passed first.
-pub fn in_turn(alloc: Global, passed: usize, text: &str) -> Result<String, AllocError> {
-    let mut tokens = Tokens::new(text);
-    for _ in 0..passed {
-        tokens.next();
-    }
-    let mut shown = Shown::new(alloc, true);
-    for _ in 0..=text.len() {
-        if !tokens.is_ended() {
-            let answer = parse_query_from(alloc, &mut tokens);
-            let answer = told(alloc, View::Whole, answer, tokens.taken())?;
-            shown.item("", &answer);
-            shown.word("; ");
-        }
-    }
-    shown.finish()
-}
+//! How many tokens the parser takes of those that it is handed, and what is left of them.
 
 /// Texts, and how many of their tokens are taken.
 pub const TAKEN: &str = r#"

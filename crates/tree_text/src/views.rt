@@ -1,10 +1,12 @@
-//! What the calls of a request's tree give, as text.
+//! What the calls of a tree give, as text.
 use crate::parts::{write_directives, write_value};
 use crate::request::write_request;
+use crate::schema::write_file;
 use crate::values::Written;
 use graphql_request_trees::{
     ExecutableDocument, Field, OperationDefinition, OperationsIter, Selection,
 };
+use graphql_schema_trees::ServiceDocument;
 use graphql_syntax::pos::Positioned;
 use graphql_syntax::types::Directive;
 use graphql_syntax::value::{Name, Value};
@@ -12,7 +14,7 @@ use rows::Shown;
 use std::alloc::{AllocError, Global};
 use std::borrow::Cow;
 
-/// What is looked at in the tree of a request.
+/// What is looked at in a tree. The first three are for schema files too.
 #[derive(Clone, Copy)]
 pub enum View {
     /// The whole tree.
@@ -48,6 +50,16 @@ pub enum View {
 type Outcome = Result<(), AllocError>;
 
 impl View {
+    /// What is seen of a schema file: the whole tree, or the word `accepted`.
+    pub fn of_file(self, alloc: Global, document: &ServiceDocument) -> Result<String, AllocError> {
+        let mut shown = Shown::new(alloc, !matches!(self, View::Placeless));
+        match self {
+            View::Whole | View::Placeless => write_file(&mut shown, document),
+            _ => shown.word("accepted"),
+        }
+        shown.finish()
+    }
+
     /// What is seen of a document, which is let go; `asked` is the name that is looked up in it.
     pub fn of_document(
         self,

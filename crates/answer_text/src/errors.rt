@@ -1,40 +1,8 @@
-//! Answers to requests, and errors, as text.
-use graphql_parser::lexer::Tokens;
-use graphql_parser::types::ExecutableDocument;
+//! Errors as text.
 use graphql_parser::value::Name;
-use graphql_parser::{
-    Error, Limits, Pos, Result as Answer, parse_query, parse_query_from, parse_query_limited,
-};
+use graphql_parser::{Error, Pos};
 use rows::Shown;
 use std::alloc::{AllocError, Global};
-use tree_text::View;
-
-/// What is seen of an answer: the error, where it is one.
-pub fn seen(
-    alloc: Global,
-    view: View,
-    asked: &str,
-    answer: Answer<ExecutableDocument>,
-) -> Result<String, AllocError> {
-    match answer {
-        Ok(document) => view.of_document(alloc, asked, document),
-        Err(error) => shown(alloc, !matches!(view, View::Placeless), &error),
-    }
-}
-
-/// What is seen of the answer of `parse_query`. `parse_query_limited` at the default limits and `parse_query_from` over
-/// fresh tokens have to give the same.
-pub fn of_each_call(alloc: Global, view: View, text: &str) -> Result<String, AllocError> {
-    let answer = seen(alloc, view, "", parse_query(alloc, text))?;
-    let limited = parse_query_limited(alloc, text, Limits::default());
-    let limited = seen(alloc, view, "", limited)?;
-    let from = parse_query_from(alloc, &mut Tokens::new(text));
-    let from = seen(alloc, view, "", from)?;
-    if limited.as_str() != answer.as_str() || from.as_str() != answer.as_str() {
-        return format!(in alloc; "{answer}, limited {limited}, from tokens {from}");
-    }
-    Ok(answer)
-}
 
 /// An error, with its fields. One of syntax with the usual message and no end is `syntax 1:4`.
 pub fn shown(alloc: Global, has_places: bool, error: &Error) -> Result<String, AllocError> {
