@@ -16,7 +16,7 @@ use Rattle.graphql_reading.proofs.PunctSamples.{has-at}
 use Rattle.graphql_reading.proofs.ReadsExactly.{ReadsExactly, HasPhrase, BeginsWith, exact-punct, exact-keyword, exact-name, exact-next, exact-then-some, begins-one, begins-within, begins-then, has-token, has-pair}
 use Rattle.graphql_reading.proofs.Extra.{exact-opt, has-opt, begins-opt}
 use Rattle.graphql_reading.proofs.IgnoresPlaces.{IgnoresPlaces, ignores-one, ignores-then}
-use Rattle.graphql_reading.proofs.Separated.{exact-after, begins-after, has-after, ignores-after, exact-separated, has-separated, ignores-separated}
+use Rattle.graphql_reading.proofs.Marks.{exact-after, begins-after, has-after, ignores-after, exact-separated, has-separated, ignores-separated}
 use Rattle.graphql_grammar.specs.grammar.Placeless.{bare_node}
 use Rattle.graphql_schemas.specs.grammar.Directives.{a_location}
 use Rattle.graphql_schemas.specs.grammar.InputValues.{arguments_definition}

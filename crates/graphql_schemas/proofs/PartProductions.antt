@@ -27,26 +27,7 @@ use Rattle.graphql_schemas.specs.reading.Types.{owed_at, parts_at, some_parts_at
 use Rattle.graphql_schemas.proofs.DescriptionProductions.{ignores-optional, map-given}
 use Prim.Native.String.{String}
 
--- ---- what begins what is made of a tree
-
-pub first-mapped : {A B : Type 0} {k : A → B} {p : Limits → Rel A} {f g : Test} → FirstWithin p f g → FirstWithin (λ c. mapped k (p c)) f g
-first-mapped o = record { by = λ c x y t m begins. o.by c x y m.value m.holds begins }
-
 -- ---- a part that is owed
-
--- where there are no phrases, each list is refused at its first token
-exact-never : {A : Type 0} {b : Limits} {f : Test} → ReadsExactly (λ c. never {A = A}) b f (λ ts. Refused syntax ts)
-exact-never {A} {b} {f} = record { at = λ ts. record { before = []; split = refl; quiet = tt; alive = inl refl; dead = none ts } }
-  where
-    none : (ts : List Token) → IfHead ts (Dead (λ c. never {A = A}) b f syntax (peek ts))
-    none [] = tt
-    none (t ∷ ts) = λ c x y z a h begins e. h
-
-begins-never : {A : Type 0} {g : Test} → BeginsWith (λ c. never {A = A}) g
-begins-never = record { by = λ c x y a m. absurd m }
-
-or-never : {A : Type 0} (p : Rel A) (x : List Token) (t : A) → (p ∪ never) x t ↔ p x t
-or-never p x t = (λ h. elim h [ inl k ↦ k | inr k ↦ absurd k ], λ h. inl h)
 
 turned-round : {A : Type 0} (w : Bool) (x y : A) → cond w x y ≡ cond (not w) y x
 turned-round true x y = refl

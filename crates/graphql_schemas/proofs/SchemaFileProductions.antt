@@ -34,51 +34,6 @@ use Rattle.graphql_schemas.proofs.FormerSchemas.{includes-definitions}
 use Rattle.graphql_schemas.proofs.PartProductions.{no-punctuator, past-punctuator, past-parts}
 use Rattle.graphql_schemas.proofs.SchemaProductions.{schema-rest, exact-schema-rest, begins-schema-rest, has-schema-rest, ignores-schema-rest, extended-schema, exact-extended-schema, begins-extended-schema, has-extended-schema, ignores-extended-schema}
 
--- ---- laws
-
--- a production after a part, taken in among others
-taken-in : {A B X Y D : Type 0} (p : Rel A) (q : Rel B) (i : B → X) (h : A × X → D) (g : A × B → Y) (k : Y → D) → ((a : A) (b : B) → h (a, i b) ≡ k (g (a, b))) → (x : List Token) (t : D) → mapped h (p ⨾ mapped i q) x t ↔ mapped k (mapped g (p ⨾ q)) x t
-taken-in {A} {B} {X} {Y} {D} p q i h g k e x t = (to, from)
-  where
-    to : mapped h (p ⨾ mapped i q) x t → mapped k (mapped g (p ⨾ q)) x t
-    to m = record {
-      value = g (m.value.0, m.holds.second.value);
-      holds = record { value = (m.value.0, m.holds.second.value); holds = record { front = m.holds.front; back = m.holds.back; joined = m.holds.joined; first = m.holds.first; second = m.holds.second.holds }; is = refl };
-      is = m.is ∙ ap (λ (y : X). h (m.value.0, y)) m.holds.second.is ∙ e m.value.0 m.holds.second.value;
-    }
-
-    from : mapped k (mapped g (p ⨾ q)) x t → mapped h (p ⨾ mapped i q) x t
-    from m = record {
-      value = (m.holds.value.0, i m.holds.value.1);
-      holds = record { front = m.holds.holds.front; back = m.holds.holds.back; joined = m.holds.holds.joined; first = m.holds.holds.first; second = record { value = m.holds.value.1; holds = m.holds.holds.second; is = refl } };
-      is = m.is ∙ ap k m.holds.is ∙ sym (e m.holds.value.0 m.holds.value.1);
-    }
-
--- one of two after a part
-spread-out : {A X D : Type 0} (p : Rel A) (q r : Rel X) (h : A × X → D) (x : List Token) (t : D) → mapped h (p ⨾ (q ∪ r)) x t ↔ (mapped h (p ⨾ q) ∪ mapped h (p ⨾ r)) x t
-spread-out {A} {X} {D} p q r h x t = (to, from)
-  where
-    to : mapped h (p ⨾ (q ∪ r)) x t → (mapped h (p ⨾ q) ∪ mapped h (p ⨾ r)) x t
-    to m = elim m.holds.second [
-      | inl k ↦ inl (record { value = m.value; holds = record { front = m.holds.front; back = m.holds.back; joined = m.holds.joined; first = m.holds.first; second = k }; is = m.is })
-      | inr k ↦ inr (record { value = m.value; holds = record { front = m.holds.front; back = m.holds.back; joined = m.holds.joined; first = m.holds.first; second = k }; is = m.is })
-    ]
-
-    from : (mapped h (p ⨾ q) ∪ mapped h (p ⨾ r)) x t → mapped h (p ⨾ (q ∪ r)) x t
-    from (inl m) = record { value = m.value; holds = record { front = m.holds.front; back = m.holds.back; joined = m.holds.joined; first = m.holds.first; second = inl m.holds.second }; is = m.is }
-    from (inr m) = record { value = m.value; holds = record { front = m.holds.front; back = m.holds.back; joined = m.holds.joined; first = m.holds.first; second = inr m.holds.second }; is = m.is }
-
-either-same : {A : Type 0} (p q r s : Rel A) (x : List Token) (t : A) → p x t ↔ q x t → r x t ↔ s x t → (p ∪ r) x t ↔ (q ∪ s) x t
-either-same {A} p q r s x t h k = (to, from)
-  where
-    to : (p ∪ r) x t → (q ∪ s) x t
-    to (inl m) = inl (h.0 m)
-    to (inr m) = inr (k.0 m)
-
-    from : (q ∪ s) x t → (p ∪ r) x t
-    from (inl m) = inl (h.1 m)
-    from (inr m) = inr (k.1 m)
-
 -- ---- what a definition says after its description
 
 abbrev undescribed : Limits → Rel Undescribed
