@@ -11,8 +11,8 @@ use Rattle.graphql_reading.specs.grammar.Tests.{Test, keyword, any_name, the_end
 use Rattle.graphql_reading.proofs.Theory.{IsSubset, outside}
 use Rattle.graphql_reading.proofs.TokenTests.{word_of, keyword-within, the_end-within, within-either}
 use Rattle.graphql_reading.proofs.ReadsExactly.{ReadsExactly, HasPhrase, BeginsWith, exact-keyword, exact-mapped, exact-next, exact-then-some, exact-choose, exact-same, begins-one, begins-within, begins-same, begins-mapped, begins-then, begins-either, has-pair, has-map, has-plus, has-first}
-use Rattle.graphql_reading.proofs.Extra.{exact-plus-ahead, begins-opt, both-ways}
-use Rattle.graphql_reading.proofs.IgnoresPlaces.{IgnoresPlaces, ignores-one, ignores-then, ignores-mapped, ignores-either, ignores-plus}
+use Rattle.graphql_reading.proofs.Extra.{exact-plus-ahead, begins-opt, both-ways, taken-in, spread-out, either-same}
+use Rattle.graphql_reading.proofs.IgnoresPlaces.{IgnoresPlaces, ignores-one, ignores-then, ignores-mapped, ignores-either, ignores-plus, map-given}
 use Rattle.graphql_reading.proofs.Loop.{Takes, takes-one}
 use Rattle.graphql_grammar.specs.grammar.Placeless.{unplaced}
 use Rattle.graphql_grammar.proofs.Languages.{IsRead, is-read-by}
@@ -28,7 +28,7 @@ use Rattle.graphql_schemas.specs.reading.Descriptions.{is_text}
 use Rattle.graphql_schemas.specs.reading.SchemaFile.{Undescribed, of_schema, of_type, of_directive, with_description, undescribed_at, described_at, Extended, a_schema as extends_schema, a_type as extends_type, extension_of, extension_at, definition_first, definition_at, definitions_at}
 use Rattle.graphql_schemas.specs.reading.Types.{body_first}
 use Rattle.graphql_schemas.proofs.BodyProductions.{exact-body, begins-body, ignores-body, exact-extended_body, begins-extended_body, ignores-extended_body, bodies-within}
-use Rattle.graphql_schemas.proofs.DescriptionProductions.{map-given, described-nowhere, text-within, name-no-text, begins-description, exact-maybe_description, has-maybe_description, ignores-maybe_description}
+use Rattle.graphql_schemas.proofs.DescriptionProductions.{described-nowhere, text-within, name-no-text, begins-description, exact-maybe_description, has-maybe_description, ignores-maybe_description}
 use Rattle.graphql_schemas.proofs.DirectiveProductions.{DirectiveRest, placeless-directive-rest, directive-rest, exact-directive-rest, begins-directive-rest, ignores-directive-rest}
 use Rattle.graphql_schemas.proofs.FormerSchemas.{includes-definitions}
 use Rattle.graphql_schemas.proofs.PartProductions.{no-punctuator, past-punctuator, past-parts}
