@@ -1,5 +1,5 @@
 -- Arguments, directives and default values are read exactly, at every budget; and their places don't matter.
-use Rattle.std.proofs.Common.{◌≡◌, ℕ, Bool, false, IsTrue, map, option_map, refl, ap}
+use Rattle.std.proofs.Common.{ℕ, Bool, false, IsTrue, map, option_map, refl, ap}
 use Rattle.graphql_tokens.specs.tokens.Edition.{Current}
 use Rattle.graphql_syntax.specs.trees.Parts.{Argument, Directive, Directives}
 use Rattle.graphql_syntax.specs.trees.Parts as trees
