@@ -9,7 +9,6 @@ use Rattle.graphql_request_trees.specs.trees.Request.{OperationDefinition, Fragm
 use Rattle.graphql_request_trees.specs.trees.RequestViews.{entry_tree}
 use Rattle.indexmap.specs.IndexMap.{insert_entry}
 use Rattle.graphql_grammar.specs.answers.Breaches.{or_else}
-use Rattle.graphql_grammar.proofs.Breaches.{or-assoc}
 use Rattle.graphql_requests.specs.grammar.Documents.{named_operations, fragments, operations_beside}
 use Rattle.graphql_requests.specs.grammar.Request.{Definition, operation, fragment}
 use Rattle.graphql_requests.specs.grammar.Rules.{first_operation, first_anonymous, first_operation_named, first_fragment_named}

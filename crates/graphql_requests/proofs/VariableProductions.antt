@@ -3,13 +3,11 @@ use Rattle.graphql_tokens.specs.tokens.Edition.{Current}
 use Rattle.std.proofs.Common.{◌≡◌, ℕ, Bool, true, false, cond, ◌&&◌, ◌||◌, IsTrue, Option, Some, None, List, [], ◌∷◌, ◌++◌, map, option_map, ◌↔◌, inl, inr, refl, sym, ap, ◌∙◌, subst, append-nil}
 use Rattle.graphql_tokens.specs.tokens.Token.{Token}
 use Rattle.graphql_syntax.specs.trees.Parts.{Directives}
-use Rattle.graphql_request_trees.specs.trees.Request.{VariableDefinition}
 use Rattle.graphql_grammar.specs.grammar.Arguments.{a_directive, directives, a_default}
 use Rattle.graphql_requests.specs.grammar.Variables.{default_and_directives, variable_definition_of, a_variable_definition, variable_definitions}
 use Rattle.graphql_reading.specs.grammar.Limits.{Limits}
 use Rattle.graphql_grammar.specs.grammar.Placeless.{unplaced, bare_node, placeless_directives}
 use Rattle.graphql_requests.specs.grammar.Placeless.{placeless_variable}
-use Rattle.graphql_reading.specs.grammar.Places.{at, name_of}
 use Rattle.graphql_reading.specs.grammar.Relations.{Rel, ◌⨾◌, ◌∪◌, mapped, star, plus, opt}
 use Rattle.graphql_reading.specs.grammar.Tests.{Test, punct, any_name}
 use Rattle.graphql_grammar.specs.grammar.Types.{type_reference}
@@ -21,7 +19,7 @@ use Rattle.graphql_reading.proofs.Parts.{none}
 use Rattle.graphql_reading.proofs.Theory.{IsSubset, outside}
 use Rattle.graphql_reading.proofs.TokenTests.{punctuator, itself, punct-within, within-both, within-first, within-second, within-either, name-sample}
 use Rattle.graphql_reading.proofs.PunctSamples.{has-open, has-close, has-colon, has-dollar}
-use Rattle.graphql_reading.proofs.ReadsExactly.{ReadsExactly, HasPhrase, BeginsWith, exact-punct, exact-name, exact-mapped, exact-next, exact-then-some, exact-same, begins-one, begins-mapped, begins-then, has-token, has-pair, has-map, has-plus, has-first}
+use Rattle.graphql_reading.proofs.ReadsExactly.{ReadsExactly, HasPhrase, BeginsWith, exact-punct, exact-name, exact-mapped, exact-next, exact-same, begins-one, begins-mapped, begins-then, has-token, has-pair, has-map, has-plus, has-first}
 use Rattle.graphql_reading.proofs.Extra.{FirstWithin, exact-seq, first-begins, first-opt, first-then, exact-plus-ahead, exact-opt, has-opt}
 use Rattle.graphql_reading.proofs.Optional.{exact-choose_ahead, exact-none, exact-reader, first-none, first-either, opt-left, with-some, opt-then, plus-star, star-plus}
 use Rattle.graphql_reading.proofs.IgnoresPlaces.{IgnoresPlaces, ignores-one, ignores-then, ignores-mapped, ignores-either, ignores-plus, ignores-opt}

@@ -1,5 +1,5 @@
 -- Definitions, extensions and schema files are read exactly, have phrases, and don't look at places.
-use Rattle.std.proofs.Common.{◌≡◌, Bool, ◌||◌, IsTrue, ◌↔◌, inl, inr, Option, Some, None, List, option_map, refl, sym, ap, ◌∙◌}
+use Rattle.std.proofs.Common.{◌≡◌, Bool, ◌||◌, IsTrue, ◌↔◌, inl, inr, Option, Some, None, List, option_map, refl, ap, ◌∙◌}
 use Rattle.graphql_tokens.specs.declared.pos.Positioned.{Positioned}
 use Rattle.graphql_tokens.specs.tokens.Edition.{Current}
 use Rattle.graphql_tokens.specs.tokens.Token.{Token}
