@@ -8,13 +8,13 @@ ghost use Rattle.graphql_schema_trees.specs.trees.Schema as trees;
 ghost use Rattle.graphql_schema_trees.specs.trees.SchemaViews.{enum_value_tree};
 ghost use Rattle.graphql_reading.specs.reading.Given.{Gives, trees_in};
 ghost use Rattle.graphql_reading.specs.reading.Outcome.{one_at};
-ghost use Rattle.graphql_schemas.specs.reading.Depths.{limits_of};
+ghost use Rattle.graphql_grammar.specs.reading.Depths.{limits_of};
 ghost use Rattle.graphql_schemas.specs.grammar.Members.{enum_name};
 ghost use Rattle.graphql_schemas.specs.reading.Members.{implements_at, given_implements_at, members_at, given_members_at, enum_value_first, enum_value_at, given_enum_values_at};
 
-use crate::depths::Depths;
 use crate::descriptions::{is_at_description, place_of, read_maybe_description};
 use graphql_grammar::arguments::read_const_directives;
+use graphql_grammar::depths::Depths;
 use graphql_reading::cursor::{Cursor, Reading, Refusal};
 use graphql_reading::names::{NamePhrase, name_in};
 use graphql_reading::production::{Production, maybe_bracketed, separated};

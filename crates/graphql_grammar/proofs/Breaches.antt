@@ -1,0 +1,19 @@
+-- What is the first of several, or none of them.
+use Rattle.std.proofs.Common.{◌≡◌, Option, Some, None, refl}
+use Rattle.graphql_grammar.specs.answers.Breaches.{or_else}
+
+pub or-assoc : {A : Type 0} (x y z : Option A) → or_else (or_else x y) z ≡ or_else x (or_else y z)
+or-assoc None y z = refl
+or-assoc (Some a) y z = refl
+
+pub or-none : {A : Type 0} (x : Option A) → or_else x None ≡ x
+or-none None = refl
+or-none (Some a) = refl
+
+pub none-first : {A : Type 0} (x y : Option A) → or_else x y ≡ None → x ≡ None
+none-first None y e = refl
+none-first (Some a) y e = absurd cc
+
+pub none-second : {A : Type 0} (x y : Option A) → or_else x y ≡ None → y ≡ None
+none-second None y e = e
+none-second (Some a) y e = absurd cc
