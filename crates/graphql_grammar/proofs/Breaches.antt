@@ -2,10 +2,6 @@
 use Rattle.std.proofs.Common.{◌≡◌, Option, Some, None, refl}
 use Rattle.graphql_grammar.specs.answers.Breaches.{or_else}
 
-pub or-assoc : {A : Type 0} (x y z : Option A) → or_else (or_else x y) z ≡ or_else x (or_else y z)
-or-assoc None y z = refl
-or-assoc (Some a) y z = refl
-
 pub or-none : {A : Type 0} (x : Option A) → or_else x None ≡ x
 or-none None = refl
 or-none (Some a) = refl
