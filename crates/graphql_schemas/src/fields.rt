@@ -1,7 +1,6 @@
 //! Readers of the fields of object types and interfaces, by GraphQL October 2021, section 3.6.
 ghost use Rattle.graphql_tokens.specs.declared.pos.Positioned.{Positioned};
 ghost use Rattle.graphql_syntax.specs.trees.Parts.{placed};
-ghost use Rattle.graphql_syntax.specs.trees.Parts as trees;
 ghost use Rattle.graphql_schema_trees.specs.trees.Schema as trees;
 ghost use Rattle.graphql_schema_trees.specs.trees.SchemaViews.{field_definition_tree};
 ghost use Rattle.graphql_reading.specs.reading.Given.{Gives, trees_in};

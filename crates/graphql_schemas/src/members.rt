@@ -4,7 +4,6 @@ ghost use Rattle.std.specs.Prelude.{◌≡◌};
 ghost use Rattle.graphql_tokens.specs.declared.pos.Positioned.{Positioned};
 ghost use Rattle.graphql_tokens.specs.tokens.Seen.{seen};
 ghost use Rattle.graphql_syntax.specs.trees.Parts.{placed};
-ghost use Rattle.graphql_syntax.specs.trees.Parts as trees;
 ghost use Rattle.graphql_schema_trees.specs.trees.Schema as trees;
 ghost use Rattle.graphql_schema_trees.specs.trees.SchemaViews.{enum_value_tree};
 ghost use Rattle.graphql_reading.specs.reading.Given.{Gives, trees_in};
