@@ -1,11 +1,12 @@
 //! Measures the library as it is built. `bench tokens` cuts the text on standard input into its tokens,
 //! again and again, and prints a line for each round: `lex NANOSECONDS COUNT`, the count being that of
-//! the tokens. `bench query` reads it as a request, drops the tree, and prints
-//! `parse NANOSECONDS ANSWER` for each round, the answer being `accepted` or `refused`.
+//! the tokens. `bench query` reads it as a request, and `bench schema` as a schema file; they drop the tree, and
+//! print `parse NANOSECONDS ANSWER` for each round, the answer being `accepted` or `refused`.
 #![tactic(auto)]
 
 use graphql_parser::lexer::{Token, Tokens};
-use graphql_parser::parse_query;
+use graphql_parser::{parse_query, parse_schema};
+use std::alloc::Global;
 use std::time::Instant;
 use std::{env, io};
 
@@ -13,7 +14,7 @@ use std::{env, io};
 // rounds find the machine cold.
 const BYTES: usize = 10_000_000;
 
-const USAGE: &str = "usage: bench tokens|query < TEXT";
+const USAGE: &str = "usage: bench tokens|query|schema < TEXT";
 
 fn main(rt: HostRuntime) -> io::Result<()> {
     let mut words = env::args(&rt)?;
@@ -21,7 +22,8 @@ fn main(rt: HostRuntime) -> io::Result<()> {
     let mode = words.next();
     match mode.as_ref().map(|word| word.as_str()) {
         Some("tokens") => time_tokens(&rt),
-        Some("query") => time_query(&rt),
+        Some("query") => time_parser(&rt, Parser::Query),
+        Some("schema") => time_parser(&rt, Parser::Schema),
         _ => println!(rt; "{USAGE}"),
     }
 }
@@ -45,11 +47,28 @@ fn time_tokens(rt: &HostRuntime) -> io::Result<()> {
     println!(rt; "mixed {mixed}")
 }
 
-fn time_query(rt: &HostRuntime) -> io::Result<()> {
+// What a text is read by.
+#[derive(Clone, Copy)]
+enum Parser {
+    Query,
+    Schema,
+}
+
+impl Parser {
+    // Whether it accepts a text. The tree is dropped.
+    fn accepts(self, alloc: Global, text: &str) -> bool {
+        match self {
+            Parser::Query => parse_query(alloc, text).is_ok(),
+            Parser::Schema => parse_schema(alloc, text).is_ok(),
+        }
+    }
+}
+
+fn time_parser(rt: &HostRuntime, parser: Parser) -> io::Result<()> {
     let text = io::read_to_string(rt.alloc(), rt.stdin())?;
     for _ in 0..rounds(text.as_str()) {
         let start = Instant::now(rt)?;
-        let is_accepted = parse_query(rt.alloc(), text.as_str()).is_ok();
+        let is_accepted = parser.accepts(rt.alloc(), text.as_str());
         let time = start.elapsed(rt)?.as_nanos();
         let answer = if is_accepted { "accepted" } else { "refused" };
         println!(rt; "parse {time} {answer}")?;

@@ -1,9 +1,9 @@
 //! What is printed of an accepted text: a line for each definition.
-use graphql_parser::types::ExecutableDocument;
+use graphql_parser::types::{ExecutableDocument, ServiceDocument, TypeKind, TypeSystemDefinition};
 use std::alloc::{AllocError, Global};
 
 // The operations of a request, and then its fragments.
-pub fn listing(alloc: Global, document: &ExecutableDocument) -> Result<String, AllocError> {
+pub fn request_lines(alloc: Global, document: &ExecutableDocument) -> Result<String, AllocError> {
     let mut lines = String::new(alloc);
     for (name, operation) in document.operations.iter() {
         let kind = operation.node.ty;
@@ -18,4 +18,47 @@ pub fn listing(alloc: Global, document: &ExecutableDocument) -> Result<String, A
         writeln!(lines, "fragment {name} {place}")?;
     }
     Ok(lines)
+}
+
+// The definitions and extensions of a schema file, in source order.
+pub fn schema_lines(alloc: Global, document: &ServiceDocument) -> Result<String, AllocError> {
+    let mut lines = String::new(alloc);
+    for definition in &document.definitions {
+        match definition {
+            TypeSystemDefinition::Schema(schema) => {
+                let extend = extend_word(schema.node.extend);
+                let place = schema.pos;
+                writeln!(lines, "{extend}schema {place}")?;
+            }
+            TypeSystemDefinition::TypeDef(definition) => {
+                let extend = extend_word(definition.node.extend);
+                let keyword = keyword(&definition.node.kind);
+                let name = &definition.node.name;
+                let place = definition.pos;
+                writeln!(lines, "{extend}{keyword} {name} {place}")?;
+            }
+            TypeSystemDefinition::Directive(directive) => {
+                let name = &directive.node.name;
+                let place = directive.pos;
+                writeln!(lines, "directive @{name} {place}")?;
+            }
+        }
+    }
+    Ok(lines)
+}
+
+// What stands before the keyword of an extension.
+fn extend_word(is_extension: bool) -> &'static str {
+    if is_extension { "extend " } else { "" }
+}
+
+fn keyword(kind: &TypeKind) -> &'static str {
+    match kind {
+        TypeKind::Scalar => "scalar",
+        TypeKind::Object(_) => "type",
+        TypeKind::Interface(_) => "interface",
+        TypeKind::Union(_) => "union",
+        TypeKind::Enum(_) => "enum",
+        TypeKind::InputObject(_) => "input",
+    }
 }

@@ -1,7 +1,8 @@
-//! The program: `gqlparse query` reads a request from standard input and lists what it defines, a line for
-//! each definition, with status 0. A refused text is told on standard error by the error and the list of its
-//! places, with status 1; wrong arguments, input that can't be read or isn't UTF-8, output that can't be
-//! written and memory refused outside the parser by one line there, with status 2.
+//! The program: `gqlparse query` reads a request from standard input, and `gqlparse schema` a schema file. It
+//! lists what the text defines, a line for each definition, with status 0. A refused text is told on standard
+//! error by the error and the list of its places, with status 1; wrong arguments, input that can't be read or
+//! isn't UTF-8, output that can't be written and memory refused outside the parser by one line there, with
+//! status 2.
 //!
 //! Proved of it: it is safe and ends on every input; the status is 0, 1 or 2; wrong arguments leave input and
 //! output untouched; an accepted text leaves standard error as it was, and a refused one standard output. The

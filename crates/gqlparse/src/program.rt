@@ -1,16 +1,17 @@
 //! The program's work, over any reader and writers.
-ghost use Rattle.std.specs.Prelude.{◌≡◌, ◌≢◌, ◌≤◌, ◌↔◌, ◌∷◌, [], Err, IsSome, IfErr, IfOk, IfSome, codes, map, string_bytes};
+ghost use Rattle.std.specs.Prelude.{◌≡◌, ◌≢◌, ◌≤◌, ◌↔◌, ◌⊎◌, ◌∷◌, [], Err, IsSome, IfErr, IfOk, IfSome, codes, map, string_bytes};
 ghost use Rattle.gqlparse.specs.declared.program.Stop.TheVariants.{NoMemory, Usage};
 
-use crate::listing::listing;
-use graphql_parser::{Error, parse_query};
+use crate::listing::{request_lines, schema_lines};
+use graphql_parser::{Error, parse_query, parse_schema};
 use std::alloc::{AllocError, Global};
 use std::io::{ErrorKind, Read, Write};
 
-// What is read from standard input.
+// What is read from standard input: a request or a schema file.
 #[derive(Clone, Copy)]
 enum Command {
     Query,
+    Schema,
 }
 
 // A text's answer: the lines for standard output, or those for standard error.
@@ -55,8 +56,8 @@ impl Stop {
 /// Does the work of the program: reads a text from `input` to its end, and writes what it defines to
 /// `out`, or why it is refused to `err`.
 ///
-/// `words` are the arguments without the program's name; `query` alone is served. The answer is the exit
-/// status: 0 for an accepted text, 1 for a refused one, and 2 for wrong arguments, input that cannot be
+/// `words` are the arguments without the program's name; one word is served, `query` for a request and
+/// `schema` for a schema file. The answer is the exit status: 0 for an accepted text, 1 for a refused one, and 2 for wrong arguments, input that cannot be
 /// read or is no UTF-8, output that cannot be written, and memory that is refused outside the parser.
 /// Everything that goes to `out` is built before the first write. A write to `err` that fails changes no
 /// status.
@@ -69,7 +70,7 @@ pub fn run<R: Read, O: Write, E: Write>(
 ) -> u8
     ensures status { result ≤ 2 }
     // Wrong arguments are told before anything is read,
-    ensures usage { ((map string_bytes words.now ≡ codes "query" ∷ []) → ⊥) → (result ≡ 2) × (input.new ≡ input.old) × (out.new ≡ out.old) }
+    ensures usage { (((map string_bytes words.now ≡ codes "query" ∷ []) ⊎ (map string_bytes words.now ≡ codes "schema" ∷ [])) → ⊥) → (result ≡ 2) × (input.new ≡ input.old) × (out.new ≡ out.old) }
     // an accepted text says nothing on standard error,
     ensures accepted { result ≡ 0 → err.new ≡ err.old }
     // and a refused one nothing on standard output.
@@ -112,8 +113,8 @@ fn write_whole<W: Write>(to: &mut W, text: &str) -> bool {
 }
 
 fn answer_to<R: Read>(alloc: Global, words: &[String], input: &mut R) -> Result<Answer, Stop>
-    ensures usage { ((map string_bytes words.now ≡ codes "query" ∷ []) → ⊥) → (result ≡ Err Usage) × (input.new ≡ input.old) }
-    ensures served { map string_bytes words.now ≡ codes "query" ∷ [] → result ≢ Err Usage }
+    ensures usage { (((map string_bytes words.now ≡ codes "query" ∷ []) ⊎ (map string_bytes words.now ≡ codes "schema" ∷ [])) → ⊥) → (result ≡ Err Usage) × (input.new ≡ input.old) }
+    ensures served { (map string_bytes words.now ≡ codes "query" ∷ []) ⊎ (map string_bytes words.now ≡ codes "schema" ∷ []) → result ≢ Err Usage }
 {
     let Some(command) = command_of(words) else {
         return Err(Stop::Usage);
@@ -121,7 +122,11 @@ fn answer_to<R: Read>(alloc: Global, words: &[String], input: &mut R) -> Result<
     let text = read(alloc, input)?;
     let lines = match command {
         Command::Query => match parse_query(alloc, text.as_str()) {
-            Ok(document) => Ok(listing(alloc, &document)?),
+            Ok(document) => Ok(request_lines(alloc, &document)?),
+            Err(error) => Err(error),
+        },
+        Command::Schema => match parse_schema(alloc, text.as_str()) {
+            Ok(document) => Ok(schema_lines(alloc, &document)?),
             Err(error) => Err(error),
         },
     };
@@ -133,7 +138,7 @@ fn answer_to<R: Read>(alloc: Global, words: &[String], input: &mut R) -> Result<
 }
 
 fn command_of(words: &[String]) -> Option<Command>
-    ensures { IsSome result ↔ (map string_bytes words.now ≡ codes "query" ∷ []) }
+    ensures { IsSome result ↔ ((map string_bytes words.now ≡ codes "query" ∷ []) ⊎ (map string_bytes words.now ≡ codes "schema" ∷ [])) }
 {
     match words {
         [word] => command_named(word.as_str()),
@@ -142,10 +147,12 @@ fn command_of(words: &[String]) -> Option<Command>
 }
 
 fn command_named(name: &str) -> Option<Command>
-    ensures { IsSome result ↔ (name.now ≡ codes "query") }
+    ensures { IsSome result ↔ ((name.now ≡ codes "query") ⊎ (name.now ≡ codes "schema")) }
 {
     if name == "query" {
         Some(Command::Query)
+    } else if name == "schema" {
+        Some(Command::Schema)
     } else {
         None
     }

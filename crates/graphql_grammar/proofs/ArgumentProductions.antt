@@ -1,10 +1,9 @@
 -- Arguments, directives and default values are read exactly, at every budget; and their places don't matter.
-use Rattle.std.proofs.Common.{◌≡◌, ℕ, Bool, false, IsTrue, Option, Some, None, map, refl, ap}
+use Rattle.std.proofs.Common.{ℕ, Bool, false, IsTrue, map, option_map, refl, ap}
 use Rattle.graphql_tokens.specs.tokens.Edition.{Current}
 use Rattle.graphql_syntax.specs.trees.Parts.{Argument, Directive, Directives}
 use Rattle.graphql_syntax.specs.trees.Parts as trees
 use Rattle.graphql_grammar.specs.grammar.Arguments.{an_argument, arguments, a_directive, directives, a_default}
-use Rattle.graphql_reading.specs.grammar.Relations.{given}
 use Rattle.graphql_reading.specs.grammar.Fronts.{without_place}
 use Rattle.graphql_reading.specs.grammar.Limits.{Limits}
 use Rattle.graphql_grammar.specs.grammar.Placeless.{unplaced, bare_node, placeless_argument, placeless_directive, placeless_directives}
@@ -13,11 +12,12 @@ use Rattle.graphql_reading.specs.grammar.Relations.{opt}
 use Rattle.graphql_reading.specs.grammar.Tests.{Test, punct, any_name}
 use Rattle.graphql_grammar.specs.reading.Arguments.{argument_at, arguments_at, maybe_arguments_at, directive_at, directives_at, default_at}
 use Rattle.graphql_reading.proofs.Theory.{IsSubset, outside, anything}
-use Rattle.graphql_reading.proofs.TokenTests.{punctuator, itself, punct-within, name-sample}
+use Rattle.graphql_reading.proofs.TokenTests.{punctuator, itself, punct-within, punct-inner, name-sample}
 use Rattle.graphql_reading.proofs.PunctSamples.{has-equals, has-open, has-close, has-colon, has-at}
-use Rattle.graphql_reading.proofs.ReadsExactly.{ReadsExactly, HasPhrase, BeginsWith, exact-punct, exact-name, exact-mapped, exact-next, exact-then-some, exact-plus, begins-one, begins-mapped, begins-then, has-token, has-pair, has-map, has-star, has-plus}
+use Rattle.graphql_reading.proofs.ReadsExactly.{ReadsExactly, HasPhrase, BeginsWith, exact-punct, exact-name, exact-mapped, exact-next, exact-plus, begins-one, begins-mapped, begins-then, has-token, has-pair, has-map, has-star, has-plus}
 use Rattle.graphql_reading.proofs.Extra.{FirstWithin, first-star, first-opt, exact-many-ahead, exact-opt, has-opt}
-use Rattle.graphql_reading.proofs.IgnoresPlaces.{IgnoresPlaces, on-option, ignores-one, ignores-then, ignores-mapped, ignores-star, ignores-plus, ignores-opt}
+use Rattle.graphql_reading.proofs.IgnoresPlaces.{IgnoresPlaces, ignores-one, ignores-then, ignores-mapped, ignores-star, ignores-plus, ignores-opt, map-given}
+use Rattle.graphql_reading.proofs.Marks.{exact-after, begins-after, has-after, ignores-after, exact-between, begins-between, has-between, ignores-between}
 use Rattle.graphql_reading.proofs.Loop.{Takes, takes-one}
 use Rattle.graphql_grammar.proofs.ValueProductions.{exact-value, has-value, ignores-value}
 
@@ -38,21 +38,17 @@ has-argument vars = has-map (has-pair (has-token name-sample) (has-pair has-colo
 pub ignores-argument : (vars : Bool) → IgnoresPlaces (λ c. an_argument Current vars c.values) placeless_argument
 ignores-argument vars = ignores-mapped (λ x. refl) (ignores-then (ignores-one any_name) (ignores-then (ignores-one (punct ":")) (ignores-value vars)))
 
--- nothing is looked ahead at after `)`
 pub exact-arguments : (vars : Bool) {b : Limits} {f : Test} → ReadsExactly (λ c. arguments Current vars c.values) b f (arguments_at vars b.values)
-exact-arguments vars =
-    exact-mapped (exact-next (has-pair (has-plus (has-argument vars)) has-close) (exact-punct "(")
-    (exact-then-some begins-one has-close (exact-plus (begins-argument vars) (punct-within ")" refl) (exact-argument vars))
-    (exact-punct ")")))
+exact-arguments vars = exact-between "(" ")" has-close (has-plus (has-argument vars)) (exact-plus (begins-argument vars) (punct-within ")" refl) (exact-argument vars))
 
 pub begins-arguments : (vars : Bool) → BeginsWith (λ c. arguments Current vars c.values) (punct "(")
-begins-arguments vars = begins-mapped (begins-then begins-one)
+begins-arguments vars = begins-between (punct ")")
 
 pub has-arguments : (vars : Bool) → HasPhrase (λ c. arguments Current vars c.values)
-has-arguments vars = has-map (has-pair has-open (has-pair (has-plus (has-argument vars)) has-close))
+has-arguments vars = has-between (punct "(") (punct ")") has-open (has-plus (has-argument vars)) has-close
 
 pub ignores-arguments : (vars : Bool) → IgnoresPlaces (λ c. arguments Current vars c.values) (map placeless_argument)
-ignores-arguments vars = ignores-mapped (λ x. refl) (ignores-then (ignores-one (punct "(")) (ignores-then (ignores-plus (ignores-argument vars)) (ignores-one (punct ")"))))
+ignores-arguments vars = ignores-between (punct "(") (punct ")") (ignores-plus (ignores-argument vars))
 
 -- ---- arguments, where there are any
 
@@ -65,7 +61,7 @@ first-maybe_arguments vars here h = first-opt (begins-arguments vars) (punct-wit
 pub has-maybe_arguments : (vars : Bool) → HasPhrase (λ c. opt (arguments Current vars c.values))
 has-maybe_arguments vars = has-opt {p = λ c. arguments Current vars c.values}
 
-pub ignores-maybe_arguments : (vars : Bool) → IgnoresPlaces (λ c. opt (arguments Current vars c.values)) (on-option (map placeless_argument))
+pub ignores-maybe_arguments : (vars : Bool) → IgnoresPlaces (λ c. opt (arguments Current vars c.values)) (option_map (map placeless_argument))
 ignores-maybe_arguments vars = ignores-opt (ignores-arguments vars)
 
 -- ---- directives
@@ -80,13 +76,9 @@ begins-directive vars = begins-mapped (begins-then begins-one)
 pub has-directive : (vars : Bool) → HasPhrase (λ c. a_directive Current vars c.values)
 has-directive vars = has-map (has-pair has-at (has-pair (has-token name-sample) (has-maybe_arguments vars)))
 
-given-same : (xs : Option trees.Arguments) → map placeless_argument (given xs) ≡ given (on-option (map placeless_argument) xs)
-given-same None = refl
-given-same (Some xs) = refl
-
 pub ignores-directive : (vars : Bool) → IgnoresPlaces (λ c. a_directive Current vars c.values) (unplaced placeless_directive)
 ignores-directive vars =
-    ignores-mapped (λ x. ap (λ (l : trees.Arguments). at {A = Directive} (without_place x.0) (record { name = name_of (without_place x.1.0); arguments = l })) (given-same x.1.1))
+    ignores-mapped (λ x. ap (λ (l : trees.Arguments). at {A = Directive} (without_place x.0) (record { name = name_of (without_place x.1.0); arguments = l })) (map-given placeless_argument x.1.1))
     (ignores-then (ignores-one (punct "@")) (ignores-then (ignores-one any_name) (ignores-maybe_arguments vars)))
 
 pub exact-directives : (vars : Bool) {b : Limits} {f : Test} → IsSubset f (outside (punct "(")) → IsSubset f (outside (punct "@")) → ReadsExactly (λ c. directives Current vars c.values) b f (directives_at vars b.values)
@@ -104,16 +96,16 @@ ignores-directives vars = ignores-star (ignores-directive vars)
 -- ---- defaults
 
 pub exact-default : {b : Limits} {f : Test} → ReadsExactly (λ c. a_default Current c.values) b f (default_at b.values)
-exact-default = exact-mapped (exact-next (has-value false) (exact-punct "=") (exact-value false))
+exact-default = exact-after (punct-inner "=") (has-value false) (exact-value false)
 
 pub begins-default : BeginsWith (λ c. a_default Current c.values) (punct "=")
-begins-default = begins-mapped (begins-then begins-one)
+begins-default = begins-after
 
 pub has-default : HasPhrase (λ c. a_default Current c.values)
-has-default = has-map (has-pair has-equals (has-value false))
+has-default = has-after (punct "=") has-equals (has-value false)
 
 pub ignores-default : IgnoresPlaces (λ c. a_default Current c.values) bare_node
-ignores-default = ignores-mapped (λ x. refl) (ignores-then (ignores-one (punct "=")) (ignores-value false))
+ignores-default = ignores-after (punct "=") (ignores-value false)
 
 pub takes-argument : (vars : Bool) (values : ℕ) → Takes (argument_at vars values)
 takes-argument vars values = takes-one {b = budget values 0} {f = anything} (exact-argument vars) (begins-argument vars)

@@ -4,15 +4,14 @@ use Rattle.std.proofs.lemmas.Slice.Eq.{bytes_eq-Decides}
 use Rattle.std.specs.List.{AllByRecursion}
 use Rattle.std.specs.Str.{bytes_eq}
 use Rattle.graphql_tokens.specs.tokens.Edition.{Current}
-use Rattle.graphql_syntax.specs.trees.Parts as trees
 use Rattle.graphql_syntax.specs.trees.ValueTree.{Tree, trees_of, fields_of}
 use Rattle.graphql_grammar.specs.grammar.Arguments.{an_argument, arguments, a_directive, directives, a_default}
-use Rattle.graphql_grammar.specs.grammar.Distinct.{HasNone, IsDistinct, AreDistinctItems, AreDistinctFields, IsDistinctValue, IsDistinctArgument, AreDistinctArguments, IsDistinctDirective, AreDistinctDirectives}
+use Rattle.graphql_grammar.specs.grammar.Distinct.{HasNone, IsDistinct, AreDistinctItems, AreDistinctFields, IsDistinctValue, IsDistinctDefault, IsDistinctArgument, AreDistinctArguments, IsDistinctDirective, AreDistinctDirectives}
 use Rattle.graphql_grammar.specs.grammar.Merged.{has_name, without, last_value, merged}
 use Rattle.graphql_grammar.specs.grammar.Values.{Value, a_list, an_object, a_field, a_simple_value, a_word, value}
-use Rattle.graphql_reading.specs.grammar.Relations.{Rel, one, given}
+use Rattle.graphql_reading.specs.grammar.Relations.{Rel, one}
 use Rattle.graphql_reading.specs.grammar.Tests.{punct, any_name}
-use Rattle.graphql_reading.proofs.Keeps.{Keeps, Anything, BothOf, OfOption, keeps-any, keeps-mapped, keeps-then, keeps-either, keeps-opt, keeps-star, keeps-plus}
+use Rattle.graphql_reading.proofs.Keeps.{Keeps, Anything, BothOf, OfOption, keeps-any, keeps-mapped, keeps-then, keeps-either, keeps-opt, keeps-star, keeps-plus, keeps-between, keeps-after, of-given}
 
 abbrev Pair : Type 0
 Pair = List ℕ × Tree
@@ -104,17 +103,17 @@ keeps-argument : (vars : Bool) (n : ℕ) → Keeps (an_argument Current vars n) 
 keeps-argument vars n = keeps-mapped {P = BothOf Anything (BothOf Anything IsDistinctValue)} (λ x k. k.1.1) (keeps-then (keeps-any {p = one any_name}) (keeps-then (keeps-any {p = one (punct ":")}) (keeps-value vars n)))
 
 pub keeps-arguments : (vars : Bool) (n : ℕ) → Keeps (arguments Current vars n) AreDistinctArguments
-keeps-arguments vars n = keeps-mapped {P = BothOf Anything (BothOf AreDistinctArguments Anything)} (λ x k. k.1.0) (keeps-then (keeps-any {p = one (punct "(")}) (keeps-then (keeps-plus (keeps-argument vars n)) (keeps-any {p = one (punct ")")})))
-
-pub given-distinct : (o : Option trees.Arguments) → OfOption AreDistinctArguments o → AreDistinctArguments (given o)
-given-distinct None h = tt
-given-distinct (Some xs) h = h
+keeps-arguments vars n = keeps-between (punct "(") (punct ")") (keeps-plus (keeps-argument vars n))
 
 pub keeps-directive : (vars : Bool) (n : ℕ) → Keeps (a_directive Current vars n) IsDistinctDirective
-keeps-directive vars n = keeps-mapped {P = BothOf Anything (BothOf Anything (OfOption AreDistinctArguments))} (λ x k. given-distinct x.1.1 k.1.1) (keeps-then (keeps-any {p = one (punct "@")}) (keeps-then (keeps-any {p = one any_name}) (keeps-opt (keeps-arguments vars n))))
+keeps-directive vars n = keeps-mapped {P = BothOf Anything (BothOf Anything (OfOption AreDistinctArguments))} (λ x k. of-given AreDistinctArguments tt x.1.1 k.1.1) (keeps-then (keeps-any {p = one (punct "@")}) (keeps-then (keeps-any {p = one any_name}) (keeps-opt (keeps-arguments vars n))))
 
 pub keeps-directives : (vars : Bool) (n : ℕ) → Keeps (directives Current vars n) AreDistinctDirectives
 keeps-directives vars n = keeps-star (keeps-directive vars n)
 
 pub keeps-default : (n : ℕ) → Keeps (a_default Current n) IsDistinctValue
-keeps-default n = keeps-mapped {P = BothOf Anything IsDistinctValue} (λ x k. k.1) (keeps-then (keeps-any {p = one (punct "=")}) (keeps-value false n))
+keeps-default n = keeps-after (punct "=") (keeps-value false n)
+
+pub default-distinct : (default : Option Value) → OfOption IsDistinctValue default → IsDistinctDefault default
+default-distinct None h = tt
+default-distinct (Some value) h = h

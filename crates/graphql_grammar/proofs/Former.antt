@@ -8,7 +8,7 @@ use Rattle.graphql_grammar.specs.grammar.Arguments.{an_argument, arguments, a_di
 use Rattle.graphql_grammar.specs.grammar.Values.{inside, StringStands, a_string, a_word, a_number, a_block, a_variable, a_simple_value, value}
 use Rattle.graphql_reading.specs.grammar.Relations.{one}
 use Rattle.graphql_reading.specs.grammar.Tests.{punct, any_name, any_string}
-use Rattle.graphql_reading.proofs.Includes.{Includes, includes-same, includes-meaning, includes-then, includes-either, includes-mapped, includes-opt, includes-star, includes-plus}
+use Rattle.graphql_reading.proofs.Includes.{Includes, includes-same, includes-meaning, includes-then, includes-either, includes-mapped, includes-opt, includes-star, includes-plus, includes-between, includes-after}
 
 pub string-stands : (t : Bare) (bytes : List ℕ) → StringStands Former t bytes → StringStands Current t bytes
 string-stands t bytes h = (h.0, former_means (chars (inside 1 t.spelling)) h.0 h.1, h.2)
@@ -32,7 +32,7 @@ pub includes-argument : (vars : Bool) (n : ℕ) → Includes (an_argument Former
 includes-argument vars n = includes-mapped (includes-then (includes-same {p = one any_name}) (includes-then (includes-same {p = one (punct ":")}) (includes-value vars n)))
 
 pub includes-arguments : (vars : Bool) (n : ℕ) → Includes (arguments Former vars n) (arguments Current vars n)
-includes-arguments vars n = includes-mapped (includes-then (includes-same {p = one (punct "(")}) (includes-then (includes-plus (includes-argument vars n)) (includes-same {p = one (punct ")")})))
+includes-arguments vars n = includes-between (punct "(") (punct ")") (includes-plus (includes-argument vars n))
 
 pub includes-directive : (vars : Bool) (n : ℕ) → Includes (a_directive Former vars n) (a_directive Current vars n)
 includes-directive vars n = includes-mapped (includes-then (includes-same {p = one (punct "@")}) (includes-then (includes-same {p = one any_name}) (includes-opt (includes-arguments vars n))))
@@ -41,4 +41,4 @@ pub includes-directives : (vars : Bool) (n : ℕ) → Includes (directives Forme
 includes-directives vars n = includes-star (includes-directive vars n)
 
 pub includes-default : (n : ℕ) → Includes (a_default Former n) (a_default Current n)
-includes-default n = includes-mapped (includes-then (includes-same {p = one (punct "=")}) (includes-value false n))
+includes-default n = includes-after (punct "=") (includes-value false n)

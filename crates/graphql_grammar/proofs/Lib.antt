@@ -15,4 +15,5 @@ pub mod Languages
 pub mod Answering
 pub mod OperationKinds
 pub mod Unbroken
+pub mod Breaches
 pub mod DistinctValues

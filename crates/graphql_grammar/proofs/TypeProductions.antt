@@ -1,5 +1,5 @@
 -- Types are read exactly, at every budget; and their places don't matter.
-use Rattle.std.proofs.Common.{◌≡◌, ℕ, zero, suc, ◌||◌, Option, Some, None, List, [], ◌↔◌, inl, inr, refl, sym, ap, subst}
+use Rattle.std.proofs.Common.{◌≡◌, ℕ, zero, suc, ◌||◌, Option, Some, None, List, [], ◌↔◌, inl, inr, refl, sym, ap, subst, option_map}
 use Rattle.graphql_tokens.specs.declared.pos.Positioned.{Positioned}
 use Rattle.graphql_tokens.specs.tokens.Token.{Token}
 use Rattle.graphql_syntax.specs.trees.TypeTree.{TypeTree, named, list}
@@ -18,7 +18,7 @@ use Rattle.graphql_reading.proofs.TokenTests.{punct-within, any_name-within, nam
 use Rattle.graphql_reading.proofs.PunctSamples.{has-close_list}
 use Rattle.graphql_reading.proofs.ReadsExactly.{ReadsExactly, HasPhrase, BeginsWith, exact-punct, exact-name, exact-mapped, exact-next, exact-then-some, exact-choose, exact-nested, exact-deep, exact-same, begins-one, begins-within, begins-same, begins-mapped, begins-then, begins-either, begins-nested, has-token, has-pair, has-map, has-first, extends-one}
 use Rattle.graphql_reading.proofs.Extra.{exact-opt, has-opt}
-use Rattle.graphql_reading.proofs.IgnoresPlaces.{IgnoresPlaces, ignores-one, ignores-then, ignores-mapped, ignores-either, ignores-opt, on-option}
+use Rattle.graphql_reading.proofs.IgnoresPlaces.{IgnoresPlaces, ignores-one, ignores-then, ignores-mapped, ignores-either, ignores-opt}
 
 -- ---- names and lists
 
@@ -98,7 +98,7 @@ exact-type {b} away = exact-within b.types b refl away
 
 -- ---- places
 
-nullable-same : (mark : Option Token) → nullable (on-option without_place mark) ≡ nullable mark
+nullable-same : (mark : Option Token) → nullable (option_map without_place mark) ≡ nullable mark
 nullable-same None = refl
 nullable-same (Some t) = refl
 

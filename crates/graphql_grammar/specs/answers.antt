@@ -1,3 +1,4 @@
 -- Public: what an answer of a parser means, whichever language it reads.
 pub mod Answers
+pub mod Breaches
 pub mod Language

@@ -1,8 +1,9 @@
 -- Inner: what clauses of readers cite.
 pub mod ArgumentViews
 pub mod Arguments
-pub mod ErrorPlaces
+pub mod Depths
 pub mod DocumentOf
+pub mod ErrorPlaces
 pub mod ReadBy
 pub mod Errors
 pub mod Fields

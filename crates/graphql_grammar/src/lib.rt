@@ -12,6 +12,7 @@
 #![tactic(auto)]
 
 pub mod arguments;
+pub mod depths;
 pub mod document;
 pub mod error;
 pub mod operations;

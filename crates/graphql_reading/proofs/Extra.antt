@@ -36,6 +36,9 @@ first-opt {A} {p} {f} {first} {g} leads h k = record { by = by }
 pub first-then : {A B : Type 0} {p : Limits → Rel A} {q : Limits → Rel B} {f g h : Test} → FirstWithin p g h → FirstWithin q f g → FirstWithin (λ c. p c ⨾ q c) f h
 first-then {p = p} {q = q} {f = f} {g = g} {h = h} o n = record { by = λ c x y a m begins. subst (λ (l : List Token). Begins h l) (sym (append_assoc m.front m.back y) ∙ ap (λ (l : List Token). l ++ y) (sym m.joined)) (o.by c m.front (m.back ++ y) a.0 m.first (n.by c m.back y a.1 m.second begins)) }
 
+pub first-mapped : {A B : Type 0} {k : A → B} {p : Limits → Rel A} {f g : Test} → FirstWithin p f g → FirstWithin (λ c. mapped k (p c)) f g
+first-mapped o = record { by = λ c x y t m begins. o.by c x y m.value m.holds begins }
+
 -- any number of parts that look ahead
 pub exact-many-ahead : {A : Type 0} {p : Limits → Rel A} {b : Limits} {f first g : Test} {r : Reader A} → BeginsWith p first → IsSubset first g → IsSubset f g → IsSubset f (outside first) → ReadsExactly p b g r → ReadsExactly (λ c. star (p c)) b f (many_at first r)
 exact-many-ahead {p = p} {b = b} {f = f} {first = first} {g = g} {r = r} leads h k away exact = record { at = many-exact p b f first g r leads.by h k away exact.at }
@@ -134,3 +137,46 @@ then-same p q r e x t = (λ h. record { front = h.front; back = h.back; joined =
 
 pub both-ways : {P Q R : Type 0} → P ↔ Q → Q ↔ R → P ↔ R
 both-ways h k = (λ p. k.0 (h.0 p), λ r. h.1 (k.1 r))
+
+-- a production after a part, taken in among others
+pub taken-in : {A B X Y D : Type 0} (p : Rel A) (q : Rel B) (i : B → X) (h : A × X → D) (g : A × B → Y) (k : Y → D) → ((a : A) (b : B) → h (a, i b) ≡ k (g (a, b))) → (x : List Token) (t : D) → mapped h (p ⨾ mapped i q) x t ↔ mapped k (mapped g (p ⨾ q)) x t
+taken-in {A} {B} {X} {Y} {D} p q i h g k e x t = (to, from)
+  where
+    to : mapped h (p ⨾ mapped i q) x t → mapped k (mapped g (p ⨾ q)) x t
+    to m = record {
+      value = g (m.value.0, m.holds.second.value);
+      holds = record { value = (m.value.0, m.holds.second.value); holds = record { front = m.holds.front; back = m.holds.back; joined = m.holds.joined; first = m.holds.first; second = m.holds.second.holds }; is = refl };
+      is = m.is ∙ ap (λ (y : X). h (m.value.0, y)) m.holds.second.is ∙ e m.value.0 m.holds.second.value;
+    }
+
+    from : mapped k (mapped g (p ⨾ q)) x t → mapped h (p ⨾ mapped i q) x t
+    from m = record {
+      value = (m.holds.value.0, i m.holds.value.1);
+      holds = record { front = m.holds.holds.front; back = m.holds.holds.back; joined = m.holds.holds.joined; first = m.holds.holds.first; second = record { value = m.holds.value.1; holds = m.holds.holds.second; is = refl } };
+      is = m.is ∙ ap k m.holds.is ∙ sym (e m.holds.value.0 m.holds.value.1);
+    }
+
+-- one of two after a part
+pub spread-out : {A X D : Type 0} (p : Rel A) (q r : Rel X) (h : A × X → D) (x : List Token) (t : D) → mapped h (p ⨾ (q ∪ r)) x t ↔ (mapped h (p ⨾ q) ∪ mapped h (p ⨾ r)) x t
+spread-out {A} {X} {D} p q r h x t = (to, from)
+  where
+    to : mapped h (p ⨾ (q ∪ r)) x t → (mapped h (p ⨾ q) ∪ mapped h (p ⨾ r)) x t
+    to m = elim m.holds.second [
+      | inl k ↦ inl (record { value = m.value; holds = record { front = m.holds.front; back = m.holds.back; joined = m.holds.joined; first = m.holds.first; second = k }; is = m.is })
+      | inr k ↦ inr (record { value = m.value; holds = record { front = m.holds.front; back = m.holds.back; joined = m.holds.joined; first = m.holds.first; second = k }; is = m.is })
+    ]
+
+    from : (mapped h (p ⨾ q) ∪ mapped h (p ⨾ r)) x t → mapped h (p ⨾ (q ∪ r)) x t
+    from (inl m) = record { value = m.value; holds = record { front = m.holds.front; back = m.holds.back; joined = m.holds.joined; first = m.holds.first; second = inl m.holds.second }; is = m.is }
+    from (inr m) = record { value = m.value; holds = record { front = m.holds.front; back = m.holds.back; joined = m.holds.joined; first = m.holds.first; second = inr m.holds.second }; is = m.is }
+
+pub either-same : {A : Type 0} (p q r s : Rel A) (x : List Token) (t : A) → p x t ↔ q x t → r x t ↔ s x t → (p ∪ r) x t ↔ (q ∪ s) x t
+either-same {A} p q r s x t h k = (to, from)
+  where
+    to : (p ∪ r) x t → (q ∪ s) x t
+    to (inl m) = inl (h.0 m)
+    to (inr m) = inr (k.0 m)
+
+    from : (q ∪ s) x t → (p ∪ r) x t
+    from (inl m) = inl (h.1 m)
+    from (inr m) = inr (k.1 m)

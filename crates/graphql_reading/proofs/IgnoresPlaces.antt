@@ -1,9 +1,9 @@
 -- Places don't matter: with other places there is a tree too, the same but for places.
-use Rattle.std.proofs.Common.{◌≡◌, ℕ, zero, suc, IsTrue, map, Option, Some, None, List, [], ◌∷◌, ◌++◌, ◌↔◌, inl, inr, refl, sym, ap, ap₂, ◌∙◌, subst}
+use Rattle.std.proofs.Common.{◌≡◌, ℕ, zero, suc, IsTrue, map, option_map, Option, Some, None, List, [], ◌∷◌, ◌++◌, ◌↔◌, inl, inr, refl, sym, ap, ap₂, ◌∙◌, subst}
 use Rattle.graphql_tokens.specs.tokens.Token.{Bare, Token}
 use Rattle.graphql_reading.specs.grammar.Tests.{Test}
 use Rattle.graphql_reading.specs.grammar.Limits.{Limits}
-use Rattle.graphql_reading.specs.grammar.Relations.{Rel, one, ◌⨾◌, ◌∪◌, mapped, never, opt, star, plus, cons}
+use Rattle.graphql_reading.specs.grammar.Relations.{Rel, one, ◌⨾◌, ◌∪◌, mapped, never, opt, star, plus, cons, given}
 use Rattle.graphql_reading.specs.grammar.Fronts.{bares, without_place, without_places}
 use Rattle.graphql_reading.proofs.Parts.{none, nested, below, Nesting, left, leave}
 
@@ -143,17 +143,18 @@ ignores-same e h = record {
   fixed = λ c x a m is. h.fixed c x a ((e c x a).1 m) is;
 }
 
-abbrev pub on-option : {A : Type 0} → (A → A) → Option A → Option A
-on-option f None = None
-on-option f (Some a) = Some (f a)
-
-pub ignores-opt : {A : Type 0} {p : Limits → Rel A} {f : A → A} → IgnoresPlaces p f → IgnoresPlaces (λ c. opt (p c)) (on-option f)
+pub ignores-opt : {A : Type 0} {p : Limits → Rel A} {f : A → A} → IgnoresPlaces p f → IgnoresPlaces (λ c. opt (p c)) (option_map f)
 ignores-opt {A} {p} {f} h = record { by = by; fixed = fixed }
   where
-    by : (c : Limits) (x y : List Token) (a : Option A) → opt (p c) x a → bares x ≡ bares y → Same (opt (p c)) (on-option f) y a
+    by : (c : Limits) (x y : List Token) (a : Option A) → opt (p c) x a → bares x ≡ bares y → Same (opt (p c)) (option_map f) y a
     by c x y None m e = record { tree = None; holds = no-bares y (sym e ∙ ap bares m); same = refl }
     by c x y (Some a) m e = let i = h.by c x y a m e in record { tree = Some i.tree; holds = i.holds; same = ap Some i.same }
 
-    fixed : (c : Limits) (x : List Token) (a : Option A) → opt (p c) x a → without_places x ≡ x → on-option f a ≡ a
+    fixed : (c : Limits) (x : List Token) (a : Option A) → opt (p c) x a → without_places x ≡ x → option_map f a ≡ a
     fixed c x None m e = refl
     fixed c x (Some a) m e = ap Some (h.fixed c x a m e)
+
+-- a list that isn't there has no places
+pub map-given : {A : Type 0} (f : A → A) (list : Option (List A)) → map f (given list) ≡ given (option_map (map f) list)
+map-given f None = refl
+map-given f (Some list) = refl

@@ -3,7 +3,7 @@ use Rattle.std.proofs.Common.{inl, inr, Option, Some, None, List, [], ◌∷◌}
 use Rattle.graphql_tokens.specs.tokens.Token.{Bare, Token}
 use Rattle.graphql_reading.specs.grammar.Fronts.{whole}
 use Rattle.graphql_reading.specs.grammar.Limits.{Limits}
-use Rattle.graphql_reading.specs.grammar.Relations.{Rel, one, meaning, ◌⨾◌, ◌∪◌, mapped, star, plus, opt, after, separated}
+use Rattle.graphql_reading.specs.grammar.Relations.{Rel, one, meaning, ◌⨾◌, ◌∪◌, mapped, star, plus, opt, between, after, separated}
 use Rattle.graphql_reading.specs.grammar.Tests.{Test, the_end}
 
 pub record Includes {A : Type 0} (p q : Rel A) : Type 0 where
@@ -44,6 +44,9 @@ includes-star {A} {p} {q} h = record { by = by }
 
 pub includes-plus : {A : Type 0} {p q : Rel A} → Includes p q → Includes (plus p) (plus q)
 includes-plus h = includes-mapped (includes-then h (includes-star h))
+
+pub includes-between : {A : Type 0} (opening closing : Test) {p q : Rel A} → Includes p q → Includes (between opening p closing) (between opening q closing)
+includes-between opening closing h = includes-mapped (includes-then (includes-same {p = one opening}) (includes-then h (includes-same {p = one closing})))
 
 pub includes-after : {A : Type 0} (mark : Test) {p q : Rel A} → Includes p q → Includes (after mark p) (after mark q)
 includes-after mark h = includes-mapped (includes-then (includes-same {p = one mark}) h)

@@ -2,7 +2,10 @@
 use Rattle.std.proofs.Common.{inl, inr, Option, Some, None, List, [], ◌∷◌, sym, subst}
 use Rattle.std.specs.List.{AllByRecursion}
 use Rattle.graphql_tokens.specs.tokens.Token.{Token}
-use Rattle.graphql_reading.specs.grammar.Relations.{Rel, never, ◌⨾◌, ◌∪◌, mapped, star, plus, opt}
+use Rattle.graphql_reading.specs.grammar.Fronts.{whole}
+use Rattle.graphql_reading.specs.grammar.Limits.{Limits}
+use Rattle.graphql_reading.specs.grammar.Relations.{Rel, one, never, ◌⨾◌, ◌∪◌, mapped, star, plus, opt, given, between, after}
+use Rattle.graphql_reading.specs.grammar.Tests.{Test, the_end}
 
 pub record Keeps {A : Type 0} (p : Rel A) (P : A → Type 0) : Type 0 where
   pub by : (x : List Token) (t : A) → p x t → P t
@@ -16,6 +19,11 @@ BothOf P Q x = P x.0 × Q x.1
 abbrev pub OfOption : {A : Type 0} → (A → Type 0) → Option A → Type 0
 OfOption P None = Unit {0}
 OfOption P (Some a) = P a
+
+-- a list that isn't there is empty
+pub of-given : {A : Type 0} (P : List A → Type 0) → P [] → (list : Option (List A)) → OfOption P list → P (given list)
+of-given P empty None h = empty
+of-given P empty (Some list) h = h
 
 pub keeps-any : {A : Type 0} {p : Rel A} → Keeps p Anything
 keeps-any = record { by = λ x t h. tt }
@@ -55,3 +63,14 @@ keeps-star {A} {p} {P} h = record { by = by }
 
 pub keeps-plus : {A : Type 0} {p : Rel A} {P : A → Type 0} → Keeps p P → Keeps (plus p) (AllByRecursion P)
 keeps-plus {A} {p} {P} h = keeps-mapped {P = BothOf P (AllByRecursion P)} (λ x k. (k.0, k.1)) (keeps-then h (keeps-star h))
+
+-- ---- with tokens around
+
+pub keeps-after : {A : Type 0} (mark : Test) {p : Rel A} {P : A → Type 0} → Keeps p P → Keeps (after mark p) P
+keeps-after mark {P = P} h = keeps-mapped {P = BothOf Anything P} (λ x k. k.1) (keeps-then (keeps-any {p = one mark}) h)
+
+pub keeps-between : {A : Type 0} (opening closing : Test) {p : Rel A} {P : A → Type 0} → Keeps p P → Keeps (between opening p closing) P
+keeps-between opening closing {P = P} h = keeps-mapped {P = BothOf Anything (BothOf P Anything)} (λ x k. k.1.0) (keeps-then (keeps-any {p = one opening}) (keeps-then h (keeps-any {p = one closing})))
+
+pub keeps-whole : {A : Type 0} {p : Limits → Rel A} {P : A → Type 0} → ((c : Limits) → Keeps (p c) P) → (c : Limits) → Keeps (whole p c) P
+keeps-whole {P = P} h c = keeps-mapped {P = BothOf P Anything} (λ x k. k.0) (keeps-then (h c) (keeps-any {p = one the_end}))

@@ -13,7 +13,7 @@ pub mod Steps
 pub mod Meaning
 pub mod PunctSamples
 pub mod Optional
-pub mod Separated
+pub mod Marks
 pub mod SeparatedLoop
 pub mod Includes
 pub mod Keeps

@@ -1,12 +1,13 @@
--- Alternatives that may be empty, and optional parts by the token in sight.
-use Rattle.std.proofs.Common.{◌≡◌, true, false, Option, Some, None, List, ◌∷◌, ◌++◌, inl, inr, refl, sym, ap, ◌∙◌, subst}
+-- Alternatives that may be empty or have no phrases, and optional parts by the token in sight.
+use Rattle.std.proofs.Common.{◌≡◌, true, false, Option, Some, None, List, [], ◌∷◌, ◌++◌, ◌↔◌, inl, inr, refl, sym, ap, ◌∙◌, subst}
 use Rattle.graphql_tokens.specs.tokens.Token.{Token}
+use Rattle.graphql_reading.specs.grammar.Fronts.{syntax}
 use Rattle.graphql_reading.specs.grammar.Tests.{Test}
 use Rattle.graphql_reading.specs.grammar.Limits.{Limits}
-use Rattle.graphql_reading.specs.grammar.Relations.{Rel, ◌∪◌, star, plus}
+use Rattle.graphql_reading.specs.grammar.Relations.{Rel, never, ◌∪◌, star, plus}
 use Rattle.graphql_reading.specs.reading.Outcome.{Outcome, Read, Refused, Reader, ◌>>=◌, then_at, mapped_at, choose_at, none_at, opt_at}
 use Rattle.graphql_reading.proofs.Parts.{none}
-use Rattle.graphql_reading.proofs.Theory.{Begins, Exact, Starts, IsSubset, outside, within-begins, leads-starts, choose-exact, none-exact}
+use Rattle.graphql_reading.proofs.Theory.{Begins, Dead, IfHead, peek, Exact, Starts, IsSubset, outside, within-begins, leads-starts, choose-exact, none-exact}
 use Rattle.graphql_reading.proofs.ReadsExactly.{ReadsExactly, BeginsWith}
 use Rattle.graphql_reading.proofs.Extra.{FirstWithin}
 
@@ -27,6 +28,24 @@ first-either {p = p} {q = q} {f = f} {g = g} h k = record { by = by }
     by : Starts (λ c. p c ∪ q c) f g
     by c x y a (inl m) begins = h.by c x y a m begins
     by c x y a (inr m) begins = k.by c x y a m begins
+
+-- ---- no phrases
+
+-- each list is refused at its first token
+pub exact-never : {A : Type 0} {b : Limits} {f : Test} → ReadsExactly (λ c. never {A = A}) b f (λ ts. Refused syntax ts)
+exact-never {A} {b} {f} = record { at = λ ts. record { before = []; split = refl; quiet = tt; alive = inl refl; dead = none ts } }
+  where
+    none : (ts : List Token) → IfHead ts (Dead (λ c. never {A = A}) b f syntax (peek ts))
+    none [] = tt
+    none (t ∷ ts) = λ c x y z a h begins e. h
+
+pub begins-never : {A : Type 0} {g : Test} → BeginsWith (λ c. never {A = A}) g
+begins-never = record { by = λ c x y a m. absurd m }
+
+pub or-never : {A : Type 0} (p : Rel A) (x : List Token) (t : A) → (p ∪ never) x t ↔ p x t
+or-never p x t = (λ h. elim h [ inl k ↦ k | inr k ↦ absurd k ], λ h. inl h)
+
+-- ---- readers
 
 -- one reader in place of another
 pub exact-reader : {A : Type 0} {p : Limits → Rel A} {b : Limits} {f : Test} {r s : Reader A} → ((ts : List Token) → r ts ≡ s ts) → ReadsExactly p b f r → ReadsExactly p b f s

@@ -1,5 +1,5 @@
 -- In each request that the grammar relates to tokens no object has a name twice.
-use Rattle.std.proofs.Common.{ℕ, zero, suc, true, Option, Some, None, List, [], ◌∷◌, sym, subst}
+use Rattle.std.proofs.Common.{ℕ, zero, suc, true, Option, Some, None, List, [], ◌∷◌}
 use Rattle.std.specs.List.{AllByRecursion}
 use Rattle.graphql_tokens.specs.declared.pos.Positioned.{Positioned}
 use Rattle.graphql_tokens.specs.tokens.Edition.{Current}
@@ -7,17 +7,17 @@ use Rattle.graphql_tokens.specs.tokens.Token.{Token}
 use Rattle.graphql_syntax.specs.trees.Parts.{Name, Directives}
 use Rattle.graphql_request_trees.specs.trees.Request.{VariableDefinition, Selection, set_of, OperationDefinition}
 use Rattle.graphql_grammar.specs.answers.Language.{grammar}
-use Rattle.graphql_grammar.specs.grammar.Distinct.{IsDistinctValue, AreDistinctArguments, AreDistinctDirectives}
+use Rattle.graphql_grammar.specs.grammar.Distinct.{IsDistinctValue, IsDistinctDefault, AreDistinctArguments, AreDistinctDirectives}
 use Rattle.graphql_grammar.specs.grammar.Operations.{operation_type}
 use Rattle.graphql_grammar.specs.grammar.Types.{type_reference}
 use Rattle.graphql_grammar.specs.grammar.Values.{Value}
-use Rattle.graphql_grammar.proofs.DistinctValues.{keeps-arguments, given-distinct, keeps-directive, keeps-directives, keeps-default}
+use Rattle.graphql_grammar.proofs.DistinctValues.{keeps-arguments, keeps-directive, keeps-directives, keeps-default, default-distinct}
 use Rattle.graphql_reading.specs.grammar.Limits.{Limits}
-use Rattle.graphql_reading.specs.grammar.Relations.{Rel, one, opt, given}
+use Rattle.graphql_reading.specs.grammar.Relations.{Rel, one, opt}
 use Rattle.graphql_reading.specs.grammar.Tests.{punct, keyword, any_name}
-use Rattle.graphql_reading.proofs.Keeps.{Keeps, Anything, BothOf, OfOption, keeps-any, keeps-never, keeps-more, keeps-mapped, keeps-then, keeps-either, keeps-opt, keeps-plus}
+use Rattle.graphql_reading.proofs.Keeps.{Keeps, Anything, BothOf, OfOption, keeps-any, keeps-never, keeps-more, keeps-mapped, keeps-then, keeps-either, keeps-opt, keeps-plus, keeps-between, keeps-whole, of-given}
 use Rattle.graphql_requests.specs.grammar.Documents.{named_operations, fragments, operations_beside}
-use Rattle.graphql_requests.specs.grammar.Laws.{IsDistinctDefault, IsDistinctVariable, IsDistinctSelection, IsDistinctSet, HasDistinctObjects, FragmentHasDistinctObjects, OperationsHaveDistinctObjects}
+use Rattle.graphql_requests.specs.grammar.Laws.{IsDistinctVariable, IsDistinctSelection, IsDistinctSet, HasDistinctObjects, FragmentHasDistinctObjects, OperationsHaveDistinctObjects}
 use Rattle.graphql_requests.specs.grammar.Request.{Definition, operation, fragment, own_set, a_definition}
 use Rattle.graphql_requests.specs.grammar.Requests.{requests}
 use Rattle.graphql_requests.specs.grammar.Selections.{Set, set_or_none, aliased, fragment_name, a_type_condition, a_selection, selection_set}
@@ -27,10 +27,6 @@ use Rattle.graphql_requests.specs.grammar.Variables.{default_and_directives, a_v
 
 abbrev OfBoth : Option Value × Directives → Type 0
 OfBoth x = IsDistinctDefault x.0 × AreDistinctDirectives x.1
-
-default-distinct : (o : Option Value) → OfOption IsDistinctValue o → IsDistinctDefault o
-default-distinct None h = tt
-default-distinct (Some v) h = h
 
 keeps-default_and_directives : (n : ℕ) → Keeps (default_and_directives Current n) OfBoth
 keeps-default_and_directives n =
@@ -46,11 +42,7 @@ abbrev OfVariables : List (Positioned VariableDefinition) → Type 0
 OfVariables vs = AllByRecursion IsDistinctVariable vs
 
 keeps-variables : (n m : ℕ) → Keeps (variable_definitions Current n m) OfVariables
-keeps-variables n m = keeps-mapped {P = BothOf Anything (BothOf OfVariables Anything)} (λ x k. k.1.0) (keeps-then (keeps-any {p = one (punct "(")}) (keeps-then (keeps-plus (keeps-variable n m)) (keeps-any {p = one (punct ")")})))
-
-variables-distinct : (o : Option (List (Positioned VariableDefinition))) → OfOption OfVariables o → OfVariables (given o)
-variables-distinct None h = tt
-variables-distinct (Some vs) h = h
+keeps-variables n m = keeps-between (punct "(") (punct ")") (keeps-plus (keeps-variable n m))
 
 -- ---- selections
 
@@ -71,7 +63,7 @@ items-distinct (x ∷ xs) h = (h.0, items-distinct xs h.1)
 keeps-selection : (n : ℕ) {set : Rel Set} → Keeps set OfSet → Keeps (a_selection Current n set) OfSelection
 keeps-selection n h =
     keeps-either
-    (keeps-mapped {P = BothOf Anything (BothOf (OfOption AreDistinctArguments) (BothOf AreDistinctDirectives (OfOption OfSet)))} (λ x k. (given-distinct x.1.0 k.1.0, k.1.1.0, set-distinct x.1.1.1 k.1.1.1))
+    (keeps-mapped {P = BothOf Anything (BothOf (OfOption AreDistinctArguments) (BothOf AreDistinctDirectives (OfOption OfSet)))} (λ x k. (of-given AreDistinctArguments tt x.1.0 k.1.0, k.1.1.0, set-distinct x.1.1.1 k.1.1.1))
     (keeps-then (keeps-any {p = aliased}) (keeps-then (keeps-opt (keeps-arguments true n)) (keeps-then (keeps-directives true n) (keeps-opt h)))))
     (keeps-either
     (keeps-mapped {P = BothOf Anything (BothOf Anything AreDistinctDirectives)} (λ x k. k.1.1) (keeps-then (keeps-any {p = one (punct "...")}) (keeps-then (keeps-any {p = one fragment_name}) (keeps-directives true n))))
@@ -99,13 +91,13 @@ keeps-definition : (c : Limits) → Keeps (a_definition Current c) OfDefinition
 keeps-definition c =
     keeps-either (keeps-mapped {P = OfSet} (λ set k. (tt, tt, k)) (keeps-own_set c))
     (keeps-either
-    (keeps-mapped {P = BothOf Anything (BothOf Anything (BothOf (OfOption OfVariables) (BothOf AreDistinctDirectives OfSet)))} (λ x k. (variables-distinct x.1.1.0 k.1.1.0, k.1.1.1.0, k.1.1.1.1))
+    (keeps-mapped {P = BothOf Anything (BothOf Anything (BothOf (OfOption OfVariables) (BothOf AreDistinctDirectives OfSet)))} (λ x k. (of-given OfVariables tt x.1.1.0 k.1.1.0, k.1.1.1.0, k.1.1.1.1))
     (keeps-then (keeps-any {p = operation_type}) (keeps-then (keeps-any {p = opt (one any_name)}) (keeps-then (keeps-opt (keeps-variables c.values c.types)) (keeps-then (keeps-directives true c.values) (keeps-own_set c))))))
     (keeps-mapped {P = BothOf Anything (BothOf Anything (BothOf Anything (BothOf AreDistinctDirectives OfSet)))} (λ x k. (k.1.1.1.0, k.1.1.1.1))
     (keeps-then (keeps-any {p = one (keyword "fragment")}) (keeps-then (keeps-any {p = one fragment_name}) (keeps-then (keeps-any {p = a_type_condition}) (keeps-then (keeps-directives true c.values) (keeps-own_set c)))))))
 
 pub all-distinct : (c : Limits) (ts : List Token) (ds : List Definition) → grammar requests Current c ts ds → AllByRecursion OfDefinition ds
-all-distinct c ts ds h = subst (AllByRecursion OfDefinition) (sym h.is) ((keeps-plus (keeps-definition c)).by h.holds.front h.value.0 h.holds.first)
+all-distinct c = (keeps-whole (λ c. keeps-plus (keeps-definition c)) c).by
 
 -- ---- documents
 

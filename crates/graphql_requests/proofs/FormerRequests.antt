@@ -7,7 +7,7 @@ use Rattle.graphql_grammar.proofs.Former.{includes-arguments, includes-directive
 use Rattle.graphql_reading.specs.grammar.Limits.{Limits}
 use Rattle.graphql_reading.specs.grammar.Relations.{Rel, one, never, opt}
 use Rattle.graphql_reading.specs.grammar.Tests.{punct, keyword, any_name}
-use Rattle.graphql_reading.proofs.Includes.{Includes, includes-same, includes-then, includes-either, includes-mapped, includes-opt, includes-plus}
+use Rattle.graphql_reading.proofs.Includes.{Includes, includes-same, includes-then, includes-either, includes-mapped, includes-opt, includes-plus, includes-between}
 use Rattle.graphql_requests.specs.grammar.Request.{definitions, a_definition, own_set}
 use Rattle.graphql_requests.specs.grammar.Selections.{Set, aliased, fragment_name, a_type_condition, a_selection, selection_set}
 use Rattle.graphql_requests.specs.grammar.Variables.{default_and_directives, a_variable_definition, variable_definitions}
@@ -24,7 +24,7 @@ includes-variable_definition n m =
     includes-mapped (includes-then (includes-same {p = one (punct "$")}) (includes-then (includes-same {p = one any_name}) (includes-then (includes-same {p = one (punct ":")}) (includes-then (includes-same {p = type_reference m}) (includes-default_and_directives n)))))
 
 includes-variable_definitions : (n m : ℕ) → Includes (variable_definitions Former n m) (variable_definitions Current n m)
-includes-variable_definitions n m = includes-mapped (includes-then (includes-same {p = one (punct "(")}) (includes-then (includes-plus (includes-variable_definition n m)) (includes-same {p = one (punct ")")})))
+includes-variable_definitions n m = includes-between (punct "(") (punct ")") (includes-plus (includes-variable_definition n m))
 
 -- ---- selections
 

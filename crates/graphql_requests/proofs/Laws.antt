@@ -14,6 +14,7 @@ use Rattle.graphql_grammar.specs.answers.Answers.{Answers, AreUnbroken, IsDocume
 use Rattle.graphql_grammar.specs.declared.error.Error.{Error}
 use Rattle.graphql_grammar.specs.declared.error.Error.TheVariants.{MultipleOperations, OperationDuplicated, FragmentDuplicated}
 use Rattle.graphql_reading.specs.grammar.Limits.{Limits}
+use Rattle.graphql_grammar.proofs.Breaches.{none-second}
 use Rattle.graphql_grammar.proofs.Unbroken.{not-nil}
 use Rattle.graphql_reading.proofs.IgnoresPlaces.{head-is, tail-is}
 use Rattle.graphql_requests.specs.grammar.Documents.{named_operations, fragments, operations_beside, document_of}
@@ -23,7 +24,6 @@ use Rattle.graphql_requests.specs.grammar.Requests.{requests}
 use Rattle.graphql_requests.specs.grammar.Rules.{breach_of, lack_of, missing_operation, first_operation, first_anonymous, first_operation_named, first_fragment_named}
 use Rattle.graphql_requests.proofs.DistinctObjects.{OfDefinition, all-distinct, in-operations, in-fragments, in-beside}
 use Rattle.graphql_requests.proofs.OneMore.{operation-place, fragment-place, none-inside}
-use Rattle.graphql_requests.proofs.Sorted.{none-second}
 
 -- ---- an entry comes from a definition, and those before it from the definitions before that
 

@@ -8,16 +8,13 @@ use Rattle.graphql_syntax.specs.trees.Parts.{Name, placed}
 use Rattle.graphql_request_trees.specs.trees.Request.{OperationDefinition, FragmentDefinition, single, multiple}
 use Rattle.graphql_request_trees.specs.trees.RequestViews.{entry_tree}
 use Rattle.indexmap.specs.IndexMap.{insert_entry}
+use Rattle.graphql_grammar.specs.answers.Breaches.{or_else}
 use Rattle.graphql_requests.specs.grammar.Documents.{named_operations, fragments, operations_beside}
 use Rattle.graphql_requests.specs.grammar.Request.{Definition, operation, fragment}
-use Rattle.graphql_requests.specs.grammar.Rules.{or_else, first_operation, first_anonymous, first_operation_named, first_fragment_named}
+use Rattle.graphql_requests.specs.grammar.Rules.{first_operation, first_anonymous, first_operation_named, first_fragment_named}
 use Rattle.graphql_requests.specs.reading.Sorting.{anonymous_in, first_place}
 
 -- ---- what is found in the list with one more
-
-or-assoc : {A : Type 0} (x y z : Option A) → or_else (or_else x y) z ≡ or_else x (or_else y z)
-or-assoc None y z = refl
-or-assoc (Some a) y z = refl
 
 pub first-more : (ds : List Definition) (d : Definition) → first_operation (ds ++ d ∷ []) ≡ or_else (first_operation ds) (first_operation (d ∷ []))
 first-more [] d = refl

@@ -1,5 +1,5 @@
 -- Operations, fragments and documents are read exactly, have phrases, and don't look at places.
-use Rattle.std.proofs.Common.{◌≡◌, true, IsTrue, Option, Some, None, List, [], ◌∷◌, map, refl}
+use Rattle.std.proofs.Common.{◌≡◌, true, IsTrue, Option, Some, None, List, [], ◌∷◌, map, refl, option_map}
 use Rattle.graphql_tokens.specs.declared.pos.Positioned.{Positioned}
 use Rattle.graphql_syntax.specs.declared.types.OperationType.{OperationType}
 use Rattle.graphql_tokens.specs.tokens.Edition.{Current}
@@ -25,7 +25,7 @@ use Rattle.graphql_reading.proofs.Theory.{IsSubset, outside, anything}
 use Rattle.graphql_reading.proofs.TokenTests.{word_of, itself, punct-within, keyword-within, the_end-within, keyword-sample}
 use Rattle.graphql_reading.proofs.ReadsExactly.{ReadsExactly, HasPhrase, BeginsWith, exact-keyword, exact-name, exact-name_but, exact-mapped, exact-next, exact-then-some, exact-choose, exact-same, exact-plus, begins-one, begins-within, begins-mapped, begins-then, begins-either, has-token, has-pair, has-map, has-plus, has-first}
 use Rattle.graphql_reading.proofs.Extra.{has-opt, exact-opt, begins-opt, begins-star, either-way}
-use Rattle.graphql_reading.proofs.IgnoresPlaces.{IgnoresPlaces, ignores-one, ignores-then, ignores-mapped, ignores-either, ignores-plus, ignores-opt, on-option}
+use Rattle.graphql_reading.proofs.IgnoresPlaces.{IgnoresPlaces, ignores-one, ignores-then, ignores-mapped, ignores-either, ignores-plus, ignores-opt}
 use Rattle.graphql_reading.proofs.Loop.{Takes, takes-one}
 use Rattle.graphql_grammar.specs.reading.ReadBy.{IsReadBy}
 use Rattle.graphql_grammar.proofs.Languages.{IsRead, is-read-by}
@@ -107,7 +107,7 @@ has-full_operation = has-map (has-pair has-operation_type (has-pair (has-opt {p 
 abbrev operation-parts : Type 0
 operation-parts = (Token × OperationType) × (Option Token × (Option (List (Positioned VariableDefinition)) × (Directives × Set)))
 
-operation-placeless : (x : operation-parts) → placeless_definition (operation_of x) ≡ operation_of (without-keyword-place x.0, (on-option without_place x.1.0, (on-option (map (unplaced placeless_variable)) x.1.1.0, (placeless_directives x.1.1.1.0, unplaced placeless_set x.1.1.1.1))))
+operation-placeless : (x : operation-parts) → placeless_definition (operation_of x) ≡ operation_of (without-keyword-place x.0, (option_map without_place x.1.0, (option_map (map (unplaced placeless_variable)) x.1.1.0, (placeless_directives x.1.1.1.0, unplaced placeless_set x.1.1.1.1))))
 operation-placeless (ty, (None, (None, more))) = refl
 operation-placeless (ty, (None, (Some variables, more))) = refl
 operation-placeless (ty, (Some name, (None, more))) = refl

@@ -1,5 +1,5 @@
 -- Selections and selection sets don't look at places.
-use Rattle.std.proofs.Common.{◌≡◌, ℕ, zero, suc, true, Option, Some, None, List, [], ◌∷◌, map, refl, ap}
+use Rattle.std.proofs.Common.{◌≡◌, ℕ, zero, suc, true, Option, Some, None, List, [], ◌∷◌, map, refl, ap, option_map}
 use Rattle.graphql_tokens.specs.declared.pos.Positioned.{Positioned}
 use Rattle.graphql_tokens.specs.tokens.Edition.{Current}
 use Rattle.graphql_tokens.specs.tokens.Token.{Token}
@@ -13,12 +13,12 @@ use Rattle.graphql_reading.specs.grammar.Fronts.{without_place}
 use Rattle.graphql_grammar.specs.grammar.Placeless.{unplaced, placeless_argument, placeless_directives}
 use Rattle.graphql_requests.specs.grammar.Placeless.{placeless_condition, placeless_selection, placeless_set}
 use Rattle.graphql_requests.specs.grammar.Selections.{Set, aliased, field_of, a_field, fragment_name, a_spread, a_type_condition, inline_of, an_inline_fragment, a_selection, a_set, selection_set}
-use Rattle.graphql_reading.proofs.IgnoresPlaces.{IgnoresPlaces, ignores-one, ignores-then, ignores-mapped, ignores-either, ignores-plus, ignores-opt, ignores-never, on-option}
+use Rattle.graphql_reading.proofs.IgnoresPlaces.{IgnoresPlaces, ignores-one, ignores-then, ignores-mapped, ignores-either, ignores-plus, ignores-opt, ignores-never}
 use Rattle.graphql_grammar.proofs.ArgumentProductions.{ignores-maybe_arguments, ignores-directives}
 use Rattle.graphql_requests.proofs.SelectionProductions.{sets}
 
 abbrev pub without-places-of : Option Token × Token → Option Token × Token
-without-places-of x = (on-option without_place x.0, without_place x.1)
+without-places-of x = (option_map without_place x.0, without_place x.1)
 
 pub ignores-aliased : IgnoresPlaces (λ c. aliased) without-places-of
 ignores-aliased = ignores-then (ignores-opt (ignores-mapped {g = without_place} (λ x. refl) (ignores-then (ignores-one any_name) (ignores-one (punct ":"))))) (ignores-one any_name)
@@ -29,7 +29,7 @@ abbrev field-parts : Type 0
 field-parts = (Option Token × Token) × (Option Arguments × (Directives × Option Set))
 
 abbrev placeless-parts : field-parts → field-parts
-placeless-parts x = (without-places-of x.0, (on-option (map placeless_argument) x.1.0, (placeless_directives x.1.1.0, on-option (unplaced placeless_set) x.1.1.1)))
+placeless-parts x = (without-places-of x.0, (option_map (map placeless_argument) x.1.0, (placeless_directives x.1.1.0, option_map (unplaced placeless_set) x.1.1.1)))
 
 field-placeless : (x : field-parts) → unplaced placeless_selection (field_of x) ≡ field_of (placeless-parts x)
 field-placeless ((None, name), (None, (ds, None))) = refl
@@ -52,7 +52,7 @@ ignores-spread = ignores-mapped (λ x. refl) (ignores-then (ignores-one (punct "
 pub ignores-type_condition : IgnoresPlaces (λ c. a_type_condition) (unplaced placeless_condition)
 ignores-type_condition = ignores-mapped (λ x. refl) (ignores-then (ignores-one (keyword "on")) (ignores-one any_name))
 
-inline-placeless : (x : Token × (Option (Positioned TypeCondition) × (Directives × Set))) → unplaced placeless_selection (inline_of x) ≡ inline_of (without_place x.0, (on-option (unplaced placeless_condition) x.1.0, (placeless_directives x.1.1.0, unplaced placeless_set x.1.1.1)))
+inline-placeless : (x : Token × (Option (Positioned TypeCondition) × (Directives × Set))) → unplaced placeless_selection (inline_of x) ≡ inline_of (without_place x.0, (option_map (unplaced placeless_condition) x.1.0, (placeless_directives x.1.1.0, unplaced placeless_set x.1.1.1)))
 inline-placeless (dots, (None, (ds, set))) = refl
 inline-placeless (dots, (Some on, (ds, set))) = refl
 

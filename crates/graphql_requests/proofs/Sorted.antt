@@ -17,12 +17,14 @@ use Rattle.graphql_requests.specs.declared.rules.Sorted.{Sorted}
 use Rattle.graphql_requests.specs.grammar.Documents.{named_operations, fragments, operations_beside}
 use Rattle.graphql_requests.specs.grammar.Request.{Definition, operation, fragment}
 use Rattle.graphql_requests.specs.grammar.Requests.{requests}
-use Rattle.graphql_requests.specs.grammar.Rules.{breach_of, missing_operation, or_else, first_operation, first_anonymous, first_operation_named, first_fragment_named}
+use Rattle.graphql_requests.specs.grammar.Rules.{breach_of, missing_operation, first_operation, first_anonymous, first_operation_named, first_fragment_named}
 use Rattle.graphql_grammar.specs.answers.Answers.{IsDocument, Lacks}
+use Rattle.graphql_grammar.specs.answers.Breaches.{or_else}
 use Rattle.graphql_grammar.specs.declared.error.Error.TheVariants.{MultipleOperations, OperationDuplicated, FragmentDuplicated, MissingOperation}
 use Rattle.graphql_requests.specs.declared.definitions.Definition.{Definition as CodeDefinition}
 use Rattle.graphql_requests.specs.reading.Definitions.{definition_tree}
 use Rattle.graphql_requests.specs.reading.Sorting.{definition_trees, anonymous_in, first_place, IsSorted}
+use Rattle.graphql_grammar.proofs.Breaches.{or-none, none-first, none-second}
 use Rattle.graphql_grammar.proofs.Unbroken.{unbroken-none, unbroken-more}
 use Rattle.graphql_requests.proofs.OneMore.{first-more, anonymous-more, named-more, fragments-more, anonymous-place, operation-place, fragment-place, lookup-place, map-last, first-place-map, first-place-more, none-inside, beside-anonymous, beside-named}
 
@@ -78,14 +80,6 @@ fragment-breach ds s name f h = ap (option_map (λ first. FragmentDuplicated nam
 
 -- ---- one more
 
-none-first : {A : Type 0} (x : Option A) (y : Option A) → or_else x y ≡ None → x ≡ None
-none-first None y e = refl
-none-first (Some a) y e = absurd cc
-
-pub none-second : {A : Type 0} (x : Option A) (y : Option A) → or_else x y ≡ None → y ≡ None
-none-second None y e = e
-none-second (Some a) y e = absurd cc
-
 no-entries : {A : Type 0} (es : List (Name × Positioned A)) → first_place es ≡ None → es ≡ []
 no-entries [] e = refl
 no-entries (x ∷ es) e = absurd cc
@@ -136,10 +130,6 @@ sorted-operation ds s t name o h e none same pushed fragments =
       operations = ap (map (entry_tree operation_tree)) pushed ∙ map-last (entry_tree operation_tree) s.operations.entries (name, o) ∙ ap (λ (es : List (Name × Positioned request.OperationDefinition)). es ++ (name, placed operation_tree o) ∷ []) h.operations ∙ sym named;
       fragments = ap (λ m. map (entry_tree fragment_tree) m.entries) fragments ∙ h.fragments ∙ sym (fragments-more ds d ∙ append-nil _);
     }
-
-or-none : {A : Type 0} (x : Option A) → or_else x None ≡ x
-or-none None = refl
-or-none (Some a) = refl
 
 pub sorted-fragment : (ds : List Definition) (s t : Sorted) (name : Name) (f : Positioned FragmentDefinition) → IsSorted ds s → lookup (bytes_eq name) s.fragments.entries ≡ None → t.anonymous ≡ s.anonymous → t.operations ≡ s.operations → t.fragments.entries ≡ s.fragments.entries ++ (name, f) ∷ [] → IsSorted (ds ++ fragment name (placed fragment_tree f) ∷ []) t
 sorted-fragment ds s t name f h none same operations pushed =

@@ -3,14 +3,11 @@ use Rattle.graphql_tokens.specs.tokens.Edition.{Current}
 use Rattle.std.proofs.Common.{◌≡◌, ℕ, Bool, true, false, cond, ◌&&◌, ◌||◌, IsTrue, Option, Some, None, List, [], ◌∷◌, ◌++◌, map, option_map, ◌↔◌, inl, inr, refl, sym, ap, ◌∙◌, subst, append-nil}
 use Rattle.graphql_tokens.specs.tokens.Token.{Token}
 use Rattle.graphql_syntax.specs.trees.Parts.{Directives}
-use Rattle.graphql_request_trees.specs.trees.Request.{VariableDefinition}
 use Rattle.graphql_grammar.specs.grammar.Arguments.{a_directive, directives, a_default}
-use Rattle.graphql_requests.specs.grammar.Variables.{default_and_directives, a_variable_definition, variable_definitions}
-use Rattle.graphql_reading.specs.grammar.Fronts.{without_place}
+use Rattle.graphql_requests.specs.grammar.Variables.{default_and_directives, variable_definition_of, a_variable_definition, variable_definitions}
 use Rattle.graphql_reading.specs.grammar.Limits.{Limits}
 use Rattle.graphql_grammar.specs.grammar.Placeless.{unplaced, bare_node, placeless_directives}
 use Rattle.graphql_requests.specs.grammar.Placeless.{placeless_variable}
-use Rattle.graphql_reading.specs.grammar.Places.{at, name_of}
 use Rattle.graphql_reading.specs.grammar.Relations.{Rel, ◌⨾◌, ◌∪◌, mapped, star, plus, opt}
 use Rattle.graphql_reading.specs.grammar.Tests.{Test, punct, any_name}
 use Rattle.graphql_grammar.specs.grammar.Types.{type_reference}
@@ -22,10 +19,11 @@ use Rattle.graphql_reading.proofs.Parts.{none}
 use Rattle.graphql_reading.proofs.Theory.{IsSubset, outside}
 use Rattle.graphql_reading.proofs.TokenTests.{punctuator, itself, punct-within, within-both, within-first, within-second, within-either, name-sample}
 use Rattle.graphql_reading.proofs.PunctSamples.{has-open, has-close, has-colon, has-dollar}
-use Rattle.graphql_reading.proofs.ReadsExactly.{ReadsExactly, HasPhrase, BeginsWith, exact-punct, exact-name, exact-mapped, exact-next, exact-then-some, exact-same, begins-one, begins-mapped, begins-then, has-token, has-pair, has-map, has-plus, has-first}
+use Rattle.graphql_reading.proofs.ReadsExactly.{ReadsExactly, HasPhrase, BeginsWith, exact-punct, exact-name, exact-mapped, exact-next, exact-same, begins-one, begins-mapped, begins-then, has-token, has-pair, has-map, has-plus, has-first}
 use Rattle.graphql_reading.proofs.Extra.{FirstWithin, exact-seq, first-begins, first-opt, first-then, exact-plus-ahead, exact-opt, has-opt}
 use Rattle.graphql_reading.proofs.Optional.{exact-choose_ahead, exact-none, exact-reader, first-none, first-either, opt-left, with-some, opt-then, plus-star, star-plus}
-use Rattle.graphql_reading.proofs.IgnoresPlaces.{IgnoresPlaces, on-option, ignores-one, ignores-then, ignores-mapped, ignores-either, ignores-plus, ignores-opt}
+use Rattle.graphql_reading.proofs.IgnoresPlaces.{IgnoresPlaces, ignores-one, ignores-then, ignores-mapped, ignores-either, ignores-plus, ignores-opt}
+use Rattle.graphql_reading.proofs.Marks.{exact-between, begins-between, has-between, ignores-between}
 use Rattle.graphql_reading.proofs.Loop.{Takes, takes-one, many-plus, many-stops}
 use Rattle.graphql_grammar.proofs.TypeProductions.{exact-type, has-type, ignores-type}
 use Rattle.graphql_grammar.proofs.ArgumentProductions.{budget, exact-directive, begins-directive, exact-directives, first-directives, has-directives, ignores-directive, ignores-directives, exact-default, begins-default, ignores-default, takes-directive}
@@ -141,7 +139,7 @@ pub has-default_and_directives : HasPhrase (λ c. default_and_directives Current
 has-default_and_directives = has-first {p = λ c. opt (a_default Current c.values) ⨾ directives Current true c.values} (has-pair (has-opt {p = λ c. a_default Current c.values}) (has-directives true))
 
 abbrev pub placeless-both : Both → Both
-placeless-both x = (on-option bare_node x.0, placeless_directives x.1)
+placeless-both x = (option_map bare_node x.0, placeless_directives x.1)
 
 pub ignores-default_and_directives : IgnoresPlaces (λ c. default_and_directives Current c.values) placeless-both
 ignores-default_and_directives =
@@ -167,13 +165,9 @@ begins-variable_definition = begins-mapped (begins-then begins-one)
 pub has-variable_definition : HasPhrase (λ c. a_variable_definition Current c.values c.types)
 has-variable_definition = has-map (has-pair has-dollar (has-pair (has-token name-sample) (has-pair has-colon (has-pair has-type has-default_and_directives))))
 
-on-option-map : {A : Type 0} (f : A → A) (o : Option A) → option_map f o ≡ on-option f o
-on-option-map f None = refl
-on-option-map f (Some a) = refl
-
 pub ignores-variable_definition : IgnoresPlaces (λ c. a_variable_definition Current c.values c.types) (unplaced placeless_variable)
 ignores-variable_definition =
-    ignores-mapped (λ x. ap (λ (v : Option Value). at {A = VariableDefinition} (without_place x.0) (record { name = name_of (without_place x.1.0); var_type = bare_node x.1.1.1.0; directives = placeless_directives x.1.1.1.1.1; default_value = v })) (on-option-map bare_node x.1.1.1.1.0))
+    ignores-mapped {k = variable_definition_of} (λ x. refl)
     (ignores-then (ignores-one (punct "$")) (ignores-then (ignores-one any_name) (ignores-then (ignores-one (punct ":")) (ignores-then ignores-type ignores-default_and_directives))))
 
 -- another one, or the end of the list
@@ -189,18 +183,14 @@ exact-next-definition = exact-variable_definition (follows refl refl) (follows r
 pub takes-variable_definition : (values types : ℕ) → Takes (variable_definition_at values types)
 takes-variable_definition values types = takes-one {b = budget values types} exact-next-definition begins-variable_definition
 
--- nothing is looked ahead at after `)`
 pub exact-variable_definitions : {b : Limits} {f : Test} → ReadsExactly (λ c. variable_definitions Current c.values c.types) b f (variable_definitions_at b.values b.types)
-exact-variable_definitions =
-    exact-mapped (exact-next (has-pair (has-plus has-variable_definition) has-close) (exact-punct "(")
-    (exact-then-some begins-one has-close (exact-plus-ahead {g = next-definition} begins-variable_definition (punct-within "$" refl) (punct-within ")" refl) (punct-within ")" refl) exact-next-definition)
-    (exact-punct ")")))
+exact-variable_definitions = exact-between "(" ")" has-close (has-plus has-variable_definition) (exact-plus-ahead {g = next-definition} begins-variable_definition (punct-within "$" refl) (punct-within ")" refl) (punct-within ")" refl) exact-next-definition)
 
 pub begins-variable_definitions : BeginsWith (λ c. variable_definitions Current c.values c.types) (punct "(")
-begins-variable_definitions = begins-mapped (begins-then begins-one)
+begins-variable_definitions = begins-between (punct ")")
 
 pub has-variable_definitions : HasPhrase (λ c. variable_definitions Current c.values c.types)
-has-variable_definitions = has-map (has-pair has-open (has-pair (has-plus has-variable_definition) has-close))
+has-variable_definitions = has-between (punct "(") (punct ")") has-open (has-plus has-variable_definition) has-close
 
 pub ignores-variable_definitions : IgnoresPlaces (λ c. variable_definitions Current c.values c.types) (map (unplaced placeless_variable))
-ignores-variable_definitions = ignores-mapped (λ x. refl) (ignores-then (ignores-one (punct "(")) (ignores-then (ignores-plus ignores-variable_definition) (ignores-one (punct ")"))))
+ignores-variable_definitions = ignores-between (punct "(") (punct ")") (ignores-plus ignores-variable_definition)

@@ -5,7 +5,7 @@ ghost use Rattle.std.specs.Str.{bytes_eq};
 ghost use Rattle.graphql_request_trees.specs.trees.RequestViews.{operation_tree, fragment_tree};
 ghost use Rattle.graphql_syntax.specs.trees.Parts.{placed};
 ghost use Rattle.graphql_requests.specs.grammar.Request.{Definition as SpecDefinition, operation as an_operation, fragment as a_fragment};
-ghost use Rattle.graphql_requests.specs.grammar.Rules.{or_else};
+ghost use Rattle.graphql_grammar.specs.answers.Breaches.{or_else};
 ghost use Rattle.graphql_requests.specs.reading.Definitions.{definition_tree};
 ghost use Rattle.graphql_requests.specs.reading.Sorting.{definition_trees, first_place, IsSorted, IsAdded};
 ghost use Rattle.graphql_grammar.specs.reading.DocumentOf.{IsDocumentOf};

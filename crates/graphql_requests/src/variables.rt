@@ -13,6 +13,7 @@ ghost use Rattle.graphql_reading.specs.reading.Outcome.{mapped_at, opt_at};
 ghost use Rattle.graphql_requests.specs.reading.Variables.{default_and_directives_at, variable_definition_at, variable_definitions_at};
 
 use graphql_grammar::arguments::{read_directives, read_maybe_default};
+use graphql_grammar::depths::Depths;
 use graphql_grammar::types::read_type;
 use graphql_reading::cursor::{Cursor, Reading};
 use graphql_reading::names::name_in;
@@ -41,15 +42,6 @@ fn read_default_and_directives(
     let directives = read_directives(alloc, cursor, values)?;
     let default_value = read_maybe_default(alloc, cursor, values)?;
     Ok((default_value, directives))
-}
-
-/// How deep the lists and objects of a value may nest, and the lists of a type.
-#[derive(Clone, Copy)]
-pub struct Depths {
-    /// Levels of lists and objects in a value.
-    pub values: usize,
-    /// Levels of lists in a type.
-    pub types: usize,
 }
 
 /// `'$' Name ':' Type (Default? Directives? | Directives Default)`.

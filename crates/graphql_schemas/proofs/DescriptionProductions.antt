@@ -1,5 +1,5 @@
 -- Descriptions are read exactly; and their places don't matter, nor those of what they describe.
-use Rattle.std.proofs.Common.{◌≡◌, ℕ, IsTrue, Option, Some, None, List, map, option_map, refl, subst}
+use Rattle.std.proofs.Common.{◌≡◌, ℕ, IsTrue, Some, None, List, refl}
 use Rattle.graphql_tokens.specs.tokens.Edition.{Current}
 use Rattle.graphql_tokens.specs.tokens.Token.{Token}
 use Rattle.graphql_schema_trees.specs.trees.Schema.{Description}
@@ -7,33 +7,19 @@ use Rattle.graphql_grammar.specs.grammar.Placeless.{unplaced, bare_node}
 use Rattle.graphql_grammar.specs.grammar.Values.{StringStands, BlockStands}
 use Rattle.graphql_reading.specs.grammar.Fronts.{without_place}
 use Rattle.graphql_reading.specs.grammar.Limits.{Limits}
-use Rattle.graphql_reading.specs.grammar.Relations.{Rel, opt, given}
+use Rattle.graphql_reading.specs.grammar.Relations.{opt}
 use Rattle.graphql_reading.specs.grammar.Tests.{Test, any_name, any_string, any_block}
 use Rattle.graphql_reading.proofs.Theory.{IsSubset, outside}
 use Rattle.graphql_reading.proofs.TokenTests.{any_name-within, within-either}
 use Rattle.graphql_reading.proofs.ReadsExactly.{ReadsExactly, HasPhrase, BeginsWith, exact-mapped, exact-choose, begins-within, begins-mapped, begins-either}
 use Rattle.graphql_reading.proofs.Meaning.{exact-meaning, begins-meaning, ignores-meaning}
 use Rattle.graphql_reading.proofs.Extra.{FirstWithin, exact-opt, has-opt, first-opt}
-use Rattle.graphql_reading.proofs.IgnoresPlaces.{IgnoresPlaces, on-option, ignores-mapped, ignores-either, ignores-opt}
+use Rattle.graphql_reading.proofs.IgnoresPlaces.{IgnoresPlaces, ignores-mapped, ignores-either, ignores-opt}
 use Rattle.graphql_grammar.proofs.StringMeanings.{string-decides, block-decides}
 use Rattle.graphql_grammar.proofs.ValueTests.{quoted, block, any_string-within, any_block-within, any_string-inner, any_block-inner}
 use Rattle.graphql_schemas.specs.grammar.Descriptions.{text_of, a_description, described}
 use Rattle.graphql_schemas.specs.grammar.Placeless.{placeless_description}
 use Rattle.graphql_schemas.specs.reading.Descriptions.{is_text, description_at, maybe_description_at}
-
--- ---- optional parts without places
-
-option-alike : {A : Type 0} (f : A → A) (o : Option A) → on-option f o ≡ option_map f o
-option-alike f None = refl
-option-alike f (Some a) = refl
-
-pub ignores-optional : {A : Type 0} {p : Limits → Rel A} {f : A → A} → IgnoresPlaces p f → IgnoresPlaces (λ c. opt (p c)) (option_map f)
-ignores-optional {A} {p} {f} h = subst (λ (g : Option A → Option A). IgnoresPlaces (λ c. opt (p c)) g) (λ i o. option-alike f o i) (ignores-opt h)
-
--- a list that isn't there has no places
-pub map-given : {A : Type 0} (f : A → A) (list : Option (List A)) → map f (given list) ≡ given (option_map (map f) list)
-map-given f None = refl
-map-given f (Some list) = refl
 
 -- ---- what descriptions begin with
 
@@ -76,7 +62,7 @@ pub has-maybe_description : HasPhrase (λ c. opt (a_description Current))
 has-maybe_description = has-opt {p = λ c. a_description Current}
 
 pub ignores-maybe_description : IgnoresPlaces (λ c. opt (a_description Current)) placeless_description
-ignores-maybe_description = ignores-optional ignores-description
+ignores-maybe_description = ignores-opt ignores-description
 
 -- ---- what they describe
 

@@ -15,14 +15,13 @@ use Rattle.graphql_reading.proofs.TokenTests.{itself, keyword-within, any_name-w
 use Rattle.graphql_reading.proofs.PunctSamples.{has-at}
 use Rattle.graphql_reading.proofs.ReadsExactly.{ReadsExactly, HasPhrase, BeginsWith, exact-punct, exact-keyword, exact-name, exact-next, exact-then-some, begins-one, begins-within, begins-then, has-token, has-pair}
 use Rattle.graphql_reading.proofs.Extra.{exact-opt, has-opt, begins-opt}
-use Rattle.graphql_reading.proofs.IgnoresPlaces.{IgnoresPlaces, ignores-one, ignores-then}
-use Rattle.graphql_reading.proofs.Separated.{exact-after, begins-after, has-after, ignores-after, exact-separated, has-separated, ignores-separated}
+use Rattle.graphql_reading.proofs.IgnoresPlaces.{IgnoresPlaces, ignores-one, ignores-then, ignores-opt}
+use Rattle.graphql_reading.proofs.Marks.{exact-after, begins-after, has-after, ignores-after, exact-separated, has-separated, ignores-separated}
 use Rattle.graphql_grammar.specs.grammar.Placeless.{bare_node}
 use Rattle.graphql_schemas.specs.grammar.Directives.{a_location}
 use Rattle.graphql_schemas.specs.grammar.InputValues.{arguments_definition}
 use Rattle.graphql_schemas.specs.grammar.Placeless.{placeless_input_values}
 use Rattle.graphql_schemas.specs.reading.Directives.{location_at, directive_rest_at}
-use Rattle.graphql_schemas.proofs.DescriptionProductions.{ignores-optional}
 use Rattle.graphql_schemas.proofs.InputValueProductions.{exact-maybe_arguments_definition, has-maybe_arguments_definition, ignores-maybe_arguments_definition}
 use Rattle.graphql_schemas.proofs.LocationProductions.{exact-location, begins-location, has-location, ignores-location}
 use Rattle.graphql_schemas.proofs.PartProductions.{no-punctuator, past-punctuator}
@@ -103,4 +102,4 @@ pub has-directive-rest : HasPhrase directive-rest
 has-directive-rest = has-pair (has-token directive-sample) (has-pair has-at (has-pair (has-token name-sample) has-after-name))
 
 pub ignores-directive-rest : IgnoresPlaces directive-rest placeless-directive-rest
-ignores-directive-rest = ignores-then (ignores-one (keyword "directive")) (ignores-then (ignores-one (punct "@")) (ignores-then (ignores-one any_name) (ignores-then ignores-maybe_arguments_definition (ignores-then (ignores-optional (ignores-one (keyword "repeatable"))) ignores-locations))))
+ignores-directive-rest = ignores-then (ignores-one (keyword "directive")) (ignores-then (ignores-one (punct "@")) (ignores-then (ignores-one any_name) (ignores-then ignores-maybe_arguments_definition (ignores-then (ignores-opt (ignores-one (keyword "repeatable"))) ignores-locations))))

@@ -15,7 +15,7 @@ use Rattle.graphql_reading.proofs.TokenTests.{punct-within, within-both, within-
 use Rattle.graphql_reading.proofs.ReadsExactly.{ReadsExactly, HasPhrase, exact-mapped, exact-choose, begins-mapped, begins-then, has-pair, has-map, has-first}
 use Rattle.graphql_reading.proofs.Extra.{FirstWithin, exact-seq, exact-opt, has-opt}
 use Rattle.graphql_reading.proofs.Optional.{exact-reader, opt-left, with-some, opt-then}
-use Rattle.graphql_reading.proofs.IgnoresPlaces.{IgnoresPlaces, ignores-then, ignores-mapped, ignores-either}
+use Rattle.graphql_reading.proofs.IgnoresPlaces.{IgnoresPlaces, ignores-then, ignores-mapped, ignores-either, ignores-opt, map-given}
 use Rattle.graphql_grammar.specs.grammar.Placeless.{unplaced, bare_node}
 use Rattle.graphql_schemas.specs.grammar.Fields.{fields}
 use Rattle.graphql_schemas.specs.grammar.Members.{implements}
@@ -24,7 +24,6 @@ use Rattle.graphql_schemas.specs.grammar.Types.{parts, Members, members_of, fiel
 use Rattle.graphql_schemas.specs.reading.Fields.{fields_at}
 use Rattle.graphql_schemas.specs.reading.Members.{implements_at}
 use Rattle.graphql_schemas.specs.reading.Types.{parts_at, part_first, some_parts_at, field_parts_at, some_field_parts_at}
-use Rattle.graphql_schemas.proofs.DescriptionProductions.{ignores-optional, map-given}
 use Rattle.graphql_schemas.proofs.FieldProductions.{exact-fields, begins-fields, ignores-fields}
 use Rattle.graphql_schemas.proofs.MemberProductions.{exact-implements, begins-implements, has-implements, ignores-implements}
 use Rattle.graphql_schemas.proofs.PartProductions.{exact-parts, first-parts, has-parts, placeless-parts, ignores-parts, exact-some_parts, begins-some_parts, ignores-some_parts, no-punctuator, past-punctuator, past-parts}
@@ -67,7 +66,7 @@ placeless-members x = (placeless_names x.0, placeless-parts (unplaced placeless_
 pub ignores-field_parts : IgnoresPlaces (field_parts Current) placeless-members
 ignores-field_parts =
     ignores-mapped (λ x. ap (λ (l : Names). (l, placeless-parts (unplaced placeless_field) x.1)) (map-given bare_node x.0))
-    (ignores-then (ignores-optional ignores-implements) (ignores-parts ignores-fields))
+    (ignores-then (ignores-opt ignores-implements) (ignores-parts ignores-fields))
 
 pub no-field_parts : (limits : Limits) → field_parts_at limits [] ≡ Refused syntax []
 unfolding opt_at

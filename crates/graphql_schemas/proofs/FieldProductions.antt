@@ -18,7 +18,8 @@ use Rattle.graphql_reading.proofs.TokenTests.{itself, punct-within, name-sample}
 use Rattle.graphql_reading.proofs.PunctSamples.{has-open_object, has-close_object, has-colon}
 use Rattle.graphql_reading.proofs.ReadsExactly.{ReadsExactly, HasPhrase, BeginsWith, exact-punct, exact-name, exact-mapped, exact-next, exact-then-some, begins-one, begins-mapped, begins-then, has-token, has-pair, has-map, has-plus}
 use Rattle.graphql_reading.proofs.Extra.{exact-seq, exact-plus-ahead}
-use Rattle.graphql_reading.proofs.IgnoresPlaces.{IgnoresPlaces, ignores-one, ignores-then, ignores-mapped, ignores-plus}
+use Rattle.graphql_reading.proofs.IgnoresPlaces.{IgnoresPlaces, ignores-one, ignores-then, ignores-mapped, ignores-plus, map-given}
+use Rattle.graphql_reading.proofs.Marks.{exact-between, begins-between, has-between, ignores-between}
 use Rattle.graphql_reading.proofs.Loop.{Takes, takes-one}
 use Rattle.graphql_grammar.proofs.TypeProductions.{exact-type, has-type, ignores-type}
 use Rattle.graphql_grammar.proofs.ArgumentProductions.{exact-directives, first-directives, has-directives, ignores-directives}
@@ -27,7 +28,7 @@ use Rattle.graphql_schemas.specs.grammar.Fields.{field_definition_of, a_field_de
 use Rattle.graphql_schemas.specs.grammar.Placeless.{placeless_description, placeless_input_value, placeless_field}
 use Rattle.graphql_schemas.specs.reading.Fields.{field_definition_at, fields_at}
 use Rattle.graphql_schemas.specs.reading.InputValues.{member_first}
-use Rattle.graphql_schemas.proofs.DescriptionProductions.{map-given, described-nowhere, name-no-text, exact-maybe_description, has-maybe_description, ignores-maybe_description}
+use Rattle.graphql_schemas.proofs.DescriptionProductions.{described-nowhere, name-no-text, exact-maybe_description, has-maybe_description, ignores-maybe_description}
 use Rattle.graphql_schemas.proofs.InputValueProductions.{begins-member, after_member, member-goes-on, members-outside, exact-maybe_arguments_definition, has-maybe_arguments_definition, ignores-maybe_arguments_definition}
 
 -- a type, and the directives of the field
@@ -69,18 +70,14 @@ exact-next-field_definition = exact-field_definition (members-outside "!" refl r
 pub takes-field_definition : (limits : Limits) → Takes (field_definition_at limits)
 takes-field_definition limits = takes-one {b = limits} exact-next-field_definition begins-field_definition
 
--- nothing is looked ahead at after `}`
 pub exact-fields : {b : Limits} {f : Test} → ReadsExactly (fields Current) b f (fields_at b)
-exact-fields =
-    exact-mapped (exact-next (has-pair (has-plus has-field_definition) has-close_object) (exact-punct "{")
-    (exact-then-some begins-one has-close_object (exact-plus-ahead {g = after_member} begins-field_definition member-goes-on (punct-within "}" refl) (punct-within "}" refl) exact-next-field_definition)
-    (exact-punct "}")))
+exact-fields = exact-between "{" "}" has-close_object (has-plus has-field_definition) (exact-plus-ahead {g = after_member} begins-field_definition member-goes-on (punct-within "}" refl) (punct-within "}" refl) exact-next-field_definition)
 
 pub begins-fields : BeginsWith (fields Current) (punct "{")
-begins-fields = begins-mapped (begins-then begins-one)
+begins-fields = begins-between (punct "}")
 
 pub has-fields : HasPhrase (fields Current)
-has-fields = has-map (has-pair has-open_object (has-pair (has-plus has-field_definition) has-close_object))
+has-fields = has-between (punct "{") (punct "}") has-open_object (has-plus has-field_definition) has-close_object
 
 pub ignores-fields : IgnoresPlaces (fields Current) (map (unplaced placeless_field))
-ignores-fields = ignores-mapped (λ x. refl) (ignores-then (ignores-one (punct "{")) (ignores-then (ignores-plus ignores-field_definition) (ignores-one (punct "}"))))
+ignores-fields = ignores-between (punct "{") (punct "}") (ignores-plus ignores-field_definition)

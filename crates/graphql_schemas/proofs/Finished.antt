@@ -17,7 +17,7 @@ use Rattle.graphql_schemas.specs.grammar.Schemas.{schemas}
 use Rattle.graphql_schemas.specs.reading.Views.{definition_tree, definition_trees}
 
 -- what stands before a definition makes no difference to what it breaks
-anywhere : (before : List Definition) (d : Definition) → breach_of [] d ≡ breach_of before d
+pub anywhere : (before : List Definition) (d : Definition) → breach_of [] d ≡ breach_of before d
 anywhere before (schema s) = refl
 anywhere before (type_def t) = refl
 anywhere before (directive d) = refl

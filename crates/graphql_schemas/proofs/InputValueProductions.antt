@@ -16,7 +16,8 @@ use Rattle.graphql_reading.proofs.TokenTests.{punctuator, named, itself, punct-w
 use Rattle.graphql_reading.proofs.PunctSamples.{has-open, has-close, has-open_object, has-close_object, has-colon}
 use Rattle.graphql_reading.proofs.ReadsExactly.{ReadsExactly, HasPhrase, BeginsWith, exact-punct, exact-name, exact-mapped, exact-next, exact-then-some, begins-one, begins-within, begins-mapped, begins-then, has-token, has-pair, has-map, has-plus}
 use Rattle.graphql_reading.proofs.Extra.{FirstWithin, exact-seq, first-opt, first-then, exact-plus-ahead, exact-opt, has-opt, begins-opt}
-use Rattle.graphql_reading.proofs.IgnoresPlaces.{IgnoresPlaces, ignores-one, ignores-then, ignores-mapped, ignores-plus}
+use Rattle.graphql_reading.proofs.IgnoresPlaces.{IgnoresPlaces, ignores-one, ignores-then, ignores-mapped, ignores-plus, ignores-opt, map-given}
+use Rattle.graphql_reading.proofs.Marks.{exact-between, begins-between, has-between, ignores-between}
 use Rattle.graphql_reading.proofs.Loop.{Takes, takes-one}
 use Rattle.graphql_grammar.proofs.TypeProductions.{exact-type, has-type, ignores-type}
 use Rattle.graphql_grammar.proofs.ArgumentProductions.{exact-directives, first-directives, has-directives, ignores-directives, exact-default, begins-default, ignores-default}
@@ -26,7 +27,7 @@ use Rattle.graphql_schemas.specs.grammar.InputValues.{input_value_of, an_input_v
 use Rattle.graphql_schemas.specs.grammar.Placeless.{placeless_input_value, placeless_input_values}
 use Rattle.graphql_schemas.specs.reading.Descriptions.{is_text}
 use Rattle.graphql_schemas.specs.reading.InputValues.{member_first, input_value_at, arguments_definition_at, given_arguments_at, input_fields_at}
-use Rattle.graphql_schemas.proofs.DescriptionProductions.{text-within, name-no-text, ignores-optional, map-given, begins-description, exact-maybe_description, has-maybe_description, ignores-maybe_description, described-nowhere}
+use Rattle.graphql_schemas.proofs.DescriptionProductions.{text-within, name-no-text, begins-description, exact-maybe_description, has-maybe_description, ignores-maybe_description, described-nowhere}
 use Prim.Native.String.{String}
 
 -- ---- what members begin with
@@ -86,7 +87,7 @@ has-input_value = has-map (has-pair has-maybe_description (has-pair (has-token n
 pub ignores-input_value : IgnoresPlaces (an_input_value Current) (unplaced placeless_input_value)
 ignores-input_value =
     ignores-mapped {k = input_value_of} (λ x. described-nowhere placeless_input_value x.0 x.1.0 (input_value_of x).node)
-    (ignores-then ignores-maybe_description (ignores-then (ignores-one any_name) (ignores-then (ignores-one (punct ":")) (ignores-then ignores-type (ignores-then (ignores-optional ignores-default) (ignores-directives false))))))
+    (ignores-then ignores-maybe_description (ignores-then (ignores-one any_name) (ignores-then (ignores-one (punct ":")) (ignores-then ignores-type (ignores-then (ignores-opt ignores-default) (ignores-directives false))))))
 
 -- another one or a bracket follows
 exact-next-input_value : {b : Limits} → ReadsExactly (an_input_value Current) b after_member (input_value_at b)
@@ -103,21 +104,17 @@ exact-input_values h away = exact-plus-ahead {g = after_member} begins-input_val
 
 -- ---- definitions of arguments
 
--- nothing is looked ahead at after `)`
 pub exact-arguments_definition : {b : Limits} {f : Test} → ReadsExactly (arguments_definition Current) b f (arguments_definition_at b)
-exact-arguments_definition =
-    exact-mapped (exact-next (has-pair (has-plus has-input_value) has-close) (exact-punct "(")
-    (exact-then-some begins-one has-close (exact-input_values (punct-within ")" refl) (punct-within ")" refl))
-    (exact-punct ")")))
+exact-arguments_definition = exact-between "(" ")" has-close (has-plus has-input_value) (exact-input_values (punct-within ")" refl) (punct-within ")" refl))
 
 pub begins-arguments_definition : BeginsWith (arguments_definition Current) (punct "(")
-begins-arguments_definition = begins-mapped (begins-then begins-one)
+begins-arguments_definition = begins-between (punct ")")
 
 pub has-arguments_definition : HasPhrase (arguments_definition Current)
-has-arguments_definition = has-map (has-pair has-open (has-pair (has-plus has-input_value) has-close))
+has-arguments_definition = has-between (punct "(") (punct ")") has-open (has-plus has-input_value) has-close
 
 pub ignores-arguments_definition : IgnoresPlaces (arguments_definition Current) placeless_input_values
-ignores-arguments_definition = ignores-mapped (λ x. refl) (ignores-then (ignores-one (punct "(")) (ignores-then (ignores-plus ignores-input_value) (ignores-one (punct ")"))))
+ignores-arguments_definition = ignores-between (punct "(") (punct ")") (ignores-plus ignores-input_value)
 
 -- where there are any
 
@@ -131,7 +128,7 @@ pub has-maybe_arguments_definition : HasPhrase (λ c. opt (arguments_definition 
 has-maybe_arguments_definition = has-opt {p = arguments_definition Current}
 
 pub ignores-maybe_arguments_definition : IgnoresPlaces (λ c. opt (arguments_definition Current c)) (option_map placeless_input_values)
-ignores-maybe_arguments_definition = ignores-optional ignores-arguments_definition
+ignores-maybe_arguments_definition = ignores-opt ignores-arguments_definition
 
 -- a list of them, which may be empty
 
@@ -143,18 +140,14 @@ ignores-given_arguments = ignores-mapped (map-given (unplaced placeless_input_va
 
 -- ---- fields of input objects
 
--- nothing is looked ahead at after `}`
 pub exact-input_fields : {b : Limits} {f : Test} → ReadsExactly (input_fields Current) b f (input_fields_at b)
-exact-input_fields =
-    exact-mapped (exact-next (has-pair (has-plus has-input_value) has-close_object) (exact-punct "{")
-    (exact-then-some begins-one has-close_object (exact-input_values (punct-within "}" refl) (punct-within "}" refl))
-    (exact-punct "}")))
+exact-input_fields = exact-between "{" "}" has-close_object (has-plus has-input_value) (exact-input_values (punct-within "}" refl) (punct-within "}" refl))
 
 pub begins-input_fields : BeginsWith (input_fields Current) (punct "{")
-begins-input_fields = begins-mapped (begins-then begins-one)
+begins-input_fields = begins-between (punct "}")
 
 pub has-input_fields : HasPhrase (input_fields Current)
-has-input_fields = has-map (has-pair has-open_object (has-pair (has-plus has-input_value) has-close_object))
+has-input_fields = has-between (punct "{") (punct "}") has-open_object (has-plus has-input_value) has-close_object
 
 pub ignores-input_fields : IgnoresPlaces (input_fields Current) placeless_input_values
-ignores-input_fields = ignores-mapped (λ x. refl) (ignores-then (ignores-one (punct "{")) (ignores-then (ignores-plus ignores-input_value) (ignores-one (punct "}"))))
+ignores-input_fields = ignores-between (punct "{") (punct "}") (ignores-plus ignores-input_value)

@@ -1,4 +1,5 @@
--- In an accepted schema file each schema has a query root, or is an extension, and no extension has a description.
+-- In an accepted schema file each schema has a query root, or is an extension; no extension has a description; and no
+-- object has a name twice.
 use Rattle.std.proofs.Common.{◌≡◌, true, false, IsSome, Option, Some, None, option_map, List, [], ◌∷◌, ◌++◌, Result, Ok, Err, IfOk, refl, sym, ◌∙◌, subst, append_assoc}
 use Rattle.std.specs.List.{AllByRecursion}
 use Rattle.graphql_tokens.specs.declared.pos.Positioned.{Positioned}
@@ -10,15 +11,18 @@ use Rattle.graphql_schema_trees.specs.trees.SchemaViews.{schema_document_tree}
 use Rattle.graphql_grammar.specs.answers.Answers.{Answers}
 use Rattle.graphql_grammar.specs.answers.Language.{grammar}
 use Rattle.graphql_grammar.specs.declared.error.Error.{Error}
+use Rattle.graphql_grammar.proofs.Breaches.{none-second}
 use Rattle.graphql_reading.specs.grammar.Limits.{Limits}
-use Rattle.graphql_reading.proofs.Keeps.{Keeps, Anything, keeps-any, keeps-mapped, keeps-either, keeps-plus}
+use Rattle.graphql_reading.proofs.Keeps.{Keeps, Anything, keeps-any, keeps-mapped, keeps-either, keeps-plus, keeps-whole}
 use Rattle.graphql_schemas.specs.grammar.Directives.{a_directive_definition}
 use Rattle.graphql_schemas.specs.grammar.Documents.{tree_of, document_of}
 use Rattle.graphql_schemas.specs.grammar.Laws.{IsLawfulDefinition, IsLawful}
-use Rattle.graphql_schemas.specs.grammar.Rules.{breach_of, or_else, first_of_kind, lacks_a_query, missing_query}
+use Rattle.graphql_schemas.specs.grammar.Rules.{breach_of, first_of_kind, repeats_a_root, lacks_a_query, missing_query}
 use Rattle.graphql_schemas.specs.grammar.Schema.{Root, Schema}
-use Rattle.graphql_schemas.specs.grammar.SchemaFile.{Definition, schema, type_def, directive, a_definition}
+use Rattle.graphql_schemas.specs.grammar.SchemaFile.{Definition, schema, type_def, directive, a_definition, definitions}
 use Rattle.graphql_schemas.specs.grammar.Schemas.{schemas}
+use Rattle.graphql_schemas.proofs.DistinctObjects.{distinct-objects}
+use Rattle.graphql_schemas.proofs.Finished.{anywhere}
 
 -- ---- what the grammar gives: an extension has no description
 
@@ -39,13 +43,9 @@ undescribed c =
     (keeps-mapped {P = Anything} (λ d h. tt) (keeps-any {p = a_directive_definition Current c})))))
 
 all-undescribed : (c : Limits) (ts : List Token) (ds : List Definition) → grammar schemas Current c ts ds → AllByRecursion IsUndescribed ds
-all-undescribed c ts ds h = subst (AllByRecursion IsUndescribed) (sym h.is) ((keeps-plus (undescribed c)).by h.holds.front h.value.0 h.holds.first)
+all-undescribed c = (keeps-whole {p = definitions Current} (λ c. keeps-plus (undescribed c)) c).by
 
 -- ---- what the rules give: a definition has a query root
-
-second-none : {A : Type 0} (p q : Option A) → or_else p q ≡ None → q ≡ None
-second-none None q e = e
-second-none (Some a) q e = absurd cc
 
 has-query : (s : Positioned Schema) (root : Option Root) → missing_query s root ≡ None → s.node.extend ≡ false → IsSome (option_map (λ root. root.name) root)
 has-query s (Some root) none e = refl
@@ -54,22 +54,17 @@ has-query s None none e = let bad = rw e at none in absurd cc
 -- ---- each definition, and all of them
 
 lawful-definition : (d : Definition) → breach_of [] d ≡ None → IsUndescribed d → IsLawfulDefinition (tree_of d)
-lawful-definition (schema s) unbroken h = record { query = has-query s (first_of_kind Query s.node.roots) (second-none _ (lacks_a_query s) unbroken); undescribed = h }
+lawful-definition (schema s) unbroken h = record { query = has-query s (first_of_kind Query s.node.roots) (none-second (repeats_a_root s) (lacks_a_query s) unbroken); undescribed = h }
 lawful-definition (type_def t) unbroken h = h
 lawful-definition (directive d) unbroken h = tt
 
-anywhere : (before : List Definition) (d : Definition) → breach_of before d ≡ breach_of [] d
-anywhere before (schema s) = refl
-anywhere before (type_def t) = refl
-anywhere before (directive d) = refl
-
-lawful-list : (front ds : List Definition) → ((before : List Definition) (d : Definition) (after : List Definition) → front ++ ds ≡ before ++ d ∷ after → breach_of before d ≡ None) → AllByRecursion IsUndescribed ds → IsLawful (document_of ds)
+lawful-list : (front ds : List Definition) → ((before : List Definition) (d : Definition) (after : List Definition) → front ++ ds ≡ before ++ d ∷ after → breach_of before d ≡ None) → AllByRecursion IsUndescribed ds → AllByRecursion IsLawfulDefinition (document_of ds)
 lawful-list front [] unbroken h = tt
 lawful-list front (d ∷ ds) unbroken h = (
-  lawful-definition d (sym (anywhere front d) ∙ unbroken front d ds refl) h.0,
+  lawful-definition d (anywhere front d ∙ unbroken front d ds refl) h.0,
   lawful-list (front ++ d ∷ []) ds (λ before e after same. unbroken before e after (sym (append_assoc front (d ∷ []) ds) ∙ same)) h.1,
 )
 
 pub lawful-answer : (limits : Limits) (ts : List Token) (result : Result ServiceDocument Error) → Answers schemas limits ts result → IfOk result (λ document. IsLawful (schema_document_tree document))
-lawful-answer limits ts (Ok document) (ds, h, is) = subst IsLawful (sym is.made) (lawful-list [] ds is.unbroken (all-undescribed limits ts ds h.within))
+lawful-answer limits ts (Ok document) (ds, h, is) = subst IsLawful (sym is.made) (record { definitions = lawful-list [] ds is.unbroken (all-undescribed limits ts ds h.within); objects = distinct-objects limits ts ds h.within })
 lawful-answer limits ts (Err error) h = tt

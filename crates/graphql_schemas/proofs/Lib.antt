@@ -13,4 +13,5 @@ pub mod FormerSchemas
 pub mod SchemaFileProductions
 pub mod Roots
 pub mod Finished
+pub mod DistinctObjects
 pub mod Laws

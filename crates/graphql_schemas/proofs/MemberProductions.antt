@@ -10,8 +10,8 @@ use Rattle.graphql_reading.specs.grammar.Tests.{Test, is_among, punct, keyword, 
 use Rattle.graphql_reading.proofs.Theory.{IsSubset, outside}
 use Rattle.graphql_reading.proofs.TokenTests.{any_name-within, punct-inner, keyword-inner, keyword-sample, punctuator, named, word_of, sample, punct-within, name_but-within, within-either, HasSample, name-spells, name-sample}
 use Rattle.graphql_reading.proofs.PunctSamples.{has-equals, has-open_object, has-close_object}
-use Rattle.graphql_reading.proofs.ReadsExactly.{ReadsExactly, HasPhrase, BeginsWith, exact-punct, exact-name, exact-name_but, exact-mapped, exact-next, exact-then-some, begins-one, begins-within, begins-mapped, begins-then, has-token, has-pair, has-map, has-plus}
-use Rattle.graphql_reading.proofs.Separated.{exact-after, begins-after, has-after, ignores-after, exact-separated, has-separated, ignores-separated}
+use Rattle.graphql_reading.proofs.ReadsExactly.{ReadsExactly, HasPhrase, BeginsWith, exact-name, exact-name_but, exact-mapped, exact-next, exact-then-some, begins-one, begins-within, begins-mapped, begins-then, has-token, has-pair, has-map, has-plus}
+use Rattle.graphql_reading.proofs.Marks.{exact-after, begins-after, has-after, ignores-after, exact-separated, has-separated, ignores-separated, exact-between, begins-between, has-between, ignores-between}
 use Rattle.graphql_reading.proofs.Extra.{exact-plus-ahead, begins-opt}
 use Rattle.graphql_reading.proofs.IgnoresPlaces.{IgnoresPlaces, ignores-one, ignores-then, ignores-mapped, ignores-plus}
 use Rattle.graphql_reading.proofs.Loop.{Takes, takes-one}
@@ -125,18 +125,14 @@ exact-next-enum_value = exact-enum_value (enum-values-outside "(" refl) (enum-va
 pub takes-enum_value : (limits : Limits) → Takes (enum_value_at limits)
 takes-enum_value limits = takes-one {b = limits} exact-next-enum_value begins-enum_value
 
--- nothing is looked ahead at after `}`
 pub exact-enum_values : {b : Limits} {f : Test} → ReadsExactly (enum_values Current) b f (enum_values_at b)
-exact-enum_values =
-    exact-mapped (exact-next (has-pair (has-plus has-enum_value) has-close_object) (exact-punct "{")
-    (exact-then-some begins-one has-close_object (exact-plus-ahead {g = after_enum_value} begins-enum_value enum-value-goes-on (punct-within "}" refl) (punct-within "}" refl) exact-next-enum_value)
-    (exact-punct "}")))
+exact-enum_values = exact-between "{" "}" has-close_object (has-plus has-enum_value) (exact-plus-ahead {g = after_enum_value} begins-enum_value enum-value-goes-on (punct-within "}" refl) (punct-within "}" refl) exact-next-enum_value)
 
 pub begins-enum_values : BeginsWith (enum_values Current) (punct "{")
-begins-enum_values = begins-mapped (begins-then begins-one)
+begins-enum_values = begins-between (punct "}")
 
 pub has-enum_values : HasPhrase (enum_values Current)
-has-enum_values = has-map (has-pair has-open_object (has-pair (has-plus has-enum_value) has-close_object))
+has-enum_values = has-between (punct "{") (punct "}") has-open_object (has-plus has-enum_value) has-close_object
 
 pub ignores-enum_values : IgnoresPlaces (enum_values Current) (map (unplaced placeless_enum_value))
-ignores-enum_values = ignores-mapped (λ x. refl) (ignores-then (ignores-one (punct "{")) (ignores-then (ignores-plus ignores-enum_value) (ignores-one (punct "}"))))
+ignores-enum_values = ignores-between (punct "{") (punct "}") (ignores-plus ignores-enum_value)

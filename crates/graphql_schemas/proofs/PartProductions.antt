@@ -1,6 +1,6 @@
 -- Parts that may stand or not are read exactly: directives and a list after them, and one of the two at least where a part
 -- is owed.
-use Rattle.std.proofs.Common.{◌≡◌, ℕ, Bool, true, false, cond, ◌&&◌, ◌||◌, ◌↔◌, IsTrue, inl, inr, Option, Some, List, [], ◌∷◌, map, refl, sym, ap, ◌∙◌, not, codes}
+use Rattle.std.proofs.Common.{◌≡◌, ℕ, Bool, true, false, cond, ◌&&◌, ◌||◌, IsTrue, Option, Some, List, [], ◌∷◌, map, refl, sym, ap, ◌∙◌, not, codes}
 use Rattle.std.specs.Str.{bytes_eq}
 use Rattle.graphql_tokens.specs.tokens.Edition.{Current}
 use Rattle.graphql_tokens.specs.tokens.Kinds.{is_punct}
@@ -8,15 +8,15 @@ use Rattle.graphql_tokens.specs.tokens.Token.{Token}
 use Rattle.graphql_syntax.specs.trees.Parts.{Directives}
 use Rattle.graphql_reading.specs.grammar.Fronts.{syntax}
 use Rattle.graphql_reading.specs.grammar.Limits.{Limits}
-use Rattle.graphql_reading.specs.grammar.Relations.{Rel, never, ◌⨾◌, ◌∪◌, mapped, plus, opt}
+use Rattle.graphql_reading.specs.grammar.Relations.{Rel, ◌⨾◌, mapped, plus, opt}
 use Rattle.graphql_reading.specs.grammar.Tests.{Test, punct}
 use Rattle.graphql_reading.specs.reading.Outcome.{Outcome, Read, Refused, Reader, ◌>>=◌, then_at, mapped_at, choose_at, opt_at, plus_at}
-use Rattle.graphql_reading.proofs.Theory.{Dead, IfHead, peek, IsSubset, outside}
+use Rattle.graphql_reading.proofs.Theory.{IsSubset, outside}
 use Rattle.graphql_reading.proofs.TokenTests.{punctuator, itself, punct-within, within-first, within-second, within-then, within-both}
 use Rattle.graphql_reading.proofs.ReadsExactly.{ReadsExactly, HasPhrase, BeginsWith, exact-mapped, exact-choose, exact-same, begins-mapped, begins-then, begins-within, begins-either, has-pair, has-map, has-plus, has-first}
-use Rattle.graphql_reading.proofs.Extra.{FirstWithin, exact-seq, first-opt, first-then, exact-plus-ahead, exact-opt, has-opt}
-use Rattle.graphql_reading.proofs.Optional.{exact-reader, opt-taken}
-use Rattle.graphql_reading.proofs.IgnoresPlaces.{IgnoresPlaces, ignores-then, ignores-mapped, ignores-either, ignores-plus}
+use Rattle.graphql_reading.proofs.Extra.{FirstWithin, exact-seq, first-opt, first-then, first-mapped, exact-plus-ahead, exact-opt, has-opt}
+use Rattle.graphql_reading.proofs.Optional.{exact-never, begins-never, or-never, exact-reader, opt-taken}
+use Rattle.graphql_reading.proofs.IgnoresPlaces.{IgnoresPlaces, ignores-then, ignores-mapped, ignores-either, ignores-plus, ignores-opt, map-given}
 use Rattle.graphql_reading.proofs.Loop.{many-plus, many-stops, many-nothing}
 use Rattle.graphql_grammar.specs.grammar.Arguments.{a_directive}
 use Rattle.graphql_grammar.specs.grammar.Placeless.{placeless_directives}
@@ -24,29 +24,9 @@ use Rattle.graphql_grammar.specs.reading.Arguments.{directive_at, directives_at}
 use Rattle.graphql_grammar.proofs.ArgumentProductions.{exact-directive, begins-directive, has-directive, exact-directives, first-directives, has-directives, ignores-directive, ignores-directives, takes-directive}
 use Rattle.graphql_schemas.specs.grammar.Types.{parts_of, parts, list_alone, some_parts}
 use Rattle.graphql_schemas.specs.reading.Types.{owed_at, parts_at, some_parts_at}
-use Rattle.graphql_schemas.proofs.DescriptionProductions.{ignores-optional, map-given}
 use Prim.Native.String.{String}
 
--- ---- what begins what is made of a tree
-
-pub first-mapped : {A B : Type 0} {k : A → B} {p : Limits → Rel A} {f g : Test} → FirstWithin p f g → FirstWithin (λ c. mapped k (p c)) f g
-first-mapped o = record { by = λ c x y t m begins. o.by c x y m.value m.holds begins }
-
 -- ---- a part that is owed
-
--- where there are no phrases, each list is refused at its first token
-exact-never : {A : Type 0} {b : Limits} {f : Test} → ReadsExactly (λ c. never {A = A}) b f (λ ts. Refused syntax ts)
-exact-never {A} {b} {f} = record { at = λ ts. record { before = []; split = refl; quiet = tt; alive = inl refl; dead = none ts } }
-  where
-    none : (ts : List Token) → IfHead ts (Dead (λ c. never {A = A}) b f syntax (peek ts))
-    none [] = tt
-    none (t ∷ ts) = λ c x y z a h begins e. h
-
-begins-never : {A : Type 0} {g : Test} → BeginsWith (λ c. never {A = A}) g
-begins-never = record { by = λ c x y a m. absurd m }
-
-or-never : {A : Type 0} (p : Rel A) (x : List Token) (t : A) → (p ∪ never) x t ↔ p x t
-or-never p x t = (λ h. elim h [ inl k ↦ k | inr k ↦ absurd k ], λ h. inl h)
 
 turned-round : {A : Type 0} (w : Bool) (x y : A) → cond w x y ≡ cond (not w) y x
 turned-round true x y = refl
@@ -115,7 +95,7 @@ abbrev pub placeless-parts : {A : Type 0} → (A → A) → Directives × List A
 placeless-parts f x = (placeless_directives x.0, map f x.1)
 
 pub ignores-parts : {A : Type 0} {p : Limits → Rel (List A)} {f : A → A} → IgnoresPlaces p (map f) → IgnoresPlaces (λ c. parts Current c (p c)) (placeless-parts f)
-ignores-parts {A} {f = f} h = ignores-mapped (λ x. ap (λ (l : List A). (placeless_directives x.0, l)) (map-given f x.1)) (ignores-then (ignores-directives false) (ignores-optional h))
+ignores-parts {A} {f = f} h = ignores-mapped (λ x. ap (λ (l : List A). (placeless_directives x.0, l)) (map-given f x.1)) (ignores-then (ignores-directives false) (ignores-opt h))
 
 -- ---- one of the two at least
 
@@ -173,7 +153,7 @@ has-some_parts {p = p} = has-first {q = λ c. mapped list_alone (p c)} (has-map 
 
 pub ignores-some_parts : {A : Type 0} {p : Limits → Rel (List A)} {f : A → A} → IgnoresPlaces p (map f) → IgnoresPlaces (λ c. some_parts Current c (p c)) (placeless-parts f)
 ignores-some_parts {A} {f = f} h =
-    ignores-either (ignores-mapped (λ x. ap (λ (l : List A). (placeless_directives x.0, l)) (map-given f x.1)) (ignores-then (ignores-plus (ignores-directive false)) (ignores-optional h)))
+    ignores-either (ignores-mapped (λ x. ap (λ (l : List A). (placeless_directives x.0, l)) (map-given f x.1)) (ignores-then (ignores-plus (ignores-directive false)) (ignores-opt h)))
     (ignores-mapped (λ x. refl) h)
 
 -- ---- what follows a definition

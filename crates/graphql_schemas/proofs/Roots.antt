@@ -5,12 +5,14 @@ use Rattle.graphql_tokens.specs.declared.pos.Positioned.{Positioned}
 use Rattle.graphql_syntax.specs.declared.types.OperationType.{OperationType}
 use Rattle.graphql_syntax.specs.declared.types.OperationType.TheVariants.{Query, Mutation, Subscription}
 use Rattle.graphql_syntax.specs.trees.Parts.{Name}
+use Rattle.graphql_grammar.specs.answers.Breaches.{or_else}
 use Rattle.graphql_grammar.specs.declared.error.Error.{Error}
+use Rattle.graphql_grammar.proofs.Breaches.{or-none}
 use Rattle.std.proofs.lemmas.List.{map-append}
 use Rattle.graphql_schemas.specs.declared.rules.Roots as code
 use Rattle.graphql_schemas.specs.declared.schema.Root.{Root as CodeRoot}
 use Rattle.graphql_schemas.specs.grammar.Documents.{root_name}
-use Rattle.graphql_schemas.specs.grammar.Rules.{same_kind, first_of_kind, first_repeated, or_else}
+use Rattle.graphql_schemas.specs.grammar.Rules.{same_kind, first_of_kind, first_repeated}
 use Rattle.graphql_schemas.specs.grammar.Schema.{Root}
 use Rattle.graphql_schemas.specs.reading.Views.{root_tree, root_trees}
 use Rattle.graphql_schemas.specs.reading.Finished.{Holds, IsPlaced, IsAdded, AreSorted}
@@ -23,10 +25,6 @@ same-itself Subscription = refl
 either-or : {A : Type 0} (b : Bool) (a : A) (o p q : Option A) → o ≡ or_else p q → cond b (Some a) o ≡ or_else (cond b (Some a) p) q
 either-or true a o p q e = refl
 either-or false a o p q e = e
-
-or-none : {A : Type 0} (o : Option A) → or_else o None ≡ o
-or-none None = refl
-or-none (Some a) = refl
 
 none-mapped : {A B : Type 0} (f : A → B) (o : Option A) → option_map f o ≡ None → o ≡ None
 none-mapped f None e = refl

@@ -1,5 +1,5 @@
 -- Definitions, extensions and schema files are read exactly, have phrases, and don't look at places.
-use Rattle.std.proofs.Common.{◌≡◌, Bool, ◌||◌, IsTrue, ◌↔◌, inl, inr, Option, Some, None, List, option_map, refl, sym, ap, ◌∙◌}
+use Rattle.std.proofs.Common.{◌≡◌, Bool, ◌||◌, IsTrue, ◌↔◌, inl, inr, Option, Some, None, List, option_map, refl, ap, ◌∙◌}
 use Rattle.graphql_tokens.specs.declared.pos.Positioned.{Positioned}
 use Rattle.graphql_tokens.specs.tokens.Edition.{Current}
 use Rattle.graphql_tokens.specs.tokens.Token.{Token}
@@ -11,8 +11,8 @@ use Rattle.graphql_reading.specs.grammar.Tests.{Test, keyword, any_name, the_end
 use Rattle.graphql_reading.proofs.Theory.{IsSubset, outside}
 use Rattle.graphql_reading.proofs.TokenTests.{word_of, keyword-within, the_end-within, within-either}
 use Rattle.graphql_reading.proofs.ReadsExactly.{ReadsExactly, HasPhrase, BeginsWith, exact-keyword, exact-mapped, exact-next, exact-then-some, exact-choose, exact-same, begins-one, begins-within, begins-same, begins-mapped, begins-then, begins-either, has-pair, has-map, has-plus, has-first}
-use Rattle.graphql_reading.proofs.Extra.{exact-plus-ahead, begins-opt, both-ways}
-use Rattle.graphql_reading.proofs.IgnoresPlaces.{IgnoresPlaces, ignores-one, ignores-then, ignores-mapped, ignores-either, ignores-plus}
+use Rattle.graphql_reading.proofs.Extra.{exact-plus-ahead, begins-opt, both-ways, taken-in, spread-out, either-same}
+use Rattle.graphql_reading.proofs.IgnoresPlaces.{IgnoresPlaces, ignores-one, ignores-then, ignores-mapped, ignores-either, ignores-plus, map-given}
 use Rattle.graphql_reading.proofs.Loop.{Takes, takes-one}
 use Rattle.graphql_grammar.specs.grammar.Placeless.{unplaced}
 use Rattle.graphql_grammar.proofs.Languages.{IsRead, is-read-by}
@@ -28,56 +28,11 @@ use Rattle.graphql_schemas.specs.reading.Descriptions.{is_text}
 use Rattle.graphql_schemas.specs.reading.SchemaFile.{Undescribed, of_schema, of_type, of_directive, with_description, undescribed_at, described_at, Extended, a_schema as extends_schema, a_type as extends_type, extension_of, extension_at, definition_first, definition_at, definitions_at}
 use Rattle.graphql_schemas.specs.reading.Types.{body_first}
 use Rattle.graphql_schemas.proofs.BodyProductions.{exact-body, begins-body, ignores-body, exact-extended_body, begins-extended_body, ignores-extended_body, bodies-within}
-use Rattle.graphql_schemas.proofs.DescriptionProductions.{map-given, described-nowhere, text-within, name-no-text, begins-description, exact-maybe_description, has-maybe_description, ignores-maybe_description}
+use Rattle.graphql_schemas.proofs.DescriptionProductions.{described-nowhere, text-within, name-no-text, begins-description, exact-maybe_description, has-maybe_description, ignores-maybe_description}
 use Rattle.graphql_schemas.proofs.DirectiveProductions.{DirectiveRest, placeless-directive-rest, directive-rest, exact-directive-rest, begins-directive-rest, ignores-directive-rest}
 use Rattle.graphql_schemas.proofs.FormerSchemas.{includes-definitions}
 use Rattle.graphql_schemas.proofs.PartProductions.{no-punctuator, past-punctuator, past-parts}
 use Rattle.graphql_schemas.proofs.SchemaProductions.{schema-rest, exact-schema-rest, begins-schema-rest, has-schema-rest, ignores-schema-rest, extended-schema, exact-extended-schema, begins-extended-schema, has-extended-schema, ignores-extended-schema}
-
--- ---- laws
-
--- a production after a part, taken in among others
-taken-in : {A B X Y D : Type 0} (p : Rel A) (q : Rel B) (i : B → X) (h : A × X → D) (g : A × B → Y) (k : Y → D) → ((a : A) (b : B) → h (a, i b) ≡ k (g (a, b))) → (x : List Token) (t : D) → mapped h (p ⨾ mapped i q) x t ↔ mapped k (mapped g (p ⨾ q)) x t
-taken-in {A} {B} {X} {Y} {D} p q i h g k e x t = (to, from)
-  where
-    to : mapped h (p ⨾ mapped i q) x t → mapped k (mapped g (p ⨾ q)) x t
-    to m = record {
-      value = g (m.value.0, m.holds.second.value);
-      holds = record { value = (m.value.0, m.holds.second.value); holds = record { front = m.holds.front; back = m.holds.back; joined = m.holds.joined; first = m.holds.first; second = m.holds.second.holds }; is = refl };
-      is = m.is ∙ ap (λ (y : X). h (m.value.0, y)) m.holds.second.is ∙ e m.value.0 m.holds.second.value;
-    }
-
-    from : mapped k (mapped g (p ⨾ q)) x t → mapped h (p ⨾ mapped i q) x t
-    from m = record {
-      value = (m.holds.value.0, i m.holds.value.1);
-      holds = record { front = m.holds.holds.front; back = m.holds.holds.back; joined = m.holds.holds.joined; first = m.holds.holds.first; second = record { value = m.holds.value.1; holds = m.holds.holds.second; is = refl } };
-      is = m.is ∙ ap k m.holds.is ∙ sym (e m.holds.value.0 m.holds.value.1);
-    }
-
--- one of two after a part
-spread-out : {A X D : Type 0} (p : Rel A) (q r : Rel X) (h : A × X → D) (x : List Token) (t : D) → mapped h (p ⨾ (q ∪ r)) x t ↔ (mapped h (p ⨾ q) ∪ mapped h (p ⨾ r)) x t
-spread-out {A} {X} {D} p q r h x t = (to, from)
-  where
-    to : mapped h (p ⨾ (q ∪ r)) x t → (mapped h (p ⨾ q) ∪ mapped h (p ⨾ r)) x t
-    to m = elim m.holds.second [
-      | inl k ↦ inl (record { value = m.value; holds = record { front = m.holds.front; back = m.holds.back; joined = m.holds.joined; first = m.holds.first; second = k }; is = m.is })
-      | inr k ↦ inr (record { value = m.value; holds = record { front = m.holds.front; back = m.holds.back; joined = m.holds.joined; first = m.holds.first; second = k }; is = m.is })
-    ]
-
-    from : (mapped h (p ⨾ q) ∪ mapped h (p ⨾ r)) x t → mapped h (p ⨾ (q ∪ r)) x t
-    from (inl m) = record { value = m.value; holds = record { front = m.holds.front; back = m.holds.back; joined = m.holds.joined; first = m.holds.first; second = inl m.holds.second }; is = m.is }
-    from (inr m) = record { value = m.value; holds = record { front = m.holds.front; back = m.holds.back; joined = m.holds.joined; first = m.holds.first; second = inr m.holds.second }; is = m.is }
-
-either-same : {A : Type 0} (p q r s : Rel A) (x : List Token) (t : A) → p x t ↔ q x t → r x t ↔ s x t → (p ∪ r) x t ↔ (q ∪ s) x t
-either-same {A} p q r s x t h k = (to, from)
-  where
-    to : (p ∪ r) x t → (q ∪ s) x t
-    to (inl m) = inl (h.0 m)
-    to (inr m) = inr (k.0 m)
-
-    from : (q ∪ s) x t → (p ∪ r) x t
-    from (inl m) = inl (h.1 m)
-    from (inr m) = inr (k.1 m)
 
 -- ---- what a definition says after its description
 

@@ -12,6 +12,7 @@ use Rattle.graphql_reading.proofs.TokenTests.{punct-within, HasSample, keyword-s
 use Rattle.graphql_reading.proofs.PunctSamples.{has-open_object, has-close_object, has-colon}
 use Rattle.graphql_reading.proofs.ReadsExactly.{ReadsExactly, HasPhrase, BeginsWith, exact-punct, exact-keyword, exact-name, exact-mapped, exact-next, exact-then-some, exact-plus, begins-one, begins-mapped, begins-then, has-token, has-pair, has-map, has-plus}
 use Rattle.graphql_reading.proofs.IgnoresPlaces.{IgnoresPlaces, ignores-one, ignores-then, ignores-mapped, ignores-plus}
+use Rattle.graphql_reading.proofs.Marks.{exact-between, begins-between, has-between, ignores-between}
 use Rattle.graphql_reading.proofs.Loop.{Takes, takes-one}
 use Rattle.graphql_grammar.specs.grammar.Arguments.{directives}
 use Rattle.graphql_grammar.proofs.ArgumentProductions.{budget, exact-directives, has-directives, ignores-directives}
@@ -39,21 +40,17 @@ ignores-root = ignores-mapped (λ x. refl) (ignores-then ignores-operation_type 
 pub takes-root : Takes root_at
 takes-root = takes-one {b = budget 0 0} {f = anything} exact-root begins-root
 
--- nothing is looked ahead at after `}`
 pub exact-roots : {b : Limits} {f : Test} → ReadsExactly (λ c. roots) b f roots_at
-exact-roots =
-    exact-mapped (exact-next (has-pair (has-plus has-root) has-close_object) (exact-punct "{")
-    (exact-then-some begins-one has-close_object (exact-plus begins-root (punct-within "}" refl) exact-root)
-    (exact-punct "}")))
+exact-roots = exact-between "{" "}" has-close_object (has-plus has-root) (exact-plus begins-root (punct-within "}" refl) exact-root)
 
 pub begins-roots : BeginsWith (λ c. roots) (punct "{")
-begins-roots = begins-mapped (begins-then begins-one)
+begins-roots = begins-between (punct "}")
 
 pub has-roots : HasPhrase (λ c. roots)
-has-roots = has-map (has-pair has-open_object (has-pair (has-plus has-root) has-close_object))
+has-roots = has-between (punct "{") (punct "}") has-open_object (has-plus has-root) has-close_object
 
 pub ignores-roots : IgnoresPlaces (λ c. roots) (map placeless_root)
-ignores-roots = ignores-mapped (λ x. refl) (ignores-then (ignores-one (punct "{")) (ignores-then (ignores-plus ignores-root) (ignores-one (punct "}"))))
+ignores-roots = ignores-between (punct "{") (punct "}") (ignores-plus ignores-root)
 
 -- ---- definitions and extensions
 

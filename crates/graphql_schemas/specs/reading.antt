@@ -1,6 +1,5 @@
 -- Inner: what private clauses cite.
 pub mod Bodies
-pub mod Depths
 pub mod Descriptions
 pub mod Directives
 pub mod Fields

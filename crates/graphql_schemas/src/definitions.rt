@@ -1,17 +1,17 @@
 //! Readers of definitions and of schema files, by GraphQL October 2021, section 3.1.
 ghost use Rattle.std.specs.Prelude.{◌≡◌};
 ghost use Rattle.graphql_reading.specs.reading.Given.{Gives};
-ghost use Rattle.graphql_schemas.specs.reading.Depths.{limits_of};
+ghost use Rattle.graphql_grammar.specs.reading.Depths.{limits_of};
 ghost use Rattle.graphql_schemas.specs.grammar.SchemaFile.{Definition as SpecDefinition};
 ghost use Rattle.graphql_schemas.specs.reading.SchemaFile.{described_at, extension_at, definition_first, definition_at, definitions_at};
 ghost use Rattle.graphql_schemas.specs.reading.Types.{body_first};
 ghost use Rattle.graphql_schemas.specs.reading.Views.{definition_tree, in_definitions};
 
-use crate::depths::Depths;
 use crate::descriptions::{is_at_description, read_maybe_description};
 use crate::directives::read_directive_definition;
 use crate::schema::{Schema, read_schema, read_schema_extension};
 use crate::types::{read_type_definition, read_type_extension};
+use graphql_grammar::depths::Depths;
 use graphql_reading::cursor::{Cursor, Reading};
 use graphql_reading::production::{Production, one_or_more};
 use graphql_schema_trees::{DirectiveDefinition, TypeDefinition};

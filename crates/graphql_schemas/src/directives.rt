@@ -7,13 +7,13 @@ ghost use Rattle.graphql_schema_trees.specs.trees.SchemaViews.{description_tree,
 ghost use Rattle.graphql_reading.specs.grammar.Tests.{any_name};
 ghost use Rattle.graphql_reading.specs.reading.Given.{Gives};
 ghost use Rattle.graphql_reading.specs.reading.Outcome.{mapped_at};
-ghost use Rattle.graphql_schemas.specs.reading.Depths.{limits_of};
+ghost use Rattle.graphql_grammar.specs.reading.Depths.{limits_of};
 ghost use Rattle.graphql_schemas.specs.grammar.Directives as grammar;
 ghost use Rattle.graphql_schemas.specs.reading.Directives.{location_named, location_at, locations_at, repeatable_at, directive_rest_at};
 
-use crate::depths::Depths;
 use crate::descriptions::place_of;
 use crate::input_values::read_maybe_arguments_definition;
+use graphql_grammar::depths::Depths;
 use graphql_reading::cursor::{Cursor, Reading, Refusal};
 use graphql_reading::names::name_in;
 use graphql_reading::production::{Production, separated};

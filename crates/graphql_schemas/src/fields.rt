@@ -1,18 +1,17 @@
 //! Readers of the fields of object types and interfaces, by GraphQL October 2021, section 3.6.
 ghost use Rattle.graphql_tokens.specs.declared.pos.Positioned.{Positioned};
 ghost use Rattle.graphql_syntax.specs.trees.Parts.{placed};
-ghost use Rattle.graphql_syntax.specs.trees.Parts as trees;
 ghost use Rattle.graphql_schema_trees.specs.trees.Schema as trees;
 ghost use Rattle.graphql_schema_trees.specs.trees.SchemaViews.{field_definition_tree};
 ghost use Rattle.graphql_reading.specs.reading.Given.{Gives, trees_in};
-ghost use Rattle.graphql_schemas.specs.reading.Depths.{limits_of};
+ghost use Rattle.graphql_grammar.specs.reading.Depths.{limits_of};
 ghost use Rattle.graphql_schemas.specs.reading.Fields.{field_definition_at, given_fields_at};
 ghost use Rattle.graphql_schemas.specs.reading.InputValues.{member_first};
 
-use crate::depths::Depths;
 use crate::descriptions::{place_of, read_maybe_description};
 use crate::input_values::{is_at_member, read_maybe_arguments_definition};
 use graphql_grammar::arguments::read_const_directives;
+use graphql_grammar::depths::Depths;
 use graphql_grammar::types::read_type;
 use graphql_reading::cursor::{Cursor, Reading};
 use graphql_reading::names::name_in;

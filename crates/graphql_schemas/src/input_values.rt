@@ -3,16 +3,15 @@
 ghost use Rattle.std.specs.Prelude.{◌≡◌};
 ghost use Rattle.graphql_tokens.specs.declared.pos.Positioned.{Positioned};
 ghost use Rattle.graphql_syntax.specs.trees.Parts.{placed};
-ghost use Rattle.graphql_syntax.specs.trees.Parts as trees;
 ghost use Rattle.graphql_schema_trees.specs.trees.Schema as trees;
 ghost use Rattle.graphql_schema_trees.specs.trees.SchemaViews.{input_value_tree};
 ghost use Rattle.graphql_reading.specs.reading.Given.{Gives, trees_in};
-ghost use Rattle.graphql_schemas.specs.reading.Depths.{limits_of};
+ghost use Rattle.graphql_grammar.specs.reading.Depths.{limits_of};
 ghost use Rattle.graphql_schemas.specs.reading.InputValues.{member_first, input_value_at, given_arguments_at, given_input_fields_at};
 
-use crate::depths::Depths;
 use crate::descriptions::{is_at_description, place_of, read_maybe_description};
 use graphql_grammar::arguments::{read_const_directives, read_maybe_default};
+use graphql_grammar::depths::Depths;
 use graphql_grammar::types::read_type;
 use graphql_reading::cursor::{Cursor, Reading};
 use graphql_reading::names::name_in;

@@ -28,7 +28,6 @@ ghost use Rattle.graphql_schemas.specs.reading.SchemaFile.{definitions_at};
 ghost use Rattle.graphql_schemas.specs.reading.Views.{definition_tree, definition_trees};
 
 mod definitions;
-mod depths;
 mod descriptions;
 mod directives;
 mod fields;
@@ -39,7 +38,7 @@ mod schema;
 mod types;
 
 use definitions::{Definition, read_definitions};
-use depths::Depths;
+use graphql_grammar::depths::Depths;
 use graphql_grammar::document::read_document;
 use graphql_grammar::error::Result;
 use graphql_reading::cursor::{Cursor, Reading};

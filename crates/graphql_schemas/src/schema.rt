@@ -5,14 +5,14 @@ ghost use Rattle.graphql_syntax.specs.trees.Parts.{placed};
 ghost use Rattle.graphql_schema_trees.specs.trees.SchemaViews.{description_tree};
 ghost use Rattle.graphql_reading.specs.reading.Given.{Gives, trees_in};
 ghost use Rattle.graphql_reading.specs.reading.Outcome.{mapped_at};
-ghost use Rattle.graphql_schemas.specs.reading.Depths.{limits_of};
+ghost use Rattle.graphql_grammar.specs.reading.Depths.{limits_of};
 ghost use Rattle.graphql_schemas.specs.grammar.Schema as grammar;
 ghost use Rattle.graphql_schemas.specs.reading.Schema.{root_first, root_at, roots_at, schema_rest_at, extended_schema_at};
 ghost use Rattle.graphql_schemas.specs.reading.Views.{root_tree, schema_tree};
 
-use crate::depths::Depths;
 use crate::descriptions::place_of;
 use graphql_grammar::arguments::read_const_directives;
+use graphql_grammar::depths::Depths;
 use graphql_grammar::operations::read_operation_type;
 use graphql_reading::cursor::{Cursor, Reading, Refusal};
 use graphql_reading::names::name_in;

@@ -7,17 +7,17 @@ ghost use Rattle.graphql_schema_trees.specs.trees.Schema.{object, interface};
 ghost use Rattle.graphql_schema_trees.specs.trees.SchemaViews.{description_tree, type_definition_tree};
 ghost use Rattle.graphql_reading.specs.reading.Given.{Gives};
 ghost use Rattle.graphql_reading.specs.reading.Outcome.{mapped_at};
-ghost use Rattle.graphql_schemas.specs.reading.Depths.{limits_of};
+ghost use Rattle.graphql_grammar.specs.reading.Depths.{limits_of};
 ghost use Rattle.graphql_schemas.specs.grammar.Types as grammar;
 ghost use Rattle.graphql_schemas.specs.reading.Bodies.{in_members, in_rest, in_body, word_at, rest_at, body_by_word_at, members_by_part_at};
 ghost use Rattle.graphql_schemas.specs.reading.Types.{some_field_parts_at, scalar_rest_at, fields_rest_at, union_rest_at, enum_rest_at, input_rest_at, body_at};
 
-use crate::depths::Depths;
 use crate::descriptions::place_of;
 use crate::fields::read_maybe_fields;
 use crate::input_values::read_maybe_input_fields;
 use crate::members::{read_maybe_enum_values, read_maybe_implements, read_maybe_members};
 use graphql_grammar::arguments::read_const_directives;
+use graphql_grammar::depths::Depths;
 use graphql_reading::cursor::{Cursor, Reading, Refusal};
 use graphql_reading::names::name_in;
 use graphql_schema_trees::{

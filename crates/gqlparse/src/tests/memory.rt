@@ -58,18 +58,19 @@ const OUTSIDE_THE_PARSER: Outcome<'static> = (2, "", "error: out of memory\n");
 
 const INSIDE_THE_PARSER: Outcome<'static> = (1, "", "error: out of memory\nat []\n");
 
-// Runs the program on a text again and again, with a piece of memory more each time. Each run must end as
+// Runs a command on a text again and again, with a piece of memory more each time. Each run must end as
 // `told`, or because memory runs out, and some as each of the three.
 fn run_with_more_and_more(
     rt: &impl Abort,
     alloc: Global,
+    command: &str,
     text: &[u8],
     told: Outcome<'_>,
 ) -> Result<(), AllocError> {
     let mut blocks = Vec::with_capacity(alloc, BLOCKS)?;
     let pieces = pieces(alloc, &mut blocks)?;
     let mut words = Vec::new(alloc);
-    words.push(String::from_str(alloc, "query")?)?;
+    words.push(String::from_str(alloc, command)?)?;
     let mut out = writer(alloc)?;
     let mut err = writer(alloc)?;
     let outcomes = [told, INSIDE_THE_PARSER, OUTSIDE_THE_PARSER];
@@ -98,14 +99,14 @@ fn run_with_more_and_more(
 
 #[test]
 fn an_accepted_text(rt: HostRuntime) -> Result<(), Fail> {
-    run_with_more_and_more(&rt, rt.alloc(), b"{a}", (0, "query 1:1\n", ""))?;
+    run_with_more_and_more(&rt, rt.alloc(), "query", b"{a}", (0, "query 1:1\n", ""))?;
     Ok(())
 }
 
 #[test]
 fn a_refused_text(rt: HostRuntime) -> Result<(), Fail> {
     let told = "error: syntax error at 1:4\nat [{\"line\":1,\"column\":4}]\n";
-    run_with_more_and_more(&rt, rt.alloc(), b"{a ?}", (1, "", told))?;
+    run_with_more_and_more(&rt, rt.alloc(), "query", b"{a ?}", (1, "", told))?;
     Ok(())
 }
 
@@ -114,6 +115,23 @@ fn a_refused_text(rt: HostRuntime) -> Result<(), Fail> {
 fn a_text_of_several_lines(rt: HostRuntime) -> Result<(), Fail> {
     let text = b"query A{a}fragment F on T{b}fragment G on T{c}";
     let lines = "query A 1:1\nfragment F 1:11\nfragment G 1:29\n";
-    run_with_more_and_more(&rt, rt.alloc(), text, (0, lines, ""))?;
+    run_with_more_and_more(&rt, rt.alloc(), "query", text, (0, lines, ""))?;
+    Ok(())
+}
+
+#[test]
+fn an_accepted_schema_file(rt: HostRuntime) -> Result<(), Fail> {
+    let text = b"scalar A extend enum E{V}schema{query:Q}";
+    let lines = "scalar A 1:1\nextend enum E 1:10\nschema 1:26\n";
+    run_with_more_and_more(&rt, rt.alloc(), "schema", text, (0, lines, ""))?;
+    Ok(())
+}
+
+#[test]
+fn a_refused_schema_file(rt: HostRuntime) -> Result<(), Fail> {
+    let text = b"schema{query:A query:B}";
+    let told =
+        "error: multiple query roots in schema definition\nat [{\"line\":1,\"column\":16},{\"line\":1,\"column\":1}]\n";
+    run_with_more_and_more(&rt, rt.alloc(), "schema", text, (1, "", told))?;
     Ok(())
 }

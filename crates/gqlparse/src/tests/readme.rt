@@ -1,7 +1,7 @@
-//! The README's example, as it stands there. It is tested beside the program, which lets go of documents too: each
+//! The README's examples, as they stand there. They are tested beside the program, which lets go of documents too: each
 //! crate that does so proves it anew, for every type of the tree.
-use graphql_parser::types::Selection;
-use graphql_parser::{Error, parse_query};
+use graphql_parser::types::{Selection, TypeKind, TypeSystemDefinition};
+use graphql_parser::{Error, parse_query, parse_schema};
 use std::alloc::Global;
 use std::test::Fail;
 
@@ -45,3 +45,41 @@ const REQUEST: &str = r"query Hero($id: ID!) {
 }
 fragment Extra on Query { version }
 ";
+
+/// The types that implement an interface, a line for each, with the place where they name it.
+fn implementors(alloc: Global, text: &str, interface: &str) -> Result<String, Error> {
+    let document = parse_schema(alloc, text)?;
+    let mut lines = String::new(alloc);
+    for definition in &document.definitions {
+        let TypeSystemDefinition::TypeDef(ty) = definition else {
+            continue;
+        };
+        let implements = match &ty.node.kind {
+            TypeKind::Object(object) => &object.implements,
+            TypeKind::Interface(interface) => &interface.implements,
+            _ => continue,
+        };
+        for name in implements {
+            if name.node.as_str() == interface {
+                let place = name.pos;
+                let ty = &ty.node.name.node;
+                writeln!(lines, "{place} {ty}")?;
+            }
+        }
+    }
+    Ok(lines)
+}
+
+#[test]
+fn the_implementors_of_an_interface(rt: HostRuntime) -> Result<(), Fail> {
+    let lines = implementors(rt.alloc(), SCHEMA, "Node")
+        .ok()
+        .ok_or("refused")?;
+    assert_eq!(rt; lines.as_str(), "2:22 User\n3:39 Order\n");
+    Ok(())
+}
+
+const SCHEMA: &str = r#"interface Node { id: ID! }
+type User implements Node { id: ID! }
+extend type Order implements Priced & Node @key(fields: "id")
+"#;

@@ -70,6 +70,14 @@ fn query<'a>(input: &'a [u8], status: u8, out: &'a str, err: &'a str) -> Row<'a>
     }
 }
 
+// The same of `gqlparse schema`.
+fn schema<'a>(input: &'a [u8], status: u8, out: &'a str, err: &'a str) -> Row<'a> {
+    Row {
+        words: &["schema"],
+        ..query(input, status, out, err)
+    }
+}
+
 #[test]
 fn accepted_texts_are_listed(rt: HostRuntime) -> Result<(), Fail> {
     for (text, lines) in [
@@ -129,6 +137,84 @@ fn each_definition_is_listed(rt: HostRuntime) -> Result<(), Fail> {
 }
 
 #[test]
+fn each_definition_of_a_schema_file_is_listed(rt: HostRuntime) -> Result<(), Fail> {
+    for (text, lines) in [
+        (
+            "schema{query:Q}\nextend type Q@k\ndirective @d on FIELD",
+            "schema 1:1\nextend type Q 2:1\ndirective @d 3:1\n",
+        ),
+        // Each keyword, in the order of the text.
+        (
+            "input F enum E union D interface C type B scalar A schema{query:Q}",
+            "input F 1:1\nenum E 1:9\nunion D 1:16\ninterface C 1:24\ntype B 1:36\nscalar A 1:43\nschema 1:52\n",
+        ),
+        (
+            "extend schema@k extend scalar A@k extend type B@k\nextend interface C@k extend union D=A\n\textend enum E{V} extend input F{v:A}",
+            "extend schema 1:1\nextend scalar A 1:17\nextend type B 1:35\nextend interface C 2:1\nextend union D 2:22\nextend enum E 3:2\nextend input F 3:19\n",
+        ),
+        // A definition stands at its description.
+        (
+            "\"Dates.\"\nscalar A \"\"\"\n  Beginnings.\n\"\"\" schema{query:B}\n  \"\" directive@c on OBJECT # end",
+            "scalar A 1:1\nschema 2:10\ndirective @c 5:3\n",
+        ),
+        // One name may be defined twice, and so may the schema. Keywords are names.
+        (
+            "type type type type schema{query:A}schema{query:B}",
+            "type type 1:1\ntype type 1:11\nschema 1:21\nschema 1:36\n",
+        ),
+    ] {
+        holds(&rt, rt.alloc(), &schema(text.as_bytes(), 0, lines, ""))?;
+    }
+    Ok(())
+}
+
+#[test]
+fn refused_schema_files_are_told(rt: HostRuntime) -> Result<(), Fail> {
+    for (text, lines) in [
+        (
+            "schema { mutation: M }",
+            "error: schema definition is missing query root\nat [{\"line\":1,\"column\":1}]\n",
+        ),
+        (
+            "scalar A\n \"d\" schema @k",
+            "error: syntax error at 2:15\nat [{\"line\":2,\"column\":15}]\n",
+        ),
+        (
+            "scalar A\n \"d\" schema{subscription:S}",
+            "error: schema definition is missing query root\nat [{\"line\":2,\"column\":2}]\n",
+        ),
+        (
+            "schema{mutation:A mutation:B}",
+            "error: multiple mutation roots in schema definition\nat [{\"line\":1,\"column\":19},{\"line\":1,\"column\":1}]\n",
+        ),
+        (
+            "type Q\n extend schema{query:Q\nquery:R}",
+            "error: multiple query roots in schema definition\nat [{\"line\":3,\"column\":1},{\"line\":2,\"column\":2}]\n",
+        ),
+        (
+            "",
+            "error: syntax error at 1:1\nat [{\"line\":1,\"column\":1}]\n",
+        ),
+        (
+            "type A {}",
+            "error: syntax error at 1:9\nat [{\"line\":1,\"column\":9}]\n",
+        ),
+        // A request is no schema file.
+        (
+            "{a}",
+            "error: syntax error at 1:1\nat [{\"line\":1,\"column\":1}]\n",
+        ),
+        (
+            "type A{a:[[[[[[[[[[[[[[[[[[[[[[[[[[[[[[[[[[[[[[[[[[[[[[[[[[[[[[[[[[[[[[[[[",
+            "error: recursion limit exceeded.\nat []\n",
+        ),
+    ] {
+        holds(&rt, rt.alloc(), &schema(text.as_bytes(), 1, "", lines))?;
+    }
+    Ok(())
+}
+
+#[test]
 fn each_error_is_told_with_its_places(rt: HostRuntime) -> Result<(), Fail> {
     for (text, lines) in [
         (
@@ -179,9 +265,12 @@ fn wrong_arguments_are_told_before_anything_is_read(rt: HostRuntime) -> Result<(
         &[""],
         &["Query"],
         &["query "],
-        &["schema"],
+        &["Schema"],
+        &["schemas"],
         &["query", "query"],
+        &["schema", "schema"],
         &["query", "schema"],
+        &["schema", "query"],
         &["-h"],
     ] {
         let row = Row {
@@ -198,11 +287,9 @@ fn wrong_arguments_are_told_before_anything_is_read(rt: HostRuntime) -> Result<(
 fn input_that_cannot_be_read(rt: HostRuntime) -> Result<(), Fail> {
     let line = "error: cannot read standard input\n";
     for reads in [0, 1, 2] {
-        let row = Row {
-            reads,
-            ..query(b"{a}", 2, "", line)
-        };
-        holds(&rt, rt.alloc(), &row)?;
+        for read in [query(b"{a}", 2, "", line), schema(b"scalar A", 2, "", line)] {
+            holds(&rt, rt.alloc(), &Row { reads, ..read })?;
+        }
     }
     Ok(())
 }
@@ -212,6 +299,7 @@ fn input_that_is_not_text(rt: HostRuntime) -> Result<(), Fail> {
     let line = "error: input is not UTF-8\n";
     for bytes in [b"\xff".as_slice(), b"{a}\xc3", b"{a} # \xed\xa0\x80"] {
         holds(&rt, rt.alloc(), &query(bytes, 2, "", line))?;
+        holds(&rt, rt.alloc(), &schema(bytes, 2, "", line))?;
     }
     Ok(())
 }
@@ -224,6 +312,16 @@ fn output_that_cannot_be_written(rt: HostRuntime) -> Result<(), Fail> {
         let row = Row {
             writes,
             ..query(b"{a}", 2, out, line)
+        };
+        holds(&rt, rt.alloc(), &row)?;
+    }
+    // Two lines, in ten calls.
+    let text = b"scalar A extend scalar A@k";
+    let lines = "scalar A 1:1\nextend scalar A 1:10\n";
+    for (writes, out) in [(0, ""), (6, "scalar A 1:1\nexten"), (12, lines)] {
+        let row = Row {
+            writes,
+            ..schema(text, 2, out, line)
         };
         holds(&rt, rt.alloc(), &row)?;
     }
@@ -243,8 +341,13 @@ fn complaints_that_cannot_be_written_change_no_status(rt: HostRuntime) -> Result
         ..query(b"{a ?}", 1, "", "err")
     };
     holds(&rt, alloc, &cut_short)?;
+    let refused = Row {
+        complaints: 1,
+        ..schema(b"{a}", 1, "", "err")
+    };
+    holds(&rt, alloc, &refused)?;
     let wrong = Row {
-        words: &["schema"],
+        words: &["-h"],
         complaints: 0,
         ..query(b"{a}", 2, "", "")
     };

@@ -1,6 +1,6 @@
 -- Values in whose objects no name comes twice (GraphQL October 2021, section 5.6.3). The grammar gives a repeated name
 -- the value with which it comes last, so this holds of each value that is read.
-use Rattle.std.specs.Prelude.{◌≢◌, ℕ, List}
+use Rattle.std.specs.Prelude.{◌≢◌, ℕ, Option, Some, None, List}
 use Rattle.std.specs.List.{AllByRecursion}
 use Rattle.graphql_tokens.specs.declared.pos.Positioned.{Positioned}
 use Rattle.graphql_syntax.specs.trees.Parts.{Argument, Arguments, Directive, Directives}
@@ -33,6 +33,10 @@ abbrev mutual
 
 abbrev pub IsDistinctValue : Positioned Tree → Type 0
 IsDistinctValue value = IsDistinct value.node
+
+abbrev pub IsDistinctDefault : Option (Positioned Tree) → Type 0
+IsDistinctDefault None = Unit {0}
+IsDistinctDefault (Some value) = IsDistinctValue value
 
 abbrev pub IsDistinctArgument : Argument → Type 0
 IsDistinctArgument argument = IsDistinct argument.1.node

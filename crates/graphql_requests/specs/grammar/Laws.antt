@@ -1,14 +1,13 @@
 -- What holds of each accepted request, whatever its text (GraphQL October 2021, sections 5.2.1.1, 5.2.2.1, 5.5.1.1
 -- and 5.6.3).
-use Rattle.std.specs.Prelude.{◌≡◌, ◌≢◌, Option, Some, None, List, [], ◌∷◌, ◌++◌}
+use Rattle.std.specs.Prelude.{◌≡◌, ◌≢◌, None, List, [], ◌∷◌, ◌++◌}
 use Rattle.std.specs.List.{AllByRecursion}
 use Rattle.std.specs.Map.{lookup}
 use Rattle.std.specs.Str.{bytes_eq}
 use Rattle.graphql_tokens.specs.declared.pos.Positioned.{Positioned}
 use Rattle.graphql_syntax.specs.trees.Parts.{Name}
 use Rattle.graphql_request_trees.specs.trees.Request.{VariableDefinition, Selection, SelectionSet, field, fragment_spread, inline_fragment, no_selections, selection_and, OperationDefinition, FragmentDefinition, Operations, single, multiple, Document}
-use Rattle.graphql_syntax.specs.trees.ValueTree.{Tree}
-use Rattle.graphql_grammar.specs.grammar.Distinct.{IsDistinctValue, AreDistinctArguments, AreDistinctDirectives}
+use Rattle.graphql_grammar.specs.grammar.Distinct.{IsDistinctDefault, AreDistinctArguments, AreDistinctDirectives}
 
 -- no entry has the name of one that stands before it
 abbrev pub HasDistinctNames : {A : Type 0} → List (Name × A) → Type 0
@@ -20,10 +19,6 @@ AreDistinct (single operation) = Unit {0}
 AreDistinct (multiple operations) = (operations ≢ []) × HasDistinctNames operations
 
 -- ---- what stands in a request holds no object with two fields of one name
-
-abbrev pub IsDistinctDefault : Option (Positioned Tree) → Type 0
-IsDistinctDefault None = Unit {0}
-IsDistinctDefault (Some value) = IsDistinctValue value
 
 abbrev pub IsDistinctVariable : Positioned VariableDefinition → Type 0
 IsDistinctVariable v = IsDistinctDefault v.node.default_value × AreDistinctDirectives v.node.directives

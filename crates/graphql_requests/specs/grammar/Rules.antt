@@ -4,6 +4,7 @@ use Rattle.std.specs.Prelude.{Option, Some, None, option_map, cond, List, [], �
 use Rattle.std.specs.Str.{bytes_eq}
 use Rattle.graphql_tokens.specs.declared.pos.Pos.{Pos}
 use Rattle.graphql_syntax.specs.trees.Parts.{Name}
+use Rattle.graphql_grammar.specs.answers.Breaches.{or_else}
 use Rattle.graphql_grammar.specs.declared.error.Error.{Error}
 use Rattle.graphql_grammar.specs.declared.error.Error.TheVariants.{MultipleOperations, OperationDuplicated, FragmentDuplicated, MissingOperation}
 use Rattle.graphql_requests.specs.grammar.Request.{Definition, operation, fragment}
@@ -33,10 +34,6 @@ first_fragment_named name (operation other o ∷ ds) = first_fragment_named name
 first_fragment_named name (fragment other f ∷ ds) = cond (bytes_eq name other) (Some f.pos) (first_fragment_named name ds)
 
 -- ---- what a definition breaks
-
-abbrev pub or_else : {A : Type 0} → Option A → Option A → Option A
-or_else None other = other
-or_else (Some a) other = Some a
 
 -- The error that a definition is after those before it: an operation without a name stands alone, and no two
 -- operations have one name, nor two fragments. It has the places of both definitions.

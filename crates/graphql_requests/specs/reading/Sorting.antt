@@ -12,8 +12,9 @@ use Rattle.graphql_requests.specs.grammar.Request.{Definition, operation, fragme
 use Rattle.graphql_requests.specs.declared.definitions.Definition.{Definition as CodeDefinition}
 use Rattle.graphql_requests.specs.reading.Definitions.{definition_tree}
 use Rattle.graphql_requests.specs.grammar.Requests.{requests}
-use Rattle.graphql_requests.specs.grammar.Rules.{breach_of, or_else, first_operation}
+use Rattle.graphql_requests.specs.grammar.Rules.{breach_of, first_operation}
 use Rattle.graphql_grammar.specs.answers.Answers.{AreUnbroken}
+use Rattle.graphql_grammar.specs.answers.Breaches.{or_else}
 use Rattle.graphql_grammar.specs.reading.DocumentOf.{TellsOf}
 
 abbrev pub definition_trees : List CodeDefinition → List Definition

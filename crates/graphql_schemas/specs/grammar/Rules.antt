@@ -3,6 +3,7 @@ use Rattle.std.specs.Prelude.{Bool, true, false, cond, is_some, Option, Some, No
 use Rattle.graphql_tokens.specs.declared.pos.Positioned.{Positioned}
 use Rattle.graphql_syntax.specs.declared.types.OperationType.{OperationType}
 use Rattle.graphql_syntax.specs.declared.types.OperationType.TheVariants.{Query, Mutation, Subscription}
+use Rattle.graphql_grammar.specs.answers.Breaches.{or_else}
 use Rattle.graphql_grammar.specs.declared.error.Error.{Error}
 use Rattle.graphql_grammar.specs.declared.error.Error.TheVariants.{MultipleRoots, MissingQueryRoot}
 use Rattle.graphql_schemas.specs.grammar.Schema.{Root, Schema}
@@ -25,10 +26,6 @@ first_repeated before [] = None
 first_repeated before (root ∷ roots) = cond (is_some (first_of_kind root.kind before)) (Some root) (first_repeated (before ++ root ∷ []) roots)
 
 -- ---- what a definition breaks
-
-abbrev pub or_else : {A : Type 0} → Option A → Option A → Option A
-or_else None other = other
-or_else (Some a) other = Some a
 
 -- no kind comes twice: the error has the places of the keyword that repeats it and of the definition
 abbrev pub repeats_a_root : Positioned Schema → Option Error

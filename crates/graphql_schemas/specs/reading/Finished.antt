@@ -7,12 +7,13 @@ use Rattle.graphql_schema_trees.specs.declared.service.SchemaDefinition.{SchemaD
 use Rattle.graphql_schema_trees.specs.declared.service.TypeSystemDefinition.{TypeSystemDefinition}
 use Rattle.graphql_syntax.specs.trees.Parts.{Name, placed}
 use Rattle.graphql_schema_trees.specs.trees.SchemaViews as views
+use Rattle.graphql_grammar.specs.answers.Breaches.{or_else}
 use Rattle.graphql_grammar.specs.declared.error.Error.{Error}
 use Rattle.graphql_grammar.specs.declared.error.Error.TheVariants.{MultipleRoots}
 use Rattle.graphql_grammar.specs.reading.DocumentOf.{TellsOf}
 use Rattle.graphql_schemas.specs.declared.rules.Roots as code
 use Rattle.graphql_schemas.specs.grammar.Documents.{root_name, schema_tree_of, tree_of}
-use Rattle.graphql_schemas.specs.grammar.Rules.{first_repeated, repeats_a_root, lacks_a_query, or_else, breach_of}
+use Rattle.graphql_schemas.specs.grammar.Rules.{first_repeated, repeats_a_root, lacks_a_query, breach_of}
 use Rattle.graphql_schemas.specs.grammar.Schema.{Root, Schema}
 use Rattle.graphql_schemas.specs.grammar.SchemaFile.{Definition}
 

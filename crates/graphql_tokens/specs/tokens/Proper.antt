@@ -4,7 +4,6 @@ use Rattle.std.specs.Str.{encode_utf8_all}
 use Rattle.std.specs.Char.{IsScalar}
 use Rattle.std.specs.List.{AllByRecursion}
 use Rattle.graphql_tokens.specs.tokens.Edition.{Current}
--- `IsCutInto` stands beside `Cuts`; from here it is given on to those who still import it by this name.
 use Rattle.graphql_tokens.specs.tokens.Spelling.{IsSpelling}
 use Rattle.graphql_tokens.specs.tokens.Token.{Token}
 use Rattle.graphql_tokens.specs.declared.lexer.TokenKind.{TokenKind}

@@ -1,4 +1,4 @@
-use Rattle.graphql_schemas.specs.reading.Depths.{limits_of}
+use Rattle.graphql_grammar.specs.reading.Depths.{limits_of}
 use Rattle.graphql_schemas.proofs.SchemaFileProductions.{takes-definition}
 use Rattle.graphql_schemas.proofs.definitions.read_definitions.Goals as goal
 

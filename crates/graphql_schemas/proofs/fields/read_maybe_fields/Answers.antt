@@ -1,4 +1,4 @@
-use Rattle.graphql_schemas.specs.reading.Depths.{limits_of}
+use Rattle.graphql_grammar.specs.reading.Depths.{limits_of}
 use Rattle.graphql_schemas.proofs.FieldProductions.{takes-field_definition}
 use Rattle.graphql_schemas.proofs.fields.read_maybe_fields.Goals as goal
 

@@ -1,4 +1,4 @@
-use Rattle.graphql_schemas.specs.reading.Depths.{limits_of}
+use Rattle.graphql_grammar.specs.reading.Depths.{limits_of}
 use Rattle.graphql_schemas.proofs.InputValueProductions.{takes-input_value}
 use Rattle.graphql_schemas.proofs.input_values.read_maybe_arguments_definition.Goals as goal
 

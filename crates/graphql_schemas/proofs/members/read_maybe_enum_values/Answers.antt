@@ -1,4 +1,4 @@
-use Rattle.graphql_schemas.specs.reading.Depths.{limits_of}
+use Rattle.graphql_grammar.specs.reading.Depths.{limits_of}
 use Rattle.graphql_schemas.proofs.MemberProductions.{takes-enum_value}
 use Rattle.graphql_schemas.proofs.members.read_maybe_enum_values.Goals as goal
 

@@ -1,9 +1,9 @@
--- A phrase after a mark, and lists with a mark between their members.
+-- A phrase after a mark, a phrase between brackets, and lists with a mark between their members.
 use Rattle.std.proofs.Common.{map, refl}
 use Rattle.graphql_reading.specs.grammar.Tests.{Test, punct}
 use Rattle.graphql_reading.specs.grammar.Limits.{Limits}
-use Rattle.graphql_reading.specs.grammar.Relations.{Rel, one, after, separated}
-use Rattle.graphql_reading.specs.reading.Outcome.{Reader, after_at, separated_at}
+use Rattle.graphql_reading.specs.grammar.Relations.{Rel, one, between, after, separated}
+use Rattle.graphql_reading.specs.reading.Outcome.{Reader, between_at, after_at, separated_at}
 use Rattle.graphql_reading.proofs.Theory.{IsSubset, IsInner, outside, anything}
 use Rattle.graphql_reading.proofs.TokenTests.{punct-inner}
 use Rattle.graphql_reading.proofs.ReadsExactly.{ReadsExactly, HasPhrase, BeginsWith, exact-one, exact-punct, exact-mapped, exact-next, exact-then-some, exact-many, begins-one, begins-mapped, begins-then, begins-within, has-pair, has-map, has-star}
@@ -24,6 +24,21 @@ has-after mark marked h = has-map (has-pair marked h)
 
 pub ignores-after : {A : Type 0} (mark : Test) {p : Limits → Rel A} {f : A → A} → IgnoresPlaces p f → IgnoresPlaces (λ c. after mark (p c)) f
 ignores-after mark h = ignores-mapped (λ x. refl) (ignores-then (ignores-one mark) h)
+
+-- ---- a phrase between brackets
+
+-- nothing is looked ahead at after the closing bracket
+pub exact-between : {A : Type 0} (opening closing : String) {p : Limits → Rel A} {b : Limits} {f : Test} {r : Reader A} → HasPhrase (λ c. one (punct closing)) → HasPhrase p → ReadsExactly p b (punct closing) r → ReadsExactly (λ c. between (punct opening) (p c) (punct closing)) b f (between_at (punct opening) r (punct closing))
+exact-between opening closing closes has h = exact-mapped (exact-next (has-pair has closes) (exact-punct opening) (exact-then-some begins-one closes h (exact-punct closing)))
+
+pub begins-between : {A : Type 0} {opening : Test} (closing : Test) {p : Limits → Rel A} → BeginsWith (λ c. between opening (p c) closing) opening
+begins-between closing = begins-mapped (begins-then begins-one)
+
+pub has-between : {A : Type 0} (opening closing : Test) {p : Limits → Rel A} → HasPhrase (λ c. one opening) → HasPhrase p → HasPhrase (λ c. one closing) → HasPhrase (λ c. between opening (p c) closing)
+has-between opening closing opens h closes = has-map (has-pair opens (has-pair h closes))
+
+pub ignores-between : {A : Type 0} (opening closing : Test) {p : Limits → Rel A} {f : A → A} → IgnoresPlaces p f → IgnoresPlaces (λ c. between opening (p c) closing) f
+ignores-between opening closing h = ignores-mapped (λ x. refl) (ignores-then (ignores-one opening) (ignores-then h (ignores-one closing)))
 
 -- ---- a list with marks
 

@@ -1,4 +1,4 @@
-//! How deep the parts of a definition may nest.
+//! How deep values and types may nest.
 
 /// How deep the lists and objects of a value may nest, and the lists of a type.
 #[derive(Clone, Copy)]
