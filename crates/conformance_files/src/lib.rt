@@ -1,0 +1,10 @@
+//! Schema files of the length that people keep: each with its whole listing, and with places and contents inside. What
+//! is expected was worked out by hand from the rules of `docs/GRAMMAR.md`, and never taken from what the crates print.
+#![tactic(auto)]
+
+#[cfg(test)]
+mod files;
+#[cfg(test)]
+mod reading;
+#[cfg(test)]
+mod written;

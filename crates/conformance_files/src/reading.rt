@@ -1,0 +1,99 @@
+//! What is read of a file: a line for each definition, and the tree.
+use crate::files::FILES;
+use crate::written::WRITTEN;
+use graphql_parser::parse_schema;
+use graphql_parser::types::{ServiceDocument, TypeKind, TypeSystemDefinition};
+use rows::Shown;
+use std::alloc::{AllocError, Global};
+use std::test::Fail;
+use tree_text::write_file;
+
+/// A file: its name, its text, a line for each of its definitions, and parts of its tree.
+pub type File = (
+    &'static str,
+    &'static str,
+    &'static str,
+    &'static [&'static str],
+);
+
+fn write_line(shown: &mut Shown, definition: &TypeSystemDefinition) {
+    let (extend, keyword, place) = match definition {
+        TypeSystemDefinition::Schema(schema) => (schema.node.extend, "schema", schema.pos),
+        TypeSystemDefinition::Directive(directive) => (false, "directive @", directive.pos),
+        TypeSystemDefinition::TypeDef(ty) => {
+            let keyword = match &ty.node.kind {
+                TypeKind::Scalar => "scalar ",
+                TypeKind::Object(_) => "type ",
+                TypeKind::Interface(_) => "interface ",
+                TypeKind::Union(_) => "union ",
+                TypeKind::Enum(_) => "enum ",
+                TypeKind::InputObject(_) => "input ",
+            };
+            (ty.node.extend, keyword, ty.pos)
+        }
+    };
+    shown.word(if extend { "extend " } else { "" });
+    shown.word(keyword);
+    match definition {
+        TypeSystemDefinition::Schema(_) => {}
+        TypeSystemDefinition::Directive(directive) => shown.item("", &directive.node.name),
+        TypeSystemDefinition::TypeDef(ty) => shown.item("", &ty.node.name),
+    }
+    shown.place(" ", &place);
+    shown.word("\n");
+}
+
+fn listing(alloc: Global, document: &ServiceDocument) -> Result<String, AllocError> {
+    let mut shown = Shown::new(alloc, true);
+    for definition in &document.definitions {
+        write_line(&mut shown, definition);
+    }
+    shown.finish()
+}
+
+fn tree(alloc: Global, document: &ServiceDocument) -> Result<String, AllocError> {
+    let mut shown = Shown::new(alloc, true);
+    write_file(&mut shown, document);
+    shown.finish()
+}
+
+#[test]
+fn files_are_read(rt: HostRuntime) -> Result<(), Fail> {
+    let alloc = rt.alloc();
+    for files in [FILES, WRITTEN] {
+        for (name, text, lines, parts) in files {
+            let document = parse_schema(alloc, text).ok().ok_or(*name)?;
+            let found = listing(alloc, &document)?;
+            assert_eq!(rt;
+                found.as_str().trim_ascii(),
+                lines.trim_ascii(),
+                "of {name}"
+            );
+            let found = tree(alloc, &document)?;
+            for part in *parts {
+                assert!(rt; found.as_str().contains(part), "{part} of {name}: {found}");
+            }
+        }
+    }
+    Ok(())
+}
+
+// Two thousand definitions, a line each.
+#[test]
+fn a_long_file_is_read(rt: HostRuntime) -> Result<(), Fail> {
+    let alloc = rt.alloc();
+    let mut text = String::new(alloc);
+    let mut lines = String::new(alloc);
+    for index in 0..1000usize {
+        let first = index * 2 + 1;
+        let second = index * 2 + 2;
+        writeln!(text, "  type T{index}{{a(b:Int={index}):[T{index}!]}}")?;
+        writeln!(text, "\"Of {index}.\" enum E{index}{{A B}}")?;
+        writeln!(lines, "type T{index} {first}:3")?;
+        writeln!(lines, "enum E{index} {second}:1")?;
+    }
+    let document = parse_schema(alloc, text.as_str()).ok().ok_or("refused")?;
+    assert_eq!(rt; document.definitions.len(), 2000);
+    assert_eq!(rt; listing(alloc, &document)?.as_str(), lines.as_str());
+    Ok(())
+}
