@@ -113,8 +113,10 @@ impl<'a> Grammar<'a> {
             match (symbol.times, symbol.part) {
                 (Times::Once, Part::Text(text)) => pieces.push(text)?,
                 (Times::Once, Part::Rule(rule)) => {
-                    for symbol in self.choice(random, rule, grows).iter().rev() {
-                        left.push(*symbol)?;
+                    if let Some(choice) = self.choice(random, rule, grows) {
+                        for symbol in choice.iter().rev() {
+                            left.push(*symbol)?;
+                        }
                     }
                 }
                 (Times::AtMostOnce, part) => {
@@ -141,19 +143,14 @@ impl<'a> Grammar<'a> {
     }
 
     // One of a rule's choices: the first where the text is to end.
-    fn choice(&self, random: &mut Random, rule: usize, grows: bool) -> &[Symbol<'a>] {
-        let Some(choices) = self.rules.get(rule) else {
-            return &[];
-        };
+    fn choice(&self, random: &mut Random, rule: usize, grows: bool) -> Option<&Vec<Symbol<'a>>> {
+        let choices = self.rules.get(rule)?;
         let index = if grows {
             random.below(choices.len())
         } else {
             0
         };
-        match choices.get(index) {
-            Some(choice) => choice.as_slice(),
-            None => &[],
-        }
+        choices.get(index)
     }
 }
 
