@@ -1,6 +1,6 @@
 //! The two languages and their tokens, as `docs/GRAMMAR.md` has them, laid out for texts that are made by them.
 
-/// Requests. The first choice of a definition is a document that mostly keeps the rules.
+/// Requests. The first two choices of a document mostly keep the rules for documents.
 pub const REQUESTS: &str = r"
 Document : Short | Fragment* NamedOperation Fragment* NamedOperation? | Definition+
 Short : SelectionSet | OperationType VariableDefinitions? Directives? SelectionSet

@@ -6,13 +6,13 @@ use std::test::Fail;
 
 const SEED: u64 = 20261123;
 
-const COUNT: u64 = 3000;
+const COUNT: u64 = 2000;
 
 #[test]
 fn requests(rt: HostRuntime) -> Result<(), Fail> {
     let tally = run(rt.alloc(), &Requests, SEED, COUNT)?;
     assert_eq!(rt; tally.failure.as_ref().map(|text| text.as_str()), None);
-    assert!(rt; tally.accepted > 1000 && tally.broke_rules > 100 && tally.refused > 1000);
+    assert!(rt; tally.accepted > 500 && tally.broke_rules > 50 && tally.refused > 500);
     Ok(())
 }
 
@@ -20,7 +20,7 @@ fn requests(rt: HostRuntime) -> Result<(), Fail> {
 fn schema_files(rt: HostRuntime) -> Result<(), Fail> {
     let tally = run(rt.alloc(), &Schemas, SEED, COUNT)?;
     assert_eq!(rt; tally.failure.as_ref().map(|text| text.as_str()), None);
-    assert!(rt; tally.accepted > 1000 && tally.broke_rules > 100 && tally.refused > 1000);
+    assert!(rt; tally.accepted > 500 && tally.broke_rules > 50 && tally.refused > 500);
     Ok(())
 }
 
