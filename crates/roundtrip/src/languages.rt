@@ -1,0 +1,162 @@
+//! The two languages: their grammars, and what their calls answer.
+use crate::grammars;
+use crate::printing_requests::print_request;
+use crate::printing_schemas::print_file;
+use graphql_parser::lexer::Tokens;
+use graphql_parser::types::{ExecutableDocument, ServiceDocument};
+use graphql_parser::{
+    Error, Limits, Result as Answer, parse_query, parse_query_from, parse_query_limited,
+    parse_schema, parse_schema_from, parse_schema_limited,
+};
+use rows::Shown;
+use std::alloc::{AllocError, Global};
+use tree_text::{write_file, write_request};
+
+/// A form of a call.
+#[derive(Clone, Copy)]
+pub enum Form {
+    /// Over a text.
+    Plain,
+    /// Over a text, within the default limits.
+    Limited,
+    /// Over the fresh tokens of a text.
+    FromTokens,
+    /// Over a text, within limits of one level each.
+    Shallow,
+}
+
+/// What an answer is seen by. Equal answers have equal parts.
+#[derive(Drop)]
+pub struct Seen {
+    pub kind: Kind,
+    /// The tree with its places, or the error.
+    pub placed: String,
+    /// The tree without places, or the kind of error.
+    pub placeless: String,
+    /// The tree as GraphQL text; empty for an error.
+    pub printed: String,
+}
+
+/// A kind of answer.
+#[derive(Clone, Copy, PartialEq, Eq)]
+pub enum Kind {
+    Accepted,
+    BreaksRule,
+    Syntax,
+    Limit,
+    NoMemory,
+}
+
+/// A language: a grammar and a parser.
+pub trait Language {
+    /// The grammar of its texts.
+    fn grammar(&self) -> &'static str;
+
+    /// What its parser answers.
+    fn seen(&self, alloc: Global, form: Form, text: &str) -> Result<Seen, AllocError>;
+}
+
+/// Requests.
+#[derive(Clone, Copy)]
+pub struct Requests;
+
+/// Schema files.
+#[derive(Clone, Copy)]
+pub struct Schemas;
+
+fn narrow() -> Limits {
+    Limits::new(1, 1, 1).unwrap_or_default()
+}
+
+impl Language for Requests {
+    fn grammar(&self) -> &'static str {
+        grammars::REQUESTS
+    }
+
+    fn seen(&self, alloc: Global, form: Form, text: &str) -> Result<Seen, AllocError> {
+        let answer = match form {
+            Form::Plain => parse_query(alloc, text),
+            Form::Limited => parse_query_limited(alloc, text, Limits::default()),
+            Form::FromTokens => parse_query_from(alloc, &mut Tokens::new(text)),
+            Form::Shallow => parse_query_limited(alloc, text, narrow()),
+        };
+        of_request(alloc, answer)
+    }
+}
+
+impl Language for Schemas {
+    fn grammar(&self) -> &'static str {
+        grammars::SCHEMAS
+    }
+
+    fn seen(&self, alloc: Global, form: Form, text: &str) -> Result<Seen, AllocError> {
+        let answer = match form {
+            Form::Plain => parse_schema(alloc, text),
+            Form::Limited => parse_schema_limited(alloc, text, Limits::default()),
+            Form::FromTokens => parse_schema_from(alloc, &mut Tokens::new(text)),
+            Form::Shallow => parse_schema_limited(alloc, text, narrow()),
+        };
+        of_file(alloc, answer)
+    }
+}
+
+fn of_request(alloc: Global, answer: Answer<ExecutableDocument>) -> Result<Seen, AllocError> {
+    match answer {
+        Ok(document) => {
+            let mut placed = Shown::new(alloc, true);
+            write_request(&mut placed, &document);
+            let mut placeless = Shown::new(alloc, false);
+            write_request(&mut placeless, &document);
+            let mut printed = Shown::new(alloc, false);
+            print_request(&mut printed, &document);
+            accepted(placed, placeless, printed)
+        }
+        Err(error) => refused(alloc, &error),
+    }
+}
+
+fn of_file(alloc: Global, answer: Answer<ServiceDocument>) -> Result<Seen, AllocError> {
+    match answer {
+        Ok(document) => {
+            let mut placed = Shown::new(alloc, true);
+            write_file(&mut placed, &document);
+            let mut placeless = Shown::new(alloc, false);
+            write_file(&mut placeless, &document);
+            let mut printed = Shown::new(alloc, false);
+            print_file(&mut printed, &document);
+            accepted(placed, placeless, printed)
+        }
+        Err(error) => refused(alloc, &error),
+    }
+}
+
+fn accepted(placed: Shown, placeless: Shown, printed: Shown) -> Result<Seen, AllocError> {
+    Ok(Seen {
+        kind: Kind::Accepted,
+        placed: placed.finish()?,
+        placeless: placeless.finish()?,
+        printed: printed.finish()?,
+    })
+}
+
+fn refused(alloc: Global, error: &Error) -> Result<Seen, AllocError> {
+    let (kind, word) = match error {
+        Error::Syntax { .. } => (Kind::Syntax, "syntax"),
+        Error::RecursionLimitExceeded => (Kind::Limit, "limit"),
+        Error::OutOfMemory => (Kind::NoMemory, "out of memory"),
+        Error::MultipleRoots { .. } => (Kind::BreaksRule, "multiple roots"),
+        Error::MissingQueryRoot { .. } => (Kind::BreaksRule, "missing query root"),
+        Error::MultipleOperations { .. } => (Kind::BreaksRule, "multiple operations"),
+        Error::OperationDuplicated { .. } => (Kind::BreaksRule, "operation duplicated"),
+        Error::FragmentDuplicated { .. } => (Kind::BreaksRule, "fragment duplicated"),
+        Error::MissingOperation => (Kind::BreaksRule, "missing operation"),
+    };
+    let mut placed = Shown::new(alloc, true);
+    placed.debugged("", error);
+    Ok(Seen {
+        kind,
+        placed: placed.finish()?,
+        placeless: String::from_str(alloc, word)?,
+        printed: String::new(alloc),
+    })
+}
