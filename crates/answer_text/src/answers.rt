@@ -47,13 +47,16 @@ impl Parser {
         }
     }
 
-    /// The same over the tokens that are left.
+    /// The same over the tokens that are left. Where none is, nothing is seen.
     pub fn of_tokens(
         self,
         alloc: Global,
         view: View,
         tokens: &mut Tokens<'_>,
     ) -> Result<String, AllocError> {
+        if tokens.is_ended() {
+            return Ok(String::new(alloc));
+        }
         match self {
             Parser::Query => of_request(alloc, view, "", parse_query_from(alloc, tokens)),
             Parser::Schema => of_file(alloc, view, parse_schema_from(alloc, tokens)),
