@@ -1,10 +1,14 @@
 //! Files as they are kept for services.
+use crate::federation::FEDERATION;
+use crate::introspection::INTROSPECTION;
 use crate::reading::File;
 
 /// Files with what is expected of each.
 pub const FILES: &[File] = &[
     ("a shop", SHOP, SHOP_LINES, SHOP_PARTS),
     ("extensions", EXTENSIONS, EXTENSIONS_LINES, EXTENSIONS_PARTS),
+    INTROSPECTION,
+    FEDERATION,
 ];
 
 const SHOP: &str = r#"schema {

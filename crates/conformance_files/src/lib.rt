@@ -3,7 +3,11 @@
 #![tactic(auto)]
 
 #[cfg(test)]
+mod federation;
+#[cfg(test)]
 mod files;
+#[cfg(test)]
+mod introspection;
 #[cfg(test)]
 mod reading;
 #[cfg(test)]
