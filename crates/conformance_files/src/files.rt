@@ -2,6 +2,7 @@
 use crate::federation::FEDERATION;
 use crate::introspection::INTROSPECTION;
 use crate::reading::File;
+use crate::scalars::SCALARS;
 
 /// Files with what is expected of each.
 pub const FILES: &[File] = &[
@@ -9,6 +10,7 @@ pub const FILES: &[File] = &[
     ("extensions", EXTENSIONS, EXTENSIONS_LINES, EXTENSIONS_PARTS),
     INTROSPECTION,
     FEDERATION,
+    SCALARS,
 ];
 
 const SHOP: &str = r#"schema {

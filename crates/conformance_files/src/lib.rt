@@ -3,6 +3,8 @@
 #![tactic(auto)]
 
 #[cfg(test)]
+mod defaults;
+#[cfg(test)]
 mod federation;
 #[cfg(test)]
 mod files;
@@ -10,5 +12,7 @@ mod files;
 mod introspection;
 #[cfg(test)]
 mod reading;
+#[cfg(test)]
+mod scalars;
 #[cfg(test)]
 mod written;

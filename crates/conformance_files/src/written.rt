@@ -1,10 +1,12 @@
 //! Files that are written in other ways: minified, and with descriptions that are indented in many ways.
+use crate::defaults::DEFAULTS;
 use crate::reading::File;
 
 /// Files with what is expected of each.
 pub const WRITTEN: &[File] = &[
     ("in one line", MINIFIED, MINIFIED_LINES, MINIFIED_PARTS),
     ("descriptions", DESCRIBED, DESCRIBED_LINES, DESCRIBED_PARTS),
+    DEFAULTS,
 ];
 
 const MINIFIED: &str =
