@@ -1,10 +1,16 @@
 //! Files as they are kept for services.
+use crate::federation::FEDERATION;
+use crate::introspection::INTROSPECTION;
 use crate::reading::File;
+use crate::scalars::SCALARS;
 
 /// Files with what is expected of each.
 pub const FILES: &[File] = &[
     ("a shop", SHOP, SHOP_LINES, SHOP_PARTS),
     ("extensions", EXTENSIONS, EXTENSIONS_LINES, EXTENSIONS_PARTS),
+    INTROSPECTION,
+    FEDERATION,
+    SCALARS,
 ];
 
 const SHOP: &str = r#"schema {
@@ -115,6 +121,31 @@ extend union Any @shared = | Mutation | Subscription
 extend enum Day { "The second." TUESDAY @late(by: 1.5e3) }
 extend input Range @closed { to: Date = null, days: [Day!]! = [] }
 extend input Range @open
+extend schema @closed
+extend scalar Date
+  @format(is: "ISO 8601-2")
+  @shared
+extend interface Named @shared
+extend interface Named implements & Dated & Counted @shared {
+  "How many."
+  count(of: [Day!] = [MONDAY]): Int!
+}
+extend union Any @shared
+extend union Any = Named
+extend enum Day @shared
+extend enum Day {
+  WEDNESDAY
+  THURSDAY @late(by: -1)
+}
+extend input Range {
+  """
+  Both ends.
+  """
+  closed: Boolean! = true @shared
+}
+extend type type { extend: type }
+type Subscription
+extend type Subscription { ticks(every: Int = 1): Date }
 "#;
 
 const EXTENSIONS_LINES: &str = "schema 1:1
@@ -133,7 +164,19 @@ extend interface Named 20:1
 extend union Any 21:1
 extend enum Day 22:1
 extend input Range 23:1
-extend input Range 24:1";
+extend input Range 24:1
+extend schema 25:1
+extend scalar Date 26:1
+extend interface Named 29:1
+extend interface Named 30:1
+extend union Any 34:1
+extend union Any 35:1
+extend enum Day 36:1
+extend enum Day 37:1
+extend input Range 41:1
+extend type type 47:1
+type Subscription 48:1
+extend type Subscription 49:1";
 
 const EXTENSIONS_PARTS: &[&str] = &[
     "(extend schema 9:1 (directive 9:15 link@9:16 url@9:21='https://example.org/time'@9:26) mutation Mutation@10:13 subscription Subscription@11:17)",
@@ -144,4 +187,8 @@ const EXTENSIONS_PARTS: &[&str] = &[
     "(extend union 21:1 Any@21:14 (directive 21:18 shared@21:19) members Mutation@21:30 Subscription@21:41)",
     "(value 22:19 'The second.'@22:19 TUESDAY@22:33 (directive 22:41 late@22:42 by@22:47=1.5e3@22:51))",
     "(value 23:30 to@23:30 Date@23:34 default null@23:41)",
+    "(extend schema 25:1 (directive 25:15 closed@25:16))",
+    "(extend interface 30:1 Named@30:18 (directive 30:53 shared@30:54) implements Dated@30:37 Counted@30:45 (field",
+    "(extend enum 36:1 Day@36:13 (directive 36:17 shared@36:18))",
+    "(extend input 41:1 Range@41:14 (value 42:3 'Both ends.'@42:3 closed@45:3 Boolean!@45:11 default true@45:22 (directive 45:27 shared@45:28)))",
 ];

@@ -3,8 +3,18 @@
 #![tactic(auto)]
 
 #[cfg(test)]
+mod comments;
+#[cfg(test)]
+mod defaults;
+#[cfg(test)]
+mod federation;
+#[cfg(test)]
 mod files;
 #[cfg(test)]
+mod introspection;
+#[cfg(test)]
 mod reading;
+#[cfg(test)]
+mod scalars;
 #[cfg(test)]
 mod written;
