@@ -5,6 +5,7 @@ pub mod BlockEnds
 pub mod BlockIndents
 pub mod BlockLines
 pub mod BlockQuotes
+pub mod BlockSearches
 pub mod BlockTokens
 pub mod BlockValue
 pub mod BlockWritten

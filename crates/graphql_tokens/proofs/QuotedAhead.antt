@@ -1,15 +1,16 @@
 -- What the first byte of what is ahead says of the string there.
-use Rattle.std.proofs.Common.{◌≡◌, ◌≢◌, ℕ, ◌-◌, ◌≤◌, ◌<◌, true, false, List, [], ◌∷◌, Some, None, length, take, drop, length-drop, refl, sym, ap, ◌∙◌, arith, inl, inr}
+use Rattle.std.proofs.Common.{◌≡◌, ◌≢◌, ℕ, ◌-◌, ◌≤◌, ◌<◌, true, false, ◌&&◌, ltb, List, [], ◌∷◌, Some, None, length, take, drop, length-drop, refl, sym, ap, ◌∙◌, arith, inl, inr}
 use Rattle.std.proofs.Math.Seq.{take-length}
 use Rattle.std.proofs.lemmas.Bool.Decides.{nat_tests}
 use Rattle.std.proofs.lemmas.Str.{IsUtf8-drop}
 use Rattle.graphql_tokens.specs.tokens.Strings.{is_plain}
 use Rattle.graphql_tokens.specs.calls.Escapes.{escape_at}
-use Rattle.graphql_tokens.specs.inner.Quoted.{past_string}
+use Rattle.graphql_tokens.specs.inner.Quoted.{past_string, past_block}
 use Rattle.graphql_tokens.specs.inner.Running.{ahead}
 use Rattle.graphql_tokens.specs.inner.Lexing.{RunsOver, IsFirstByte}
 use Rattle.graphql_tokens.specs.declared.pos.running.RunningPlace.{RunningPlace}
 use Rattle.graphql_tokens.proofs.Ahead.{first_low, first_not}
+use Rattle.graphql_tokens.proofs.BlockTokens.{block_other}
 use Rattle.graphql_tokens.proofs.Contents.{escape_some}
 use Rattle.graphql_tokens.proofs.StringTokens.{string_plain, string_quote, string_stuck, string_escape, escape_chars}
 
@@ -54,3 +55,21 @@ escaped_ahead b v n (c ∷ cs) f p q e =
 -- what is left behind an escape is shorter
 pub escape_shortens : (text : List ℕ) (v n : ℕ) → escape_at text ≡ Some (v, n) → length (drop n text) < length text
 escape_shortens text v n e = let s = escape_some text v n e in omega (arith, length-drop n text)
+
+-- ---- plain ASCII characters
+
+plain_ascii : (b : ℕ) → (is_plain b && ltb b 128) ≡ true → is_plain b ≡ true
+plain_ascii b t = grind (arith, nat_tests)
+
+not_quote : (b : ℕ) → (is_plain b && ltb b 128) ≡ true → b ≢ 34
+not_quote b t = grind (arith, nat_tests)
+
+not_slash : (b : ℕ) → (is_plain b && ltb b 128) ≡ true → b ≢ 92
+not_slash b t = grind (arith, nat_tests)
+
+pub ascii_in_string : (b c : ℕ) (text rest : List ℕ) → IsFirstByte b text → text ≡ c ∷ rest → (is_plain b && ltb b 128) ≡ true → past_string text ≡ past_string rest
+ascii_in_string b c text rest f is t = plain_ahead b c text rest f is (plain_ascii b t)
+
+pub ascii_in_block : (b c : ℕ) (text rest : List ℕ) → IsFirstByte b text → text ≡ c ∷ rest → (is_plain b && ltb b 128) ≡ true → past_block text ≡ past_block rest
+ascii_in_block b c text rest f is t =
+    ap past_block is ∙ block_other c rest (first_not b c 34 text rest f is (omega arith) (not_quote b t)) (first_not b c 92 text rest f is (omega arith) (not_slash b t))

@@ -12,7 +12,7 @@ mod block;
 pub(crate) mod escape;
 
 use crate::lexer::class::is_plain;
-use block::{first_text, last_text, layout_of, push_lines};
+use block::{common_indent, first_text, is_plain as is_plain_text, last_text, push_lines};
 use escape::escape_at;
 use std::alloc::{AllocError, Global};
 
@@ -107,12 +107,12 @@ pub fn block_string_value(alloc: Global, raw: &str) -> Result<String, AllocError
     let text = &raw[first..];
     let text = &text[..last_text(text.as_bytes())];
     let is_later = first > 0;
-    let found = layout_of(text.as_bytes(), is_later);
-    if found.indent == 0 && found.is_plain {
+    let indent = common_indent(text.as_bytes(), is_later);
+    if indent == 0 && is_plain_text(text.as_bytes()) {
         return String::from_str(alloc, text);
     }
-    let first_indent = if is_later { found.indent } else { 0 };
+    let first_indent = if is_later { indent } else { 0 };
     let mut value = String::with_capacity(alloc, text.len())?;
-    push_lines(&mut value, text, first_indent, found.indent)?;
+    push_lines(&mut value, text, first_indent, indent)?;
     Ok(value)
 }

@@ -5,7 +5,7 @@ ghost use Rattle.graphql_tokens.specs.inner.Quoted.{past_string, past_block, IsR
 ghost use Rattle.graphql_tokens.specs.inner.Running.{ahead};
 ghost use Rattle.graphql_tokens.specs.inner.Lexing.{RunsOver, rest_if};
 
-use super::class::is_plain;
+use super::class::{is_plain, is_plain_ascii};
 use super::reading::{pass_char, pass_many, peek};
 use crate::pos::running::RunningPlace;
 use crate::text::escape::escape_at;
@@ -19,7 +19,9 @@ pub fn pass_string(bytes: &[u8], places: &mut RunningPlace) -> bool
     ensures forward { places.old.walk.offset ≤ places.new.walk.offset }
 {
     while let Some(b) = peek(bytes, places) {
-        if is_plain(b) {
+        if is_plain_ascii(b) {
+            places.pass_ascii();
+        } else if is_plain(b) {
             places.pass_first(b);
         } else if b == b'"' {
             places.pass_ascii();
@@ -64,7 +66,9 @@ pub fn pass_block(bytes: &[u8], places: &mut RunningPlace) -> bool
     ensures forward { places.old.walk.offset ≤ places.new.walk.offset }
 {
     while let Some(b) = peek(bytes, places) {
-        if b == b'"' {
+        if is_plain_ascii(b) {
+            places.pass_ascii();
+        } else if b == b'"' {
             if pass_quotes(bytes, places) == 3 {
                 return true;
             }

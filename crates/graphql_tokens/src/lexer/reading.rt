@@ -126,6 +126,8 @@ pub fn pass_dots(bytes: &[u8], places: &mut RunningPlace) -> bool
 }
 
 // Goes past so many characters.
+// Inlined, so that no place has an address and each stays in registers.
+#[inline(always)]
 pub fn pass_many(places: &mut RunningPlace, count: usize)
     requires running { IsRunning places.old }
     requires more { count ≤ length (ahead places.old) }

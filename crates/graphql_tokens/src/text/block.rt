@@ -8,6 +8,7 @@ ghost use Rattle.graphql_tokens.specs.tokens.BlockText as spec;
 ghost use Rattle.graphql_tokens.specs.inner.Blocks.{is_space as is_space_char, end_len, counted, indent_with, trimmed, written, first_line, StartsText, EndsText, IsPlainBetween, IsUnquotedBetween};
 
 use super::{byte, past_while};
+use memchr::{memchr, memchr2};
 use std::alloc::AllocError;
 
 #[inline(always)]
@@ -43,25 +44,15 @@ fn begins_quotes(bytes: &[u8], at: usize) -> bool
         && byte(bytes, at + 3) == b'"'
 }
 
-// Where the line ends, and whether it holds no `\"""` and no carriage return comes after it.
-fn line_at(bytes: &[u8], start: usize) -> (usize, bool)
-    requires { start ≤ length bytes.now }
-    ensures end { result.0 ≡ start + prefix_len place.is_in_line (drop start bytes.now) }
-    ensures within { result.0 ≤ length bytes.now }
-    ensures plain { result.1 ≡ true → IsPlainBetween bytes.now start (result.0 + 1) }
+// How long the line is at the front.
+#[inline(always)]
+fn line_len(text: &[u8]) -> usize
+    ensures { result ≡ prefix_len place.is_in_line text.now }
 {
-    let mut at = start;
-    let mut is_plain = true;
-    while at < bytes.len() && is_in_line(bytes[at]) {
-        if begins_quotes(bytes, at) {
-            is_plain = false;
-        }
-        at += 1;
+    match memchr2(b'\n', b'\r', text) {
+        Some(len) => len,
+        None => text.len(),
     }
-    if byte(bytes, at) == b'\r' {
-        is_plain = false;
-    }
-    (at, is_plain)
 }
 
 // Where the line ends.
@@ -70,7 +61,7 @@ fn past_line(bytes: &[u8], start: usize) -> usize
     ensures value { result ≡ start + prefix_len place.is_in_line (drop start bytes.now) }
     ensures within { result ≤ length bytes.now }
 {
-    past_while(bytes, start, is_in_line)
+    start + line_len(&bytes[start..])
 }
 
 // Where the tabs and spaces end.
@@ -126,15 +117,6 @@ pub fn last_text(bytes: &[u8]) -> usize
     past_line(bytes, end)
 }
 
-// What one pass over the lines finds.
-#[derive(Drop)]
-pub struct Layout {
-    // The common indent of the lines that count.
-    pub indent: usize,
-    // No carriage return and no `\"""` is there.
-    pub is_plain: bool,
-}
-
 // The least indent, with one line more: it counts where it isn't blank, and `counts` says so.
 fn next_indent(found: Option<usize>, counts: bool, blanks: usize, len: usize) -> Option<usize>
     ensures { result ≡ indent_with found counts blanks len }
@@ -148,29 +130,30 @@ fn next_indent(found: Option<usize>, counts: bool, blanks: usize, len: usize) ->
     }
 }
 
-// The first line counts for the indent only where `counts_first` says so.
-pub fn layout_of(bytes: &[u8], counts_first: bool) -> Layout
-    ensures indent { result.indent ≡ spec.common_indent (counted counts_first (spec.lines_of bytes.now)) }
-    ensures plain { result.is_plain ≡ true → IsPlainBetween bytes.now 0 (length bytes.now) }
+// The common indent of the lines that count: the first line does only where `counts_first` says so.
+pub fn common_indent(bytes: &[u8], counts_first: bool) -> usize
+    ensures { result ≡ spec.common_indent (counted counts_first (spec.lines_of bytes.now)) }
 {
-    let mut indent = None;
-    let mut is_plain = true;
+    let mut found = None;
     let mut counts = counts_first;
     let mut start = 0;
     'lines: loop {
         let text = past_blanks(bytes, start);
-        let (end, is_plain_line) = line_at(bytes, text);
-        indent = next_indent(indent, counts, text - start, end - start);
-        if !is_plain_line {
-            is_plain = false;
-        }
+        let end = past_line(bytes, text);
+        found = next_indent(found, counts, text - start, end - start);
         if end == bytes.len() {
-            let indent = indent.unwrap_or(0);
-            return Layout { indent, is_plain };
+            return found.unwrap_or(0);
         }
         start = next_line(bytes, end);
         counts = true;
     }
+}
+
+// Whether the text is its own value but for its indent: neither a carriage return nor a backslash is there.
+pub fn is_plain(bytes: &[u8]) -> bool
+    ensures { result ≡ true → IsPlainBetween bytes.now 0 (length bytes.now) }
+{
+    memchr2(b'\\', b'\r', bytes).is_none()
 }
 
 // Where the next `\"""` begins, or the end.
@@ -182,10 +165,14 @@ fn next_quotes(bytes: &[u8], start: usize) -> usize
     ensures here { result < length bytes.now → spec.begins_quotes (drop result bytes.now) ≡ true }
 {
     let mut at = start;
-    while at < bytes.len() && !begins_quotes(bytes, at) {
+    while let Some(len) = memchr(b'\\', &bytes[at..]) {
+        at += len;
+        if begins_quotes(bytes, at) {
+            return at;
+        }
         at += 1;
     }
-    at
+    bytes.len()
 }
 
 // Adds the text, with each `\"""` as `"""`.

@@ -17,18 +17,18 @@ returns-in_default c =
     value_chars c.args.raw.now (string_bytes c.new.result) c.utf8.raw (IsUtf8-string_bytes c.new.result)
     (c.new.ensures.bytes ∙ sym none ∙ ap block_value c.as_bytes.ensures.value)
 
-pub returns-then-found : goal.returns-then-found
-returns-then-found c =
+pub returns-then-is_plain : goal.returns-then-is_plain
+returns-then-is_plain c =
     let raw = c.args.raw.now in
     let back = c.range_from-text.result.now in
     let text = c.range-text.result.now in
     let p = c.last_text.result in
-    let n = c.layout_of-found.result.indent in
+    let n = c.common_indent-indent.result in
     let v = code_value raw c.as_bytes.result.now back c.as_bytes-2.result.now text c.as_bytes-3.result.now c.in-Some.first p n c.as_bytes.ensures.value c.in-Some.ensures
-    c.range_from-text.ensures.value c.as_bytes-2.ensures.value c.last_text.ensures (c.range-text.ensures.value ∙ whole p back) c.as_bytes-3.ensures.value c.layout_of-found.ensures.indent in
-    let k : c.as_bytes-3.result.now ≡ text = c.as_bytes-3.ensures.value in
-    let plain : IsPlainBetween text 0 (length text) = subst (λ (x : List ℕ). IsPlainBetween x 0 (length x)) k (c.layout_of-found.ensures.plain c.if-found.true) in
-    let is = plain_value raw text c.in-Some.first n c.if-found-eq0.true plain v in
+    c.range_from-text.ensures.value c.as_bytes-2.ensures.value c.last_text.ensures (c.range-text.ensures.value ∙ whole p back) c.as_bytes-3.ensures.value c.common_indent-indent.ensures in
+    let k : c.as_bytes-then-indent-eq0.result.now ≡ text = c.as_bytes-then-indent-eq0.ensures.value in
+    let plain : IsPlainBetween text 0 (length text) = subst (λ (x : List ℕ). IsPlainBetween x 0 (length x)) k (c.is_plain.ensures c.if-is_plain.true) in
+    let is = plain_value raw text c.in-Some.first n c.if-indent-eq0.true plain v in
     IfOk-weaker c.from_str.result (λ s. string_bytes s ≡ text) (λ s. chars (string_bytes s) ≡ block_value (chars raw))
     (λ s e. value_chars raw (string_bytes s) c.utf8.raw (IsUtf8-string_bytes s) (e ∙ sym is)) c.from_str.ensures.ok
 
@@ -38,9 +38,9 @@ returns c =
     let back = c.range_from-text.result.now in
     let text = c.range-text.result.now in
     let p = c.last_text.result in
-    let n = c.layout_of-found.result.indent in
+    let n = c.common_indent-indent.result in
     let v = code_value raw c.as_bytes.result.now back c.as_bytes-2.result.now text c.as_bytes-3.result.now c.in-Some.first p n c.as_bytes.ensures.value c.in-Some.ensures
-    c.range_from-text.ensures.value c.as_bytes-2.ensures.value c.last_text.ensures (c.range-text.ensures.value ∙ whole p back) c.as_bytes-3.ensures.value c.layout_of-found.ensures.indent in
+    c.range_from-text.ensures.value c.as_bytes-2.ensures.value c.last_text.ensures (c.range-text.ensures.value ∙ whole p back) c.as_bytes-3.ensures.value c.common_indent-indent.ensures in
     let cut : c.if-is_later.first_indent ≡ cond (ltb 0 c.in-Some.first) n 0 = elim c.if-is_later.branch [ then-is_later w ↦ w.first_indent-is ∙ cut_later c.in-Some.first n w.if-is_later.true | else-is_later w ↦ w.first_indent-is ∙ cut_first c.in-Some.first n w.if-is_later.false ] in
     let new = string_bytes c.push_lines.new.value in
     let is : new ≡ written c.if-is_later.first_indent n (lines_of text) = c.in_ok-push_lines.ensures ∙ ap (λ x. x ++ written c.if-is_later.first_indent n (lines_of text)) c.in_ok-value.ensures.bytes in

@@ -3,11 +3,22 @@ use Rattle.graphql_tokens.specs.inner.Quoted.{past_block}
 use Rattle.graphql_tokens.specs.inner.Running.{ahead}
 use Rattle.graphql_tokens.proofs.Ahead.{first_low, first_not}
 use Rattle.graphql_tokens.proofs.BlockTokens.{block_end, block_other, block_few, block_three, block_escape}
+use Rattle.graphql_tokens.proofs.QuotedAhead.{ascii_in_block}
 use Rattle.graphql_tokens.proofs.lexer.quoted.pass_block.Goals as goal
 
 pub returns-then-pass_quotes-eq3-clause-rest : goal.returns-then-pass_quotes-eq3-clause-rest
 returns-then-pass_quotes-eq3-clause-rest c =
     sym c.loop-b.invariant.same ∙ block_three c.pass_quotes.result _ _ c.pass_quotes.ensures.quotes c.if-pass_quotes-eq3.true
+
+pub loop-b-preserved-then-is_plain_ascii : goal.loop-b-preserved-then-is_plain_ascii
+loop-b-preserved-then-is_plain_ascii c =
+    let v = c.loop-b.invariant in
+    let e = c.pass_ascii.ensures in
+    record {
+      runs = record { running = e.running; same = e.same ∙ v.runs.same };
+      same = sym (ascii_in_block c.in-Some.b e.passed.0 _ _ c.in-Some.ensures e.passed.1 (sym c.is_plain_ascii.ensures ∙ c.if-is_plain_ascii.true)) ∙ v.same;
+      forward = omega arith;
+    }
 
 pub loop-b-preserved-else-pass_quotes-eq3 : goal.loop-b-preserved-else-pass_quotes-eq3
 loop-b-preserved-else-pass_quotes-eq3 c =

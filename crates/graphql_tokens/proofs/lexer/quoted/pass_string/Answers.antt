@@ -3,8 +3,18 @@ use Rattle.graphql_tokens.specs.calls.Escapes.{escape_at}
 use Rattle.graphql_tokens.specs.inner.Quoted.{past_string}
 use Rattle.graphql_tokens.specs.inner.Running.{ahead}
 use Rattle.graphql_tokens.proofs.StringTokens.{string_end, escape_within}
-use Rattle.graphql_tokens.proofs.QuotedAhead.{escape_ahead, plain_ahead, quote_ahead, stuck_ahead, escaped_ahead, escape_shortens}
+use Rattle.graphql_tokens.proofs.QuotedAhead.{escape_ahead, plain_ahead, ascii_in_string, quote_ahead, stuck_ahead, escaped_ahead, escape_shortens}
 use Rattle.graphql_tokens.proofs.lexer.quoted.pass_string.Goals as goal
+
+pub loop-b-preserved-then-is_plain_ascii : goal.loop-b-preserved-then-is_plain_ascii
+loop-b-preserved-then-is_plain_ascii c =
+    let v = c.loop-b.invariant in
+    let e = c.pass_ascii.ensures in
+    record {
+      runs = record { running = e.running; same = e.same ∙ v.runs.same };
+      same = sym (ascii_in_string c.in-Some.b e.passed.0 _ _ c.in-Some.ensures e.passed.1 (sym c.is_plain_ascii.ensures ∙ c.if-is_plain_ascii.true)) ∙ v.same;
+      forward = omega arith;
+    }
 
 pub loop-b-preserved-then-is_plain : goal.loop-b-preserved-then-is_plain
 loop-b-preserved-then-is_plain c =
@@ -18,7 +28,7 @@ loop-b-preserved-then-is_plain c =
 
 pub returns-then-b-eq34-clause-rest : goal.returns-then-b-eq34-clause-rest
 returns-then-b-eq34-clause-rest c =
-    let e = c.pass_ascii.ensures.passed in
+    let e = c.pass_ascii-then-b-eq34.ensures.passed in
     sym c.loop-b.invariant.same ∙ quote_ahead c.in-Some.b e.0 _ _ c.in-Some.ensures e.1 c.if-b-eq34.true
 
 pub returns-in_default-escape_at-clause-rest : goal.returns-in_default-escape_at-clause-rest
