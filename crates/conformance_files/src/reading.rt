@@ -2,7 +2,8 @@
 use crate::files::FILES;
 use crate::written::WRITTEN;
 use graphql_parser::parse_schema;
-use graphql_parser::types::{ServiceDocument, TypeKind, TypeSystemDefinition};
+use graphql_parser::types::ServiceDocument;
+use listing::schema_lines;
 use rows::Shown;
 use std::alloc::{AllocError, Global};
 use std::test::Fail;
@@ -16,41 +17,6 @@ pub type File = (
     &'static [&'static str],
 );
 
-fn write_line(shown: &mut Shown, definition: &TypeSystemDefinition) {
-    let (extend, keyword, place) = match definition {
-        TypeSystemDefinition::Schema(schema) => (schema.node.extend, "schema", schema.pos),
-        TypeSystemDefinition::Directive(directive) => (false, "directive @", directive.pos),
-        TypeSystemDefinition::TypeDef(ty) => {
-            let keyword = match &ty.node.kind {
-                TypeKind::Scalar => "scalar ",
-                TypeKind::Object(_) => "type ",
-                TypeKind::Interface(_) => "interface ",
-                TypeKind::Union(_) => "union ",
-                TypeKind::Enum(_) => "enum ",
-                TypeKind::InputObject(_) => "input ",
-            };
-            (ty.node.extend, keyword, ty.pos)
-        }
-    };
-    shown.word(if extend { "extend " } else { "" });
-    shown.word(keyword);
-    match definition {
-        TypeSystemDefinition::Schema(_) => {}
-        TypeSystemDefinition::Directive(directive) => shown.item("", &directive.node.name),
-        TypeSystemDefinition::TypeDef(ty) => shown.item("", &ty.node.name),
-    }
-    shown.place(" ", &place);
-    shown.word("\n");
-}
-
-fn listing(alloc: Global, document: &ServiceDocument) -> Result<String, AllocError> {
-    let mut shown = Shown::new(alloc, true);
-    for definition in &document.definitions {
-        write_line(&mut shown, definition);
-    }
-    shown.finish()
-}
-
 fn tree(alloc: Global, document: &ServiceDocument) -> Result<String, AllocError> {
     let mut shown = Shown::new(alloc, true);
     write_file(&mut shown, document);
@@ -63,7 +29,7 @@ fn files_are_read(rt: HostRuntime) -> Result<(), Fail> {
     for files in [FILES, WRITTEN] {
         for (name, text, lines, parts) in files {
             let document = parse_schema(alloc, text).ok().ok_or(*name)?;
-            let found = listing(alloc, &document)?;
+            let found = schema_lines(alloc, &document)?;
             assert_eq!(rt;
                 found.as_str().trim_ascii(),
                 lines.trim_ascii(),
@@ -94,6 +60,6 @@ fn a_long_file_is_read(rt: HostRuntime) -> Result<(), Fail> {
     }
     let document = parse_schema(alloc, text.as_str()).ok().ok_or("refused")?;
     assert_eq!(rt; document.definitions.len(), 2000);
-    assert_eq!(rt; listing(alloc, &document)?.as_str(), lines.as_str());
+    assert_eq!(rt; schema_lines(alloc, &document)?.as_str(), lines.as_str());
     Ok(())
 }

@@ -11,7 +11,6 @@
 
 #[cfg(test)]
 mod fakes;
-mod listing;
 mod program;
 #[cfg(test)]
 mod tests;

@@ -1,9 +1,10 @@
 //! The program's work, over any reader and writers.
-ghost use Rattle.std.specs.Prelude.{◌≡◌, ◌≢◌, ◌≤◌, ◌↔◌, ◌⊎◌, ◌∷◌, [], Err, IsSome, IfErr, IfOk, IfSome, codes, map, string_bytes};
+ghost use Rattle.std.specs.Prelude.{◌≡◌, ◌≢◌, ◌≤◌, ◌↔◌, ◌⊎◌, Err, IsSome, IfErr, IfOk, IfSome, codes, map, string_bytes};
+ghost use Rattle.gqlparse.specs.Words.{IsServed};
 ghost use Rattle.gqlparse.specs.declared.program.Stop.TheVariants.{NoMemory, Usage};
 
-use crate::listing::{request_lines, schema_lines};
 use graphql_parser::{Error, parse_query, parse_schema};
+use listing::{request_lines, schema_lines};
 use std::alloc::{AllocError, Global};
 use std::io::{ErrorKind, Read, Write};
 
@@ -57,10 +58,10 @@ impl Stop {
 /// `out`, or why it is refused to `err`.
 ///
 /// `words` are the arguments without the program's name; one word is served, `query` for a request and
-/// `schema` for a schema file. The answer is the exit status: 0 for an accepted text, 1 for a refused one, and 2 for wrong arguments, input that cannot be
-/// read or is no UTF-8, output that cannot be written, and memory that is refused outside the parser.
-/// Everything that goes to `out` is built before the first write. A write to `err` that fails changes no
-/// status.
+/// `schema` for a schema file. The answer is the exit status: 0 for an accepted text, 1 for a refused one, and
+/// 2 for wrong arguments, input that cannot be read or is no UTF-8, output that cannot be written, and memory
+/// that is refused outside the parser. Everything that goes to `out` is built before the first write. A write
+/// to `err` that fails changes no status.
 pub fn run<R: Read, O: Write, E: Write>(
     alloc: Global,
     words: &[String],
@@ -70,7 +71,7 @@ pub fn run<R: Read, O: Write, E: Write>(
 ) -> u8
     ensures status { result ≤ 2 }
     // Wrong arguments are told before anything is read,
-    ensures usage { (((map string_bytes words.now ≡ codes "query" ∷ []) ⊎ (map string_bytes words.now ≡ codes "schema" ∷ [])) → ⊥) → (result ≡ 2) × (input.new ≡ input.old) × (out.new ≡ out.old) }
+    ensures usage { (IsServed (map string_bytes words.now) → ⊥) → (result ≡ 2) × (input.new ≡ input.old) × (out.new ≡ out.old) }
     // an accepted text says nothing on standard error,
     ensures accepted { result ≡ 0 → err.new ≡ err.old }
     // and a refused one nothing on standard output.
@@ -113,8 +114,8 @@ fn write_whole<W: Write>(to: &mut W, text: &str) -> bool {
 }
 
 fn answer_to<R: Read>(alloc: Global, words: &[String], input: &mut R) -> Result<Answer, Stop>
-    ensures usage { (((map string_bytes words.now ≡ codes "query" ∷ []) ⊎ (map string_bytes words.now ≡ codes "schema" ∷ [])) → ⊥) → (result ≡ Err Usage) × (input.new ≡ input.old) }
-    ensures served { (map string_bytes words.now ≡ codes "query" ∷ []) ⊎ (map string_bytes words.now ≡ codes "schema" ∷ []) → result ≢ Err Usage }
+    ensures usage { (IsServed (map string_bytes words.now) → ⊥) → (result ≡ Err Usage) × (input.new ≡ input.old) }
+    ensures served { IsServed (map string_bytes words.now) → result ≢ Err Usage }
 {
     let Some(command) = command_of(words) else {
         return Err(Stop::Usage);
@@ -138,7 +139,7 @@ fn answer_to<R: Read>(alloc: Global, words: &[String], input: &mut R) -> Result<
 }
 
 fn command_of(words: &[String]) -> Option<Command>
-    ensures { IsSome result ↔ ((map string_bytes words.now ≡ codes "query" ∷ []) ⊎ (map string_bytes words.now ≡ codes "schema" ∷ [])) }
+    ensures { IsSome result ↔ IsServed (map string_bytes words.now) }
 {
     match words {
         [word] => command_named(word.as_str()),

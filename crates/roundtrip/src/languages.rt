@@ -2,6 +2,7 @@
 use crate::grammars;
 use crate::printing_requests::print_request;
 use crate::printing_schemas::print_file;
+use answer_text::shown;
 use graphql_parser::lexer::Tokens;
 use graphql_parser::types::{ExecutableDocument, ServiceDocument};
 use graphql_parser::{
@@ -31,7 +32,7 @@ pub struct Seen {
     pub kind: Kind,
     /// The tree with its places, or the error.
     pub placed: String,
-    /// The tree without places, or the kind of error.
+    /// The tree or the error, without places.
     pub placeless: String,
     /// The tree as GraphQL text; empty for an error.
     pub printed: String,
@@ -140,23 +141,16 @@ fn accepted(placed: Shown, placeless: Shown, printed: Shown) -> Result<Seen, All
 }
 
 fn refused(alloc: Global, error: &Error) -> Result<Seen, AllocError> {
-    let (kind, word) = match error {
-        Error::Syntax { .. } => (Kind::Syntax, "syntax"),
-        Error::RecursionLimitExceeded => (Kind::Limit, "limit"),
-        Error::OutOfMemory => (Kind::NoMemory, "out of memory"),
-        Error::MultipleRoots { .. } => (Kind::BreaksRule, "multiple roots"),
-        Error::MissingQueryRoot { .. } => (Kind::BreaksRule, "missing query root"),
-        Error::MultipleOperations { .. } => (Kind::BreaksRule, "multiple operations"),
-        Error::OperationDuplicated { .. } => (Kind::BreaksRule, "operation duplicated"),
-        Error::FragmentDuplicated { .. } => (Kind::BreaksRule, "fragment duplicated"),
-        Error::MissingOperation => (Kind::BreaksRule, "missing operation"),
+    let kind = match error {
+        Error::Syntax { .. } => Kind::Syntax,
+        Error::RecursionLimitExceeded => Kind::Limit,
+        Error::OutOfMemory => Kind::NoMemory,
+        _ => Kind::BreaksRule,
     };
-    let mut placed = Shown::new(alloc, true);
-    placed.debugged("", error);
     Ok(Seen {
         kind,
-        placed: placed.finish()?,
-        placeless: String::from_str(alloc, word)?,
+        placed: shown(alloc, true, error)?,
+        placeless: shown(alloc, false, error)?,
         printed: String::new(alloc),
     })
 }

@@ -10,6 +10,7 @@ use graphql_parser::types::{
 };
 use graphql_parser::value::Name;
 use rows::Shown;
+use tree_text::keyword;
 
 /// The definitions, a line each.
 pub fn print_file(shown: &mut Shown, document: &ServiceDocument) {
@@ -59,14 +60,8 @@ fn print_schema(shown: &mut Shown, schema: &SchemaDefinition) {
 fn print_type_definition(shown: &mut Shown, ty: &TypeDefinition) {
     print_description(shown, &ty.description);
     shown.word(if ty.extend { "extend " } else { "" });
-    shown.word(match &ty.kind {
-        TypeKind::Scalar => "scalar ",
-        TypeKind::Object(_) => "type ",
-        TypeKind::Interface(_) => "interface ",
-        TypeKind::Union(_) => "union ",
-        TypeKind::Enum(_) => "enum ",
-        TypeKind::InputObject(_) => "input ",
-    });
+    shown.word(keyword(&ty.kind));
+    shown.word(" ");
     print_name(shown, &ty.name.node);
     match &ty.kind {
         TypeKind::Object(object) => print_names(shown, "implements ", "& ", &object.implements),

@@ -23,6 +23,18 @@ pub fn write_file(shown: &mut Shown, document: &ServiceDocument) {
     }
 }
 
+/// The keyword of a definition of a type of this kind.
+pub fn keyword(kind: &TypeKind) -> &'static str {
+    match kind {
+        TypeKind::Scalar => "scalar",
+        TypeKind::Object(_) => "type",
+        TypeKind::Interface(_) => "interface",
+        TypeKind::Union(_) => "union",
+        TypeKind::Enum(_) => "enum",
+        TypeKind::InputObject(_) => "input",
+    }
+}
+
 fn write_description(shown: &mut Shown, description: &Option<Positioned<String>>) {
     if let Some(description) = description {
         shown.item(" '", &description.node);
@@ -52,17 +64,8 @@ fn write_schema(shown: &mut Shown, schema: &Positioned<SchemaDefinition>) {
 
 fn write_type_definition(shown: &mut Shown, ty: &Positioned<TypeDefinition>) {
     shown.word(if ty.node.extend { " (extend " } else { " (" });
-    shown.place(
-        match &ty.node.kind {
-            TypeKind::Scalar => "scalar ",
-            TypeKind::Object(_) => "type ",
-            TypeKind::Interface(_) => "interface ",
-            TypeKind::Union(_) => "union ",
-            TypeKind::Enum(_) => "enum ",
-            TypeKind::InputObject(_) => "input ",
-        },
-        &ty.pos,
-    );
+    shown.word(keyword(&ty.node.kind));
+    shown.place(" ", &ty.pos);
     write_description(shown, &ty.node.description);
     write_node(shown, " ", &ty.node.name);
     write_directives(shown, &ty.node.directives);

@@ -7,15 +7,14 @@ use Rattle.graphql_schema_trees.specs.declared.service.SchemaDefinition.{SchemaD
 use Rattle.graphql_schema_trees.specs.declared.service.TypeSystemDefinition.{TypeSystemDefinition}
 use Rattle.graphql_syntax.specs.trees.Parts.{Name, placed}
 use Rattle.graphql_schema_trees.specs.trees.SchemaViews as views
-use Rattle.graphql_grammar.specs.answers.Breaches.{or_else}
 use Rattle.graphql_grammar.specs.declared.error.Error.{Error}
 use Rattle.graphql_grammar.specs.declared.error.Error.TheVariants.{MultipleRoots}
 use Rattle.graphql_grammar.specs.reading.DocumentOf.{TellsOf}
 use Rattle.graphql_schemas.specs.declared.rules.Roots as code
 use Rattle.graphql_schemas.specs.grammar.Documents.{root_name, schema_tree_of, tree_of}
-use Rattle.graphql_schemas.specs.grammar.Rules.{first_repeated, repeats_a_root, lacks_a_query, breach_of}
+use Rattle.graphql_schemas.specs.grammar.Rules.{first_repeated, breach_of}
 use Rattle.graphql_schemas.specs.grammar.Schema.{Root, Schema}
-use Rattle.graphql_schemas.specs.grammar.SchemaFile.{Definition}
+use Rattle.graphql_schemas.specs.grammar.SchemaFile as files
 
 -- ---- roots
 
@@ -47,12 +46,12 @@ AreSorted roots schema (Err error) = (root : Root) × (first_repeated [] roots �
 -- ---- definitions
 
 abbrev pub breach_of_schema : Positioned Schema → Option Error
-breach_of_schema s = or_else (repeats_a_root s) (lacks_a_query s)
+breach_of_schema s = breach_of [] (files.schema s)
 
 abbrev pub IsFinishedSchema : Positioned Schema → Result (Positioned SchemaDefinition) Error → Type 0
 IsFinishedSchema s (Ok definition) = (breach_of_schema s ≡ None) × (placed views.schema_definition_tree definition ≡ placed schema_tree_of s)
 IsFinishedSchema s (Err error) = TellsOf (breach_of_schema s) error
 
-abbrev pub IsFinished : Definition → Result TypeSystemDefinition Error → Type 0
+abbrev pub IsFinished : files.Definition → Result TypeSystemDefinition Error → Type 0
 IsFinished d (Ok definition) = (breach_of [] d ≡ None) × (views.definition_tree definition ≡ tree_of d)
 IsFinished d (Err error) = TellsOf (breach_of [] d) error

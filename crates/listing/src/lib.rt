@@ -1,8 +1,17 @@
-//! What is printed of an accepted text: a line for each definition.
+//! What the program prints of an accepted text: a line for each definition, with the place where it stands.
+//!
+//! It is a crate of its own, so that the tests of whole schema files ask for the very lines that the program prints.
+//! What the lines say is tested, not proved. Of them it is proved that they are made without a fault on every
+//! document, and that the making ends.
+#![tactic(auto)]
+
 use graphql_parser::types::{ExecutableDocument, ServiceDocument, TypeKind, TypeSystemDefinition};
 use std::alloc::{AllocError, Global};
 
-// The operations of a request, and then its fragments.
+/// The lines of a request: its operations, and then its fragments, each kind in source order.
+///
+/// `document` is the tree that `parse_query` gives. A line has the kind of the definition, its name where it has one, and
+/// its place, as `query Q 1:1`, and ends in a line feed. An error says that memory for the lines was refused.
 pub fn request_lines(alloc: Global, document: &ExecutableDocument) -> Result<String, AllocError> {
     let mut lines = String::new(alloc);
     for (name, operation) in document.operations.iter() {
@@ -20,7 +29,11 @@ pub fn request_lines(alloc: Global, document: &ExecutableDocument) -> Result<Str
     Ok(lines)
 }
 
-// The definitions and extensions of a schema file, in source order.
+/// The lines of a schema file: its definitions and extensions, in source order.
+///
+/// `document` is the tree that `parse_schema` gives. A line has `extend` before an extension, the keyword of the
+/// definition, its name where it has one, and its place, as `extend type Q 3:1` and `directive @d 4:1`, and ends in a
+/// line feed. An error says that memory for the lines was refused.
 pub fn schema_lines(alloc: Global, document: &ServiceDocument) -> Result<String, AllocError> {
     let mut lines = String::new(alloc);
     for definition in &document.definitions {

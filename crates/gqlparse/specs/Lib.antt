@@ -1,0 +1,2 @@
+-- Public: what a reader of the program's contracts has to believe.
+pub mod Words
