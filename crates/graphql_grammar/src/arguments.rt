@@ -48,6 +48,8 @@ impl<V: Literal> Production for ArgumentPhrase<V> {
 
     ghost reader = { argument_at V.VARIABLES };
 
+    const ROOM: usize = 2;
+
     #[inline(always)]
     fn is_next(cursor: &Cursor) -> bool {
         cursor.is_at_name()
@@ -133,6 +135,8 @@ impl Production for DirectivePhrase {
 
     ghost reader = { directive_at true };
 
+    const ROOM: usize = 1;
+
     #[inline(always)]
     fn is_next(cursor: &Cursor) -> bool {
         cursor.is_at_punct("@")
@@ -180,6 +184,8 @@ impl Production for ConstDirectivePhrase {
 
     ghost reader = { directive_at false };
 
+    const ROOM: usize = 1;
+
     #[inline(always)]
     fn is_next(cursor: &Cursor) -> bool {
         cursor.is_at_punct("@")
@@ -225,6 +231,8 @@ impl Production for DefaultPhrase {
     ghost first = { punct "=" };
 
     ghost reader = { default_at };
+
+    const ROOM: usize = 1;
 
     #[inline(always)]
     fn is_next(cursor: &Cursor) -> bool {

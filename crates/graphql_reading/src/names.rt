@@ -50,6 +50,8 @@ impl Production for NamePhrase {
 
     ghost reader = { λ _. mapped_at name_of (one_at any_name) };
 
+    const ROOM: usize = 2;
+
     #[inline(always)]
     fn is_next(cursor: &Cursor) -> bool {
         cursor.is_at_name()

@@ -32,6 +32,9 @@ pub trait Production {
     // How a phrase is read from a list of tokens.
     ghost reader: { Self.Budget → Reader Self.Tree };
 
+    /// How many phrases a list of them begins with room for: as many as mostly stand in one. A longer list grows.
+    const ROOM: usize;
+
     /// Whether the token in hand begins a phrase.
     fn is_next(cursor: &Cursor) -> bool
         ensures { result ≡ Self.first cursor.now.hand.bare };
@@ -42,7 +45,6 @@ pub trait Production {
 }
 
 /// Reads one phrase or more: another as long as the token in hand begins one.
-// Nodes are large, and mostly there is one: the list starts with room for that.
 #[inline(always)]
 pub fn one_or_more<P: Production>(
     alloc: Global,
@@ -52,7 +54,7 @@ pub fn one_or_more<P: Production>(
     requires { Takes (P.reader budget) }
     ensures { Gives (trees_in P.tree) result cursor.old cursor.new (plus_at P.first (P.reader budget)) }
 {
-    let mut nodes = Vec::with_capacity(alloc, 1)?;
+    let mut nodes = Vec::with_capacity(alloc, P::ROOM)?;
     loop {
         let node = P::read(alloc, cursor, budget)?;
         add_node(&mut nodes, node)?;
@@ -76,7 +78,7 @@ pub fn separated<P: Production>(
     ensures { Gives (trees_in P.tree) result cursor.old cursor.new (separated_at (punct_of mark.now) (P.reader budget)) }
 {
     cursor.take_punct(mark);
-    let mut nodes = Vec::with_capacity(alloc, 1)?;
+    let mut nodes = Vec::with_capacity(alloc, P::ROOM)?;
     loop {
         let node = P::read(alloc, cursor, budget)?;
         add_node(&mut nodes, node)?;

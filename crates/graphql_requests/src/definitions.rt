@@ -180,6 +180,8 @@ impl Production for Definition {
 
     ghost reader = { definition_at };
 
+    const ROOM: usize = 1;
+
     fn is_next(cursor: &Cursor) -> bool {
         is_at_definition(cursor)
     }

@@ -60,6 +60,8 @@ impl Production for VariablePhrase {
 
     ghost reader = { λ depths. variable_definition_at depths.values depths.types };
 
+    const ROOM: usize = 2;
+
     #[inline(always)]
     fn is_next(cursor: &Cursor) -> bool {
         cursor.is_at_punct("$")

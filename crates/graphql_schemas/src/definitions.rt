@@ -93,6 +93,8 @@ impl Production for Definition {
 
     ghost reader = { λ depths. definition_at (limits_of depths) };
 
+    const ROOM: usize = 1;
+
     fn is_next(cursor: &Cursor) -> bool {
         is_at_definition(cursor)
     }

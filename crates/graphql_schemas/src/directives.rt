@@ -65,6 +65,8 @@ impl Production for LocationPhrase {
 
     ghost reader = { λ _. location_at };
 
+    const ROOM: usize = 4;
+
     #[inline(always)]
     fn is_next(cursor: &Cursor) -> bool {
         cursor.is_at_name()

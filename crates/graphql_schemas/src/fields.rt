@@ -36,6 +36,8 @@ impl Production for FieldPhrase {
 
     ghost reader = { λ depths. field_definition_at (limits_of depths) };
 
+    const ROOM: usize = 4;
+
     #[inline(always)]
     fn is_next(cursor: &Cursor) -> bool {
         is_at_member(cursor)

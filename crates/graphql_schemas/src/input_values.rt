@@ -44,6 +44,8 @@ impl Production for InputValuePhrase {
 
     ghost reader = { λ depths. input_value_at (limits_of depths) };
 
+    const ROOM: usize = 2;
+
     #[inline(always)]
     fn is_next(cursor: &Cursor) -> bool {
         is_at_member(cursor)

@@ -102,6 +102,8 @@ impl Production for EnumValuePhrase {
 
     ghost reader = { λ depths. enum_value_at (limits_of depths) };
 
+    const ROOM: usize = 4;
+
     #[inline(always)]
     fn is_next(cursor: &Cursor) -> bool {
         is_at_description(cursor) || is_at_enum_name(cursor)

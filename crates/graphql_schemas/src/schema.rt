@@ -63,6 +63,8 @@ impl Production for RootPhrase {
 
     ghost reader = { λ _. root_at };
 
+    const ROOM: usize = 2;
+
     fn is_next(cursor: &Cursor) -> bool {
         cursor.is_at_keyword("query")
             || cursor.is_at_keyword("mutation")
