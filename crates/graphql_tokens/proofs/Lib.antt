@@ -28,6 +28,7 @@ pub mod Places
 pub mod Propers
 pub mod QuotedAhead
 pub mod Running
+pub mod Runs
 pub mod Scan
 pub mod Skips
 pub mod StringTokens

@@ -26,7 +26,7 @@ fn byte(bytes: &[u8], at: usize) -> u8
 
 // Where the first byte from `start` on stands that fails the test, or the end of the bytes.
 #[inline(always)]
-fn past_while<F: Fn(u8) -> bool>(bytes: &[u8], start: usize, test: F) -> usize
+pub(crate) fn past_while<F: Fn(u8) -> bool>(bytes: &[u8], start: usize, test: F) -> usize
     requires from { start ≤ length bytes.now }
     requires callable { F.IsAlwaysCallable test }
     ensures value { (p : ℕ → Bool) → ((b : ℕ) (r : Bool) → b < 256 → F.post test b r → r ≡ p b) → result ≡ start + prefix_len p (drop start bytes.now) }

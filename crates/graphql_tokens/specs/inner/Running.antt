@@ -1,5 +1,5 @@
 -- What a running place keeps.
-use Rattle.std.specs.Prelude.{◌≡◌, ◌<◌, ℕ, ◌+◌, List, [], ◌∷◌, true, drop}
+use Rattle.std.specs.Prelude.{◌≡◌, ◌<◌, ℕ, ◌+◌, List, [], ◌∷◌, true, drop, slice_index}
 use Rattle.std.specs.Str.{chars}
 use Rattle.graphql_tokens.specs.tokens.Place.{place, is_in_line}
 use Rattle.graphql_tokens.specs.inner.TextWalk.{IsWalking}
@@ -19,3 +19,7 @@ pub record IsRunning (a : RunningPlace) : Type 0 where
 abbrev pub BeginsInAscii : List ℕ → Type 0
 BeginsInAscii [] = ⊥
 BeginsInAscii (c ∷ cs) = (c < 128) × (is_in_line c ≡ true)
+
+-- from the place on, so many bytes are ASCII characters that end no line
+abbrev pub IsRunOfAscii : List ℕ → ℕ → ℕ → Type 0
+IsRunOfAscii text at n = (k : ℕ) → k < n → (slice_index text (at + k) < 128) × (is_in_line (slice_index text (at + k)) ≡ true)

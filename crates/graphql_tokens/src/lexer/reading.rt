@@ -8,6 +8,7 @@ ghost use Rattle.graphql_tokens.specs.inner.Lexing.{RunsOver, IsFirstByte, rest_
 
 use super::class::{is_ignored, is_name_char};
 use crate::pos::running::RunningPlace;
+use crate::text::past_while;
 
 // The first byte of what is ahead, where the text goes on.
 #[inline(always)]
@@ -58,7 +59,9 @@ pub fn pass_ignored(bytes: &[u8], places: &mut RunningPlace)
     ensures forward { places.old.walk.offset ≤ places.new.walk.offset }
 {
     while let Some(b) = peek(bytes, places) {
-        if is_ignored(b) {
+        if b == b' ' {
+            places.pass_ascii();
+        } else if is_ignored(b) {
             places.pass_first(b);
         } else if b == b'#' {
             pass_line(bytes, places);
@@ -82,12 +85,9 @@ pub fn pass_name_chars(bytes: &[u8], places: &mut RunningPlace)
     ensures rest { ahead places.new ≡ past_name_chars (ahead places.old) }
     ensures forward { places.old.walk.offset ≤ places.new.walk.offset }
 {
-    while let Some(b) = peek(bytes, places) {
-        if !is_name_char(b) {
-            break;
-        }
-        places.pass_ascii();
-    }
+    let start = places.offset();
+    let end = past_while(bytes, start, is_name_char);
+    places.pass_run(end - start);
 }
 
 // Goes past this character, an ASCII one that ends no line, where it is next, and tells whether it was.

@@ -1,9 +1,9 @@
 //! A place that moves through a text with the characters passed.
 
-ghost use Rattle.std.specs.Prelude.{◌≡◌, ◌≢◌, ◌<◌, ◌≤◌, ◌+◌, ℕ, ◌∷◌, []};
+ghost use Rattle.std.specs.Prelude.{◌≡◌, ◌≢◌, ◌<◌, ◌≤◌, ◌+◌, ℕ, ◌∷◌, [], length};
 ghost use Rattle.std.specs.Str.{IsCharBoundary};
 ghost use Rattle.graphql_tokens.specs.tokens.Place.{place};
-ghost use Rattle.graphql_tokens.specs.inner.Running.{ahead, IsRunning, BeginsInAscii};
+ghost use Rattle.graphql_tokens.specs.inner.Running.{ahead, IsRunning, BeginsInAscii, IsRunOfAscii};
 ghost use Rattle.graphql_tokens.specs.inner.Lexing.{IsFirstByte};
 
 use super::Pos;
@@ -92,6 +92,19 @@ impl<'a> RunningPlace<'a> {
         ensures forward { self.old.walk.offset < self.new.walk.offset }
     {
         self.walk.pass_ascii();
+    }
+
+    // Passes so many ASCII characters that end no line, without a look at them.
+    #[inline(always)]
+    pub fn pass_run(&mut self, len: usize)
+        requires running { IsRunning self.old }
+        requires within { self.old.walk.offset + len ≤ length self.old.walk.text.now }
+        requires ascii { IsRunOfAscii self.old.walk.text.now self.old.walk.offset len }
+        ensures running { IsRunning self.new }
+        ensures same { self.new.walk.text.now ≡ self.old.walk.text.now }
+        ensures passed { self.new.walk.offset ≡ self.old.walk.offset + len }
+    {
+        self.walk.pass_run(len);
     }
 
     // The next character, of which the caller has the first byte: as `pass`, without a second look at a

@@ -1,6 +1,6 @@
 //! A walk over a text, a character at a time.
 
-ghost use Rattle.std.specs.Prelude.{◌≡◌, ◌<◌, ◌++◌, ℕ, List, length, drop, get_or};
+ghost use Rattle.std.specs.Prelude.{◌≡◌, ◌<◌, ◌≤◌, ◌+◌, ◌++◌, ℕ, List, length, drop, get_or};
 ghost use Rattle.std.specs.Char.{encode_utf8};
 ghost use Rattle.std.specs.Str.{IsCharBoundary};
 ghost use Rattle.graphql_tokens.specs.inner.TextWalk.{IsWalking, Passes};
@@ -60,6 +60,19 @@ impl<'a> TextWalk<'a> {
     {
         self.offset += 1;
         self.count += 1;
+    }
+
+    // Passes so many ASCII characters, without a look at them.
+    #[inline(always)]
+    pub fn pass_run(&mut self, len: usize)
+        requires walking { IsWalking self.old }
+        requires within { self.old.offset + len ≤ length self.old.text.now }
+        ensures same { self.new.text.now ≡ self.old.text.now }
+        ensures passed { self.new.offset ≡ self.old.offset + len }
+        ensures counted { self.new.count ≡ self.old.count + len }
+    {
+        self.offset += len;
+        self.count += len;
     }
 
     #[inline(always)]

@@ -1,8 +1,19 @@
 use Rattle.std.proofs.Common.{length, sym, ap, ◌∙◌, arith}
+use Rattle.graphql_tokens.specs.tokens.Classes.{is_ignored}
 use Rattle.graphql_tokens.specs.inner.Reading.{skip}
 use Rattle.graphql_tokens.specs.inner.Running.{ahead}
 use Rattle.graphql_tokens.proofs.Ahead.{skip_blank, skip_hash, hash_shorter, skip_mark, skip_wide, skip_other, skip_nothing}
 use Rattle.graphql_tokens.proofs.lexer.reading.pass_ignored.Goals as goal
+
+pub loop-b-preserved-then-b-eq32 : goal.loop-b-preserved-then-b-eq32
+loop-b-preserved-then-b-eq32 c =
+    let v = c.loop-b.invariant in
+    let e = c.pass_ascii.ensures in
+    record {
+      runs = record { running = e.running; same = e.same ∙ v.runs.same };
+      same = skip_blank c.in-Some.b e.passed.0 _ _ c.in-Some.ensures e.passed.1 (ap is_ignored c.if-b-eq32.true) ∙ v.same;
+      forward = omega arith;
+    }
 
 pub loop-b-preserved-then-is_ignored : goal.loop-b-preserved-then-is_ignored
 loop-b-preserved-then-is_ignored c =

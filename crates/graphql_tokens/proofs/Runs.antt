@@ -1,0 +1,89 @@
+-- A place that passes a run of ASCII characters within a line.
+use Rattle.std.proofs.Common.{◌≡◌, ℕ, zero, suc, ◌+◌, ◌≤◌, ◌<◌, Bool, true, false, cond, List, [], ◌∷◌, length, drop, take, get_or, refl, sym, ap, ◌∙◌, arith, add-zero, one-add}
+use Rattle.std.proofs.lemmas.Bool.Decides.{nat_tests}
+use Rattle.std.proofs.lemmas.List.{drop-drop, get_or-drop}
+use Rattle.std.proofs.lemmas.List.Sums.{prefix_len_passes}
+use Rattle.std.proofs.lemmas.Str.{IsUtf8-drop}
+use Rattle.std.specs.List.{prefix_len}
+use Rattle.std.specs.Str.{chars}
+use Rattle.graphql_tokens.specs.tokens.Classes.{is_name_char}
+use Rattle.graphql_tokens.specs.tokens.Place.{is_in_line, is_line_feed}
+use Rattle.graphql_tokens.specs.inner.Reading.{past_name_chars}
+use Rattle.graphql_tokens.specs.inner.TextWalk.{IsWalking, Passes}
+use Rattle.graphql_tokens.specs.inner.Running.{ahead, IsRunning, IsRunOfAscii}
+use Rattle.graphql_tokens.specs.inner.Lexing.{RunsOver}
+use Rattle.graphql_tokens.specs.declared.pos.text_walk.TextWalk.{TextWalk}
+use Rattle.graphql_tokens.specs.declared.pos.running.RunningPlace.{RunningPlace}
+use Rattle.graphql_tokens.proofs.Running.{walks_past, passes_ascii, runs_in_line}
+use Rattle.graphql_tokens.proofs.Scan.{IsAlike, span_chars}
+
+same_walk : (a b : TextWalk) → b.text.now ≡ a.text.now → b.offset ≡ a.offset → b.count ≡ a.count → IsWalking a → IsWalking b
+same_walk a b t o c k = record {
+  counted = c ∙ k.counted ∙ ap (λ x. length (chars (take x a.text.now))) (sym o) ∙ ap (λ x. length (chars (take b.offset x))) (sym t);
+  boundary = rw (t, o) k.boundary;
+  utf8 = rw t k.utf8;
+  bound = rw t k.bound;
+}
+
+no_feed : (c : ℕ) → is_in_line c ≡ true → is_line_feed c ≡ false
+no_feed c h = grind (arith, nat_tests)
+
+-- one character after another
+pub runs_on : (n : ℕ) (old new : RunningPlace) → IsRunning old → new.walk.text.now ≡ old.walk.text.now → new.walk.offset ≡ old.walk.offset + n → new.walk.count ≡ old.walk.count + n
+    → new.line ≡ old.line → new.before ≡ old.before → old.walk.offset + n ≤ length old.walk.text.now → IsRunOfAscii old.walk.text.now old.walk.offset n → IsRunning new
+runs_on zero old new r t o c l b w a =
+    let same_offset : new.walk.offset ≡ old.walk.offset = omega arith in
+    let same_count : new.walk.count ≡ old.walk.count = omega arith in
+    record {
+      reading = same_walk old.walk new.walk t same_offset same_count r.reading;
+      line = l ∙ rw (t, same_offset) r.line;
+      column = rw (t, same_offset, b, same_count) r.column;
+    }
+runs_on (suc n) old new r t o c l b w a =
+    let bs = old.walk.text.now in
+    let i = old.walk.offset in
+    let first = a 0 (omega arith) in
+    let here : get_or bs (i + 0) 0 ≡ get_or bs i 0 = ap (λ k. get_or bs k 0) (add-zero i) in
+    let mid : RunningPlace = record { walk = record { text = old.walk.text; offset = i + 1; count = old.walk.count + 1 }; line = old.line; before = old.before } in
+    let low : get_or bs i 0 < 128 = omega (arith, here, first.0) in
+    let inside : is_in_line (get_or bs i 0) ≡ true = ap is_in_line (sym here) ∙ first.1 in
+    let passes : Passes (get_or bs i 0) old.walk mid.walk = passes_ascii old.walk mid.walk (omega arith) low refl refl in
+    let walks : IsWalking mid.walk = walks_past old.walk mid.walk (get_or bs i 0) r.reading refl passes in
+    let running : IsRunning mid = runs_in_line old mid (get_or bs i 0) r walks refl passes inside (no_feed (get_or bs i 0) inside) refl refl in
+    runs_on n mid new running t (omega arith) (omega arith) l b (omega arith) (λ k h. let e : i + suc k ≡ i + 1 + k = omega arith in rw (← e) (a (suc k) (omega arith)))
+
+-- ---- names
+
+name_alike : IsAlike is_name_char
+name_alike c d h k = grind (arith, nat_tests)
+
+name_low : (c : ℕ) → is_name_char c ≡ true → (c < 128) × (is_in_line c ≡ true)
+name_low c h = (grind (arith, nat_tests), grind (arith, nat_tests))
+
+past_names : (text : List ℕ) → past_name_chars text ≡ drop (prefix_len is_name_char text) text
+past_names [] = refl
+past_names (c ∷ cs) = by (is_name_char c) (past_names cs)
+  where
+    by : (t : Bool) → past_name_chars cs ≡ drop (prefix_len is_name_char cs) cs → cond t (past_name_chars cs) (c ∷ cs) ≡ drop (cond t (1 + prefix_len is_name_char cs) 0) (c ∷ cs)
+    by true e = rw (one-add (prefix_len is_name_char cs)) e
+    by false e = refl
+
+-- the name characters at the front of a list of bytes are ASCII characters within a line
+pub names_run : (bs : List ℕ) (at n : ℕ) → n ≤ prefix_len is_name_char (drop at bs) → IsRunOfAscii bs at n
+names_run bs at n w k h =
+    name_low (get_or bs (at + k) 0) (ap is_name_char (sym (get_or-drop at bs k 0)) ∙ prefix_len_passes is_name_char (drop at bs) k 0 (omega arith))
+
+-- what is ahead after them
+pub past_name_run : (old new : RunningPlace) (n : ℕ) → IsRunning old → new.walk.text.now ≡ old.walk.text.now → new.walk.offset ≡ old.walk.offset + n
+    → n ≡ prefix_len is_name_char (drop old.walk.offset old.walk.text.now) → ahead new ≡ past_name_chars (ahead old)
+past_name_run old new n r t o e =
+    let bs = old.walk.text.now in
+    let i = old.walk.offset in
+    ap (λ x. chars (drop new.walk.offset x)) t ∙ ap (λ k. chars (drop k bs)) o ∙ ap chars (sym (drop-drop n i bs)) ∙ ap (λ k. chars (drop k (drop i bs))) e
+    ∙ span_chars is_name_char name_alike (drop i bs) (IsUtf8-drop bs i r.reading.utf8 r.reading.boundary) ∙ sym (past_names (ahead old))
+
+-- where they end, said of the text that a place runs over
+pub name_end : (bytes : List ℕ) (a : RunningPlace) (start end : ℕ) → RunsOver bytes a → start ≡ a.walk.offset → end ≡ start + prefix_len is_name_char (drop start bytes)
+    → end ≡ a.walk.offset + prefix_len is_name_char (drop a.walk.offset a.walk.text.now)
+name_end bytes a start end r s e =
+    e ∙ ap (λ k. k + prefix_len is_name_char (drop k bytes)) s ∙ ap (λ t. a.walk.offset + prefix_len is_name_char (drop a.walk.offset t)) (sym r.same)

@@ -1,0 +1,20 @@
+use Rattle.std.proofs.Common.{◌-◌, arith}
+use Rattle.graphql_tokens.specs.tokens.Classes.{is_name_char}
+use Rattle.graphql_tokens.proofs.Runs.{names_run, past_name_run, name_end}
+use Rattle.graphql_tokens.proofs.lexer.reading.pass_name_chars.Goals as goal
+
+pub overflow_sub-end : goal.overflow_sub-end
+overflow_sub-end c = omega (arith, c.past_while-end.ensures.value is_name_char (λ b r h p. p))
+
+pub pass_run-requires-clause-ascii : goal.pass_run-requires-clause-ascii
+pass_run-requires-clause-ascii c =
+    let places = c.args.places.now in
+    let end = name_end c.args.bytes.now places c.offset-start.result c.past_while-end.result c.requires c.offset-start.ensures (c.past_while-end.ensures.value is_name_char (λ b r h p. p)) in
+    names_run places.walk.text.now places.walk.offset (c.past_while-end.result - c.offset-start.result) (omega (arith, end, c.offset-start.ensures))
+
+pub returns-clause-rest : goal.returns-clause-rest
+returns-clause-rest c =
+    let places = c.args.places.now in
+    let end = name_end c.args.bytes.now places c.offset-start.result c.past_while-end.result c.requires c.offset-start.ensures (c.past_while-end.ensures.value is_name_char (λ b r h p. p)) in
+    past_name_run places c.pass_run.new.self (c.past_while-end.result - c.offset-start.result) c.requires.running c.pass_run.ensures.same c.pass_run.ensures.passed
+    (omega (arith, end, c.offset-start.ensures))
