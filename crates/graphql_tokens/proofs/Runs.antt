@@ -1,5 +1,5 @@
 -- A place that passes a run of ASCII characters within a line.
-use Rattle.std.proofs.Common.{◌≡◌, ℕ, zero, suc, ◌+◌, ◌≤◌, ◌<◌, Bool, true, false, cond, List, [], ◌∷◌, length, drop, take, get_or, refl, sym, ap, ◌∙◌, arith, add-zero, one-add}
+use Rattle.std.proofs.Common.{◌≡◌, ℕ, zero, suc, ◌+◌, ◌≤◌, ◌<◌, Bool, true, false, cond, ◌&&◌, eqb, ltb, Option, List, [], ◌∷◌, length, length-drop, drop, take, get_or, refl, sym, ap, ◌∙◌, arith, add-zero, one-add}
 use Rattle.std.proofs.lemmas.Bool.Decides.{nat_tests}
 use Rattle.std.proofs.lemmas.List.{drop-drop, get_or-drop}
 use Rattle.std.proofs.lemmas.List.Sums.{prefix_len_passes}
@@ -8,6 +8,10 @@ use Rattle.std.specs.List.{prefix_len}
 use Rattle.std.specs.Str.{chars}
 use Rattle.graphql_tokens.specs.tokens.Classes.{is_name_char}
 use Rattle.graphql_tokens.specs.tokens.Place.{is_in_line, is_line_feed}
+use Rattle.graphql_tokens.specs.tokens.Strings.{is_plain}
+use Rattle.graphql_tokens.specs.inner.Quoted.{past_string, past_block}
+use Rattle.graphql_tokens.proofs.BlockTokens.{block_other}
+use Rattle.graphql_tokens.proofs.StringTokens.{string_plain}
 use Rattle.graphql_tokens.specs.inner.Reading.{past_name_chars}
 use Rattle.graphql_tokens.specs.inner.TextWalk.{IsWalking, Passes}
 use Rattle.graphql_tokens.specs.inner.Running.{ahead, IsRunning, IsRunOfAscii}
@@ -52,15 +56,40 @@ runs_on (suc n) old new r t o c l b w a =
     let running : IsRunning mid = runs_in_line old mid (get_or bs i 0) r walks refl passes inside (no_feed (get_or bs i 0) inside) refl refl in
     runs_on n mid new running t (omega arith) (omega arith) l b (omega arith) (λ k h. let e : i + suc k ≡ i + 1 + k = omega arith in rw (← e) (a (suc k) (omega arith)))
 
+-- ---- bytes that pass a test
+
+-- what passes the test is an ASCII character within a line
+abbrev pub IsInner : (ℕ → Bool) → Type 0
+IsInner p = (c : ℕ) → p c ≡ true → (c < 128) × (is_in_line c ≡ true)
+
+pub run_of : (p : ℕ → Bool) → IsInner p → (bs : List ℕ) (at n : ℕ) → n ≤ prefix_len p (drop at bs) → IsRunOfAscii bs at n
+run_of p inner bs at n w k h =
+    inner (get_or bs (at + k) 0) (ap p (sym (get_or-drop at bs k 0)) ∙ prefix_len_passes p (drop at bs) k 0 (omega arith))
+
+-- where the run ends, said of the text that a place runs over
+pub run_end : (p : ℕ → Bool) (bytes : List ℕ) (a : RunningPlace) (start end : ℕ) → RunsOver bytes a → start ≡ a.walk.offset → end ≡ start + prefix_len p (drop start bytes)
+    → end ≡ a.walk.offset + prefix_len p (drop a.walk.offset a.walk.text.now)
+run_end p bytes a start end r s e =
+    e ∙ ap (λ k. k + prefix_len p (drop k bytes)) s ∙ ap (λ t. a.walk.offset + prefix_len p (drop a.walk.offset t)) (sym r.same)
+
+-- what is ahead after it
+pub ahead_of_run : (p : ℕ → Bool) → IsAlike p → (old new : RunningPlace) (n : ℕ) → IsRunning old → new.walk.text.now ≡ old.walk.text.now → new.walk.offset ≡ old.walk.offset + n
+    → n ≡ prefix_len p (drop old.walk.offset old.walk.text.now) → ahead new ≡ drop (prefix_len p (ahead old)) (ahead old)
+ahead_of_run p alike old new n r t o e =
+    let bs = old.walk.text.now in
+    let i = old.walk.offset in
+    ap (λ x. chars (drop new.walk.offset x)) t ∙ ap (λ k. chars (drop k bs)) o ∙ ap chars (sym (drop-drop n i bs)) ∙ ap (λ k. chars (drop k (drop i bs))) e
+    ∙ span_chars p alike (drop i bs) (IsUtf8-drop bs i r.reading.utf8 r.reading.boundary)
+
 -- ---- names
 
-name_alike : IsAlike is_name_char
+pub name_alike : IsAlike is_name_char
 name_alike c d h k = grind (arith, nat_tests)
 
-name_low : (c : ℕ) → is_name_char c ≡ true → (c < 128) × (is_in_line c ≡ true)
-name_low c h = (grind (arith, nat_tests), grind (arith, nat_tests))
+pub name_inner : IsInner is_name_char
+name_inner c h = (grind (arith, nat_tests), grind (arith, nat_tests))
 
-past_names : (text : List ℕ) → past_name_chars text ≡ drop (prefix_len is_name_char text) text
+pub past_names : (text : List ℕ) → past_name_chars text ≡ drop (prefix_len is_name_char text) text
 past_names [] = refl
 past_names (c ∷ cs) = by (is_name_char c) (past_names cs)
   where
@@ -68,22 +97,40 @@ past_names (c ∷ cs) = by (is_name_char c) (past_names cs)
     by true e = rw (one-add (prefix_len is_name_char cs)) e
     by false e = refl
 
--- the name characters at the front of a list of bytes are ASCII characters within a line
-pub names_run : (bs : List ℕ) (at n : ℕ) → n ≤ prefix_len is_name_char (drop at bs) → IsRunOfAscii bs at n
-names_run bs at n w k h =
-    name_low (get_or bs (at + k) 0) (ap is_name_char (sym (get_or-drop at bs k 0)) ∙ prefix_len_passes is_name_char (drop at bs) k 0 (omega arith))
+-- ---- plain ASCII characters of strings
 
--- what is ahead after them
-pub past_name_run : (old new : RunningPlace) (n : ℕ) → IsRunning old → new.walk.text.now ≡ old.walk.text.now → new.walk.offset ≡ old.walk.offset + n
-    → n ≡ prefix_len is_name_char (drop old.walk.offset old.walk.text.now) → ahead new ≡ past_name_chars (ahead old)
-past_name_run old new n r t o e =
-    let bs = old.walk.text.now in
-    let i = old.walk.offset in
-    ap (λ x. chars (drop new.walk.offset x)) t ∙ ap (λ k. chars (drop k bs)) o ∙ ap chars (sym (drop-drop n i bs)) ∙ ap (λ k. chars (drop k (drop i bs))) e
-    ∙ span_chars is_name_char name_alike (drop i bs) (IsUtf8-drop bs i r.reading.utf8 r.reading.boundary) ∙ sym (past_names (ahead old))
+abbrev pub plain_ascii : ℕ → Bool
+plain_ascii c = is_plain c && ltb c 128
 
--- where they end, said of the text that a place runs over
-pub name_end : (bytes : List ℕ) (a : RunningPlace) (start end : ℕ) → RunsOver bytes a → start ≡ a.walk.offset → end ≡ start + prefix_len is_name_char (drop start bytes)
-    → end ≡ a.walk.offset + prefix_len is_name_char (drop a.walk.offset a.walk.text.now)
-name_end bytes a start end r s e =
-    e ∙ ap (λ k. k + prefix_len is_name_char (drop k bytes)) s ∙ ap (λ t. a.walk.offset + prefix_len is_name_char (drop a.walk.offset t)) (sym r.same)
+pub plain_alike : IsAlike plain_ascii
+plain_alike c d h k = grind (arith, nat_tests)
+
+pub plain_inner : IsInner plain_ascii
+plain_inner c h = (grind (arith, nat_tests), grind (arith, nat_tests))
+
+-- a run of characters, of which each makes no difference to what is found after it
+run_skipped : (p : ℕ → Bool) (f : List ℕ → Option (List ℕ)) → ((c : ℕ) (cs : List ℕ) → p c ≡ true → f (c ∷ cs) ≡ f cs) → (text : List ℕ) → f (drop (prefix_len p text) text) ≡ f text
+run_skipped p f skips [] = refl
+run_skipped p f skips (c ∷ cs) = by (p c) refl (run_skipped p f skips cs)
+  where
+    by : (t : Bool) → p c ≡ t → f (drop (prefix_len p cs) cs) ≡ f cs → f (drop (cond t (1 + prefix_len p cs) 0) (c ∷ cs)) ≡ f (c ∷ cs)
+    by true e h = ap (λ n. f (drop n (c ∷ cs))) (one-add (prefix_len p cs)) ∙ h ∙ sym (skips c cs e)
+    by false e h = refl
+
+pub string_run : (text : List ℕ) → past_string (drop (prefix_len plain_ascii text) text) ≡ past_string text
+string_run = run_skipped plain_ascii past_string (λ c cs t. string_plain c cs (plain_is c t))
+  where
+    plain_is : (c : ℕ) → plain_ascii c ≡ true → is_plain c ≡ true
+    plain_is c t = grind (arith, nat_tests)
+
+pub block_run : (text : List ℕ) → past_block (drop (prefix_len plain_ascii text) text) ≡ past_block text
+block_run = run_skipped plain_ascii past_block (λ c cs t. block_other c cs (no_quote c t) (no_slash c t))
+  where
+    no_quote : (c : ℕ) → plain_ascii c ≡ true → eqb c 34 ≡ false
+    no_quote c t = grind (arith, nat_tests)
+
+    no_slash : (c : ℕ) → plain_ascii c ≡ true → eqb c 92 ≡ false
+    no_slash c t = grind (arith, nat_tests)
+
+pub run_shorter : (p : ℕ → Bool) (text : List ℕ) → length (drop (prefix_len p text) text) ≤ length text
+run_shorter p text = omega (arith, length-drop (prefix_len p text) text)

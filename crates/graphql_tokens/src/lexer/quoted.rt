@@ -1,6 +1,6 @@
 //! Strings and block strings, after their opening quotes.
 
-ghost use Rattle.std.specs.Prelude.{◌≡◌, ◌≤◌};
+ghost use Rattle.std.specs.Prelude.{◌≡◌, ◌≤◌, length};
 ghost use Rattle.graphql_tokens.specs.inner.Quoted.{past_string, past_block, IsRunOfQuotes};
 ghost use Rattle.graphql_tokens.specs.inner.Running.{ahead};
 ghost use Rattle.graphql_tokens.specs.inner.Lexing.{RunsOver, rest_if};
@@ -9,6 +9,22 @@ use super::class::{is_plain, is_plain_ascii};
 use super::reading::{pass_char, pass_many, peek};
 use crate::pos::running::RunningPlace;
 use crate::text::escape::escape_at;
+use crate::text::past_while;
+
+// Passes the plain ASCII characters that follow.
+#[inline(always)]
+fn pass_plain_ascii(bytes: &[u8], places: &mut RunningPlace)
+    requires { RunsOver bytes.now places.old }
+    ensures runs { RunsOver bytes.now places.new }
+    ensures string { past_string (ahead places.new) ≡ past_string (ahead places.old) }
+    ensures block { past_block (ahead places.new) ≡ past_block (ahead places.old) }
+    ensures less { length (ahead places.new) ≤ length (ahead places.old) }
+    ensures forward { places.old.walk.offset ≤ places.new.walk.offset }
+{
+    let start = places.offset();
+    let end = past_while(bytes, start, is_plain_ascii);
+    places.pass_run(end - start);
+}
 
 // Passes the content of a string and its closing quote, and tells whether both were there. No line end stands in it.
 #[inline(always)]
@@ -21,6 +37,7 @@ pub fn pass_string(bytes: &[u8], places: &mut RunningPlace) -> bool
     while let Some(b) = peek(bytes, places) {
         if is_plain_ascii(b) {
             places.pass_ascii();
+            pass_plain_ascii(bytes, places);
         } else if is_plain(b) {
             places.pass_first(b);
         } else if b == b'"' {
@@ -68,6 +85,7 @@ pub fn pass_block(bytes: &[u8], places: &mut RunningPlace) -> bool
     while let Some(b) = peek(bytes, places) {
         if is_plain_ascii(b) {
             places.pass_ascii();
+            pass_plain_ascii(bytes, places);
         } else if b == b'"' {
             if pass_quotes(bytes, places) == 3 {
                 return true;

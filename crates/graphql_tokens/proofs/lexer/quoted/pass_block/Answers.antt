@@ -14,9 +14,10 @@ pub loop-b-preserved-then-is_plain_ascii : goal.loop-b-preserved-then-is_plain_a
 loop-b-preserved-then-is_plain_ascii c =
     let v = c.loop-b.invariant in
     let e = c.pass_ascii.ensures in
+    let p = c.pass_plain_ascii.ensures in
     record {
-      runs = record { running = e.running; same = e.same ∙ v.runs.same };
-      same = sym (ascii_in_block c.in-Some.b e.passed.0 _ _ c.in-Some.ensures e.passed.1 (sym c.is_plain_ascii.ensures ∙ c.if-is_plain_ascii.true)) ∙ v.same;
+      runs = p.runs;
+      same = p.block ∙ sym (ascii_in_block c.in-Some.b e.passed.0 _ _ c.in-Some.ensures e.passed.1 (sym c.is_plain_ascii.ensures ∙ c.if-is_plain_ascii.true)) ∙ v.same;
       forward = omega arith;
     }
 
