@@ -2,15 +2,14 @@
 //! and an error as an entry of `errors` in a response.
 //!
 //! A node is an object with its `kind` first, and then the members that GraphQL.js gives a node of that kind, under its
-//! names and in its order. A member that a text leaves out is left out, but for lists, which are empty then. The JSON
-//! has no blanks. Five things differ, since our trees keep less:
+//! names and in its order. A part that the text leaves out has no member, but that a list is empty then, and `repeatable`
+//! is false. The JSON has no blanks. It differs from that of GraphQL.js in what our trees do not keep:
 //!
-//! - no node has `loc`; with [`Places::Written`] it has `line` and `column` behind its `kind`;
-//! - a string has no `block`, which tells a block string from another;
-//! - an object has each of its fields once, with the value that stands last;
-//! - the name of an operation or of a fragment, the root of a schema, and what is inside a variable of a value, a list,
-//!   an object or a list type have no place;
-//! - a document has no place.
+//! - a node has no `loc`; with [`Places::Written`] it has `line` and `column` behind its `kind`;
+//! - these nodes have no place: the document, the names of operations and fragments, the roots of a schema, the name of
+//!   a variable in a value, and what is inside a list, an object or a list type;
+//! - a string has no `block`, which tells whether it is a block string;
+//! - an object has each field once, with the value that stands last.
 //!
 //! Proved of it: on every tree and every error, also those that no text has, the calls end without a fault, and what
 //! they give is UTF-8. That it is JSON, and the JSON that is told here, is tested in `conformance_json`.
