@@ -1,0 +1,89 @@
+//! Trees and errors of `graphql_parser` as JSON, for servers and tools: a tree in the form of GraphQL.js, version 16,
+//! and an error as an entry of `errors` in a response.
+//!
+//! A node is an object with its `kind` first, and then the members that GraphQL.js gives a node of that kind, under its
+//! names and in its order. A part that the text leaves out has no member, but that a list is empty then, and `repeatable`
+//! is false. The JSON has no blanks. It differs from that of GraphQL.js in what our trees do not keep:
+//!
+//! - a node has no `loc`; with [`Places::Written`] it has `line` and `column` behind its `kind`;
+//! - these nodes have no place: the document, the names of operations and fragments, the roots of a schema, the name of
+//!   a variable in a value, and what is inside a list, an object or a list type;
+//! - a string has no `block`, which tells whether it is a block string;
+//! - an object has each field once, with the value that stands last.
+//!
+//! Proved of it: on every tree and every error, also those that no text has, the calls end without a fault, and what
+//! they give is UTF-8. That it is JSON, and the JSON that is told here, is tested in `conformance_json`.
+#![tactic(auto)]
+
+ghost use Rattle.std.specs.Prelude.{IfOk};
+ghost use Rattle.std.specs.Str.{IsUtf8};
+
+mod request;
+mod schema;
+mod sheet;
+mod values;
+
+use graphql_parser::Error;
+use graphql_parser::types::{ExecutableDocument, ServiceDocument};
+pub use sheet::Places;
+use sheet::Sheet;
+use std::alloc::{AllocError, Global};
+
+/// The tree of a request as JSON, a `Document` of GraphQL.js.
+///
+/// `document` is the tree that `parse_query` gives, and `places` tells whether its places are written. The operations
+/// and the fragments come in the order of their places, which is that of the text. It fails only where memory runs out.
+pub fn request_json(
+    alloc: Global,
+    document: &ExecutableDocument,
+    places: Places,
+) -> Result<Vec<u8>, AllocError>
+    ensures { IfOk result (λ json. IsUtf8 json.items) }
+{
+    let mut sheet = Sheet::new(alloc, places);
+    request::write_document(alloc, &mut sheet, document)?;
+    Ok(sheet.finish())
+}
+
+/// The tree of a schema file as JSON, a `Document` of GraphQL.js.
+///
+/// `document` is the tree that `parse_schema` gives, and `places` tells whether its places are written. The definitions
+/// and extensions come in the order of the tree, which is that of the text, and the roots of a schema in the order of
+/// their places. It fails only where memory runs out.
+pub fn schema_json(
+    alloc: Global,
+    document: &ServiceDocument,
+    places: Places,
+) -> Result<Vec<u8>, AllocError>
+    ensures { IfOk result (λ json. IsUtf8 json.items) }
+{
+    let mut sheet = Sheet::new(alloc, places);
+    schema::write_document(&mut sheet, document)?;
+    Ok(sheet.finish())
+}
+
+/// An error as JSON: an entry of `errors` in the response to a request (GraphQL October 2021, section 7.1.2).
+///
+/// It has the text of the error as `message`, and the places that the error names as `locations`, the most important
+/// first, each with its `line` and `column`. An error that names no place has no `locations`. It fails only where memory
+/// runs out.
+pub fn error_json(alloc: Global, error: &Error) -> Result<Vec<u8>, AllocError>
+    ensures { IfOk result (λ json. IsUtf8 json.items) }
+{
+    let mut sheet = Sheet::new(alloc, Places::Written);
+    let message = format!(in alloc; "{error}")?;
+    sheet.open()?;
+    sheet.text("message", message.as_str())?;
+    let positions = error.positions();
+    if positions.len() > 0 {
+        sheet.open_list("locations")?;
+        for place in positions {
+            sheet.open()?;
+            sheet.place(place)?;
+            sheet.close()?;
+        }
+        sheet.close_list()?;
+    }
+    sheet.close()?;
+    Ok(sheet.finish())
+}
