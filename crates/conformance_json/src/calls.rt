@@ -79,7 +79,7 @@ fn between<'a>(text: &'a str, before: &str, after: &str) -> &'a str {
     inside.unwrap_or(text)
 }
 
-// The JSON with a blank behind each comma and each colon that stands in no string.
+// The JSON with a blank after each comma and each colon that stands in no string.
 fn spaced(alloc: Global, json: &str) -> Result<String, AllocError> {
     let mut out = String::new(alloc);
     let mut is_in_string = false;

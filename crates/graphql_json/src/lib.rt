@@ -5,7 +5,7 @@
 //! names and in its order. A part that the text leaves out has no member, but that a list is empty then, and `repeatable`
 //! is false. The JSON has no blanks. It differs from that of GraphQL.js in what our trees do not keep:
 //!
-//! - a node has no `loc`; with [`Places::Written`] it has `line` and `column` behind its `kind`;
+//! - a node has no `loc`; with [`Places::Written`] it has `line` and `column` after its `kind`;
 //! - these nodes have no place: the document, the names of operations and fragments, the roots of a schema, the name of
 //!   a variable in a value, and what is inside a list, an object or a list type;
 //! - a string has no `block`, which tells whether it is a block string;
