@@ -18,25 +18,27 @@ fn writer(alloc: Global) -> Result<FailingWriter, AllocError> {
 }
 
 // A status, and what goes to standard output and to standard error.
-type Outcome<'a> = (u8, &'a str, &'a str);
+type Outcome = (u8, &'static str, &'static str);
 
-const OUTSIDE_THE_PARSER: Outcome<'static> = (2, "", "error: out of memory\n");
+const OUTSIDE_THE_PARSER: Outcome = (2, "", "error: out of memory\n");
 
-const INSIDE_THE_PARSER: Outcome<'static> = (1, "", "error: out of memory\nat []\n");
+const INSIDE_THE_PARSER: Outcome = (1, "", "error: out of memory\nat []\n");
 
 // A command that is run on a text again and again, and how its runs have ended.
 #[derive(Drop)]
-struct Runs<'a> {
+struct Runs {
     words: Vec<String>,
-    text: &'a [u8],
+    text: &'static [u8],
     out: FailingWriter,
     err: FailingWriter,
-    outcomes: [Outcome<'a>; 3],
-    met: [bool; 3],
+    told: Outcome,
+    was_told: bool,
+    was_inside: bool,
+    was_outside: bool,
     has_other: bool,
 }
 
-impl Attempt for Runs<'_> {
+impl Attempt for Runs {
     fn attempt(&mut self, alloc: Global) {
         let mut input = FailingReader {
             left: self.text,
@@ -47,15 +49,23 @@ impl Attempt for Runs<'_> {
         self.err.held.clear();
         let words = self.words.as_slice();
         let status = run(alloc, words, &mut input, &mut self.out, &mut self.err);
-        let out = str::from_utf8(self.out.held.as_slice()).unwrap_or("no text");
-        let err = str::from_utf8(self.err.held.as_slice()).unwrap_or("no text");
-        let ended = (status, out, err);
-        let which = self.outcomes.iter().position(|outcome| *outcome == ended);
-        match which.and_then(|which| self.met.get_mut(which)) {
-            Some(is_met) => *is_met = true,
-            None => self.has_other = true,
+        if has_ended(self.told, status, &self.out, &self.err) {
+            self.was_told = true;
+        } else if has_ended(INSIDE_THE_PARSER, status, &self.out, &self.err) {
+            self.was_inside = true;
+        } else if has_ended(OUTSIDE_THE_PARSER, status, &self.out, &self.err) {
+            self.was_outside = true;
+        } else {
+            self.has_other = true;
         }
     }
+}
+
+// Whether a run that ended with this status has this outcome.
+fn has_ended(outcome: Outcome, status: u8, out: &FailingWriter, err: &FailingWriter) -> bool {
+    outcome.0 == status
+        && str::from_utf8(out.held.as_slice()) == Ok(outcome.1)
+        && str::from_utf8(err.held.as_slice()) == Ok(outcome.2)
 }
 
 // Runs a command on a text again and again, with a piece of memory more each time. Each run must end as
@@ -64,8 +74,8 @@ fn run_with_more_and_more(
     rt: &impl Abort,
     alloc: Global,
     command: &str,
-    text: &[u8],
-    told: Outcome<'_>,
+    text: &'static [u8],
+    told: Outcome,
 ) -> Result<(), AllocError> {
     let mut words = Vec::new(alloc);
     words.push(String::from_str(alloc, command)?)?;
@@ -74,13 +84,16 @@ fn run_with_more_and_more(
         text,
         out: writer(alloc)?,
         err: writer(alloc)?,
-        outcomes: [told, INSIDE_THE_PARSER, OUTSIDE_THE_PARSER],
-        met: [false; 3],
+        told,
+        was_told: false,
+        was_inside: false,
+        was_outside: false,
         has_other: false,
     };
-    assert!(rt; attempts(alloc, &mut runs)?, "memory has no end here");
+    let has_end = attempts(alloc, &mut runs)?;
+    assert!(rt; has_end, "memory has no end here");
     assert!(rt; !runs.has_other);
-    assert_eq!(rt; runs.met, [true; 3]);
+    assert!(rt; runs.was_told && runs.was_inside && runs.was_outside);
     Ok(())
 }
 
