@@ -54,23 +54,13 @@ fn take_all(alloc: Global, blocks: &mut Blocks) -> Result<bool, AllocError> {
     Ok(true)
 }
 
-// Blocks of many sizes, and after each of them a small one in `between`, so that what is given back of them
+// Blocks of growing sizes, and after each of them a small one in `between`, so that what is given back of them
 // is not joined into larger pieces.
 fn pieces(alloc: Global, between: &mut Blocks) -> Result<Blocks, AllocError> {
     let mut pieces = Vec::with_capacity(alloc, PIECES)?;
     for i in 0..PIECES {
-        pieces.push(Vec::with_capacity(alloc, size(i))?)?;
+        pieces.push(Vec::with_capacity(alloc, 24 + 16 * i)?)?;
         between.push(Vec::with_capacity(alloc, 24)?)?;
     }
     Ok(pieces)
-}
-
-// First small blocks of twenty sizes in turn, and then larger and larger ones.
-fn size(index: usize) -> usize {
-    let round = index % 20;
-    if index < 300 {
-        24usize.wrapping_add(round.wrapping_mul(16))
-    } else {
-        index.wrapping_sub(300).wrapping_mul(128).wrapping_add(512)
-    }
 }
