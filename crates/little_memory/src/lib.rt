@@ -39,17 +39,31 @@ pub fn attempts<A: Attempt>(alloc: Global, attempted: &mut A) -> Result<bool, Al
 // be needed than `blocks` has room for.
 fn take_all(alloc: Global, blocks: &mut Blocks) -> Result<bool, AllocError> {
     let mut size = 1usize << 34;
-    for _ in 0..35 {
-        for _ in 0..BLOCKS {
-            if blocks.len() == blocks.capacity() {
-                return Ok(false);
-            }
-            let Ok(block) = Vec::with_capacity(alloc, size) else {
-                break;
-            };
-            blocks.push(block)?;
+    for _ in 0..24 {
+        if !take(alloc, blocks, size)? {
+            return Ok(false);
         }
         size /= 2;
+    }
+    // Of small blocks an allocator keeps some of each size.
+    for i in 0..75usize {
+        if !take(alloc, blocks, 1208 - 16 * i)? {
+            return Ok(false);
+        }
+    }
+    Ok(true)
+}
+
+// Takes blocks of this size while there are some.
+fn take(alloc: Global, blocks: &mut Blocks, size: usize) -> Result<bool, AllocError> {
+    for _ in 0..BLOCKS {
+        if blocks.len() == blocks.capacity() {
+            return Ok(false);
+        }
+        let Ok(block) = Vec::with_capacity(alloc, size) else {
+            break;
+        };
+        blocks.push(block)?;
     }
     Ok(true)
 }
