@@ -9,6 +9,10 @@
 set -eu
 bench=$(dirname -- "$(readlink -f -- "$0")")/../crates/bench/out/bench
 
+# The allocator keeps its memory from one round to the next. Else, where a list grows beyond 32 MB, each round takes it
+# from the kernel anew, and more than half of the time goes there.
+export GLIBC_TUNABLES=glibc.malloc.mmap_threshold=4294967296:glibc.malloc.trim_threshold=8589934592
+
 # Each line: a shape, what reads it, and the text before its parts, each part, and the text after them. In a part %
 # stands for its number, and ~ for a line feed.
 shapes() {
@@ -82,5 +86,5 @@ shapes | while IFS= read -r line; do
         exit 1
     }
     awk -v name="${line%%;*}" -v once="$once" -v twice="$twice" \
-        'BEGIN { printf "| %s | %.1f | %.1f | %.2f |\n", name, once / 1e6, twice / 1e6, twice / once }'
+        'BEGIN { printf "| %s | %.1f | %.1f | %.1f |\n", name, once / 1e6, twice / 1e6, twice / once }'
 done

@@ -98,6 +98,8 @@ pub const HUGE_PARTS: &str = r#"
 {a(b:"⟨1000000×x⟩")} ⇒ name of 1, string of 1000000
 {a(b:"""⟨100000×x␊⟩""")} ⇒ name of 1, string of 199999
 {a(b:⟨100000×1⟩)} ⇒ name of 1, number of 100000
+{a(b:⟨1000000×1⟩)} ⇒ name of 1, number of 1000000
+{a(b:"""⟨1000000×x⟩""")} ⇒ name of 1, string of 1000000
 {a(b:100000) ⟨100000×c ⟩} ⇒ name of 1, number of 6 with the value 100000, selections 100001
 mutation { add(big: 21474836470000) } ⇒ name of 3, number of 14 with the value 21474836470000
 {a(b:"⟨100000×\n⟩") } ⇒ name of 1, string of 100000

@@ -86,10 +86,12 @@ pub const HUGE_PARTS: &str = r##"
 type ⟨1000000×a⟩ ⇒ name of 1000000
 "⟨1000000×x⟩" type A ⇒ description of 1000000, name of 1
 """⟨100000×x␊⟩""" scalar A ⇒ description of 199999, name of 1
+"""⟨1000000×x⟩""" interface A ⇒ description of 1000000, name of 1
 "⟨100000×\u{1F600}⟩" schema{query:Q} ⇒ description of 400000, name of 1
 #⟨1000000×x⟩␊type A ⇒ name of 1
 ⟨1000000×,⟩type A ⇒ name of 1
 type A{a:⟨1000000×B⟩} ⇒ name of 1
+input A{a:B=⟨1000000×1⟩} ⇒ name of 1
 directive @⟨1000000×d⟩ on FIELD ⇒ name of 1000000
 "⟨1000000×x⟩ type A ⇒ syntax 1:1
 ⟨1000000×a⟩ ⇒ syntax 1:1
