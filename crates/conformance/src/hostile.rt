@@ -90,7 +90,7 @@ schema{query:Q} ⇒ the same, taken 1
   the same, taken 20
 "#;
 
-/// Requests with huge parts, and how large these are.
+/// Requests with huge parts and long lists, and how large these are.
 pub const HUGE_PARTS: &str = r#"
 -- Huge parts.
 {⟨1000000×a⟩} ⇒ name of 1000000
@@ -98,8 +98,40 @@ pub const HUGE_PARTS: &str = r#"
 {a(b:"⟨1000000×x⟩")} ⇒ name of 1, string of 1000000
 {a(b:"""⟨100000×x␊⟩""")} ⇒ name of 1, string of 199999
 {a(b:⟨100000×1⟩)} ⇒ name of 1, number of 100000
-{a(b:100000) ⟨100000×c ⟩} ⇒ name of 1, number of 6 with the value 100000
+{a(b:⟨1000000×1⟩)} ⇒ name of 1, number of 1000000
+{a(b:"""⟨1000000×x⟩""")} ⇒ name of 1, string of 1000000
+{a(b:100000) ⟨100000×c ⟩} ⇒ name of 1, number of 6 with the value 100000, selections 100001
 mutation { add(big: 21474836470000) } ⇒ name of 3, number of 14 with the value 21474836470000
+{a(b:"⟨100000×\n⟩") } ⇒ name of 1, string of 100000
+{a(b:"⟨100000×\u{1F600}⟩") } ⇒ name of 1, string of 400000
+⟨1000000×,⟩{a} ⇒ name of 1
+{a(b:"⟨1000000×x⟩} ⇒ syntax 1:6
+{a(b:⟨100000×1⟩a)} ⇒ syntax 1:6
+⟨1000000×a⟩ ⇒ syntax 1:1
+-- Lists of many nodes, all distinct and all equal.
+⟨100000×query A№{a}⟩ ⇒ name of 1, operations 100000
+{a}⟨100000×fragment F№ on T{b}⟩ ⇒ name of 1, fragments 100000
+⟨100000×query A№{a}⟩⟨100000×fragment F№ on T{b}⟩ ⇒ name of 1, operations 100000, fragments 100000
+{a(⟨100000×b№:1 ⟩)} ⇒ name of 1, number of 1 with the value 1, arguments 100000
+{a(⟨100000×b:1 ⟩)} ⇒ name of 1, number of 1 with the value 1, arguments 100000
+{a⟨100000×@d№ ⟩} ⇒ name of 1, directives of it 100000
+{a⟨100000×@d⟩} ⇒ name of 1, directives of it 100000
+query(⟨100000×$v№:T ⟩){a} ⇒ name of 1, variables 100000
+query(⟨100000×$v:T ⟩){a} ⇒ name of 1, variables 100000
+query⟨100000×@d⟩{a} ⇒ name of 1, directives 100000
+{⟨100000×a№ ⟩} ⇒ name of 2, selections 100000
+{⟨100000×...F№ ⟩} ⇒ no field, selections 100000
+{a(b:{⟨100000×x№:1 ⟩})} ⇒ name of 1, object of 100000
+{a(b:{⟨100000×x:1 ⟩})} ⇒ name of 1, object of 1
+{a(b:[⟨100000×1 ⟩])} ⇒ name of 1, list of 100000
+{a(b:[⟨100000×{} ⟩])} ⇒ name of 1, list of 100000
+-- Those that are refused, or break a rule.
+⟨100000×query A{a}⟩ ⇒ operation A duplicated first 1:1 second 1:11
+{a}⟨100000×fragment F on T{b}⟩ ⇒ fragment F duplicated first 1:4 second 1:22
+⟨100000×{a}⟩ ⇒ multiple operations anonymous 1:4 operation 1:1
+⟨100000×query A№{a}⟩{b} ⇒ multiple operations anonymous 1:1488891 operation 1:1
+{⟨100000×a№ ⟩? ⇒ syntax 1:688892
+{a(b:[⟨100000×1 ⟩)} ⇒ syntax 1:200007
 "#;
 
 /// Spellings, and how many of the short texts of them are accepted.

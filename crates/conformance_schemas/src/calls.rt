@@ -3,6 +3,7 @@ use crate::{cut, hostile, kinds, limits, members, refused, roots, taken};
 use answer_text::{Asked, Call, Parser};
 use rows::failures;
 use std::test::Fail;
+use tree_text::View;
 
 // What is asked of the parser of schema files.
 const fn schema(asked: Asked) -> Call {
@@ -40,6 +41,14 @@ fn hostile_texts_are_answered(rt: HostRuntime) -> Result<(), Fail> {
         (schema(Asked::Lines), hostile::LINES),
         (schema(Asked::ShortTexts), hostile::SHORT_TEXTS),
     ];
+    let failures = failures(rt.alloc(), &tables)?;
+    assert_eq!(rt; failures.as_str(), "");
+    Ok(())
+}
+
+#[test]
+fn huge_parts_are_answered(rt: HostRuntime) -> Result<(), Fail> {
+    let tables = [(schema(Asked::Looked(View::Sizes)), hostile::HUGE_PARTS)];
     let failures = failures(rt.alloc(), &tables)?;
     assert_eq!(rt; failures.as_str(), "");
     Ok(())

@@ -80,6 +80,62 @@ type A{a:⟨65×[⟩B⟨65×]⟩} ⇒ the same, taken 70
 input A{a:B=⟨65×[⟩⟨65×]⟩} ⇒ the same, taken 72
 "##;
 
+/// Schema files with huge parts and long lists, and how large these are.
+pub const HUGE_PARTS: &str = r##"
+-- Huge parts.
+type ⟨1000000×a⟩ ⇒ name of 1000000
+"⟨1000000×x⟩" type A ⇒ description of 1000000, name of 1
+"""⟨100000×x␊⟩""" scalar A ⇒ description of 199999, name of 1
+"""⟨1000000×x⟩""" interface A ⇒ description of 1000000, name of 1
+"⟨100000×\u{1F600}⟩" schema{query:Q} ⇒ description of 400000, name of 1
+#⟨1000000×x⟩␊type A ⇒ name of 1
+⟨1000000×,⟩type A ⇒ name of 1
+type A{a:⟨1000000×B⟩} ⇒ name of 1
+input A{a:B=⟨1000000×1⟩} ⇒ name of 1
+directive @⟨1000000×d⟩ on FIELD ⇒ name of 1000000
+"⟨1000000×x⟩ type A ⇒ syntax 1:1
+⟨1000000×a⟩ ⇒ syntax 1:1
+type A implements ⟨1000000×B⟩! ⇒ syntax 1:1000019
+directive @d on ⟨1000000×B⟩ ⇒ syntax 1:17
+-- Lists of many nodes, all distinct and all equal.
+⟨100000×scalar A№ ⟩ ⇒ name of 2, definitions 100000
+⟨100000×type A{a:B}⟩ ⇒ name of 1, definitions 100000
+⟨100000×extend type A@d ⟩ ⇒ name of 1, definitions 100000
+⟨100000×schema{query:Q}⟩ ⇒ name of 1, definitions 100000
+⟨100000×directive @d№ on FIELD ⟩ ⇒ name of 2, definitions 100000
+schema⟨100000×@d№ ⟩{query:Q} ⇒ name of 1, directives 100000
+scalar A⟨100000×@d⟩ ⇒ name of 1, directives 100000
+type A implements⟨100000× &I№⟩ ⇒ name of 1, interfaces 100000
+interface A implements⟨100000× &I⟩ ⇒ name of 1, interfaces 100000
+type A{⟨100000×a№:B ⟩} ⇒ name of 1, fields 100000
+type A{⟨100000×a:B ⟩} ⇒ name of 1, fields 100000
+interface A{⟨100000×"d" a№:B ⟩} ⇒ name of 1, fields 100000
+type A{a(⟨100000×b№:C ⟩):D} ⇒ name of 1, arguments of the first 100000
+type A{a(⟨100000×b:C ⟩):D} ⇒ name of 1, arguments of the first 100000
+type A{a:B⟨100000×@d⟩} ⇒ name of 1, directives of the first 100000
+union U=⟨100000×|A№ ⟩ ⇒ name of 1, members 100000
+union U=⟨100000×|A⟩ ⇒ name of 1, members 100000
+enum E{⟨100000×V№ ⟩} ⇒ name of 1, values 100000
+enum E{⟨100000×V ⟩} ⇒ name of 1, values 100000
+enum E{V⟨100000×@d⟩} ⇒ name of 1, directives of the first 100000
+input A{⟨100000×a№:B ⟩} ⇒ name of 1, fields 100000
+input A{⟨100000×a:B=1 ⟩} ⇒ name of 1, fields 100000
+input A{a:B={⟨100000×x№:1 ⟩}} ⇒ name of 1, object of 100000
+input A{a:B={⟨100000×x:1 ⟩}} ⇒ name of 1, object of 1
+input A{a:B=[⟨100000×1 ⟩]} ⇒ name of 1, list of 100000
+directive @d(⟨100000×a№:B ⟩) on FIELD ⇒ name of 1, arguments 100000
+directive @d on⟨100000× |FIELD⟩ ⇒ name of 1, locations 100000
+-- Those that are refused, or break a rule.
+⟨100000×scalar A ⟩? ⇒ syntax 1:900001
+enum E{⟨100000×V№ ⟩true} ⇒ syntax 1:688898
+union U=⟨100000×|A⟩| ⇒ syntax 1:200010
+type A{⟨100000×a:B ⟩ ⇒ syntax 1:400008
+directive @d on⟨100000× |FIELD⟩ |BOGUS ⇒ syntax 1:700018
+schema{query:Q} ⟨100000×scalar A ⟩schema{mutation:M} ⇒ missing query root pos 1:900017
+schema{⟨100000×query:Q ⟩} ⇒ multiple roots query schema 1:1 pos 1:16
+⟨100000×schema{mutation:M}⟩ ⇒ missing query root pos 1:1
+"##;
+
 /// Spellings, and how many of the short texts of them are accepted.
 pub const SHORT_TEXTS: &str = r##"
 -- Every short text.

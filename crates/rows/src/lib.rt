@@ -15,7 +15,8 @@
 //! is a remark, and empty lines are passed over.
 //!
 //! On both sides of the arrow ␊, ␍ and ␉ stand for a line feed, a carriage return and a tab, and ␠ for a blank
-//! where it would not be seen. ⟨1F600⟩ is the character of that number, and ⟨64×a{⟩ is `a{` written 64 times.
+//! where it would not be seen. ⟨1F600⟩ is the character of that number, and ⟨64×a{⟩ is `a{` written 64 times;
+//! ⟨3×a№ ⟩ is `a0 a1 a2 `.
 #![tactic(auto)]
 
 mod notation;

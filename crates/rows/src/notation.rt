@@ -42,13 +42,24 @@ fn push_plain(out: &mut String, text: &str) -> Result<(), AllocError> {
     Ok(())
 }
 
+// The text with its number in place of each №.
+fn push_numbered(out: &mut String, text: &str, index: usize) -> Result<(), AllocError> {
+    for (place, part) in text.split('№').enumerate() {
+        if place > 0 {
+            write!(out, "{index}")?;
+        }
+        push_plain(out, part)?;
+    }
+    Ok(())
+}
+
 // What stands for the text between ⟨ and ⟩.
 fn push_inside(out: &mut String, inside: &str) -> Result<(), Fail> {
     match inside.split_once('×') {
         Some((count, text)) => {
             let count: usize = count.parse()?;
-            for _ in 0..count {
-                push_plain(out, text)?;
+            for index in 0..count {
+                push_numbered(out, text, index)?;
             }
         }
         None => {

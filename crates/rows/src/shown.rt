@@ -20,6 +20,29 @@ impl Shown {
         }
     }
 
+    /// An empty text with room for so many bytes: up to there, writing takes no memory.
+    pub fn with_room(alloc: Global, has_places: bool, bytes: usize) -> Result<Shown, AllocError> {
+        Ok(Shown {
+            text: String::with_capacity(alloc, bytes)?,
+            has_places,
+            is_cut: false,
+        })
+    }
+
+    /// Begins anew, in the room that is there.
+    pub fn clear(&mut self) {
+        self.text.clear();
+        self.is_cut = false;
+    }
+
+    /// The whole text, unless a part was left out.
+    pub fn whole(&self) -> Option<&str> {
+        if self.is_cut {
+            return None;
+        }
+        Some(self.text.as_str())
+    }
+
     /// Adds these characters.
     pub fn word(&mut self, text: &str) {
         if self.text.push_str(text).is_err() {

@@ -11,6 +11,7 @@ mod parts;
 pub mod plain;
 mod request;
 mod schema;
+mod sizes;
 mod values;
 mod views;
 

@@ -2,6 +2,7 @@
 use crate::parts::{write_directives, write_value};
 use crate::request::write_request;
 use crate::schema::write_file;
+use crate::sizes::{write_file_sizes, write_request_sizes};
 use crate::values::Written;
 use graphql_request_trees::{
     ExecutableDocument, Field, OperationDefinition, OperationsIter, Selection,
@@ -14,7 +15,7 @@ use rows::Shown;
 use std::alloc::{AllocError, Global};
 use std::borrow::Cow;
 
-/// What is looked at in a tree. The first three are for schema files too.
+/// What is looked at in a tree. The first four are for schema files too.
 #[derive(Clone, Copy)]
 pub enum View {
     /// The whole tree.
@@ -23,7 +24,8 @@ pub enum View {
     Placeless,
     /// The word `accepted`.
     Acceptance,
-    /// How long the name of the first field and its first argument are, and the value of a whole number there.
+    /// How long the first name and the first description or argument are, the value of a whole number there, and how
+    /// long each list of the first definition is that has more than one node.
     Sizes,
     /// The argument of a name in the first field, in its first directive, and in that as one without variables.
     Argument,
@@ -50,11 +52,12 @@ pub enum View {
 type Outcome = Result<(), AllocError>;
 
 impl View {
-    /// What is seen of a schema file: the whole tree, or the word `accepted`.
+    /// What is seen of a schema file: the whole tree, its sizes, or the word `accepted`.
     pub fn of_file(self, alloc: Global, document: &ServiceDocument) -> Result<String, AllocError> {
         let mut shown = Shown::new(alloc, !matches!(self, View::Placeless));
         match self {
             View::Whole | View::Placeless => write_file(&mut shown, document),
+            View::Sizes => write_file_sizes(&mut shown, document),
             _ => shown.word("accepted"),
         }
         shown.finish()
@@ -71,6 +74,7 @@ impl View {
         match self {
             View::Whole | View::Placeless => write_request(&mut shown, &document),
             View::Acceptance => shown.word("accepted"),
+            View::Sizes => write_request_sizes(&mut shown, &document),
             View::Operations => write_operations(&mut shown, document.operations.iter())?,
             View::Named => {
                 write_named(&mut shown, asked, &document);
@@ -122,12 +126,6 @@ impl View {
                 shown.item("", &key.node);
                 shown.place("@", &key.pos);
             }
-            (View::Sizes, arguments, _) => {
-                shown.item("name of ", &field.name.node.as_str().len());
-                if let Some(argument) = arguments.first() {
-                    write_size(shown, &argument.1.node);
-                }
-            }
             (View::IntoConst, [argument, ..], _) => {
                 write_there_and_back(alloc, shown, argument.1.node.clone()?)?;
             }
@@ -159,21 +157,6 @@ fn write_argument(alloc: Global, shown: &mut Shown, asked: &str, directive: &Dir
         None => shown.word("not constant"),
     }
     Ok(())
-}
-
-fn write_size(shown: &mut Shown, value: &Value) {
-    match value {
-        Value::String(text) => shown.item(", string of ", &text.len()),
-        Value::Number(number) => {
-            shown.item(", number of ", &number.as_str().len());
-            match number.as_i64() {
-                Some(value) => shown.item(" with the value ", &value),
-                None if number.as_u64().is_some() => shown.word(" with an unsigned value"),
-                None => {}
-            }
-        }
-        _ => shown.word(", another value"),
-    }
 }
 
 fn write_defaults(shown: &mut Shown, operation: &OperationDefinition) {

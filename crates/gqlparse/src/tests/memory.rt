@@ -1,47 +1,13 @@
 //! A run that meets the end of memory.
 use crate::fakes::{FailingReader, FailingWriter};
 use crate::run;
+use little_memory::{Attempt, attempts};
 use std::alloc::{AllocError, Global};
 use std::process::Abort;
 use std::str;
 use std::test::Fail;
 
 const MANY: usize = 1_000_000;
-
-const BLOCKS: usize = 100_000;
-
-// Blocks of memory, which no one uses.
-type Blocks = Vec<Vec<u8>>;
-
-// Takes all memory that is left, in blocks whose bytes are never touched. False where more blocks would
-// be needed than `blocks` has room for.
-fn take_all(alloc: Global, blocks: &mut Blocks) -> Result<bool, AllocError> {
-    let mut size = 1usize << 34;
-    for _ in 0..32 {
-        for _ in 0..BLOCKS {
-            if blocks.len() == blocks.capacity() {
-                return Ok(false);
-            }
-            let Ok(block) = Vec::with_capacity(alloc, size) else {
-                break;
-            };
-            blocks.push(block)?;
-        }
-        size /= 2;
-    }
-    Ok(true)
-}
-
-// Blocks of growing sizes, and after each of them a small one in `between`, so that what is given back
-// of them is not joined into larger pieces.
-fn pieces(alloc: Global, between: &mut Blocks) -> Result<Blocks, AllocError> {
-    let mut pieces = Vec::with_capacity(alloc, 300)?;
-    for i in 0..300usize {
-        pieces.push(Vec::with_capacity(alloc, 24 + 16 * i)?)?;
-        between.push(Vec::with_capacity(alloc, 24)?)?;
-    }
-    Ok(pieces)
-}
 
 fn writer(alloc: Global) -> Result<FailingWriter, AllocError> {
     Ok(FailingWriter {
@@ -52,11 +18,55 @@ fn writer(alloc: Global) -> Result<FailingWriter, AllocError> {
 }
 
 // A status, and what goes to standard output and to standard error.
-type Outcome<'a> = (u8, &'a str, &'a str);
+type Outcome = (u8, &'static str, &'static str);
 
-const OUTSIDE_THE_PARSER: Outcome<'static> = (2, "", "error: out of memory\n");
+const OUTSIDE_THE_PARSER: Outcome = (2, "", "error: out of memory\n");
 
-const INSIDE_THE_PARSER: Outcome<'static> = (1, "", "error: out of memory\nat []\n");
+const INSIDE_THE_PARSER: Outcome = (1, "", "error: out of memory\nat []\n");
+
+// A command that is run on a text again and again, and how its runs have ended.
+#[derive(Drop)]
+struct Runs {
+    words: Vec<String>,
+    text: &'static [u8],
+    out: FailingWriter,
+    err: FailingWriter,
+    told: Outcome,
+    was_told: bool,
+    was_inside: bool,
+    was_outside: bool,
+    has_other: bool,
+}
+
+impl Attempt for Runs {
+    fn attempt(&mut self, alloc: Global) {
+        let mut input = FailingReader {
+            left: self.text,
+            step: 2,
+            calls_left: MANY,
+        };
+        self.out.held.clear();
+        self.err.held.clear();
+        let words = self.words.as_slice();
+        let status = run(alloc, words, &mut input, &mut self.out, &mut self.err);
+        if has_ended(self.told, status, &self.out, &self.err) {
+            self.was_told = true;
+        } else if has_ended(INSIDE_THE_PARSER, status, &self.out, &self.err) {
+            self.was_inside = true;
+        } else if has_ended(OUTSIDE_THE_PARSER, status, &self.out, &self.err) {
+            self.was_outside = true;
+        } else {
+            self.has_other = true;
+        }
+    }
+}
+
+// Whether a run that ended with this status has this outcome.
+fn has_ended(outcome: Outcome, status: u8, out: &FailingWriter, err: &FailingWriter) -> bool {
+    outcome.0 == status
+        && str::from_utf8(out.held.as_slice()) == Ok(outcome.1)
+        && str::from_utf8(err.held.as_slice()) == Ok(outcome.2)
+}
 
 // Runs a command on a text again and again, with a piece of memory more each time. Each run must end as
 // `told`, or because memory runs out, and some as each of the three.
@@ -64,36 +74,26 @@ fn run_with_more_and_more(
     rt: &impl Abort,
     alloc: Global,
     command: &str,
-    text: &[u8],
-    told: Outcome<'_>,
+    text: &'static [u8],
+    told: Outcome,
 ) -> Result<(), AllocError> {
-    let mut blocks = Vec::with_capacity(alloc, BLOCKS)?;
-    let pieces = pieces(alloc, &mut blocks)?;
     let mut words = Vec::new(alloc);
     words.push(String::from_str(alloc, command)?)?;
-    let mut out = writer(alloc)?;
-    let mut err = writer(alloc)?;
-    let outcomes = [told, INSIDE_THE_PARSER, OUTSIDE_THE_PARSER];
-    let mut met = [false; 3];
-    assert!(rt; take_all(alloc, &mut blocks)?, "memory has no end here");
-    for piece in pieces {
-        let mut input = FailingReader {
-            left: text,
-            step: 2,
-            calls_left: MANY,
-        };
-        out.held.clear();
-        err.held.clear();
-        let status = run(alloc, words.as_slice(), &mut input, &mut out, &mut err);
-        let out = str::from_utf8(out.held.as_slice()).expect(rt, "text");
-        let err = str::from_utf8(err.held.as_slice()).expect(rt, "text");
-        let ended = (status, out, err);
-        let which = outcomes.iter().position(|outcome| *outcome == ended);
-        met[which.expect(rt, "one of the three")] = true;
-        drop(piece);
-    }
-    drop(blocks);
-    assert_eq!(rt; met, [true; 3]);
+    let mut runs = Runs {
+        words,
+        text,
+        out: writer(alloc)?,
+        err: writer(alloc)?,
+        told,
+        was_told: false,
+        was_inside: false,
+        was_outside: false,
+        has_other: false,
+    };
+    let has_end = attempts(alloc, &mut runs)?;
+    assert!(rt; has_end, "memory has no end here");
+    assert!(rt; !runs.has_other);
+    assert!(rt; runs.was_told && runs.was_inside && runs.was_outside);
     Ok(())
 }
 

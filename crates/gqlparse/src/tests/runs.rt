@@ -283,13 +283,38 @@ fn wrong_arguments_are_told_before_anything_is_read(rt: HostRuntime) -> Result<(
     Ok(())
 }
 
+// An accepted and a refused text of each command.
+fn answered() -> [Row<'static>; 4] {
+    let refused = "error: syntax error at 1:4\nat [{\"line\":1,\"column\":4}]\n";
+    let missing =
+        "error: schema definition is missing query root\nat [{\"line\":1,\"column\":1}]\n";
+    let lines = "scalar A 1:1\nextend scalar A 1:10\n";
+    [
+        query(b"{a}", 0, "query 1:1\n", ""),
+        query(b"{a ?}", 1, "", refused),
+        schema(b"scalar A extend scalar A@k", 0, lines, ""),
+        schema(b"schema{mutation:M}", 1, "", missing),
+    ]
+}
+
+// The reader gives two bytes at a call, and the end at another one.
 #[test]
-fn input_that_cannot_be_read(rt: HostRuntime) -> Result<(), Fail> {
-    let line = "error: cannot read standard input\n";
-    for reads in [0, 1, 2] {
-        for read in [query(b"{a}", 2, "", line), schema(b"scalar A", 2, "", line)] {
-            holds(&rt, rt.alloc(), &Row { reads, ..read })?;
+fn input_that_cannot_be_read_at_each_call_in_turn(rt: HostRuntime) -> Result<(), Fail> {
+    let err = "error: cannot read standard input\n";
+    for row in answered() {
+        let calls = row.input.len().div_ceil(2).wrapping_add(1);
+        for reads in 0..calls {
+            let unreadable = Row {
+                reads,
+                status: 2,
+                out: "",
+                err,
+                ..row
+            };
+            holds(&rt, rt.alloc(), &unreadable)?;
         }
+        let reads = calls;
+        holds(&rt, rt.alloc(), &Row { reads, ..row })?;
     }
     Ok(())
 }
@@ -304,26 +329,57 @@ fn input_that_is_not_text(rt: HostRuntime) -> Result<(), Fail> {
     Ok(())
 }
 
-#[test]
-fn output_that_cannot_be_written(rt: HostRuntime) -> Result<(), Fail> {
-    let line = "error: cannot write standard output\n";
-    // After four calls all is written, and the flush fails.
-    for (writes, out) in [(0, ""), (2, "query "), (4, "query 1:1\n")] {
-        let row = Row {
-            writes,
-            ..query(b"{a}", 2, out, line)
-        };
-        holds(&rt, rt.alloc(), &row)?;
+// What so many calls of a writer write of a text, three bytes at a call.
+fn written(text: &str, calls: usize) -> &str {
+    match text.split_at_checked(calls.wrapping_mul(3)) {
+        Some((front, _)) => front,
+        None => text,
     }
-    // Two lines, in ten calls.
-    let text = b"scalar A extend scalar A@k";
-    let lines = "scalar A 1:1\nextend scalar A 1:10\n";
-    for (writes, out) in [(0, ""), (6, "scalar A 1:1\nexten"), (12, lines)] {
-        let row = Row {
-            writes,
-            ..schema(text, 2, out, line)
+}
+
+// How many calls it takes to write a text and to flush it.
+fn calls_for(text: &str) -> usize {
+    text.len().div_ceil(3).wrapping_add(1)
+}
+
+// After the last call but one all is written, and the flush fails.
+#[test]
+fn output_that_cannot_be_written_at_each_call_in_turn(rt: HostRuntime) -> Result<(), Fail> {
+    let err = "error: cannot write standard output\n";
+    for row in answered() {
+        let calls = calls_for(row.out);
+        if row.status == 0 {
+            for writes in 0..calls {
+                let unwritable = Row {
+                    writes,
+                    status: 2,
+                    out: written(row.out, writes),
+                    err,
+                    ..row
+                };
+                holds(&rt, rt.alloc(), &unwritable)?;
+            }
+        }
+        // A refused text asks nothing of standard output.
+        let writes = if row.status == 0 { calls } else { 0 };
+        holds(&rt, rt.alloc(), &Row { writes, ..row })?;
+    }
+    Ok(())
+}
+
+// A row whose complaint fails at each call in turn has its status and its output all the same.
+fn complaints_fail_in_turn(
+    rt: &impl Abort,
+    alloc: Global,
+    row: &Row<'_>,
+) -> Result<(), AllocError> {
+    for complaints in 0..calls_for(row.err) {
+        let cut_short = Row {
+            complaints,
+            err: written(row.err, complaints),
+            ..*row
         };
-        holds(&rt, rt.alloc(), &row)?;
+        holds(rt, alloc, &cut_short)?;
     }
     Ok(())
 }
@@ -331,38 +387,36 @@ fn output_that_cannot_be_written(rt: HostRuntime) -> Result<(), Fail> {
 #[test]
 fn complaints_that_cannot_be_written_change_no_status(rt: HostRuntime) -> Result<(), Fail> {
     let alloc = rt.alloc();
-    let refused = Row {
-        complaints: 0,
-        ..query(b"{a ?}", 1, "", "")
-    };
-    holds(&rt, alloc, &refused)?;
-    let cut_short = Row {
-        complaints: 1,
-        ..query(b"{a ?}", 1, "", "err")
-    };
-    holds(&rt, alloc, &cut_short)?;
-    let refused = Row {
-        complaints: 1,
-        ..schema(b"{a}", 1, "", "err")
-    };
-    holds(&rt, alloc, &refused)?;
-    let wrong = Row {
-        words: &["-h"],
-        complaints: 0,
-        ..query(b"{a}", 2, "", "")
-    };
-    holds(&rt, alloc, &wrong)?;
-    let unreadable = Row {
-        reads: 1,
-        complaints: 0,
-        ..query(b"{a}", 2, "", "")
-    };
-    holds(&rt, alloc, &unreadable)?;
-    let unwritable = Row {
-        writes: 0,
-        complaints: 0,
-        ..query(b"{a}", 2, "", "")
-    };
-    holds(&rt, alloc, &unwritable)?;
+    for row in answered() {
+        complaints_fail_in_turn(&rt, alloc, &row)?;
+        let unreadable = Row {
+            reads: 1,
+            status: 2,
+            out: "",
+            err: "error: cannot read standard input\n",
+            ..row
+        };
+        complaints_fail_in_turn(&rt, alloc, &unreadable)?;
+        let wrong = Row {
+            words: &["-h"],
+            status: 2,
+            out: "",
+            err: USAGE,
+            ..row
+        };
+        complaints_fail_in_turn(&rt, alloc, &wrong)?;
+        if row.status == 0 {
+            let unwritable = Row {
+                writes: 0,
+                status: 2,
+                out: "",
+                err: "error: cannot write standard output\n",
+                ..row
+            };
+            complaints_fail_in_turn(&rt, alloc, &unwritable)?;
+        }
+    }
+    let not_text = schema(b"\xff", 2, "", "error: input is not UTF-8\n");
+    complaints_fail_in_turn(&rt, alloc, &not_text)?;
     Ok(())
 }

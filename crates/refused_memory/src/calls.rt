@@ -1,0 +1,266 @@
+//! The calls, and how their answers show. Showing takes no memory.
+use crate::inputs::{Input, first_field};
+use graphql_parser::lexer::Tokens;
+use graphql_parser::text::{block_string_value, string_value};
+use graphql_parser::types::{ExecutableDocument, ServiceDocument, Type};
+use graphql_parser::value::{Name, Number};
+use graphql_parser::{
+    Error, Limits, Result as Answer, parse_query, parse_query_from, parse_query_limited,
+    parse_schema, parse_schema_from, parse_schema_limited,
+};
+use rows::Shown;
+use std::alloc::{AllocError, Global};
+use std::fmt;
+use tree_text::{Written, write_file, write_request};
+
+/// A call.
+#[derive(Clone, Copy, PartialEq)]
+pub enum Call {
+    Query,
+    QueryLimited,
+    QueryFrom,
+    Schema,
+    SchemaLimited,
+    SchemaFrom,
+    StringValue,
+    BlockStringValue,
+    NewType,
+    NewNumber,
+    NewName,
+    IntoConst,
+    IntoValue,
+    DirectiveIntoConst,
+    IntoDirective,
+    CloneName,
+    CloneNumber,
+    CloneType,
+    CloneValue,
+    CloneRequest,
+    CloneFile,
+    /// The places of an error as JSON.
+    WritePlaces,
+    /// A type as JSON.
+    WriteType,
+    /// The tokens of a text.
+    Tokens,
+    /// What is found in a request without memory.
+    LookUp,
+}
+
+// Whether the call answered; else memory was refused.
+type Answered = Result<(), AllocError>;
+
+impl Call {
+    /// Makes the call, and shows its answer. Where memory is refused, what may not change then is shown.
+    pub fn make(self, alloc: Global, text: &str, input: &mut Input, shown: &mut Shown) -> Answered {
+        match input {
+            Input::Text => self.of_text(alloc, text, shown)?,
+            Input::Name(name) => shown.item("", &name.clone()?),
+            Input::Number(number) => shown.item("", &number.clone()?),
+            Input::Type(ty) => shown.item("", &ty.clone()?),
+            Input::Values(values) if self == Call::CloneValue => {
+                values.first().ok_or(AllocError)?.clone()?.write(shown);
+            }
+            Input::Values(values) => {
+                let value = values.pop().ok_or(AllocError)?;
+                show_constant(shown, value.into_const(alloc)?);
+            }
+            Input::Constants(values) => {
+                let value = values.pop().ok_or(AllocError)?;
+                value.into_value(alloc)?.write(shown);
+            }
+            Input::Directives(directives) => {
+                let directive = directives.pop().ok_or(AllocError)?;
+                show_constant(shown, directive.into_const(alloc)?);
+            }
+            Input::ConstDirectives(directives) => {
+                let directive = directives.pop().ok_or(AllocError)?;
+                directive.into_directive(alloc)?.write(shown);
+            }
+            Input::Request(document) if self == Call::LookUp => look_up(document, shown),
+            Input::Request(document) => show_copied_request(document, shown)?,
+            Input::File(document) => show_copied_file(document, shown)?,
+        }
+        Ok(())
+    }
+
+    // The same, where the call is given nothing but a text.
+    fn of_text(self, alloc: Global, text: &str, shown: &mut Shown) -> Answered {
+        match self {
+            Call::Query => show_request(shown, parse_query(alloc, text)),
+            Call::QueryLimited => {
+                show_request(shown, parse_query_limited(alloc, text, narrow()))
+            }
+            Call::Schema => show_file(shown, parse_schema(alloc, text)),
+            Call::SchemaLimited => { show_file(shown, parse_schema_limited(alloc, text, narrow())) }
+            Call::QueryFrom | Call::SchemaFrom => self.of_tokens(alloc, text, shown),
+            Call::StringValue => show_option(shown, string_value(alloc, text)?),
+            Call::BlockStringValue => {
+                shown.item("", &block_string_value(alloc, text)?);
+                Ok(())
+            }
+            Call::NewType => show_option(shown, Type::new(alloc, text)?),
+            Call::NewNumber => show_option(shown, Number::new(alloc, text)?),
+            Call::NewName => {
+                shown.item("", &Name::new(alloc, text)?);
+                Ok(())
+            }
+            Call::WritePlaces => show_json_places(alloc, text, shown),
+            Call::WriteType => show_json_type(alloc, text, shown),
+            _ => {
+                for token in Tokens::new(text) {
+                    shown.item("", &token.pos);
+                    shown.word(" ");
+                }
+                Ok(())
+            }
+        }
+    }
+
+    // The answer over fresh tokens, and how many are taken; and where memory is refused, whether no more are
+    // taken than there are, and the rest is still to come.
+    fn of_tokens(self, alloc: Global, text: &str, shown: &mut Shown) -> Answered {
+        let mut tokens = Tokens::new(text);
+        if tokens.is_ended() {
+            return Ok(());
+        }
+        let answered = match self {
+            Call::SchemaFrom => show_file(shown, parse_schema_from(alloc, &mut tokens)),
+            _ => show_request(shown, parse_query_from(alloc, &mut tokens)),
+        };
+        let taken = tokens.taken();
+        if answered.is_ok() {
+            shown.item(", taken ", &taken);
+        } else if taken.checked_add(count(tokens)) == Some(count(Tokens::new(text))) {
+            shown.word("taken within");
+        }
+        answered
+    }
+}
+
+// How many tokens are left.
+fn count(tokens: Tokens<'_>) -> usize {
+    let mut count = 0usize;
+    for _ in tokens {
+        count = count.wrapping_add(1);
+    }
+    count
+}
+
+// Limits within which little may nest.
+fn narrow() -> Limits {
+    Limits::new(1, 1, 1).unwrap_or(Limits::default())
+}
+
+fn show_request(shown: &mut Shown, answer: Answer<ExecutableDocument>) -> Answered {
+    match answer {
+        Ok(document) => write_request(shown, &document),
+        Err(error) => show_error(shown, &error)?,
+    }
+    Ok(())
+}
+
+fn show_file(shown: &mut Shown, answer: Answer<ServiceDocument>) -> Answered {
+    match answer {
+        Ok(document) => write_file(shown, &document),
+        Err(error) => show_error(shown, &error)?,
+    }
+    Ok(())
+}
+
+// An error with its places.
+fn show_error(shown: &mut Shown, error: &Error) -> Answered {
+    if matches!(error, Error::OutOfMemory) {
+        return Err(AllocError);
+    }
+    shown.item("", error);
+    for place in error.positions() {
+        shown.item(" ", &place);
+    }
+    Ok(())
+}
+
+fn show_option<T: fmt::Display + Drop>(shown: &mut Shown, answer: Option<T>) -> Answered {
+    match answer {
+        Some(answer) => shown.item("", &answer),
+        None => shown.word("none"),
+    }
+    Ok(())
+}
+
+fn show_constant<T: Written + Drop>(shown: &mut Shown, answer: Option<T>) {
+    match answer {
+        Some(answer) => answer.write(shown),
+        None => shown.word("none"),
+    }
+}
+
+// The tree of a copy, or, where there is no memory for one, that of the request that was copied.
+fn show_copied_request(document: &ExecutableDocument, shown: &mut Shown) -> Answered {
+    match document.clone() {
+        Ok(copy) => {
+            write_request(shown, &copy);
+            Ok(())
+        }
+        Err(refused) => {
+            write_request(shown, document);
+            Err(refused)
+        }
+    }
+}
+
+// The same of a schema file.
+fn show_copied_file(document: &ServiceDocument, shown: &mut Shown) -> Answered {
+    match document.clone() {
+        Ok(copy) => {
+            write_file(shown, &copy);
+            Ok(())
+        }
+        Err(refused) => {
+            write_file(shown, document);
+            Err(refused)
+        }
+    }
+}
+
+// The places of the error of a request as JSON.
+fn show_json_places(alloc: Global, text: &str, shown: &mut Shown) -> Answered {
+    match parse_query(alloc, text) {
+        Ok(_) | Err(Error::OutOfMemory) => Err(AllocError),
+        Err(error) => match serde_json::to_string(alloc, &error.positions()) {
+            Ok(json) => {
+                shown.item("", &json);
+                Ok(())
+            }
+            Err(_) => Err(AllocError),
+        },
+    }
+}
+
+fn show_json_type(alloc: Global, text: &str, shown: &mut Shown) -> Answered {
+    let Some(ty) = Type::new(alloc, text)? else {
+        return Err(AllocError);
+    };
+    match serde_json::to_string(alloc, &ty) {
+        Ok(json) => {
+            shown.item("", &json);
+            Ok(())
+        }
+        Err(_) => Err(AllocError),
+    }
+}
+
+// The key of the first field, its argument `b`, the fragment `F`, and how many operations there are.
+fn look_up(document: &ExecutableDocument, shown: &mut Shown) {
+    if let Some(field) = first_field(document) {
+        shown.item("", &field.response_key().node);
+        if let Some(value) = field.get_argument("b") {
+            shown.word(" ");
+            value.node.write(shown);
+        }
+    }
+    if let Some(fragment) = document.fragment("F") {
+        shown.item(" ", &fragment.pos);
+    }
+    shown.item(" ", &document.operations.iter().len());
+}
