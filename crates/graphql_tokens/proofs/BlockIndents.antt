@@ -1,14 +1,10 @@
 -- The common indent of lines, found line by line.
-use Rattle.std.proofs.Common.{◌≡◌, ◌≢◌, ℕ, ◌+◌, ◌-◌, ◌≤◌, ◌<◌, Bool, true, false, cond, not, eqb, ◌&&◌, ◌⊎◌, min, List, [], ◌∷◌, map, filter, length, take, drop, get_or, Option, Some, None, unwrap_or, refl, sym, ap, ◌∙◌, inl, inr, arith}
-use Rattle.std.proofs.lemmas.Bool.{cases_lt}
+use Rattle.std.proofs.Common.{◌≡◌, ◌≢◌, ℕ, ◌+◌, ◌-◌, ◌≤◌, ◌<◌, Bool, true, false, cond, not, eqb, min, List, [], ◌∷◌, map, filter, length, take, drop, Option, Some, None, unwrap_or, refl, sym, ap, ◌∙◌, arith}
 use Rattle.std.proofs.lemmas.Bool.Decides.{nat_tests}
-use Rattle.std.proofs.lemmas.List.{get_or-drop}
-use Rattle.std.proofs.lemmas.List.Sums.{prefix_len_passes}
 use Rattle.std.specs.List.{prefix_len}
 use Rattle.graphql_tokens.specs.tokens.Place.{is_in_line}
-use Rattle.graphql_tokens.specs.tokens.BlockText.{begins_quotes, lines_of, is_blank_char, is_blank, indent, least}
-use Rattle.graphql_tokens.specs.inner.Blocks.{end_len, counted, indent_with, IsPlainBetween}
-use Rattle.graphql_tokens.proofs.Scan.{get_or-drop_0}
+use Rattle.graphql_tokens.specs.tokens.BlockText.{lines_of, is_blank_char, is_blank, indent, least}
+use Rattle.graphql_tokens.specs.inner.Blocks.{end_len, counted, indent_with}
 use Rattle.graphql_tokens.proofs.BlockLines.{line_between, line_from_blanks, line_at_end, line_before, len_blank, not_blank}
 
 -- the least of these and the one that was found before
@@ -81,34 +77,3 @@ indent_more bs found more counts n at text end next w v e f g x is h =
     ∙ ap (λ o. least_with o (indents (lines_of (drop next bs)))) is ∙ line_step bs found counts (lines_of (drop next bs)) at text end w e line
     ∙ ap (λ i. least_with found (indents (counted counts (take (end - at) (drop at bs) ∷ lines_of (drop i bs))))) x
     ∙ ap (λ ls. least_with found (indents (counted counts ls))) (sym (line_before bs at end line g)) ∙ h
-
--- ---- plain text
-
-blank_plain : (bs : List ℕ) (k : ℕ) → is_blank_char (get_or bs k 0) ≡ true → (get_or bs k 0 ≢ 13) × (begins_quotes (drop k bs) ≡ false)
-blank_plain bs k h =
-    let c : get_or (drop k bs) 0 0 ≡ get_or bs k 0 = get_or-drop_0 bs k in
-    let n : get_or bs k 0 ≢ 13 = grind (arith, nat_tests) in
-    let s : eqb (get_or (drop k bs) 0 0) 92 ≡ false = ap (λ x. eqb x 92) c ∙ (let f : eqb (get_or bs k 0) 92 ≡ false = grind (arith, nat_tests) in f) in
-    (n, ap (λ b. b && eqb (get_or (drop k bs) 1 0) 34 && eqb (get_or (drop k bs) 2 0) 34 && eqb (get_or (drop k bs) 3 0) 34) s)
-
-pub plain_more : (bs : List ℕ) (at text end : ℕ) → text ≡ at + prefix_len is_blank_char (drop at bs) → IsPlainBetween bs 0 at → IsPlainBetween bs text end → IsPlainBetween bs 0 end
-plain_more bs at text end e p q k l m = by (cases_lt k at) (cases_lt k text)
-  where
-    by : (k < at) ⊎ (at ≤ k) → (k < text) ⊎ (text ≤ k) → (get_or bs k 0 ≢ 13) × (begins_quotes (drop k bs) ≡ false)
-    by (inl a) b = p k l a
-    by (inr a) (inl b) =
-        let j = k - at in
-        let i : at + j ≡ k = omega arith in
-        let blank = prefix_len_passes is_blank_char (drop at bs) j 0 (omega arith) in
-        blank_plain bs k (ap is_blank_char (ap (λ x. get_or bs x 0) (sym i) ∙ sym (get_or-drop at bs j 0)) ∙ blank)
-    by (inr a) (inr b) = q k b m
-
--- a line that is free of a return ends with one character
-pub plain_next : (bs : List ℕ) (end : ℕ) → IsPlainBetween bs 0 (end + 1) → end + end_len (drop end bs) ≡ end + 1
-plain_next bs end p =
-    let n = (p end (omega arith) (omega arith)).0 in
-    let f : eqb (get_or (drop end bs) 0 0) 13 ≡ false = ap (λ x. eqb x 13) (get_or-drop_0 bs end) ∙ (let g : eqb (get_or bs end 0) 13 ≡ false = grind (arith, nat_tests) in g) in
-    ap (λ b. end + cond b (cond (eqb (get_or (drop end bs) 1 0) 10) 2 1) 1) f
-
-pub plain_less : (bs : List ℕ) (a b c : ℕ) → IsPlainBetween bs a b → c ≤ b → IsPlainBetween bs a c
-plain_less bs a b c p h k l m = p k l (omega arith)
