@@ -16,6 +16,7 @@ pub mod EscapeUnits
 pub mod Escapes
 pub mod FirstBytes
 pub mod Integers
+pub mod Lanes
 pub mod Lexes
 pub mod Lists
 pub mod Meanings

@@ -6,19 +6,20 @@ use Rattle.std.proofs.lemmas.List.Sums.{prefix_len_passes}
 use Rattle.std.proofs.lemmas.Str.{IsUtf8-drop}
 use Rattle.std.specs.List.{prefix_len}
 use Rattle.std.specs.Str.{chars}
-use Rattle.graphql_tokens.specs.tokens.Classes.{is_name_char}
+use Rattle.graphql_tokens.specs.tokens.Classes.{is_ignored, is_name_char}
 use Rattle.graphql_tokens.specs.tokens.Place.{is_in_line, is_line_feed}
 use Rattle.graphql_tokens.specs.tokens.Strings.{is_plain}
 use Rattle.graphql_tokens.specs.inner.Quoted.{past_string, past_block}
 use Rattle.graphql_tokens.proofs.BlockTokens.{block_other}
 use Rattle.graphql_tokens.proofs.StringTokens.{string_plain}
-use Rattle.graphql_tokens.specs.inner.Reading.{past_name_chars}
+use Rattle.graphql_tokens.specs.inner.Reading.{skip, past_name_chars}
 use Rattle.graphql_tokens.specs.inner.TextWalk.{IsWalking, Passes}
 use Rattle.graphql_tokens.specs.inner.Running.{ahead, IsRunning, IsRunOfAscii}
 use Rattle.graphql_tokens.specs.inner.Lexing.{RunsOver}
 use Rattle.graphql_tokens.specs.declared.pos.text_walk.TextWalk.{TextWalk}
 use Rattle.graphql_tokens.specs.declared.pos.running.RunningPlace.{RunningPlace}
 use Rattle.graphql_tokens.proofs.Running.{walks_past, passes_ascii, runs_in_line}
+use Rattle.graphql_tokens.proofs.Skips.{skip_goes}
 use Rattle.graphql_tokens.proofs.Scan.{IsAlike, span_chars}
 
 same_walk : (a b : TextWalk) → b.text.now ≡ a.text.now → b.offset ≡ a.offset → b.count ≡ a.count → IsWalking a → IsWalking b
@@ -97,6 +98,32 @@ past_names (c ∷ cs) = by (is_name_char c) (past_names cs)
     by true e = rw (one-add (prefix_len is_name_char cs)) e
     by false e = refl
 
+-- a run of characters, of which each makes no difference to what is found after it
+run_skipped : {X : Type 0} (p : ℕ → Bool) (f : List ℕ → X) → ((c : ℕ) (cs : List ℕ) → p c ≡ true → f (c ∷ cs) ≡ f cs) → (text : List ℕ) → f (drop (prefix_len p text) text) ≡ f text
+run_skipped p f skips [] = refl
+run_skipped p f skips (c ∷ cs) = by (p c) refl (run_skipped p f skips cs)
+  where
+    by : (t : Bool) → p c ≡ t → f (drop (prefix_len p cs) cs) ≡ f cs → f (drop (cond t (1 + prefix_len p cs) 0) (c ∷ cs)) ≡ f (c ∷ cs)
+    by true e h = ap (λ n. f (drop n (c ∷ cs))) (one-add (prefix_len p cs)) ∙ h ∙ sym (skips c cs e)
+    by false e h = refl
+
+-- ---- spaces
+
+abbrev pub is_space : ℕ → Bool
+is_space c = eqb c 32
+
+pub space_alike : IsAlike is_space
+space_alike c d h k = grind (arith, nat_tests)
+
+pub space_inner : IsInner is_space
+space_inner c h = (grind (arith, nat_tests), grind (arith, nat_tests))
+
+pub space_run : (text : List ℕ) → skip (drop (prefix_len is_space text) text) ≡ skip text
+space_run = run_skipped is_space skip (λ c cs t. skip_goes c cs (ignored c t))
+  where
+    ignored : (c : ℕ) → is_space c ≡ true → is_ignored c ≡ true
+    ignored c t = grind (arith, nat_tests)
+
 -- ---- plain ASCII characters of strings
 
 abbrev pub plain_ascii : ℕ → Bool
@@ -107,15 +134,6 @@ plain_alike c d h k = grind (arith, nat_tests)
 
 pub plain_inner : IsInner plain_ascii
 plain_inner c h = (grind (arith, nat_tests), grind (arith, nat_tests))
-
--- a run of characters, of which each makes no difference to what is found after it
-run_skipped : (p : ℕ → Bool) (f : List ℕ → Option (List ℕ)) → ((c : ℕ) (cs : List ℕ) → p c ≡ true → f (c ∷ cs) ≡ f cs) → (text : List ℕ) → f (drop (prefix_len p text) text) ≡ f text
-run_skipped p f skips [] = refl
-run_skipped p f skips (c ∷ cs) = by (p c) refl (run_skipped p f skips cs)
-  where
-    by : (t : Bool) → p c ≡ t → f (drop (prefix_len p cs) cs) ≡ f cs → f (drop (cond t (1 + prefix_len p cs) 0) (c ∷ cs)) ≡ f (c ∷ cs)
-    by true e h = ap (λ n. f (drop n (c ∷ cs))) (one-add (prefix_len p cs)) ∙ h ∙ sym (skips c cs e)
-    by false e h = refl
 
 pub string_run : (text : List ℕ) → past_string (drop (prefix_len plain_ascii text) text) ≡ past_string text
 string_run = run_skipped plain_ascii past_string (λ c cs t. string_plain c cs (plain_is c t))

@@ -10,10 +10,11 @@ ghost use Rattle.graphql_tokens.specs.tokens.Strings.{is_plain as is_plain_char,
 
 mod block;
 pub(crate) mod escape;
+pub(crate) mod runs;
 
-use crate::lexer::class::is_plain;
 use block::{common_indent, first_text, is_plain as is_plain_text, last_text, push_lines};
 use escape::escape_at;
+use runs::{Plain, past_run};
 use std::alloc::{AllocError, Global};
 
 // The byte at `at`, or 0 past the end.
@@ -45,7 +46,7 @@ fn past_plain(bytes: &[u8], start: usize) -> usize
     ensures value { result ≡ start + prefix_len is_plain_char (drop start bytes.now) }
     ensures within { result ≤ length bytes.now }
 {
-    past_while(bytes, start, is_plain)
+    past_run::<Plain>(bytes, start)
 }
 
 /// The value of a string whose text between the quotes is `content`: each character but `"`, `\`, line

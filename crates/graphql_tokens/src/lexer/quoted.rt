@@ -9,7 +9,7 @@ use super::class::{is_plain, is_plain_ascii};
 use super::reading::{pass_char, pass_many, peek};
 use crate::pos::running::RunningPlace;
 use crate::text::escape::escape_at;
-use crate::text::past_while;
+use crate::text::runs::{PlainAscii, past_run};
 
 // Passes the plain ASCII characters that follow.
 #[inline(always)]
@@ -22,7 +22,7 @@ fn pass_plain_ascii(bytes: &[u8], places: &mut RunningPlace)
     ensures forward { places.old.walk.offset ≤ places.new.walk.offset }
 {
     let start = places.offset();
-    let end = past_while(bytes, start, is_plain_ascii);
+    let end = past_run::<PlainAscii>(bytes, start);
     places.pass_run(end - start);
 }
 

@@ -6,9 +6,9 @@ ghost use Rattle.graphql_tokens.specs.inner.Reading.{skip, past_line, past_name_
 ghost use Rattle.graphql_tokens.specs.inner.Running.{ahead, IsRunning};
 ghost use Rattle.graphql_tokens.specs.inner.Lexing.{RunsOver, IsFirstByte, rest_if};
 
-use super::class::{is_ignored, is_name_char};
+use super::class::is_ignored;
 use crate::pos::running::RunningPlace;
-use crate::text::past_while;
+use crate::text::runs::{NameChars, Spaces, past_run};
 
 // The first byte of what is ahead, where the text goes on.
 #[inline(always)]
@@ -50,6 +50,20 @@ fn pass_line(bytes: &[u8], places: &mut RunningPlace)
     }
 }
 
+// Goes past the spaces that a line often begins with.
+#[inline(always)]
+fn pass_spaces(bytes: &[u8], places: &mut RunningPlace)
+    requires { RunsOver bytes.now places.old }
+    ensures runs { RunsOver bytes.now places.new }
+    ensures rest { skip (ahead places.new) ≡ skip (ahead places.old) }
+    ensures less { length (ahead places.new) ≤ length (ahead places.old) }
+    ensures forward { places.old.walk.offset ≤ places.new.walk.offset }
+{
+    let start = places.offset();
+    let end = past_run::<Spaces>(bytes, start);
+    places.pass_run(end - start);
+}
+
 // Goes past the ignored text.
 #[inline(always)]
 pub fn pass_ignored(bytes: &[u8], places: &mut RunningPlace)
@@ -63,6 +77,7 @@ pub fn pass_ignored(bytes: &[u8], places: &mut RunningPlace)
             places.pass_ascii();
         } else if is_ignored(b) {
             places.pass_first(b);
+            pass_spaces(bytes, places);
         } else if b == b'#' {
             pass_line(bytes, places);
         } else if b < 0x80 {
@@ -86,7 +101,7 @@ pub fn pass_name_chars(bytes: &[u8], places: &mut RunningPlace)
     ensures forward { places.old.walk.offset ≤ places.new.walk.offset }
 {
     let start = places.offset();
-    let end = past_while(bytes, start, is_name_char);
+    let end = past_run::<NameChars>(bytes, start);
     places.pass_run(end - start);
 }
 

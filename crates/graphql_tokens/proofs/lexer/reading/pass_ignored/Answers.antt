@@ -18,10 +18,11 @@ loop-b-preserved-then-b-eq32 c =
 pub loop-b-preserved-then-is_ignored : goal.loop-b-preserved-then-is_ignored
 loop-b-preserved-then-is_ignored c =
     let v = c.loop-b.invariant in
-    let e = c.pass_first.ensures in
+    let first = c.pass_first.ensures in
+    let spaces = c.pass_spaces.ensures in
     record {
-      runs = record { running = e.running; same = e.same ∙ v.runs.same };
-      same = skip_blank c.in-Some.b c.pass_first.result _ _ c.in-Some.ensures e.passed (sym c.is_ignored.ensures ∙ c.if-is_ignored.true) ∙ v.same;
+      runs = spaces.runs;
+      same = spaces.rest ∙ skip_blank c.in-Some.b c.pass_first.result _ _ c.in-Some.ensures first.passed (sym c.is_ignored.ensures ∙ c.if-is_ignored.true) ∙ v.same;
       forward = omega arith;
     }
 

@@ -1,0 +1,20 @@
+use Rattle.std.proofs.Common.{ℕ, ◌+◌, ◌-◌, ◌%◌, bit_and, bit_or, leb, cond, refl}
+use Rattle.std.proofs.lemmas.Simd.{zip2_of_maps, zip2_splat, zip2_splat_left, map-map, splat_is_map}
+use Rattle.graphql_tokens.specs.tokens.Classes.{is_name_char}
+use Rattle.graphql_tokens.specs.inner.ByteClasses.{is_outside}
+use Rattle.graphql_tokens.proofs.Lanes.{mask_of}
+use Rattle.graphql_tokens.proofs.text.runs.NameCharsByteClass.outsiders.Goals as goal
+
+abbrev minus : ℕ → ℕ → ℕ
+minus a b = (a + (256 - b)) % 256
+
+abbrev at_most : ℕ → ℕ → ℕ
+at_most a b = cond (leb a b) 255 0
+
+pub returns : goal.returns
+returns c =
+    let v = c.args.bytes in
+    let long = c.fits-bytes.0 in
+    let letters = zip2_of_maps at_most (λ x. 26) (λ x. minus (bit_or x 32) 97) v (splat_is_map v 16 26 long) (zip2_of_maps minus (λ x. bit_or x 32) (λ x. 97) v (zip2_splat bit_or v 16 32 long) (splat_is_map v 16 97 long)) in
+    let digits = zip2_of_maps at_most (λ x. 10) (λ x. minus x 48) v (splat_is_map v 16 10 long) (zip2_splat minus v 16 48 long) in
+    mask_of _ (is_outside is_name_char) v long c.fits-bytes.1 (zip2_of_maps bit_and _ _ v (zip2_of_maps bit_and _ _ v letters digits) (zip2_splat {Y = ℕ} _ v 16 95 long)) refl
