@@ -1,5 +1,5 @@
 -- Bytes that are tested sixteen at once: a bit for each that is outside a class.
-use Rattle.std.proofs.Common.{◌≡◌, ℕ, suc, ◌+◌, ◌*◌, ◌%◌, ◌^◌, ◌<◌, ◌≤◌, Bool, true, false, not, cond, eqb, List, [], ◌∷◌, map, length, drop, Fits, w8, refl, sym, ap, ap₂, ◌∙◌, arith}
+use Rattle.std.proofs.Common.{◌≡◌, ℕ, suc, ◌+◌, ◌-◌, ◌*◌, ◌%◌, ◌^◌, ◌<◌, ◌≤◌, Bool, true, false, not, cond, eqb, leb, List, [], ◌∷◌, map, length, drop, Fits, w8, refl, sym, ap, ap₂, ◌∙◌, arith}
 use Rattle.std.proofs.lemmas.Bool.{agree_below, agree_below_at, eq-eqb, ne_eqb}
 use Rattle.std.proofs.lemmas.List.{length-map}
 use Rattle.std.proofs.lemmas.List.Folds.{prefix_len-append}
@@ -11,6 +11,14 @@ use lib.Lanes.{Each1, chunk, mask_l, top}
 use Rattle.graphql_tokens.specs.inner.ByteClasses.{is_outside}
 
 -- ---- from the lanes that a comparison leaves to the mask
+
+-- what is taken from a byte, around the end
+abbrev pub minus : ℕ → ℕ → ℕ
+minus a b = (a + (256 - b)) % 256
+
+-- all bits where the first is at most the second
+abbrev pub at_most : ℕ → ℕ → ℕ
+at_most a b = cond (leb a b) 255 0
 
 each_lane : (f : ℕ → ℕ) (p : ℕ → Bool) → agree_below (λ x. top 7 (f x)) p 256 ≡ true → (v : List ℕ) → Each1 (Fits w8) v → map (λ x. top 7 (f x)) v ≡ map p v
 each_lane f p all [] fits = refl

@@ -4,15 +4,18 @@ use Rattle.std.proofs.lemmas.Bool.Decides.{nat_tests}
 use Rattle.std.proofs.lemmas.List.{drop-drop, get_or-drop}
 use Rattle.std.proofs.lemmas.List.Sums.{prefix_len_passes}
 use Rattle.std.proofs.lemmas.Str.{IsUtf8-drop}
+use Rattle.std.specs.Char.{is_ascii_digit}
 use Rattle.std.specs.List.{prefix_len}
 use Rattle.std.specs.Str.{chars}
 use Rattle.graphql_tokens.specs.tokens.Classes.{is_ignored, is_name_char}
-use Rattle.graphql_tokens.specs.tokens.Place.{is_in_line, is_line_feed}
+use Rattle.graphql_tokens.specs.tokens.Place.{is_in_line, is_line_end, is_line_feed}
 use Rattle.graphql_tokens.specs.tokens.Strings.{is_plain}
+use Rattle.graphql_tokens.specs.inner.ByteClasses.{IsWithinLines}
 use Rattle.graphql_tokens.specs.inner.Quoted.{past_string, past_block}
 use Rattle.graphql_tokens.proofs.BlockTokens.{block_other}
 use Rattle.graphql_tokens.proofs.StringTokens.{string_plain}
-use Rattle.graphql_tokens.specs.inner.Reading.{skip, past_name_chars}
+use Rattle.graphql_tokens.specs.inner.Numerals.{past_any_digits}
+use Rattle.graphql_tokens.specs.inner.Reading.{skip, past_line, past_name_chars}
 use Rattle.graphql_tokens.specs.inner.TextWalk.{IsWalking, Passes}
 use Rattle.graphql_tokens.specs.inner.Running.{ahead, IsRunning, IsRunOfAscii}
 use Rattle.graphql_tokens.specs.inner.Lexing.{RunsOver}
@@ -59,11 +62,16 @@ runs_on (suc n) old new r t o c l b w a =
 
 -- ---- bytes that pass a test
 
--- what passes the test is an ASCII character within a line
-abbrev pub IsInner : (ℕ → Bool) → Type 0
-IsInner p = (c : ℕ) → p c ≡ true → (c < 128) × (is_in_line c ≡ true)
+-- all characters past ASCII are outside
+alike : (p : ℕ → Bool) → IsWithinLines p → IsAlike p
+alike p inner c d h k = by (p c) refl (p d) refl
+  where
+    by : (t : Bool) → p c ≡ t → (u : Bool) → p d ≡ u → p c ≡ p d
+    by true e u f = let low = inner c e in absurd (omega (arith, low.0))
+    by false e true f = let low = inner d f in absurd (omega (arith, low.0))
+    by false e false f = e ∙ sym f
 
-pub run_of : (p : ℕ → Bool) → IsInner p → (bs : List ℕ) (at n : ℕ) → n ≤ prefix_len p (drop at bs) → IsRunOfAscii bs at n
+pub run_of : (p : ℕ → Bool) → IsWithinLines p → (bs : List ℕ) (at n : ℕ) → n ≤ prefix_len p (drop at bs) → IsRunOfAscii bs at n
 run_of p inner bs at n w k h =
     inner (get_or bs (at + k) 0) (ap p (sym (get_or-drop at bs k 0)) ∙ prefix_len_passes p (drop at bs) k 0 (omega arith))
 
@@ -74,20 +82,17 @@ run_end p bytes a start end r s e =
     e ∙ ap (λ k. k + prefix_len p (drop k bytes)) s ∙ ap (λ t. a.walk.offset + prefix_len p (drop a.walk.offset t)) (sym r.same)
 
 -- what is ahead after it
-pub ahead_of_run : (p : ℕ → Bool) → IsAlike p → (old new : RunningPlace) (n : ℕ) → IsRunning old → new.walk.text.now ≡ old.walk.text.now → new.walk.offset ≡ old.walk.offset + n
+pub ahead_of_run : (p : ℕ → Bool) → IsWithinLines p → (old new : RunningPlace) (n : ℕ) → IsRunning old → new.walk.text.now ≡ old.walk.text.now → new.walk.offset ≡ old.walk.offset + n
     → n ≡ prefix_len p (drop old.walk.offset old.walk.text.now) → ahead new ≡ drop (prefix_len p (ahead old)) (ahead old)
-ahead_of_run p alike old new n r t o e =
+ahead_of_run p inner old new n r t o e =
     let bs = old.walk.text.now in
     let i = old.walk.offset in
     ap (λ x. chars (drop new.walk.offset x)) t ∙ ap (λ k. chars (drop k bs)) o ∙ ap chars (sym (drop-drop n i bs)) ∙ ap (λ k. chars (drop k (drop i bs))) e
-    ∙ span_chars p alike (drop i bs) (IsUtf8-drop bs i r.reading.utf8 r.reading.boundary)
+    ∙ span_chars p (alike p inner) (drop i bs) (IsUtf8-drop bs i r.reading.utf8 r.reading.boundary)
 
 -- ---- names
 
-pub name_alike : IsAlike is_name_char
-name_alike c d h k = grind (arith, nat_tests)
-
-pub name_inner : IsInner is_name_char
+pub name_inner : IsWithinLines is_name_char
 name_inner c h = (grind (arith, nat_tests), grind (arith, nat_tests))
 
 pub past_names : (text : List ℕ) → past_name_chars text ≡ drop (prefix_len is_name_char text) text
@@ -107,15 +112,39 @@ run_skipped p f skips (c ∷ cs) = by (p c) refl (run_skipped p f skips cs)
     by true e h = ap (λ n. f (drop n (c ∷ cs))) (one-add (prefix_len p cs)) ∙ h ∙ sym (skips c cs e)
     by false e h = refl
 
+-- ---- comments
+
+abbrev pub is_within_line : ℕ → Bool
+is_within_line c = is_in_line c && ltb c 128
+
+pub line_inner : IsWithinLines is_within_line
+line_inner c h = (grind (arith, nat_tests), grind (arith, nat_tests))
+
+pub line_run : (text : List ℕ) → past_line (drop (prefix_len is_within_line text) text) ≡ past_line text
+line_run = run_skipped is_within_line past_line (λ c cs t. ap (λ b. cond b cs (past_line cs)) (goes_on c t))
+  where
+    goes_on : (c : ℕ) → is_within_line c ≡ true → is_line_end c ≡ false
+    goes_on c t = grind (arith, nat_tests)
+
+-- ---- digits
+
+pub digit_inner : IsWithinLines is_ascii_digit
+digit_inner c h = (grind (arith, nat_tests), grind (arith, nat_tests))
+
+pub past_digits : (text : List ℕ) → past_any_digits text ≡ drop (prefix_len is_ascii_digit text) text
+past_digits [] = refl
+past_digits (c ∷ cs) = by (is_ascii_digit c) (past_digits cs)
+  where
+    by : (t : Bool) → past_any_digits cs ≡ drop (prefix_len is_ascii_digit cs) cs → cond t (past_any_digits cs) (c ∷ cs) ≡ drop (cond t (1 + prefix_len is_ascii_digit cs) 0) (c ∷ cs)
+    by true e = rw (one-add (prefix_len is_ascii_digit cs)) e
+    by false e = refl
+
 -- ---- spaces
 
 abbrev pub is_space : ℕ → Bool
 is_space c = eqb c 32
 
-pub space_alike : IsAlike is_space
-space_alike c d h k = grind (arith, nat_tests)
-
-pub space_inner : IsInner is_space
+pub space_inner : IsWithinLines is_space
 space_inner c h = (grind (arith, nat_tests), grind (arith, nat_tests))
 
 pub space_run : (text : List ℕ) → skip (drop (prefix_len is_space text) text) ≡ skip text
@@ -129,10 +158,7 @@ space_run = run_skipped is_space skip (λ c cs t. skip_goes c cs (ignored c t))
 abbrev pub plain_ascii : ℕ → Bool
 plain_ascii c = is_plain c && ltb c 128
 
-pub plain_alike : IsAlike plain_ascii
-plain_alike c d h k = grind (arith, nat_tests)
-
-pub plain_inner : IsInner plain_ascii
+pub plain_inner : IsWithinLines plain_ascii
 plain_inner c h = (grind (arith, nat_tests), grind (arith, nat_tests))
 
 pub string_run : (text : List ℕ) → past_string (drop (prefix_len plain_ascii text) text) ≡ past_string text

@@ -8,8 +8,9 @@ ghost use Rattle.graphql_tokens.specs.inner.Running.{ahead};
 ghost use Rattle.graphql_tokens.specs.inner.Lexing.{RunsOver, rest_if};
 
 use super::class::{is_digit, is_name_char};
-use super::reading::{pass_char, peek};
+use super::reading::{pass_char, pass_class, peek};
 use crate::pos::running::RunningPlace;
+use crate::text::runs::Digits;
 
 // Passes all digits that follow.
 #[inline(always)]
@@ -19,12 +20,7 @@ fn pass_any_digits(bytes: &[u8], places: &mut RunningPlace)
     ensures rest { ahead places.new ≡ past_any_digits (ahead places.old) }
     ensures forward { places.old.walk.offset ≤ places.new.walk.offset }
 {
-    while let Some(b) = peek(bytes, places) {
-        if !is_digit(b) {
-            break;
-        }
-        places.pass_ascii();
-    }
+    pass_class::<Digits>(bytes, places);
 }
 
 // Passes one digit or more, and tells whether there was one.

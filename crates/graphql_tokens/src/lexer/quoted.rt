@@ -6,10 +6,10 @@ ghost use Rattle.graphql_tokens.specs.inner.Running.{ahead};
 ghost use Rattle.graphql_tokens.specs.inner.Lexing.{RunsOver, rest_if};
 
 use super::class::{is_plain, is_plain_ascii};
-use super::reading::{pass_char, pass_many, peek};
+use super::reading::{pass_char, pass_class, pass_many, peek};
 use crate::pos::running::RunningPlace;
 use crate::text::escape::escape_at;
-use crate::text::runs::{PlainAscii, past_run};
+use crate::text::runs::PlainAscii;
 
 // Passes the plain ASCII characters that follow.
 #[inline(always)]
@@ -21,9 +21,7 @@ fn pass_plain_ascii(bytes: &[u8], places: &mut RunningPlace)
     ensures less { length (ahead places.new) ≤ length (ahead places.old) }
     ensures forward { places.old.walk.offset ≤ places.new.walk.offset }
 {
-    let start = places.offset();
-    let end = past_run::<PlainAscii>(bytes, start);
-    places.pass_run(end - start);
+    pass_class::<PlainAscii>(bytes, places);
 }
 
 // Passes the content of a string and its closing quote, and tells whether both were there. No line end stands in it.

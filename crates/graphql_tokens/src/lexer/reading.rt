@@ -2,13 +2,15 @@
 //! `bool` tells whether the part was there.
 
 ghost use Rattle.std.specs.Prelude.{◌≡◌, ◌≢◌, ◌≤◌, ◌<◌, ◌+◌, true, false, [], MatchOption, drop, length};
+ghost use Rattle.std.specs.List.{prefix_len};
+ghost use Rattle.graphql_tokens.specs.inner.ByteClasses.{IsWithinLines};
 ghost use Rattle.graphql_tokens.specs.inner.Reading.{skip, past_line, past_name_chars, past_char, past_dots};
 ghost use Rattle.graphql_tokens.specs.inner.Running.{ahead, IsRunning};
 ghost use Rattle.graphql_tokens.specs.inner.Lexing.{RunsOver, IsFirstByte, rest_if};
 
 use super::class::is_ignored;
 use crate::pos::running::RunningPlace;
-use crate::text::runs::{NameChars, Spaces, past_run};
+use crate::text::runs::{ByteClass, InLine, NameChars, Spaces, past_run};
 
 // The first byte of what is ahead, where the text goes on.
 #[inline(always)]
@@ -34,6 +36,20 @@ pub fn has_more(bytes: &[u8], places: &RunningPlace) -> bool
     places.offset() < bytes.len()
 }
 
+// Goes past the characters of a class of ASCII characters that end no line.
+#[inline(always)]
+pub fn pass_class<C: ByteClass>(bytes: &[u8], places: &mut RunningPlace)
+    requires runs { RunsOver bytes.now places.old }
+    requires within { IsWithinLines C.has }
+    ensures runs { RunsOver bytes.now places.new }
+    ensures rest { ahead places.new ≡ drop (prefix_len C.has (ahead places.old)) (ahead places.old) }
+    ensures forward { places.old.walk.offset ≤ places.new.walk.offset }
+{
+    let start = places.offset();
+    let end = past_run::<C>(bytes, start);
+    places.pass_run(end - start);
+}
+
 // Goes past the rest of the line and the character that ends it.
 #[inline(always)]
 fn pass_line(bytes: &[u8], places: &mut RunningPlace)
@@ -47,21 +63,8 @@ fn pass_line(bytes: &[u8], places: &mut RunningPlace)
         if c == '\n' || c == '\r' {
             break;
         }
+        pass_class::<InLine>(bytes, places);
     }
-}
-
-// Goes past the spaces that a line often begins with.
-#[inline(always)]
-fn pass_spaces(bytes: &[u8], places: &mut RunningPlace)
-    requires { RunsOver bytes.now places.old }
-    ensures runs { RunsOver bytes.now places.new }
-    ensures rest { skip (ahead places.new) ≡ skip (ahead places.old) }
-    ensures less { length (ahead places.new) ≤ length (ahead places.old) }
-    ensures forward { places.old.walk.offset ≤ places.new.walk.offset }
-{
-    let start = places.offset();
-    let end = past_run::<Spaces>(bytes, start);
-    places.pass_run(end - start);
 }
 
 // Goes past the ignored text.
@@ -76,8 +79,10 @@ pub fn pass_ignored(bytes: &[u8], places: &mut RunningPlace)
         if b == b' ' {
             places.pass_ascii();
         } else if is_ignored(b) {
-            places.pass_first(b);
-            pass_spaces(bytes, places);
+            let c = places.pass_first(b);
+            if c < ' ' {
+                pass_class::<Spaces>(bytes, places);
+            }
         } else if b == b'#' {
             pass_line(bytes, places);
         } else if b < 0x80 {
@@ -100,9 +105,7 @@ pub fn pass_name_chars(bytes: &[u8], places: &mut RunningPlace)
     ensures rest { ahead places.new ≡ past_name_chars (ahead places.old) }
     ensures forward { places.old.walk.offset ≤ places.new.walk.offset }
 {
-    let start = places.offset();
-    let end = past_run::<NameChars>(bytes, start);
-    places.pass_run(end - start);
+    pass_class::<NameChars>(bytes, places);
 }
 
 // Goes past this character, an ASCII one that ends no line, where it is next, and tells whether it was.

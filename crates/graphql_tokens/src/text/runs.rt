@@ -2,14 +2,16 @@
 //! no branch.
 
 ghost use Rattle.std.specs.Prelude.{◌≡◌, ℕ, ◌≤◌, ◌<◌, ◌+◌, ◌&&◌, ◌==◌, Bool, nat_lt, drop, length, map};
+ghost use Rattle.std.specs.Char.{is_ascii_digit};
 ghost use Rattle.std.specs.List.{prefix_len};
 ghost use Rattle.std.specs.Simd.Lanes.{mask_l};
 ghost use Rattle.std.specs.Str.{byte};
 ghost use Rattle.graphql_tokens.specs.inner.ByteClasses.{is_outside};
 ghost use Rattle.graphql_tokens.specs.tokens.Classes as classes;
+ghost use Rattle.graphql_tokens.specs.tokens.Place.{is_in_line};
 ghost use Rattle.graphql_tokens.specs.tokens.Strings as strings;
 
-use crate::lexer::class::{is_name_char, is_plain, is_plain_ascii};
+use crate::lexer::class::{is_digit, is_name_char, is_plain, is_plain_ascii};
 use std::simd::prelude::*;
 
 // How many bytes are looked at at once.
@@ -138,5 +140,43 @@ impl ByteClass for Spaces {
     #[inline(always)]
     fn outsiders(bytes: u8x16) -> u64 {
         bytes.simd_ne(u8x16::splat(b' ')).to_bitmask()
+    }
+}
+
+// The ASCII characters that end no line.
+pub(crate) struct InLine;
+
+impl ByteClass for InLine {
+    ghost has = { λ b. is_in_line b && nat_lt b 128 };
+
+    #[inline(always)]
+    fn has(b: u8) -> bool {
+        b != b'\n' && b != b'\r' && b < 0x80
+    }
+
+    #[inline(always)]
+    fn outsiders(bytes: u8x16) -> u64 {
+        let outside = bytes.simd_eq(u8x16::splat(b'\n'))
+            | bytes.simd_eq(u8x16::splat(b'\r'))
+            | bytes.simd_ge(u8x16::splat(0x80));
+        outside.to_bitmask()
+    }
+}
+
+// The decimal digits.
+pub(crate) struct Digits;
+
+impl ByteClass for Digits {
+    ghost has = { is_ascii_digit };
+
+    #[inline(always)]
+    fn has(b: u8) -> bool {
+        is_digit(b)
+    }
+
+    #[inline(always)]
+    fn outsiders(bytes: u8x16) -> u64 {
+        let digits = bytes - u8x16::splat(b'0');
+        digits.simd_ge(u8x16::splat(10)).to_bitmask()
     }
 }

@@ -3,6 +3,7 @@ use Rattle.graphql_tokens.specs.tokens.Classes.{is_ignored}
 use Rattle.graphql_tokens.specs.inner.Reading.{skip}
 use Rattle.graphql_tokens.specs.inner.Running.{ahead}
 use Rattle.graphql_tokens.proofs.Ahead.{skip_blank, skip_hash, hash_shorter, skip_mark, skip_wide, skip_other, skip_nothing}
+use Rattle.graphql_tokens.proofs.Runs.{is_space, space_inner, space_run, run_shorter}
 use Rattle.graphql_tokens.proofs.lexer.reading.pass_ignored.Goals as goal
 
 pub loop-b-preserved-then-b-eq32 : goal.loop-b-preserved-then-b-eq32
@@ -15,14 +16,24 @@ loop-b-preserved-then-b-eq32 c =
       forward = omega arith;
     }
 
-pub loop-b-preserved-then-is_ignored : goal.loop-b-preserved-then-is_ignored
-loop-b-preserved-then-is_ignored c =
+pub loop-b-preserved-then-c-lt32 : goal.loop-b-preserved-then-c-lt32
+loop-b-preserved-then-c-lt32 c =
     let v = c.loop-b.invariant in
-    let first = c.pass_first.ensures in
-    let spaces = c.pass_spaces.ensures in
+    let first = c.pass_first-c.ensures in
+    let spaces = c.pass_class.ensures in
     record {
       runs = spaces.runs;
-      same = spaces.rest ∙ skip_blank c.in-Some.b c.pass_first.result _ _ c.in-Some.ensures first.passed (sym c.is_ignored.ensures ∙ c.if-is_ignored.true) ∙ v.same;
+      same = ap skip spaces.rest ∙ space_run _ ∙ skip_blank c.in-Some.b c.pass_first-c.result _ _ c.in-Some.ensures first.passed (sym c.is_ignored.ensures ∙ c.if-is_ignored.true) ∙ v.same;
+      forward = omega arith;
+    }
+
+pub loop-b-preserved-else-c-lt32 : goal.loop-b-preserved-else-c-lt32
+loop-b-preserved-else-c-lt32 c =
+    let v = c.loop-b.invariant in
+    let e = c.pass_first-c.ensures in
+    record {
+      runs = record { running = e.running; same = e.same ∙ v.runs.same };
+      same = skip_blank c.in-Some.b c.pass_first-c.result _ _ c.in-Some.ensures e.passed (sym c.is_ignored.ensures ∙ c.if-is_ignored.true) ∙ v.same;
       forward = omega arith;
     }
 

@@ -1,15 +1,9 @@
-use Rattle.std.proofs.Common.{ℕ, ◌+◌, ◌-◌, ◌%◌, bit_and, bit_or, leb, cond, refl}
-use Rattle.std.proofs.lemmas.Simd.{zip2_of_maps, zip2_splat, zip2_splat_left, map-map, splat_is_map}
+use Rattle.std.proofs.Common.{ℕ, bit_and, bit_or, refl}
+use Rattle.std.proofs.lemmas.Simd.{zip2_of_maps, zip2_splat, splat_is_map}
 use Rattle.graphql_tokens.specs.tokens.Classes.{is_name_char}
 use Rattle.graphql_tokens.specs.inner.ByteClasses.{is_outside}
-use Rattle.graphql_tokens.proofs.Lanes.{mask_of}
+use Rattle.graphql_tokens.proofs.Lanes.{mask_of, minus, at_most}
 use Rattle.graphql_tokens.proofs.text.runs.NameCharsByteClass.outsiders.Goals as goal
-
-abbrev minus : ℕ → ℕ → ℕ
-minus a b = (a + (256 - b)) % 256
-
-abbrev at_most : ℕ → ℕ → ℕ
-at_most a b = cond (leb a b) 255 0
 
 pub returns : goal.returns
 returns c =

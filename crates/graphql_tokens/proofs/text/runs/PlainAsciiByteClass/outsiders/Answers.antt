@@ -1,12 +1,9 @@
-use Rattle.std.proofs.Common.{ℕ, leb, cond, refl}
+use Rattle.std.proofs.Common.{refl}
 use Rattle.std.proofs.lemmas.Simd.{zip2_of_maps, zip2_splat, zip2_splat_left}
 use Rattle.graphql_tokens.specs.inner.ByteClasses.{is_outside}
-use Rattle.graphql_tokens.proofs.Lanes.{mask_of}
+use Rattle.graphql_tokens.proofs.Lanes.{mask_of, at_most}
 use Rattle.graphql_tokens.proofs.Runs.{plain_ascii}
 use Rattle.graphql_tokens.proofs.text.runs.PlainAsciiByteClass.outsiders.Goals as goal
-
-abbrev at_most : ℕ → ℕ → ℕ
-at_most a b = cond (leb a b) 255 0
 
 pub returns : goal.returns
 returns c =

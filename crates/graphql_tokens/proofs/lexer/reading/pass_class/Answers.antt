@@ -1,0 +1,18 @@
+use Rattle.std.proofs.Common.{◌-◌, arith}
+use Rattle.graphql_tokens.proofs.Runs.{run_of, run_end, ahead_of_run}
+use Rattle.graphql_tokens.proofs.lexer.reading.pass_class.Goals as goal
+
+pub pass_run-requires-clause-ascii : goal.pass_run-requires-clause-ascii
+pass_run-requires-clause-ascii g c =
+    let has = g.C.ByteClass.has in
+    let places = c.args.places.now in
+    let end = run_end has c.args.bytes.now places c.offset-start.result c.past_run-end.result c.requires.runs c.offset-start.ensures c.past_run-end.ensures.value in
+    run_of has c.requires.within places.walk.text.now places.walk.offset (c.past_run-end.result - c.offset-start.result) (omega (arith, end, c.offset-start.ensures))
+
+pub returns-clause-rest : goal.returns-clause-rest
+returns-clause-rest g c =
+    let has = g.C.ByteClass.has in
+    let places = c.args.places.now in
+    let end = run_end has c.args.bytes.now places c.offset-start.result c.past_run-end.result c.requires.runs c.offset-start.ensures c.past_run-end.ensures.value in
+    ahead_of_run has c.requires.within places c.pass_run.new.self (c.past_run-end.result - c.offset-start.result) c.requires.runs.running c.pass_run.ensures.same c.pass_run.ensures.passed
+    (omega (arith, end, c.offset-start.ensures))
