@@ -140,42 +140,50 @@ fn pass_quoted(bytes: &[u8], places: &mut RunningPlace) -> TokenKind
     found(TokenKind::Block, pass_block(bytes, places))
 }
 
-// Passes a token that is neither a name nor a punctuator of one character, and gives its kind and the place after it.
-// `b` is the token's first byte. It takes and gives a place by value and is never inlined, so that the caller's own
-// place has no address and stays in registers.
-#[inline(never)]
-fn pass_other_token<'a>(
-    bytes: &[u8],
-    start: RunningPlace<'a>,
-    b: u8,
-) -> (TokenKind, RunningPlace<'a>)
-    requires runs { RunsOver bytes.now start }
-    requires first { IsFirstByte b (ahead start) }
+// Passes a token that is neither a name nor a punctuator of one character, and gives its kind. `b` is the token's
+// first byte.
+#[inline(always)]
+fn pass_rare_token(bytes: &[u8], places: &mut RunningPlace, b: u8) -> TokenKind
+    requires runs { RunsOver bytes.now places.old }
+    requires first { IsFirstByte b (ahead places.old) }
     requires no_name { classes.is_name_start b ≡ false }
     requires no_punct { classes.is_punct b ≡ false }
-    ensures runs { RunsOver bytes.now result.1 }
-    ensures kind { (next (ahead start.entry)).0 ≡ result.0 }
-    ensures rest { is_last result.0 ≡ false → (next (ahead start.entry)).1 ≡ ahead result.1 }
-    ensures forward { start.entry.walk.offset ≤ result.1.walk.offset }
+    ensures runs { RunsOver bytes.now places.new }
+    ensures kind { (next (ahead places.old)).0 ≡ result }
+    ensures rest { is_last result ≡ false → (next (ahead places.old)).1 ≡ ahead places.new }
+    ensures forward { places.old.walk.offset ≤ places.new.walk.offset }
 {
-    let mut places = start;
     if b == b'"' {
         places.pass_ascii();
-        let kind = pass_quoted(bytes, &mut places);
-        return (kind, places);
+        return pass_quoted(bytes, places);
     }
     if is_number_start(b) {
-        let is_number = pass_number(bytes, &mut places);
-        let kind = found(TokenKind::Number, is_number);
-        return (kind, places);
+        return found(TokenKind::Number, pass_number(bytes, places));
     }
     if b == b'.' {
         places.pass_ascii();
-        let is_three = pass_dots(bytes, &mut places);
-        let kind = found(TokenKind::Punct, is_three);
-        return (kind, places);
+        return found(TokenKind::Punct, pass_dots(bytes, places));
     }
-    (TokenKind::Fault, places)
+    TokenKind::Fault
+}
+
+// The same, but never inlined, so that what is inlined for names and punctuators stays small. Within it the place has
+// no address, and so it stays in registers.
+#[inline(never)]
+fn pass_other_token(bytes: &[u8], places: &mut RunningPlace, b: u8) -> TokenKind
+    requires runs { RunsOver bytes.now places.old }
+    requires first { IsFirstByte b (ahead places.old) }
+    requires no_name { classes.is_name_start b ≡ false }
+    requires no_punct { classes.is_punct b ≡ false }
+    ensures runs { RunsOver bytes.now places.new }
+    ensures kind { (next (ahead places.old)).0 ≡ result }
+    ensures rest { is_last result ≡ false → (next (ahead places.old)).1 ≡ ahead places.new }
+    ensures forward { places.old.walk.offset ≤ places.new.walk.offset }
+{
+    let mut own = *places;
+    let kind = pass_rare_token(bytes, &mut own, b);
+    *places = own;
+    kind
 }
 
 // Passes the token that is next and gives its kind. After a fault the place may be anywhere ahead.
@@ -199,7 +207,9 @@ fn pass_token(bytes: &[u8], places: &mut RunningPlace) -> TokenKind
         places.pass_ascii();
         return TokenKind::Punct;
     }
-    let (kind, after) = pass_other_token(bytes, *places, b);
+    // A copy is handed over, so that the caller's own place has no address and stays in registers.
+    let mut after = *places;
+    let kind = pass_other_token(bytes, &mut after, b);
     *places = after;
     kind
 }
