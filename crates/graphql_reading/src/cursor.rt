@@ -47,6 +47,19 @@ impl<T: Drop> From<AllocFailed<T>> for Refusal {
     }
 }
 
+// Whether two texts are the same. Where the other is one byte long, as most punctuators are, that byte is compared.
+#[inline(always)]
+fn is_same(text: &str, other: &str) -> bool
+    ensures { result ≡ bytes_eq text.now other.now }
+{
+    let bytes = text.as_bytes();
+    let others = other.as_bytes();
+    if others.len() == 1 {
+        return bytes.len() == 1 && bytes[0] == others[0];
+    }
+    text == other
+}
+
 /// The tokens of a text that are still to be read. The first is in hand; the others are taken
 /// from the lexer one by one, each when the one before it is used up.
 #[derive(Drop)]
@@ -135,7 +148,7 @@ impl<'a> Cursor<'a> {
     pub fn is_at_punct(&self, text: &str) -> bool
         ensures { result ≡ punct_of text.now self.now.hand.bare }
     {
-        self.hand.kind.is_punct() && self.hand.text == text
+        self.hand.kind.is_punct() && is_same(self.hand.text, text)
     }
 
     /// Whether a name is in hand.
