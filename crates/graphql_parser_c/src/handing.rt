@@ -9,7 +9,7 @@ ghost use Rattle.graphql_parser_c.specs.Telling.{IsTold, limits_of, places_of};
 
 use crate::documents::Document;
 use crate::status::Status;
-use crate::telling::{Asked, Places, tell, text_to_read};
+use crate::telling::{Places, Question, ReadableText, tell};
 use graphql_json::error_json;
 use graphql_parser::{Error, Result};
 use std::alloc::{AllocError, Global};
@@ -63,19 +63,16 @@ fn hand_over<D: Document>(
 /// Reads a text, tells the answer, and hands over its JSON.
 pub fn parse<D: Document>(
     alloc: Global,
-    text: &[u8],
-    selections: usize,
-    values: usize,
-    types: usize,
+    question: &Question<'_>,
     with_places: bool,
     places: &mut Places,
     json: &mut Json,
 ) -> u32
-    ensures told { IsTold D.language (limits_of selections values types) text.now result places.new }
+    ensures told { IsTold D.language (limits_of question.now.selections question.now.values question.now.types) question.now.text.now result places.new }
     ensures handed { IsHanded result json.old json.new }
 {
-    let Asked { text, limits } = match text_to_read(text, selections, values, types) {
-        Ok(asked) => asked,
+    let ReadableText { text, limits } = match question.readable() {
+        Ok(readable) => readable,
         Err(status) => {
             *places = Places::none();
             return status.number();

@@ -26,8 +26,8 @@ use graphql_parser::types::{ExecutableDocument, ServiceDocument};
 pub use handing::Json;
 use handing::parse;
 use std::alloc::Global;
-use telling::check;
 pub use telling::{Place, Places};
+use telling::{Question, check};
 
 /// Tells whether a text is a request: gives the number of a `Status`, and writes the places that it is about.
 ///
@@ -45,7 +45,13 @@ pub extern "C" fn graphql_parser_check_query(
 ) -> u32
     ensures { IsTold requests (limits_of selections values types) text.now result places.new }
 {
-    check::<ExecutableDocument>(alloc, text, selections, values, types, places)
+    let question = Question {
+        text,
+        selections,
+        values,
+        types,
+    };
+    check::<ExecutableDocument>(alloc, &question, places)
 }
 
 /// Tells whether a text is a schema file, as [`graphql_parser_check_query`] does of a request.
@@ -62,7 +68,13 @@ pub extern "C" fn graphql_parser_check_schema(
 ) -> u32
     ensures { IsTold schemas (limits_of selections values types) text.now result places.new }
 {
-    check::<ServiceDocument>(alloc, text, selections, values, types, places)
+    let question = Question {
+        text,
+        selections,
+        values,
+        types,
+    };
+    check::<ServiceDocument>(alloc, &question, places)
 }
 
 /// Reads a request as [`graphql_parser_check_query`] does, and hands over its tree as JSON, or its error.
@@ -85,16 +97,13 @@ pub extern "C" fn graphql_parser_parse_query(
     ensures told { IsTold requests (limits_of selections values types) text.now result places.new }
     ensures handed { IsHanded result json.old json.new }
 {
-    parse::<ExecutableDocument>(
-        alloc,
+    let question = Question {
         text,
         selections,
         values,
         types,
-        with_places,
-        places,
-        json,
-    )
+    };
+    parse::<ExecutableDocument>(alloc, &question, with_places, places, json)
 }
 
 /// Reads a schema file as [`graphql_parser_check_schema`] does, and hands over its tree as JSON, or its error, as
@@ -113,14 +122,11 @@ pub extern "C" fn graphql_parser_parse_schema(
     ensures told { IsTold schemas (limits_of selections values types) text.now result places.new }
     ensures handed { IsHanded result json.old json.new }
 {
-    parse::<ServiceDocument>(
-        alloc,
+    let question = Question {
         text,
         selections,
         values,
         types,
-        with_places,
-        places,
-        json,
-    )
+    };
+    parse::<ServiceDocument>(alloc, &question, with_places, places, json)
 }

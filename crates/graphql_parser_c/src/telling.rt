@@ -56,29 +56,35 @@ impl Places {
     }
 }
 
+/// What a caller asks: the bytes of a text, and how deep selection sets, values and types may nest.
+#[derive(Clone, Copy)]
+pub struct Question<'a> {
+    pub text: &'a [u8],
+    pub selections: usize,
+    pub values: usize,
+    pub types: usize,
+}
+
 /// A text that can be read, and the limits to read it within.
 #[derive(Clone, Copy)]
-pub struct Asked<'a> {
+pub struct ReadableText<'a> {
     pub text: &'a str,
     pub limits: Limits,
 }
 
-/// What a caller asks, or the status that says why it can't be read. The limits are looked at first.
-pub fn text_to_read(
-    text: &[u8],
-    selections: usize,
-    values: usize,
-    types: usize,
-) -> std::result::Result<Asked<'_>, Status>
-    ensures { MatchResult result (λ a. (a.text.now ≡ text.now) × (a.limits ≡ limits_of selections values types) × IsAllowed (limits_of selections values types) × IsUtf8 text.now) (λ status. IsUnread (limits_of selections values types) text.now status) }
-{
-    let Some(limits) = Limits::new(selections, values, types) else {
-        return Err(Status::LimitTooLarge);
-    };
-    let Ok(text) = std::str::from_utf8(text) else {
-        return Err(Status::NotUtf8);
-    };
-    Ok(Asked { text, limits })
+impl<'a> Question<'a> {
+    /// The text and the limits, or the status that says why the text can't be read. The limits are looked at first.
+    pub fn readable(&self) -> std::result::Result<ReadableText<'a>, Status>
+        ensures { let limits = limits_of self.now.selections self.now.values self.now.types in MatchResult result (λ r. (r.text.now ≡ self.now.text.now) × (r.limits ≡ limits) × IsAllowed limits × IsUtf8 self.now.text.now) (λ status. IsUnread limits self.now.text.now status) }
+    {
+        let Some(limits) = Limits::new(self.selections, self.values, self.types) else {
+            return Err(Status::LimitTooLarge);
+        };
+        let Ok(text) = std::str::from_utf8(self.text) else {
+            return Err(Status::NotUtf8);
+        };
+        Ok(ReadableText { text, limits })
+    }
 }
 
 /// Tells an answer: gives its status, and writes its places.
@@ -102,18 +108,11 @@ pub fn tell<D>(answer: &Result<D>, places: &mut Places) -> Status
 }
 
 /// Reads a text and tells the answer, without its tree.
-pub fn check<D: Document>(
-    alloc: Global,
-    text: &[u8],
-    selections: usize,
-    values: usize,
-    types: usize,
-    places: &mut Places,
-) -> u32
-    ensures { IsTold D.language (limits_of selections values types) text.now result places.new }
+pub fn check<D: Document>(alloc: Global, question: &Question<'_>, places: &mut Places) -> u32
+    ensures { IsTold D.language (limits_of question.now.selections question.now.values question.now.types) question.now.text.now result places.new }
 {
-    let Asked { text, limits } = match text_to_read(text, selections, values, types) {
-        Ok(asked) => asked,
+    let ReadableText { text, limits } = match question.readable() {
+        Ok(readable) => readable,
         Err(status) => {
             *places = Places::none();
             return status.number();
