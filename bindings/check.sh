@@ -5,7 +5,7 @@
 # its binding run. In C, each request for memory of each call is refused in turn too. A language whose tool (cc, cargo,
 # python3) is missing is skipped. The last line says what passed and what was skipped; the status is 1 if anything failed.
 #
-# It isn't part of `rt ci`. Once the library is proved it takes about a minute.
+# It isn't part of `rt ci`. Once the library is built it takes some seconds.
 set -u
 here=$(dirname -- "$(readlink -f -- "$0")")
 out=$here/out
