@@ -1,0 +1,114 @@
+/* Texts with what each call must tell of them, worked out by hand. The tests in C share them. */
+#ifndef TEXTS_H
+#define TEXTS_H
+
+#include "graphql_parser.h"
+
+#include <stdio.h>
+#include <stdlib.h>
+#include <string.h>
+
+typedef uint32_t check_call(const uint8_t *, size_t, size_t, size_t, size_t, graphql_parser_places *);
+typedef uint32_t parse_call(
+    const uint8_t *, size_t, size_t, size_t, size_t, bool, graphql_parser_places *, graphql_parser_json *);
+
+typedef struct {
+    check_call *check;
+    parse_call *parse;
+} language;
+
+static const language requests = {graphql_parser_check_query, graphql_parser_parse_query};
+static const language schema_files = {graphql_parser_check_schema, graphql_parser_parse_schema};
+
+/* A text of a language, and what it gives. */
+typedef struct {
+    const language *language;
+    const char *text;
+    size_t limit; /* of each of the three */
+    uint32_t status;
+    graphql_parser_places places;
+    const char *json; /* without places of nodes; null where it isn't compared */
+} row;
+
+#define NOWHERE {{0, 0}, {0, 0}}
+
+/* A text so many times. */
+#define R4(text) text text text text
+#define R16(text) R4(R4(text))
+#define R64(text) R4(R16(text))
+#define R256(text) R16(R16(text))
+#define R4096(text) R16(R256(text))
+
+static const row rows[] = {
+    {&requests, "{a(b:\"\\u0000c\")}", 64, GRAPHQL_PARSER_ACCEPTED, NOWHERE,
+     "{\"kind\":\"Document\",\"definitions\":[{\"kind\":\"OperationDefinition\",\"operation\":\"query\","
+     "\"variableDefinitions\":[],\"directives\":[],\"selectionSet\":{\"kind\":\"SelectionSet\",\"selections\":["
+     "{\"kind\":\"Field\",\"name\":{\"kind\":\"Name\",\"value\":\"a\"},\"arguments\":[{\"kind\":\"Argument\","
+     "\"name\":{\"kind\":\"Name\",\"value\":\"b\"},\"value\":{\"kind\":\"StringValue\",\"value\":\"\\u0000c\"}}],"
+     "\"directives\":[]}]}}]}"},
+    {&requests, "query A($v: [Int!]! = [1, 2]) @d { b: a(c: {d: $v}) { ...F ... on T { e } } } fragment F on T { f }",
+     64, GRAPHQL_PARSER_ACCEPTED, NOWHERE, 0},
+    {&requests, "{" R4096("a ") "}", 64, GRAPHQL_PARSER_ACCEPTED, NOWHERE, 0},
+    /* As deep as the limits let a text be, in all three ways. */
+    {&requests,
+     "query($v:" R256("[") "A" R256("]") ")" R256("{a") "{a(b:" R256("{c:") R256("}") ")}" R256("}"), 256,
+     GRAPHQL_PARSER_SYNTAX, {{1, 1809}, {0, 0}}, 0},
+    {&requests,
+     "query($v:" R256("[") "A" R256("]") ")" R256("{a") "{a(b:" R256("{c:") "1" R256("}") ")}" R256("}"), 256,
+     GRAPHQL_PARSER_ACCEPTED, NOWHERE, 0},
+    {&requests, "{a(b:" R256("[") R256("]") ")}", 256, GRAPHQL_PARSER_ACCEPTED, NOWHERE, 0},
+    {&requests, R256("{a") "{a", 256, GRAPHQL_PARSER_SYNTAX, {{1, 515}, {0, 0}}, 0},
+    {&requests, "{a", 64, GRAPHQL_PARSER_SYNTAX, {{1, 3}, {0, 0}},
+     "{\"message\":\"syntax error at 1:3\",\"locations\":[{\"line\":1,\"column\":3}]}"},
+    {&requests, R64("{a") "{a{a", 64, GRAPHQL_PARSER_RECURSION_LIMIT_EXCEEDED, NOWHERE,
+     "{\"message\":\"recursion limit exceeded.\"}"},
+    {&requests, "{a{b}}", 0, GRAPHQL_PARSER_RECURSION_LIMIT_EXCEEDED, NOWHERE, 0},
+    {&requests, "{a}query B{b}", 64, GRAPHQL_PARSER_MULTIPLE_OPERATIONS, {{1, 1}, {1, 4}}, 0},
+    {&requests, "query A{a}\nquery A{a}", 64, GRAPHQL_PARSER_OPERATION_DUPLICATED, {{2, 1}, {1, 1}},
+     "{\"message\":\"operation A is defined twice\",\"locations\":[{\"line\":2,\"column\":1},"
+     "{\"line\":1,\"column\":1}]}"},
+    {&requests, "fragment F on T{a}{b}fragment F on T{c}", 64, GRAPHQL_PARSER_FRAGMENT_DUPLICATED,
+     {{1, 22}, {1, 1}}, 0},
+    {&requests, "fragment F on T{a}", 64, GRAPHQL_PARSER_MISSING_OPERATION, NOWHERE, 0},
+    {&requests, "{a}", 257, GRAPHQL_PARSER_LIMIT_TOO_LARGE, NOWHERE, 0},
+    {&requests, "{a}#\xC3", 64, GRAPHQL_PARSER_NOT_UTF8, NOWHERE, 0},
+    {&requests, "", 64, GRAPHQL_PARSER_SYNTAX, {{1, 1}, {0, 0}}, 0},
+    {&schema_files, "scalar A", 64, GRAPHQL_PARSER_ACCEPTED, NOWHERE,
+     "{\"kind\":\"Document\",\"definitions\":[{\"kind\":\"ScalarTypeDefinition\",\"name\":{\"kind\":\"Name\","
+     "\"value\":\"A\"},\"directives\":[]}]}"},
+    {&schema_files, "\"d\" type A implements B & C @d(e: 1) { f(g: H = \"i\"): [J!]! } extend schema { query: Q }",
+     64, GRAPHQL_PARSER_ACCEPTED, NOWHERE, 0},
+    {&schema_files, "type A{" R4096("a:B ") "}", 64, GRAPHQL_PARSER_ACCEPTED, NOWHERE, 0},
+    {&schema_files, "input A{f:" R256("[") "B" R256("]") "=" R256("{c:") "1" R256("}") "}", 256,
+     GRAPHQL_PARSER_ACCEPTED, NOWHERE, 0},
+    {&schema_files, "type", 64, GRAPHQL_PARSER_SYNTAX, {{1, 5}, {0, 0}}, 0},
+    {&schema_files, "input A{f:" R64("[") "[", 64, GRAPHQL_PARSER_RECURSION_LIMIT_EXCEEDED, NOWHERE, 0},
+    {&schema_files, "schema{query:A query:B}", 64, GRAPHQL_PARSER_MULTIPLE_ROOTS, {{1, 16}, {1, 1}}, 0},
+    {&schema_files, "scalar A schema{mutation:M}", 64, GRAPHQL_PARSER_MISSING_QUERY_ROOT,
+     {{1, 10}, {0, 0}}, 0},
+    {&schema_files, "scalar A", 257, GRAPHQL_PARSER_LIMIT_TOO_LARGE, NOWHERE, 0},
+    {&schema_files, "\"\xFF\" scalar A", 64, GRAPHQL_PARSER_NOT_UTF8, NOWHERE, 0},
+};
+
+#define ROW_COUNT (sizeof rows / sizeof *rows)
+
+/* The text of a row, in a block of exactly its length, so that a tool that looks for reads past a block sees one. */
+static uint8_t *text_of(const row *row, size_t *length) {
+    *length = strlen(row->text);
+    uint8_t *text = malloc(*length ? *length : 1);
+    if (!text) abort();
+    return memcpy(text, row->text, *length);
+}
+
+static bool are_same(const graphql_parser_places *one, const graphql_parser_places *other) {
+    return one->first.line == other->first.line && one->first.column == other->first.column &&
+        one->second.line == other->second.line && one->second.column == other->second.column;
+}
+
+/* Whether a status comes with JSON. */
+static bool is_of_the_text(uint32_t status) {
+    return status != GRAPHQL_PARSER_OUT_OF_MEMORY && status != GRAPHQL_PARSER_NOT_UTF8 &&
+        status != GRAPHQL_PARSER_LIMIT_TOO_LARGE;
+}
+
+#endif

@@ -1,0 +1,145 @@
+#!/bin/sh
+# Builds the library and runs callers of it in C, Rust and Python.
+#
+# In each language the example reads a good, a refused and a too deep text of both languages of GraphQL, and the tests of
+# its binding run. In C, each request for memory of each call is refused in turn too. A language whose tool (cc, cargo,
+# python3) is missing is skipped. The last line says what passed and what was skipped; the status is 1 if anything failed.
+#
+# It isn't part of `rt ci`. Once the library is built it takes some seconds.
+set -u
+here=$(dirname -- "$(readlink -f -- "$0")")
+out=$here/out
+passed=
+skipped=
+failed=
+
+has() {
+    command -v "$1" >/dev/null 2>&1
+}
+
+# The arguments, run in turn as commands of one word, as steps of a language that all have to succeed.
+language() {
+    name=$1
+    shift
+    for step; do
+        if ! "$step"; then
+            echo "$name: $step failed"
+            failed="$failed $name"
+            return
+        fi
+    done
+    passed="$passed $name"
+}
+
+skip() {
+    echo "$1: skipped, since $2"
+    skipped="$skipped $1"
+}
+
+# So many times a text.
+repeated() {
+    awk -v count="$1" -v part="$2" 'BEGIN { for (i = 0; i < count; i++) printf "%s", part }'
+}
+
+field='{"kind":"Document","definitions":[{"kind":"OperationDefinition","operation":"query","variableDefinitions":[],'
+field=$field'"directives":[],"selectionSet":{"kind":"SelectionSet","selections":[{"kind":"Field",'
+field=$field'"name":{"kind":"Name","value":"a"},"arguments":[],"directives":[]}]}}]}'
+scalar='{"kind":"Document","definitions":[{"kind":"ScalarTypeDefinition","name":{"kind":"Name","value":"A"},'
+scalar=$scalar'"directives":[]}]}'
+deep='{"message":"recursion limit exceeded."}'
+
+# Has a caller, the arguments from the fifth on, read a text of a language; it must end with this status, and its last line
+# must be this JSON.
+reads() {
+    text=$1 kind=$2 status=$3 json=$4
+    shift 4
+    found=$(printf '%s' "$text" | "$@" "$kind")
+    found_status=$?
+    found=$(printf '%s\n' "$found" | tail -n 1)
+    if [ "$found_status" -ne "$status" ] || [ "$found" != "$json" ]; then
+        printf 'of a %s: status %s, and the JSON\n%s\n' "$kind" "$found_status" "$found"
+        return 1
+    fi
+}
+
+# A good, a refused and a too deep text of each language.
+reads_all() {
+    reads '{a}' query 0 "$field" "$@" &&
+        reads '{a ?}' query 1 '{"message":"syntax error at 1:4","locations":[{"line":1,"column":4}]}' "$@" &&
+        reads "$(repeated 66 '{a')" query 1 "$deep" "$@" &&
+        reads 'scalar A' schema 0 "$scalar" "$@" &&
+        reads 'type' schema 1 '{"message":"syntax error at 1:5","locations":[{"line":1,"column":5}]}' "$@" &&
+        reads "input A{f:$(repeated 65 '[')" schema 1 "$deep" "$@"
+}
+
+# Compiles a caller in C: the program's name, its source, and what else the compiler is given.
+compiled() {
+    program=$out/$1
+    source=$here/c/$2
+    shift 2
+    cc -std=c11 -O2 -Wall -Wextra -Werror -pthread -I "$here" -o "$program" "$source" "$@"
+}
+
+c_example() {
+    compiled example example.c "$out/libgraphql_parser.a" && reads_all "$out/example"
+}
+
+c_example_by_the_shared_object() {
+    compiled example_shared example.c "$out/libgraphql_parser.so" -Wl,-rpath,"$out" && reads_all "$out/example_shared"
+}
+
+c_calls() {
+    compiled calls calls.c "$out/libgraphql_parser.a" && "$out/calls"
+}
+
+c_refused_memory() {
+    compiled refused refused.c -Wl,--wrap=malloc,--wrap=realloc,--wrap=free "$out/libgraphql_parser.a" && "$out/refused"
+}
+
+rust_tests() {
+    (cd "$here/rust" && cargo test --quiet --offline) >"$out/rust.log" 2>&1 || {
+        cat "$out/rust.log"
+        return 1
+    }
+}
+
+rust_example() {
+    (cd "$here/rust" && cargo build --quiet --offline --example read) && reads_all "$CARGO_TARGET_DIR/debug/examples/read"
+}
+
+python_tests() {
+    (cd "$here/python" && python3 -m unittest --quiet test_graphql_parser) >"$out/python.log" 2>&1 || {
+        cat "$out/python.log"
+        return 1
+    }
+}
+
+python_example() {
+    reads_all python3 "$here/python/example.py"
+}
+
+export CARGO_TARGET_DIR="$out/cargo" PYTHONDONTWRITEBYTECODE=1 GRAPHQL_PARSER_LIB="$out"
+
+if ! has cc; then
+    # Cargo links by it, and it makes the shared object that Python loads.
+    for name in C Rust Python; do
+        skip "$name" "there is no cc"
+    done
+elif ! "$here/build.sh"; then
+    echo "the library isn't built"
+    failed="$failed build"
+else
+    language C c_example c_example_by_the_shared_object c_calls c_refused_memory
+    if has cargo; then
+        language Rust rust_tests rust_example
+    else
+        skip Rust "there is no cargo"
+    fi
+    if has python3; then
+        language Python python_tests python_example
+    else
+        skip Python "there is no python3"
+    fi
+fi
+echo "bindings/check.sh: passed:${passed:- none}; skipped:${skipped:- none}; failed:${failed:- none}"
+[ -z "$failed" ]

@@ -1,0 +1,126 @@
+/* graphql_parser: a parser of GraphQL requests and schema files whose every function is proved.
+ *
+ * Two calls for each language. A check tells by a status, and by up to two places, whether a text is a request or a
+ * schema file. A parse tells the same, and hands over the tree, or the error, as JSON.
+ *
+ * Needs Linux on x86-64-v2 (Intel from Nehalem on, AMD from Bulldozer on). Of the C library it calls `malloc`, `realloc`,
+ * `free`, `memcpy`, `memmove` and `memset`, and nothing else. README.md, beside this file, says how to link it.
+ *
+ * Any number of threads may call at once: a call keeps nothing between calls and shares nothing with another. It takes
+ * less than 256 KiB of stack. Don't call from a signal handler, or from the child of a fork of a process with threads.
+ */
+#ifndef GRAPHQL_PARSER_H
+#define GRAPHQL_PARSER_H
+
+#include <stdbool.h>
+#include <stddef.h>
+#include <stdint.h>
+
+#ifdef __cplusplus
+extern "C" {
+#endif
+
+/* What a call tells. The numbers never change; a later version may add others. */
+enum {
+    /* The text is a document of the language, within the limits: it has one tree, which breaks no rule. */
+    GRAPHQL_PARSER_ACCEPTED = 0,
+    /* `malloc` or `realloc` gave nothing. Nothing is known of the text. */
+    GRAPHQL_PARSER_OUT_OF_MEMORY = 1,
+    /* The bytes aren't UTF-8. They weren't read. */
+    GRAPHQL_PARSER_NOT_UTF8 = 2,
+    /* One of the limits is over GRAPHQL_PARSER_LARGEST_LIMIT. The text wasn't read. */
+    GRAPHQL_PARSER_LIMIT_TOO_LARGE = 3,
+    /* The text has no tree. The token at the first place is refused: what stands before it could still become a
+     * document, and together with it that can't. */
+    GRAPHQL_PARSER_SYNTAX = 4,
+    /* The same, but the refused token could go on if the limits were greater. It names no place. */
+    GRAPHQL_PARSER_RECURSION_LIMIT_EXCEEDED = 5,
+    /* A request has an operation without a name, at the first place, and another operation, at the second. */
+    GRAPHQL_PARSER_MULTIPLE_OPERATIONS = 6,
+    /* Two operations have one name: the later stands at the first place, the earlier at the second. */
+    GRAPHQL_PARSER_OPERATION_DUPLICATED = 7,
+    /* Two fragments have one name: the later stands at the first place, the earlier at the second. */
+    GRAPHQL_PARSER_FRAGMENT_DUPLICATED = 8,
+    /* A request has fragments alone. It names no place. */
+    GRAPHQL_PARSER_MISSING_OPERATION = 9,
+    /* A schema names a kind of operation twice: again at the first place. The schema stands at the second. */
+    GRAPHQL_PARSER_MULTIPLE_ROOTS = 10,
+    /* The schema at the first place has no type for queries. */
+    GRAPHQL_PARSER_MISSING_QUERY_ROOT = 11
+};
+
+/* How deep selection sets, values and types may nest where the caller has no limits of its own: the three arguments
+ * `selections`, `values` and `types` of each call, as in
+ *
+ *     graphql_parser_check_query(text, length, GRAPHQL_PARSER_DEFAULT_LIMITS, &places)
+ */
+#define GRAPHQL_PARSER_DEFAULT_SELECTIONS 64
+#define GRAPHQL_PARSER_DEFAULT_VALUES 64
+#define GRAPHQL_PARSER_DEFAULT_TYPES 64
+#define GRAPHQL_PARSER_DEFAULT_LIMITS \
+    GRAPHQL_PARSER_DEFAULT_SELECTIONS, GRAPHQL_PARSER_DEFAULT_VALUES, GRAPHQL_PARSER_DEFAULT_TYPES
+
+/* The largest number that each of them may be. */
+#define GRAPHQL_PARSER_LARGEST_LIMIT 256
+
+/* A place in the text: the line and the column, both counted from 1, the column in characters (Unicode scalar values).
+ * 0:0 is no place. */
+typedef struct {
+    size_t line;
+    size_t column;
+} graphql_parser_place;
+
+/* The places that a status is about, the most important first; 0:0 stands for each that there isn't. */
+typedef struct {
+    graphql_parser_place first;
+    graphql_parser_place second;
+} graphql_parser_places;
+
+/* A text of JSON, in UTF-8. It does not end with a zero byte: `length` is its length in bytes.
+ *
+ * Begin with GRAPHQL_PARSER_NO_JSON. A parse that sets it makes the block at `start` yours: give it back, once, by
+ * `free((void *)json.start)`, of the same C library (or of what took its place) whose `malloc` the program has. */
+typedef struct {
+    const uint8_t *start;
+    size_t length;
+} graphql_parser_json;
+
+#define GRAPHQL_PARSER_NO_JSON { (const uint8_t *)"", 0 }
+
+/* Tells whether a text is a request, or a schema file.
+ *
+ * text, length             the text, in UTF-8. `text` is not null, even where `length` is 0.
+ * selections, values,      how deep each of these may nest, 0 to 256: the selection sets inside an operation's or a
+ * types                    fragment's own set, the lists and objects of one value, the lists of one type. A schema file
+ *                          has no selection sets, so there the first number is looked at and makes no difference.
+ * places                   is written on every call. What stood there isn't read.
+ *
+ * The answer is one of the statuses above. Where two apply, the limits are told first, then UTF-8, then what the text
+ * is. All memory that is taken is given back before the call returns. */
+uint32_t graphql_parser_check_query(
+    const uint8_t *text, size_t length, size_t selections, size_t values, size_t types, graphql_parser_places *places);
+uint32_t graphql_parser_check_schema(
+    const uint8_t *text, size_t length, size_t selections, size_t values, size_t types, graphql_parser_places *places);
+
+/* The same, and hands over JSON.
+ *
+ * with_places              whether each node of the tree is written with its `line` and `column`.
+ * json                     GRAPHQL_PARSER_NO_JSON before the call. After GRAPHQL_PARSER_ACCEPTED it is the tree, in the
+ *                          form of GraphQL.js. After GRAPHQL_PARSER_OUT_OF_MEMORY, GRAPHQL_PARSER_NOT_UTF8 and
+ *                          GRAPHQL_PARSER_LIMIT_TOO_LARGE it is as it was, and there is nothing to give back. After any
+ *                          other status it is the error, as an entry of `errors` in a response: its `message`, and its
+ *                          `locations` where it has places.
+ *
+ * `text`, `places` and `json` don't overlap. */
+uint32_t graphql_parser_parse_query(
+    const uint8_t *text, size_t length, size_t selections, size_t values, size_t types, bool with_places,
+    graphql_parser_places *places, graphql_parser_json *json);
+uint32_t graphql_parser_parse_schema(
+    const uint8_t *text, size_t length, size_t selections, size_t values, size_t types, bool with_places,
+    graphql_parser_places *places, graphql_parser_json *json);
+
+#ifdef __cplusplus
+}
+#endif
+
+#endif

@@ -1,0 +1,4 @@
+-- Public: what a reader of the contracts of the calls in C has to believe.
+pub mod Handing
+pub mod Statuses
+pub mod Telling

@@ -1,0 +1,83 @@
+//! How a tree, or an error, is handed over as JSON.
+ghost use Rattle.std.specs.Prelude.{◌≡◌, ◌⊎◌, Err, IfOk, IsErr, Result as SpecResult};
+ghost use Rattle.std.specs.Str.{IsUtf8};
+ghost use Rattle.graphql_grammar.specs.declared.error.Error.{Error as SpecError};
+ghost use Rattle.graphql_grammar.specs.declared.error.Error.TheVariants.{OutOfMemory};
+ghost use Rattle.graphql_parser_c.specs.Handing.{IsHanded};
+ghost use Rattle.graphql_parser_c.specs.Statuses.{number_of, status_of};
+ghost use Rattle.graphql_parser_c.specs.Telling.{IsTold, limits_of, places_of};
+
+use crate::documents::Document;
+use crate::status::Status;
+use crate::telling::{Places, Question, ReadableText, tell};
+use graphql_json::error_json;
+use graphql_parser::{Error, Result};
+use std::alloc::{AllocError, Global};
+
+/// JSON, in a block of the program's `malloc`, which whoever is handed it gives back by `free`.
+#[repr(C)]
+#[derive(Clone, Copy)]
+pub struct Json {
+    /// The text, in UTF-8.
+    pub bytes: &'static [u8],
+}
+
+// The JSON of an answer; an error says that memory was refused, to the parser or to the writer.
+fn written<D: Document>(
+    alloc: Global,
+    answer: &Result<D>,
+    with_places: bool,
+) -> std::result::Result<Vec<u8>, AllocError>
+    ensures text { IfOk result (λ json. IsUtf8 json.items) }
+    ensures memory { answer.now ≡ Err OutOfMemory → IsErr result }
+{
+    match answer {
+        Ok(document) if with_places => document.json(alloc, graphql_json::Places::Written),
+        Ok(document) => document.json(alloc, graphql_json::Places::LeftOut),
+        Err(Error::OutOfMemory) => Err(AllocError),
+        Err(error) => error_json(alloc, error),
+    }
+}
+
+// Tells an answer and hands over its JSON; or, where memory was refused to the JSON, tells that alone.
+fn hand_over<D: Document>(
+    alloc: Global,
+    answer: &Result<D>,
+    with_places: bool,
+    places: &mut Places,
+    json: &mut Json,
+) -> Status
+    ensures told { (told : SpecResult D SpecError) × ((told ≡ answer.now) ⊎ (told ≡ Err OutOfMemory)) × (result ≡ status_of told) × (places.new ≡ places_of told) }
+    ensures handed { IsHanded (number_of result) json.old json.new }
+{
+    let Ok(bytes) = written(alloc, answer, with_places) else {
+        *places = Places::none();
+        return Status::OutOfMemory;
+    };
+    *json = Json {
+        bytes: bytes.leak(),
+    };
+    tell(answer, places)
+}
+
+/// Reads a text, tells the answer, and hands over its JSON.
+pub fn parse<D: Document>(
+    alloc: Global,
+    question: &Question<'_>,
+    with_places: bool,
+    places: &mut Places,
+    json: &mut Json,
+) -> u32
+    ensures told { IsTold D.language (limits_of question.now.selections question.now.values question.now.types) question.now.text.now result places.new }
+    ensures handed { IsHanded result json.old json.new }
+{
+    let ReadableText { text, limits } = match question.readable() {
+        Ok(readable) => readable,
+        Err(status) => {
+            *places = Places::none();
+            return status.number();
+        }
+    };
+    let answer = D::read(alloc, text, limits);
+    hand_over(alloc, &answer, with_places, places, json).number()
+}

@@ -1,0 +1,132 @@
+//! `graphql_parser` for callers that are not Rattle: a static library with two functions of C for each language.
+//!
+//! A check tells whether a text is a request or a schema file, by a status and up to two places, and keeps no tree. A
+//! parse tells the same, and hands over the tree, or the error, as JSON. `bindings/graphql_parser.h` declares the four
+//! functions and says what a caller owes; `bindings/README.md` says how to link them.
+//!
+//! Proved of each call, for every text and all limits: its status and its places are those of the parser's one answer
+//! for that text, as `graphql_parser` promises it, or the status says that a limit is too large or that the text isn't
+//! UTF-8, exactly where that is so. JSON is handed over exactly where the status is about the text, and it is UTF-8.
+//! That the JSON says what the tree or the error says is tested, here and in `conformance_json`.
+#![tactic(auto)]
+
+ghost use Rattle.graphql_parser.specs.requests.Requests.{requests};
+ghost use Rattle.graphql_parser.specs.schemas.Schemas.{schemas};
+ghost use Rattle.graphql_parser_c.specs.Handing.{IsHanded};
+ghost use Rattle.graphql_parser_c.specs.Telling.{IsTold, limits_of};
+
+mod documents;
+mod handing;
+mod status;
+mod telling;
+#[cfg(test)]
+mod tests;
+
+use graphql_parser::types::{ExecutableDocument, ServiceDocument};
+pub use handing::Json;
+use handing::parse;
+use std::alloc::Global;
+pub use telling::{Place, Places};
+use telling::{Question, check};
+
+/// Tells whether a text is a request: gives the number of a `Status`, and writes the places that it is about.
+///
+/// `text` is in UTF-8. `selections`, `values` and `types` say how deep selection sets, values and types may nest, each at
+/// most 256. `places` is written on every call: 0:0 stands where there is no place. It takes memory for the tree, and
+/// gives it back.
+#[unsafe(no_mangle)]
+pub extern "C" fn graphql_parser_check_query(
+    alloc: Global,
+    text: &[u8],
+    selections: usize,
+    values: usize,
+    types: usize,
+    places: &mut Places,
+) -> u32
+    ensures { IsTold requests (limits_of selections values types) text.now result places.new }
+{
+    let question = Question {
+        text,
+        selections,
+        values,
+        types,
+    };
+    check::<ExecutableDocument>(alloc, &question, places)
+}
+
+/// Tells whether a text is a schema file, as [`graphql_parser_check_query`] does of a request.
+///
+/// A schema file has no selection sets: `selections` makes no difference, but it may not be over 256 either.
+#[unsafe(no_mangle)]
+pub extern "C" fn graphql_parser_check_schema(
+    alloc: Global,
+    text: &[u8],
+    selections: usize,
+    values: usize,
+    types: usize,
+    places: &mut Places,
+) -> u32
+    ensures { IsTold schemas (limits_of selections values types) text.now result places.new }
+{
+    let question = Question {
+        text,
+        selections,
+        values,
+        types,
+    };
+    check::<ServiceDocument>(alloc, &question, places)
+}
+
+/// Reads a request as [`graphql_parser_check_query`] does, and hands over its tree as JSON, or its error.
+///
+/// The JSON is that of `graphql_json`: for an accepted text `request_json`, in which each node has its place where
+/// `with_places` is true; for a refused one `error_json`. It is handed over in a block of the program's `malloc`, which
+/// the caller gives back by `free`. Where memory was refused, a limit is too large or the text isn't UTF-8, `json` is
+/// left as it was.
+#[unsafe(no_mangle)]
+pub extern "C" fn graphql_parser_parse_query(
+    alloc: Global,
+    text: &[u8],
+    selections: usize,
+    values: usize,
+    types: usize,
+    with_places: bool,
+    places: &mut Places,
+    json: &mut Json,
+) -> u32
+    ensures told { IsTold requests (limits_of selections values types) text.now result places.new }
+    ensures handed { IsHanded result json.old json.new }
+{
+    let question = Question {
+        text,
+        selections,
+        values,
+        types,
+    };
+    parse::<ExecutableDocument>(alloc, &question, with_places, places, json)
+}
+
+/// Reads a schema file as [`graphql_parser_check_schema`] does, and hands over its tree as JSON, or its error, as
+/// [`graphql_parser_parse_query`] does of a request.
+#[unsafe(no_mangle)]
+pub extern "C" fn graphql_parser_parse_schema(
+    alloc: Global,
+    text: &[u8],
+    selections: usize,
+    values: usize,
+    types: usize,
+    with_places: bool,
+    places: &mut Places,
+    json: &mut Json,
+) -> u32
+    ensures told { IsTold schemas (limits_of selections values types) text.now result places.new }
+    ensures handed { IsHanded result json.old json.new }
+{
+    let question = Question {
+        text,
+        selections,
+        values,
+        types,
+    };
+    parse::<ServiceDocument>(alloc, &question, with_places, places, json)
+}

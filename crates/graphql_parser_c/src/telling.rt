@@ -1,0 +1,123 @@
+//! How an answer is told: its status and its places.
+ghost use Rattle.std.specs.Prelude.{◌≡◌, MatchResult};
+ghost use Rattle.std.specs.Str.{IsUtf8};
+ghost use Rattle.graphql_parser.specs.notation.Limits.{IsAllowed};
+ghost use Rattle.graphql_parser_c.specs.Statuses.{status_of};
+ghost use Rattle.graphql_parser_c.specs.Telling.{IsTold, IsUnread, limits_of, nowhere, place_of, places_of};
+
+use crate::documents::Document;
+use crate::status::{Status, status_of_error};
+use graphql_parser::{Limits, Pos, Result};
+use std::alloc::Global;
+
+/// A place in a text: the line and the column, both counted from 1, the column in characters (Unicode scalar values).
+/// 0:0 stands where there is no place.
+#[repr(C)]
+#[derive(Clone, Copy, Debug, PartialEq, Eq)]
+pub struct Place {
+    /// The line, counted from 1.
+    pub line: usize,
+    /// The column in its line, in characters, counted from 1.
+    pub column: usize,
+}
+
+/// The places that a status is about, the most important first.
+#[repr(C)]
+#[derive(Clone, Copy, Debug, PartialEq, Eq)]
+pub struct Places {
+    /// The most important place.
+    pub first: Place,
+    /// The other place, where an error names two.
+    pub second: Place,
+}
+
+impl Place {
+    const NONE: Place = Place { line: 0, column: 0 };
+
+    fn of(place: Option<Pos>) -> Place
+        ensures { result ≡ place_of place }
+    {
+        match place {
+            Some(Pos { line, column }) => Place { line, column },
+            None => Place::NONE,
+        }
+    }
+}
+
+impl Places {
+    /// No place at all.
+    pub fn none() -> Places
+        ensures { result ≡ nowhere }
+    {
+        Places {
+            first: Place::NONE,
+            second: Place::NONE,
+        }
+    }
+}
+
+/// What a caller asks: the bytes of a text, and how deep selection sets, values and types may nest.
+#[derive(Clone, Copy)]
+pub struct Question<'a> {
+    pub text: &'a [u8],
+    pub selections: usize,
+    pub values: usize,
+    pub types: usize,
+}
+
+/// A text that can be read, and the limits to read it within.
+#[derive(Clone, Copy)]
+pub struct ReadableText<'a> {
+    pub text: &'a str,
+    pub limits: Limits,
+}
+
+impl<'a> Question<'a> {
+    /// The text and the limits, or the status that says why the text can't be read. The limits are looked at first.
+    pub fn readable(&self) -> std::result::Result<ReadableText<'a>, Status>
+        ensures { let limits = limits_of self.now.selections self.now.values self.now.types in MatchResult result (λ r. (r.text.now ≡ self.now.text.now) × (r.limits ≡ limits) × IsAllowed limits × IsUtf8 self.now.text.now) (λ status. IsUnread limits self.now.text.now status) }
+    {
+        let Some(limits) = Limits::new(self.selections, self.values, self.types) else {
+            return Err(Status::LimitTooLarge);
+        };
+        let Ok(text) = std::str::from_utf8(self.text) else {
+            return Err(Status::NotUtf8);
+        };
+        Ok(ReadableText { text, limits })
+    }
+}
+
+/// Tells an answer: gives its status, and writes its places.
+pub fn tell<D>(answer: &Result<D>, places: &mut Places) -> Status
+    ensures status { result ≡ status_of answer.now }
+    ensures places { places.new ≡ places_of answer.now }
+{
+    match answer {
+        Ok(_) => {
+            *places = Places::none();
+            Status::Accepted
+        }
+        Err(error) => {
+            let mut positions = error.positions();
+            let first = Place::of(positions.next());
+            let second = Place::of(positions.next());
+            *places = Places { first, second };
+            status_of_error(error)
+        }
+    }
+}
+
+/// Reads a text and tells the answer, without its tree.
+pub fn check<D: Document>(alloc: Global, question: &Question<'_>, places: &mut Places) -> u32
+    ensures { IsTold D.language (limits_of question.now.selections question.now.values question.now.types) question.now.text.now result places.new }
+{
+    let ReadableText { text, limits } = match question.readable() {
+        Ok(readable) => readable,
+        Err(status) => {
+            *places = Places::none();
+            return status.number();
+        }
+    };
+    let answer = D::read(alloc, text, limits);
+    tell(&answer, places).number()
+}
