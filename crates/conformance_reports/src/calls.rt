@@ -7,6 +7,7 @@ use std::alloc::{AllocError, Global};
 use std::test::Fail;
 
 /// The report of a text that is read so, at these limits.
+#[derive(Clone, Copy)]
 pub struct Report {
     pub language: Language,
     pub limits: (usize, usize, usize),

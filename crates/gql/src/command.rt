@@ -40,7 +40,7 @@ pub enum Asked<'a> {
 }
 
 /// What these arguments ask for: those after the program's name.
-pub fn asked<'a>(alloc: Global, words: &'a [String]) -> Result<Asked<'a>, AllocError> {
+pub fn command_of<'a>(alloc: Global, words: &'a [String]) -> Result<Asked<'a>, AllocError> {
     let Some((first, words)) = words.split_first() else {
         return Ok(Asked::Wrong);
     };

@@ -9,6 +9,7 @@
 mod check;
 mod command;
 mod listed;
+mod output;
 mod program;
 mod texts;
 #[cfg(test)]

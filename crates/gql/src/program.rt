@@ -1,12 +1,13 @@
 //! The program's work, over any source of texts and any writers.
 ghost use Rattle.std.specs.Prelude.{◌≤◌, IfOk};
 
-use crate::check::{error_of, language_of};
-use crate::command::{Asked, Call, Command, asked};
+use crate::check::{Input, check_inputs, read_as, summary};
+use crate::command::{Asked, Call, Command, command_of};
 use crate::listed::token_lines;
-use crate::texts::{Texts, Unread, text_of};
+use crate::output::{Stop, complain, complain_of_file, put, shown_name};
+use crate::texts::{Texts, text_of};
 use graphql_json::{Places, request_json, schema_json};
-use graphql_parser::{parse_query_limited, parse_schema_limited};
+use graphql_parser::{Error, parse_query_limited, parse_schema_limited};
 use graphql_report::{Language, explain};
 use std::alloc::{AllocError, Global};
 use std::io::Write;
@@ -37,56 +38,6 @@ Options:
 Reports go to standard error. The status is 0 where all files are good, 1 where one is refused, and 2 where one
 can't be read, where the output can't be written, and for a wrong call.
 ";
-
-/// How many files were good, refused, and without a text.
-#[derive(Clone, Copy, Debug, PartialEq, Eq)]
-pub struct Tally {
-    pub good: usize,
-    pub refused: usize,
-    pub unread: usize,
-}
-
-impl Tally {
-    /// The exit status: 2 where a file had no text, else 1 where one was refused, else 0.
-    pub fn status(self) -> u8
-        ensures { result ≤ 2 }
-    {
-        if self.unread > 0 {
-            2
-        } else if self.refused > 0 {
-            1
-        } else {
-            0
-        }
-    }
-}
-
-// Why the work stops, with status 2.
-#[derive(Clone, Copy, Debug, PartialEq, Eq)]
-enum Stop {
-    Unwritable,
-    NoMemory,
-}
-
-impl From<AllocError> for Stop {
-    fn from(_refused: AllocError) -> Stop {
-        Stop::NoMemory
-    }
-}
-
-// Writes the whole text.
-fn put<W: Write>(to: &mut W, text: &str) -> Result<(), Stop> {
-    if to.write_all(text.as_bytes()).is_ok() && to.flush().is_ok() {
-        Ok(())
-    } else {
-        Err(Stop::Unwritable)
-    }
-}
-
-// Writes a text to standard error. A failure there changes no status.
-fn complain<W: Write>(to: &mut W, text: &str) {
-    let _ = put(to, text);
-}
 
 /// Does the work of the program, and gives the exit status: 0, or 1 where a text is refused, or 2 for wrong arguments, a
 /// file that can't be read or is no UTF-8, output that can't be written, and memory that is refused.
@@ -125,7 +76,7 @@ fn served<T: Texts, O: Write, E: Write>(
     ensures { IfOk result (λ status. status ≤ 2) }
 {
     let asked = match words {
-        Some(words) => asked(alloc, words)?,
+        Some(words) => command_of(alloc, words)?,
         None => Asked::Wrong,
     };
     match asked {
@@ -148,26 +99,20 @@ fn served<T: Texts, O: Write, E: Write>(
     }
 }
 
-// Tells why there is no text.
-fn complain_of_file<E: Write>(
+// The texts of all files.
+fn inputs_of<'a, T: Texts>(
     alloc: Global,
-    name: &str,
-    why: Unread,
-    err: &mut E,
-) -> Result<(), AllocError> {
-    let why = match why {
-        Unread::Unreadable => "cannot be read",
-        Unread::NotText => "is not UTF-8",
-        Unread::NoMemory => return Err(AllocError),
-    };
-    let line = format!(in alloc; "gql: {name} {why}\n")?;
-    complain(err, line.as_str());
-    Ok(())
-}
-
-// The name by which a file is told.
-fn shown_name(name: &str) -> &str {
-    if name == "-" { "(standard input)" } else { name }
+    call: &Call<'a>,
+    texts: &mut T,
+) -> Result<Vec<Input<'a>>, AllocError> {
+    let mut inputs = Vec::new(alloc);
+    for name in &call.files {
+        inputs.push(Input {
+            name: shown_name(name),
+            text: text_of(alloc, texts, name),
+        })?;
+    }
+    Ok(inputs)
 }
 
 // `check`: a report of each file that is refused, and how many there were of each kind.
@@ -180,79 +125,13 @@ fn check<T: Texts, O: Write, E: Write>(
 ) -> Result<u8, Stop>
     ensures { IfOk result (λ status. status ≤ 2) }
 {
-    let mut tally = Tally {
-        good: 0,
-        refused: 0,
-        unread: 0,
-    };
-    for name in &call.files {
-        match text_of(alloc, texts, name) {
-            Ok(text) => {
-                let name = shown_name(name);
-                if is_good(alloc, call, name, text.as_str(), err)? {
-                    tally.good = tally.good.saturating_add(1);
-                    if call.is_verbose {
-                        put(out, format!(in alloc; "{name}: good\n")?.as_str())?;
-                    }
-                } else {
-                    tally.refused = tally.refused.saturating_add(1);
-                }
-            }
-            Err(why) => {
-                complain_of_file(alloc, shown_name(name), why, err)?;
-                tally.unread = tally.unread.saturating_add(1);
-            }
-        }
+    let inputs = inputs_of(alloc, call, texts)?;
+    let told = check_inputs(alloc, call.limits, call.language, inputs.as_slice(), err)?;
+    if call.is_verbose {
+        put(out, told.lines.as_str())?;
     }
-    put(out, summary(alloc, tally)?.as_str())?;
-    Ok(tally.status())
-}
-
-// Whether a text is good; where it isn't, its report is written.
-fn is_good<E: Write>(
-    alloc: Global,
-    call: &Call<'_>,
-    name: &str,
-    text: &str,
-    err: &mut E,
-) -> Result<bool, AllocError> {
-    let language = read_as(call, text);
-    match error_of(alloc, language, text, call.limits)? {
-        None => Ok(true),
-        Some(error) => {
-            let report = explain(alloc, language, name, text, call.limits, &error)?;
-            complain(err, report.as_str());
-            Ok(false)
-        }
-    }
-}
-
-// What a text is read as: by the options, or as it tells itself.
-fn read_as(call: &Call<'_>, text: &str) -> Language {
-    match call.language {
-        Some(language) => language,
-        None => language_of(text),
-    }
-}
-
-// How many files there were, as `3 files: 1 good, 1 refused, 1 not read`.
-fn summary(alloc: Global, tally: Tally) -> Result<String, AllocError> {
-    let Tally {
-        good,
-        refused,
-        unread,
-    } = tally;
-    let count = good.saturating_add(refused).saturating_add(unread);
-    let files = if count == 1 { "file" } else { "files" };
-    let mut line = format!(in alloc; "{count} {files}: {good} good")?;
-    if refused > 0 {
-        write!(line, ", {refused} refused")?;
-    }
-    if unread > 0 {
-        write!(line, ", {unread} not read")?;
-    }
-    line.push('\n')?;
-    Ok(line)
+    put(out, summary(alloc, told.tally)?.as_str())?;
+    Ok(told.status)
 }
 
 // `tree` and `tokens`: what is printed of the one file.
@@ -279,32 +158,51 @@ fn print_one<T: Texts, O: Write, E: Write>(
         put(out, lines.as_str())?;
         return Ok(if is_whole { 0 } else { 1 });
     }
-    if !is_good(alloc, call, shown_name(name), text, err)? {
-        return Ok(1);
+    let language = read_as(call.language, text);
+    match tree_json(alloc, call, language, text)? {
+        Ok(json) => {
+            if out.write_all(json.as_slice()).is_err() || out.flush().is_err() {
+                return Err(Stop::Unwritable);
+            }
+            Ok(0)
+        }
+        Err(error) => {
+            let name = shown_name(name);
+            let report = explain(alloc, language, name, text, call.limits, &error)?;
+            complain(err, report.as_str());
+            Ok(1)
+        }
     }
-    let mut json = tree_json(alloc, call, text)?;
-    json.push(b'\n')?;
-    if out.write_all(json.as_slice()).is_err() || out.flush().is_err() {
-        return Err(Stop::Unwritable);
-    }
-    Ok(0)
 }
 
-// The tree of a good text as JSON.
-fn tree_json(alloc: Global, call: &Call<'_>, text: &str) -> Result<Vec<u8>, AllocError> {
+// The tree of a text as JSON with a line feed after it, or the text's error.
+fn tree_json(
+    alloc: Global,
+    call: &Call<'_>,
+    language: Language,
+    text: &str,
+) -> Result<Result<Vec<u8>, Error>, AllocError> {
     let places = if call.has_places {
         Places::Written
     } else {
         Places::LeftOut
     };
-    match read_as(call, text) {
+    let json = match language {
         Language::Requests => match parse_query_limited(alloc, text, call.limits) {
-            Ok(document) => request_json(alloc, &document, places),
-            Err(_) => Err(AllocError),
+            Ok(document) => Ok(request_json(alloc, &document, places)?),
+            Err(error) => Err(error),
         },
         Language::Schemas => match parse_schema_limited(alloc, text, call.limits) {
-            Ok(document) => schema_json(alloc, &document, places),
-            Err(_) => Err(AllocError),
+            Ok(document) => Ok(schema_json(alloc, &document, places)?),
+            Err(error) => Err(error),
         },
+    };
+    match json {
+        Ok(mut json) => {
+            json.push(b'\n')?;
+            Ok(Ok(json))
+        }
+        Err(Error::OutOfMemory) => Err(AllocError),
+        Err(error) => Ok(Err(error)),
     }
 }

@@ -44,7 +44,7 @@ pub same-token : (u v : List Token) (s t : Token) (x y : List Token) → u ++ s 
 same-token [] [] s t x y e n = cc
 same-token [] (r ∷ v) s t x y e n = absurd (omega (arith, n))
 same-token (r ∷ u) [] s t x y e n = absurd (omega (arith, n))
-same-token (r ∷ u) (q ∷ v) s t x y e n = same-token u v s t x y cc (omega (arith, n))
+same-token (r ∷ u) (q ∷ v) s t x y e n = same-token u v s t x y (cc) (omega (arith, n))
 
 quiet-last : (u : List Token) (t : Token) → Quiet (u ++ t ∷ []) → is_last t.bare.kind ≡ false
 quiet-last [] t q = q.0
@@ -54,8 +54,14 @@ end-is-last : (t : Token) → t.bare.kind ≡ End → is_last t.bare.kind ≡ fa
 end-is-last t e other = let last : is_last t.bare.kind ≡ true = ap is_last e in cc
 
 -- the outcome of a reader, and then the end of the text
+abbrev pair-up : {A : Type 0} → A → Token → List Token → Outcome (A × Token)
+pair-up d e rest = Read (d, e) rest
+
+abbrev first-of : {A : Type 0} → Outcome (A × Token) → Outcome A
+first-of o = o >>= λ x rest. Read x.0 rest
+
 abbrev closed : {A : Type 0} → A → Outcome Token → Outcome A
-closed d o = (o >>= λ e rest. Read (d, e) rest) >>= λ x rest. Read x.0 rest
+closed d o = first-of (o >>= pair-up d)
 
 -- the token that the limits refuse is not the end of the text
 pub limit-not-end : {D Document : Type 0} (language : Language D Document) (reader : Limits → Reader (List D)) → IsRead language reader → (b : Limits) (ts : List Token) → EndsOnce ts → AreProperButFaults ts → (r : RefusedToken (grammar language Current) b ts limit) → r.token.bare.kind ≡ End → ⊥

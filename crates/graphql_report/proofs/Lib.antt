@@ -1,3 +1,3 @@
 mod Lines
 mod Depths
-mod Fronts
+mod ToldFronts

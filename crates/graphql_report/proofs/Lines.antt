@@ -30,8 +30,8 @@ no-more (c ∷ x) y e h = cc
 
 last-lined : (x y before : List ℕ) → before ++ 10 ∷ [] ≡ x ++ y → 1 ≤ length y → 1 ≤ line_feeds y
 last-lined [] y before e h = let n = line_feeds-append before (10 ∷ []) in subst (λ (l : List ℕ). 1 ≤ line_feeds l) e (omega (arith, n))
-last-lined (c ∷ x) y [] e h = absurd (no-more x y cc h)
-last-lined (c ∷ x) y (b ∷ before) e h = last-lined x y before cc h
+last-lined (c ∷ x) y [] e h = absurd (no-more x y (cc) h)
+last-lined (c ∷ x) y (b ∷ before) e h = last-lined x y before (cc) h
 
 pub is-lined : (text : List ℕ) → LastIsLineFeed text → IsLined text
 is-lined text last = record { by = λ x y e h. last-lined x y last.before (sym last.is ∙ e) h }

@@ -68,6 +68,7 @@ pub fn offset_of(text: &str, place: Pos) -> usize {
 
 /// Adds the line in which this offset lies, after its number, and below it a caret under the offset.
 pub fn push_excerpt(
+    alloc: Global,
     out: &mut String,
     text: &str,
     line: usize,
@@ -81,8 +82,8 @@ pub fn push_excerpt(
     let end = first_part(back, COLUMNS_AFTER);
     let left = after(front, start);
     let right = before(back, end);
-    let digits = width_of_number(line);
-    write!(out, " {line} | ")?;
+    let number = format!(in alloc; "{line}")?;
+    write!(out, " {number} | ")?;
     if start > 0 {
         out.push_str(CUT)?;
     }
@@ -92,7 +93,7 @@ pub fn push_excerpt(
         out.push_str(CUT)?;
     }
     out.push('\n')?;
-    for _ in 0..digits {
+    for _ in 0..number.len() {
         out.push(' ')?;
     }
     out.push_str("  | ")?;
@@ -102,15 +103,6 @@ pub fn push_excerpt(
     push_padding(out, left)?;
     out.push_str("^\n")?;
     Ok(())
-}
-
-fn width_of_number(mut number: usize) -> usize {
-    let mut digits = 1usize;
-    while number > 9 {
-        number /= 10;
-        digits = digits.saturating_add(1);
-    }
-    digits
 }
 
 fn push_shown(out: &mut String, text: &str) -> Result<(), AllocError> {

@@ -4,14 +4,6 @@ use graphql_parser::Limits;
 use graphql_parser::lexer::{Token, Tokens};
 use std::alloc::{AllocError, Global};
 
-/// A text, what it is read as, and the limits: what a report is made from.
-#[derive(Clone, Copy)]
-pub struct Source<'a> {
-    pub language: Language,
-    pub text: &'a str,
-    pub limits: Limits,
-}
-
 /// The part of `text` before this offset; the whole text where the offset is none of its.
 pub fn before(text: &str, offset: usize) -> &str {
     match text.split_at_checked(offset) {
@@ -32,26 +24,29 @@ pub fn after(text: &str, offset: usize) -> &str {
 // be used again.
 fn is_front_up_to(
     alloc: Global,
-    source: Source<'_>,
+    language: Language,
+    text: &str,
     limits: Limits,
     last: &Token<'_>,
     buffer: &mut String,
 ) -> Result<bool, AllocError> {
     buffer.clear();
-    buffer.push_str(before(source.text, last.start))?;
+    buffer.push_str(before(text, last.start))?;
     buffer.push_str(last.text)?;
     buffer.push('\n')?;
-    is_front(alloc, source.language, buffer.as_str(), limits)
+    is_front(alloc, language, buffer.as_str(), limits)
 }
 
 /// The refused token of a text that has one: the first token such that no document within the limits begins with the
 /// tokens up to it, itself included. It is found by halving, as a longer front is viable only where a shorter one is.
 pub fn refused_token<'a>(
     alloc: Global,
-    source: Source<'a>,
+    language: Language,
+    text: &'a str,
+    limits: Limits,
 ) -> Result<Option<Token<'a>>, AllocError> {
-    let tokens: Vec<Token<'a>> = Tokens::new(source.text).collect(alloc)?;
-    let mut buffer = String::with_capacity(alloc, source.text.len().saturating_add(1))?;
+    let tokens: Vec<Token<'a>> = Tokens::new(text).collect(alloc)?;
+    let mut buffer = String::with_capacity(alloc, text.len().saturating_add(1))?;
     // The tokens before `low` are a viable front; those up to `high` are none, or it is the last.
     let mut low = 0usize;
     let mut high = tokens.len().saturating_sub(1);
@@ -60,7 +55,7 @@ pub fn refused_token<'a>(
         let Some(token) = tokens.get(middle) else {
             return Ok(None);
         };
-        if is_front_up_to(alloc, source, source.limits, token, &mut buffer)? {
+        if is_front_up_to(alloc, language, text, limits, token, &mut buffer)? {
             low = middle + 1;
         } else {
             high = middle;
@@ -84,10 +79,11 @@ const TYPES: &str = "list types";
 /// be can't be raised; it is the one if no other is.
 pub fn reached_limit(
     alloc: Global,
-    source: Source<'_>,
+    language: Language,
+    text: &str,
+    limits: Limits,
     token: &Token<'_>,
 ) -> Result<Depth, AllocError> {
-    let limits = source.limits;
     let (sets, values, types) = (limits.selections(), limits.values(), limits.types());
     let raised = [
         (SETS, sets, Limits::new(sets + 1, values, types)),
@@ -102,7 +98,7 @@ pub fn reached_limit(
     for (what, most, limits) in raised {
         match limits {
             Some(limits) => {
-                if is_front_up_to(alloc, source, limits, token, &mut buffer)? {
+                if is_front_up_to(alloc, language, text, limits, token, &mut buffer)? {
                     return Ok(Depth { what, most });
                 }
             }

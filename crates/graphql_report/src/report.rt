@@ -3,7 +3,7 @@ use crate::excerpt::{offset_of, push_excerpt};
 use crate::expected::expected_at;
 use crate::faults::fault;
 use crate::fronts::Language;
-use crate::refused::{Source, after, reached_limit, refused_token};
+use crate::refused::{after, reached_limit, refused_token};
 use graphql_parser::lexer::{Token, TokenKind};
 use graphql_parser::{Error, Limits, Pos};
 use std::alloc::{AllocError, Global};
@@ -33,11 +33,6 @@ pub fn explain(
     limits: Limits,
     error: &Error,
 ) -> Result<String, AllocError> {
-    let source = Source {
-        language,
-        text,
-        limits,
-    };
     let mut out = Report {
         file_name,
         text,
@@ -45,7 +40,7 @@ pub fn explain(
     };
     match error {
         Error::Syntax { .. } | Error::RecursionLimitExceeded => {
-            out.push_refusal(alloc, source, error)?
+            out.push_refusal(alloc, language, limits, error)?
         }
         _ => out.push_breach(alloc, error)?,
     }
@@ -62,36 +57,49 @@ struct Report<'a> {
 
 impl Report<'_> {
     // A message, its place, and the line of it.
-    fn push_part(&mut self, place: Pos, offset: usize, message: &str) -> Result<(), AllocError> {
+    fn push_part(
+        &mut self,
+        alloc: Global,
+        place: Pos,
+        offset: usize,
+        message: &str,
+    ) -> Result<(), AllocError> {
         let file_name = self.file_name;
         writeln!(self.out, "{file_name}:{place}: {message}")?;
-        push_excerpt(&mut self.out, self.text, place.line, offset)
+        push_excerpt(alloc, &mut self.out, self.text, place.line, offset)
     }
 
-    fn push_part_at(&mut self, place: Pos, message: &str) -> Result<(), AllocError> {
+    fn push_part_at(
+        &mut self,
+        alloc: Global,
+        place: Pos,
+        message: &str,
+    ) -> Result<(), AllocError> {
         let offset = offset_of(self.text, place);
-        self.push_part(place, offset, message)
+        self.push_part(alloc, place, offset, message)
     }
 
     // A refused text: its refused token, and why it is refused.
     fn push_refusal(
         &mut self,
         alloc: Global,
-        source: Source<'_>,
+        language: Language,
+        limits: Limits,
         error: &Error,
     ) -> Result<(), AllocError> {
-        let Some(token) = refused_token(alloc, source)? else {
+        let text = self.text;
+        let Some(token) = refused_token(alloc, language, text, limits)? else {
             return self.push_plain(error);
         };
         let message = match error {
             Error::RecursionLimitExceeded => {
-                let depth = reached_limit(alloc, source, &token)?;
+                let depth = reached_limit(alloc, language, text, limits, &token)?;
                 let (what, most) = (depth.what, depth.most);
                 format!(in alloc; "recursion limit exceeded: {what} may nest {most} deep")?
             }
-            _ => syntax_message(alloc, source, &token)?,
+            _ => syntax_message(alloc, language, text, limits, &token)?,
         };
-        self.push_part(token.pos, token.start, message.as_str())
+        self.push_part(alloc, token.pos, token.start, message.as_str())
     }
 
     // A text that breaks a rule.
@@ -101,22 +109,22 @@ impl Report<'_> {
         match error {
             Error::OperationDuplicated { first, second, .. }
             | Error::FragmentDuplicated { first, second, .. } => {
-                self.push_part_at(*second, message)?;
-                self.push_part_at(*first, "it is first defined here")
+                self.push_part_at(alloc, *second, message)?;
+                self.push_part_at(alloc, *first, "it is first defined here")
             }
             Error::MultipleOperations {
                 anonymous,
                 operation,
             } => {
                 let message = format!(in alloc; "{message}, and this one has no name")?;
-                self.push_part_at(*anonymous, message.as_str())?;
-                self.push_part_at(*operation, "another operation is here")
+                self.push_part_at(alloc, *anonymous, message.as_str())?;
+                self.push_part_at(alloc, *operation, "another operation is here")
             }
             Error::MultipleRoots { schema, pos, .. } => {
-                self.push_part_at(*pos, message)?;
-                self.push_part_at(*schema, "the schema begins here")
+                self.push_part_at(alloc, *pos, message)?;
+                self.push_part_at(alloc, *schema, "the schema begins here")
             }
-            Error::MissingQueryRoot { pos } => self.push_part_at(*pos, message),
+            Error::MissingQueryRoot { pos } => self.push_part_at(alloc, *pos, message),
             _ => self.push_plain(error),
         }
     }
@@ -130,13 +138,15 @@ impl Report<'_> {
 
 fn syntax_message(
     alloc: Global,
-    source: Source<'_>,
+    language: Language,
+    text: &str,
+    limits: Limits,
     token: &Token<'_>,
 ) -> Result<String, AllocError> {
-    let expected = expected_at(alloc, source, token.start)?;
+    let expected = expected_at(alloc, language, text, limits, token.start)?;
     let mut message = String::from_str(alloc, "syntax error: ")?;
     if matches!(token.kind, TokenKind::Fault) {
-        message.push_str(fault(alloc, after(source.text, token.start))?.as_str())?;
+        message.push_str(fault(alloc, after(text, token.start))?.as_str())?;
     } else {
         message.push_str("found ")?;
         push_found(&mut message, token)?;

@@ -23,15 +23,16 @@ const FILES: &[(&str, &[u8])] = &[
 ];
 
 // A run: its arguments with blanks between them, and what it must do.
-struct Row<'a> {
+#[derive(Clone, Copy)]
+struct Case<'a> {
     words: &'a str,
     status: u8,
     out: &'a str,
     err: &'a str,
 }
 
-fn row<'a>(words: &'a str, status: u8, out: &'a str, err: &'a str) -> Row<'a> {
-    Row {
+fn row<'a>(words: &'a str, status: u8, out: &'a str, err: &'a str) -> Case<'a> {
+    Case {
         words,
         status,
         out,
@@ -54,7 +55,7 @@ fn strings(alloc: Global, words: &str) -> Result<Vec<String>, AllocError> {
     Ok(strings)
 }
 
-fn holds(rt: &impl Abort, alloc: Global, row: &Row<'_>) -> Result<(), AllocError> {
+fn holds(rt: &impl Abort, alloc: Global, row: &Case<'_>) -> Result<(), AllocError> {
     let words = strings(alloc, row.words)?;
     let mut files = Files { files: FILES };
     let mut out = sheet(alloc, MANY);

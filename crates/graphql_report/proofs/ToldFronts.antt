@@ -37,8 +37,8 @@ no-fault : (kind : TokenKind) → is_last kind ≡ false → kind ≡ Fault → 
 no-fault kind other e = let last : is_last kind ≡ true = ap is_last e in cc
 
 proper-of : (t : Token) → (t.bare.kind ≡ Fault → ⊥) → (t.bare.kind ≡ Fault) ⊎ IsProper t → IsProper t
-proper-of t no (inl fault) = absurd (no fault)
-proper-of t no (inr proper) = proper
+proper-of t other (inl fault) = absurd (other fault)
+proper-of t other (inr proper) = proper
 
 last-proper : (u : List Token) (e : Token) → e.bare.kind ≡ End → AreProperButFaults (u ++ e ∷ []) → IsProper e
 last-proper [] e is p = proper-of e (λ fault. clash (sym is ∙ fault)) p.0
@@ -128,12 +128,12 @@ told-syntax language reader read limits text ts end h start r here b tells = go 
     go (inr (other, line)) = (λ t. absurd (let same : r.token.pos ≡ place_behind text = sym here ∙ tells.0 t ∙ h.place in omega (arith, line, ap (λ (p : Pos). p.line) same)), λ f. absurd (not-front language reader read limits ts syntax ends h.proper r other f))
 
 told-limit : {D Document : Type 0} (language : Language D Document) (reader : Limits → Reader (List D)) → IsRead language reader → (limits : Limits) (text : List ℕ) (ts : List Token) (end : Pos) → Ended text ts end → (r : RefusedToken (grammar language Current) limits ts limit) → (b : Bool) → b ≡ false → IsTrue b ↔ IsFront language limits ts
-told-limit language reader read limits text ts end h r b no =
+told-limit language reader read limits text ts end h r b is =
     let ends : EndsOnce ts = cuts_ends Current [] text ts h.cut in
     (λ t. absurd cc, λ f. absurd (not-front language reader read limits ts limit ends h.proper r (limit-not-end language reader read limits ts ends h.proper r) f))
 
 told-tree : {D Document : Type 0} (language : Language D Document) (limits : Limits) (ts : List Token) (ds : List D) → AreProperButFaults ts → grammar language Current limits ts ds → (b : Bool) → b ≡ true → IsTrue b ↔ IsFront language limits ts
-told-tree language limits ts ds proper h b yes = (λ _. tree-front language limits ts ds proper h, λ _. yes)
+told-tree language limits ts ds proper h b is = (λ _. tree-front language limits ts ds proper h, λ _. is)
 
 told : {D Document : Type 0} (language : Language D Document) (reader : Limits → Reader (List D)) → IsRead language reader → (limits : Limits) (text : List ℕ) (ts : List Token) (end : Pos) → Ended text ts end → (error : Error) → ErrorMeans language limits ts error → (b : Bool) → TellsFront error end (Ok b) → IsTrue b ↔ IsFront language limits ts
 told language reader read limits text ts end h (Syntax message start stop) means b tells = told-syntax language reader read limits text ts end h start means.0 means.1 b tells
