@@ -111,9 +111,26 @@ fn reports_end_in_a_line_feed(rt: HostRuntime) -> Result<(), Fail> {
     let alloc = rt.alloc();
     let limits = Limits::default();
     let error = error_of(alloc, Language::Requests, "{a()}", limits).ok_or("accepted")?;
-    let report = explain(alloc, Language::Requests, "q.graphql", "{a()}", limits, &error)?;
-    assert_eq!(rt; report.as_str(), "q.graphql:1:4: syntax error: found \")\", expected a name\n 1 | {a()}\n   |    ^\n");
-    let report = explain(alloc, Language::Schemas, "-", "", limits, &Error::OutOfMemory)?;
+    let report = explain(
+        alloc,
+        Language::Requests,
+        "q.graphql",
+        "{a()}",
+        limits,
+        &error,
+    )?;
+    assert_eq!(rt;
+        report.as_str(),
+        "q.graphql:1:4: syntax error: found \")\", expected a name\n 1 | {a()}\n   |    ^\n"
+    );
+    let report = explain(
+        alloc,
+        Language::Schemas,
+        "-",
+        "",
+        limits,
+        &Error::OutOfMemory,
+    )?;
     assert_eq!(rt; report.as_str(), "-: out of memory\n");
     Ok(())
 }

@@ -59,13 +59,22 @@ impl Found {
 const REQUEST_WORDS: [&str; 4] = ["query", "mutation", "subscription", "fragment"];
 
 const SCHEMA_WORDS: [&str; 9] = [
-    "schema", "extend", "scalar", "type", "interface", "union", "enum", "input", "directive",
+    "schema",
+    "extend",
+    "scalar",
+    "type",
+    "interface",
+    "union",
+    "enum",
+    "input",
+    "directive",
 ];
 
 // What a text is: told by its first token that decides, which is a keyword of a definition, a string, with which
 /// descriptions begin, or `{` as the very first token. Where none decides, it is a request.
 fn language_of(text: &str) -> Language {
-    for (index, token) in Tokens::new(text).enumerate() {
+    let mut is_first = true;
+    for token in Tokens::new(text) {
         let is_word = token.kind.is_name();
         if is_word && SCHEMA_WORDS.contains(&token.text) {
             return Language::Schemas;
@@ -73,9 +82,10 @@ fn language_of(text: &str) -> Language {
         if is_word && REQUEST_WORDS.contains(&token.text) {
             return Language::Requests;
         }
-        if index == 0 && token.text == "{" {
+        if is_first && token.text == "{" {
             return Language::Requests;
         }
+        is_first = false;
         if token.kind.is_string() || token.kind.is_block() {
             return Language::Schemas;
         }

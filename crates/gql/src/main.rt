@@ -11,9 +11,9 @@ mod command;
 mod listed;
 mod output;
 mod program;
-mod texts;
 #[cfg(test)]
 mod tests;
+mod texts;
 
 pub use program::run;
 use std::process::ExitCode;

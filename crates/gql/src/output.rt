@@ -49,6 +49,9 @@ pub fn complain_of_file<E: Write>(
 
 /// The name by which a file is told.
 pub fn shown_name(name: &str) -> &str {
-    if name == "-" { "(standard input)" } else { name }
+    if name == "-" {
+        "(standard input)"
+    } else {
+        name
+    }
 }
-

@@ -1,12 +1,13 @@
 //! The line of a place, with a caret under it.
 use crate::refused::{after, before};
-use graphql_parser::lexer::Tokens;
 use graphql_parser::Pos;
+use graphql_parser::lexer::Tokens;
 use std::alloc::{AllocError, Global};
 use unicode_width::UnicodeWidthChar;
 
 // A longer line is cut: so many columns of it are shown before the place, and so many from the place on.
 const COLUMNS_BEFORE: usize = 72;
+
 const COLUMNS_AFTER: usize = 48;
 
 // What stands where a line is cut.

@@ -150,12 +150,17 @@ fn string_fault(alloc: Global, text: &str) -> Result<String, AllocError> {
                     Some(escape) => rest = without(rest, escape),
                     None => {
                         let escape = shown_escape(rest);
-                        return format!(in alloc; "the escape {escape} in this string stands for no character");
+                        return format!(in alloc;
+                            "the escape {escape} in this string stands for no character"
+                        );
                     }
                 },
             },
             _ => rest = without(rest, unit),
         }
     }
-    String::from_str(alloc, "this string is not closed before the end of its line")
+    String::from_str(
+        alloc,
+        "this string is not closed before the end of its line",
+    )
 }

@@ -72,7 +72,9 @@ pub struct Depth {
 }
 
 const SETS: &str = "selection sets";
+
 const VALUES: &str = "lists and objects";
+
 const TYPES: &str = "list types";
 
 /// Which limit refuses the token: the one that takes it when it is raised by one. A limit that is as great as a limit may

@@ -69,12 +69,7 @@ impl Report<'_> {
         push_excerpt(alloc, &mut self.out, self.text, place.line, offset)
     }
 
-    fn push_part_at(
-        &mut self,
-        alloc: Global,
-        place: Pos,
-        message: &str,
-    ) -> Result<(), AllocError> {
+    fn push_part_at(&mut self, alloc: Global, place: Pos, message: &str) -> Result<(), AllocError> {
         let offset = offset_of(self.text, place);
         self.push_part(alloc, place, offset, message)
     }

@@ -60,7 +60,13 @@ fn holds(rt: &impl Abort, alloc: Global, row: &Case<'_>) -> Result<(), AllocErro
     let mut files = Files { files: FILES };
     let mut out = sheet(alloc, MANY);
     let mut err = sheet(alloc, MANY);
-    let status = run(alloc, Some(words.as_slice()), &mut files, &mut out, &mut err);
+    let status = run(
+        alloc,
+        Some(words.as_slice()),
+        &mut files,
+        &mut out,
+        &mut err,
+    );
     assert_eq!(rt; str::from_utf8(err.held.as_slice()), Ok(row.err));
     assert_eq!(rt; str::from_utf8(out.held.as_slice()), Ok(row.out));
     assert_eq!(rt; status, row.status);
@@ -69,19 +75,36 @@ fn holds(rt: &impl Abort, alloc: Global, row: &Case<'_>) -> Result<(), AllocErro
 
 #[test]
 fn files_are_checked(rt: HostRuntime) -> Result<(), Fail> {
-    let request = "bad.graphql:1:4: syntax error: found \")\", expected a name\n 1 | {a()}\n   |    ^\n";
-    let schema = "bad.graphqls:1:8: syntax error: found \"}\", expected a name or a string\n 1 | type A{}\n   |        ^\n";
+    let request =
+        "bad.graphql:1:4: syntax error: found \")\", expected a name\n 1 | {a()}\n   |    ^\n";
+    let schema =
+        "bad.graphqls:1:8: syntax error: found \"}\", expected a name or a string\n 1 | type A{}\n   |        ^\n";
     for row in [
         row("check", 0, "1 file: 1 good\n", ""),
-        row("check -v -", 0, "(standard input): good\n1 file: 1 good\n", ""),
+        row(
+            "check -v -",
+            0,
+            "(standard input): good\n1 file: 1 good\n",
+            "",
+        ),
         row(
             "check good.graphql good.graphqls described.graphqls",
             0,
             "3 files: 3 good\n",
             "",
         ),
-        row("check bad.graphql", 1, "1 file: 0 good, 1 refused\n", request),
-        row("check bad.graphqls", 1, "1 file: 0 good, 1 refused\n", schema),
+        row(
+            "check bad.graphql",
+            1,
+            "1 file: 0 good, 1 refused\n",
+            request,
+        ),
+        row(
+            "check bad.graphqls",
+            1,
+            "1 file: 0 good, 1 refused\n",
+            schema,
+        ),
         row(
             "check -v bad.graphql good.graphql",
             1,
@@ -115,7 +138,12 @@ fn options_are_kept(rt: HostRuntime) -> Result<(), Fail> {
             "1 file: 0 good, 1 refused\n",
             "short.graphql:1:3: recursion limit exceeded: selection sets may nest 0 deep\n 1 | {a{b}}\n   |   ^\n",
         ),
-        row("check short.graphql --limits 1,0,0", 0, "1 file: 1 good\n", ""),
+        row(
+            "check short.graphql --limits 1,0,0",
+            0,
+            "1 file: 1 good\n",
+            "",
+        ),
         row("check --schema -- good.graphqls", 0, "1 file: 1 good\n", ""),
         row(
             "check --schema empty.graphql",
@@ -156,7 +184,12 @@ fn trees_and_tokens_are_printed(rt: HostRuntime) -> Result<(), Fail> {
             "1:1 punctuator {\n1:2 name a\n1:3 punctuator (\n1:4 name b\n1:5 punctuator :\n1:6 block string \"\"\"c\\nd\"\"\"\n2:5 punctuator )\n2:6 punctuator }\n2:7 end\n",
             "",
         ),
-        row("tokens fault.graphql", 1, "1:1 punctuator {\n1:2 fault\n", ""),
+        row(
+            "tokens fault.graphql",
+            1,
+            "1:1 punctuator {\n1:2 fault\n",
+            "",
+        ),
         row("tokens none", 2, "", "gql: none cannot be read\n"),
     ] {
         holds(&rt, rt.alloc(), &row)?;
@@ -196,9 +229,26 @@ fn help_is_printed(rt: HostRuntime) -> Result<(), Fail> {
     let mut files = Files { files: FILES };
     let mut out = sheet(alloc, MANY);
     let mut err = sheet(alloc, MANY);
-    assert_eq!(rt; run(alloc, Some(words.as_slice()), &mut files, &mut out, &mut err), 0);
+    assert_eq!(rt;
+        run(
+            alloc,
+            Some(words.as_slice()),
+            &mut files,
+            &mut out,
+            &mut err
+        ),
+        0
+    );
     let help = str::from_utf8(out.held.as_slice())?;
-    for option in ["check", "tree", "tokens", "--query", "--schema", "--limits S,V,T", "--places"] {
+    for option in [
+        "check",
+        "tree",
+        "tokens",
+        "--query",
+        "--schema",
+        "--limits S,V,T",
+        "--places",
+    ] {
         assert!(rt; help.contains(option), "{option}");
     }
     assert_eq!(rt; err.held.len(), 0);
@@ -215,8 +265,20 @@ fn output_that_fails_ends_with_status_2(rt: HostRuntime) -> Result<(), Fail> {
             let mut files = Files { files: FILES };
             let mut out = sheet(alloc, calls_left);
             let mut err = sheet(alloc, MANY);
-            assert_eq!(rt; run(alloc, Some(words.as_slice()), &mut files, &mut out, &mut err), 2);
-            assert_eq!(rt; str::from_utf8(err.held.as_slice()), Ok("gql: cannot write standard output\n"));
+            assert_eq!(rt;
+                run(
+                    alloc,
+                    Some(words.as_slice()),
+                    &mut files,
+                    &mut out,
+                    &mut err
+                ),
+                2
+            );
+            assert_eq!(rt;
+                str::from_utf8(err.held.as_slice()),
+                Ok("gql: cannot write standard output\n")
+            );
         }
     }
     // Where standard error fails, the status stays.
@@ -224,6 +286,15 @@ fn output_that_fails_ends_with_status_2(rt: HostRuntime) -> Result<(), Fail> {
     let mut files = Files { files: FILES };
     let mut out = sheet(alloc, MANY);
     let mut err = sheet(alloc, 0);
-    assert_eq!(rt; run(alloc, Some(words.as_slice()), &mut files, &mut out, &mut err), 1);
+    assert_eq!(rt;
+        run(
+            alloc,
+            Some(words.as_slice()),
+            &mut files,
+            &mut out,
+            &mut err
+        ),
+        1
+    );
     Ok(())
 }
