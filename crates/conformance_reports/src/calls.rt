@@ -1,0 +1,161 @@
+//! What the tables are about.
+use crate::{limits, messages, places, requests, schemas};
+use graphql_parser::{Error, Limits, parse_query_limited, parse_schema_limited};
+use graphql_report::{Language, explain, is_front};
+use rows::{Subject, failures};
+use std::alloc::{AllocError, Global};
+use std::test::Fail;
+
+/// The report of a text that is read so, at these limits.
+#[derive(Clone, Copy)]
+pub struct Report {
+    pub language: Language,
+    pub limits: (usize, usize, usize),
+}
+
+// The error of a text, if it has one.
+fn error_of(alloc: Global, language: Language, text: &str, limits: Limits) -> Option<Error> {
+    match language {
+        Language::Requests => parse_query_limited(alloc, text, limits).err(),
+        Language::Schemas => parse_schema_limited(alloc, text, limits).err(),
+    }
+}
+
+// The lines of a report in the form of the tables.
+fn in_rows(alloc: Global, report: &str) -> Result<String, AllocError> {
+    let mut out = String::new(alloc);
+    for line in report.lines() {
+        if line.starts_with(' ') {
+            out.push_str(line.replace(alloc, " ", "·")?.as_str())?;
+        } else {
+            out.push_str(line)?;
+        }
+        out.push(' ')?;
+    }
+    Ok(out)
+}
+
+impl Subject for Report {
+    fn answer(&self, alloc: Global, text: &str) -> Result<String, Fail> {
+        let (sets, values, types) = self.limits;
+        let limits = Limits::new(sets, values, types).ok_or("no limits")?;
+        let Some(error) = error_of(alloc, self.language, text, limits) else {
+            return Ok(String::from_str(alloc, "accepted")?);
+        };
+        let report = explain(alloc, self.language, "f", text, limits, &error)?;
+        Ok(in_rows(alloc, report.as_str())?)
+    }
+}
+
+fn requests_at(sets: usize, values: usize, types: usize) -> Report {
+    Report {
+        language: Language::Requests,
+        limits: (sets, values, types),
+    }
+}
+
+fn schemas_at(sets: usize, values: usize, types: usize) -> Report {
+    Report {
+        language: Language::Schemas,
+        limits: (sets, values, types),
+    }
+}
+
+#[test]
+fn requests_are_explained(rt: HostRuntime) -> Result<(), Fail> {
+    let found = failures(
+        rt.alloc(),
+        &[
+            (requests_at(64, 64, 64), messages::MESSAGES),
+            (requests_at(64, 64, 64), requests::REFUSED),
+            (requests_at(64, 64, 64), requests::FAULTS),
+            (requests_at(64, 64, 64), requests::BREACHES),
+            (requests_at(64, 64, 64), places::PLACES),
+        ],
+    )?;
+    assert_eq!(rt; found.as_str(), "");
+    Ok(())
+}
+
+#[test]
+fn schema_files_are_explained(rt: HostRuntime) -> Result<(), Fail> {
+    let found = failures(
+        rt.alloc(),
+        &[
+            (schemas_at(64, 64, 64), schemas::REFUSED),
+            (schemas_at(64, 64, 64), schemas::BREACHES),
+        ],
+    )?;
+    assert_eq!(rt; found.as_str(), "");
+    Ok(())
+}
+
+#[test]
+fn limits_are_told(rt: HostRuntime) -> Result<(), Fail> {
+    let found = failures(
+        rt.alloc(),
+        &[
+            (requests_at(64, 64, 64), limits::DEFAULT),
+            (requests_at(0, 0, 0), limits::NOTHING),
+            (requests_at(1, 2, 3), limits::FEW),
+            (requests_at(256, 0, 0), limits::MANY),
+            (schemas_at(0, 1, 2), limits::SCHEMAS),
+        ],
+    )?;
+    assert_eq!(rt; found.as_str(), "");
+    Ok(())
+}
+
+#[test]
+fn reports_end_in_a_line_feed(rt: HostRuntime) -> Result<(), Fail> {
+    let alloc = rt.alloc();
+    let limits = Limits::default();
+    let error = error_of(alloc, Language::Requests, "{a()}", limits).ok_or("accepted")?;
+    let report = explain(
+        alloc,
+        Language::Requests,
+        "q.graphql",
+        "{a()}",
+        limits,
+        &error,
+    )?;
+    assert_eq!(rt;
+        report.as_str(),
+        "q.graphql:1:4: syntax error: found \")\", expected a name\n 1 | {a()}\n   |    ^\n"
+    );
+    let report = explain(
+        alloc,
+        Language::Schemas,
+        "-",
+        "",
+        limits,
+        &Error::OutOfMemory,
+    )?;
+    assert_eq!(rt; report.as_str(), "-: out of memory\n");
+    Ok(())
+}
+
+#[test]
+fn fronts_are_told(rt: HostRuntime) -> Result<(), Fail> {
+    let alloc = rt.alloc();
+    let limits = Limits::default();
+    let flat = Limits::new(0, 0, 0).ok_or("no limits")?;
+    for (language, text, limits, is) in [
+        (Language::Requests, "\n", limits, true),
+        (Language::Requests, "{a\n", limits, true),
+        (Language::Requests, "{a}\n", limits, true),
+        (Language::Requests, "{a}}\n", limits, false),
+        (Language::Requests, "{a ?\n", limits, false),
+        (Language::Requests, "{a{b\n", limits, true),
+        (Language::Requests, "{a{b\n", flat, false),
+        // A rule that is broken makes no difference to the front.
+        (Language::Requests, "{a}query B{b}\n", limits, true),
+        (Language::Requests, "type A\n", limits, false),
+        (Language::Schemas, "type A\n", limits, true),
+        (Language::Schemas, "extend type\n", limits, true),
+        (Language::Schemas, "{a\n", limits, false),
+    ] {
+        assert_eq!(rt; is_front(alloc, language, text, limits)?, is, "{text}");
+    }
+    Ok(())
+}

@@ -1,0 +1,2 @@
+-- Public: what `gql check` finds good.
+pub mod Good

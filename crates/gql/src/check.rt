@@ -1,0 +1,222 @@
+//! Checking texts: what they are read as, and whether each is good.
+ghost use Rattle.std.specs.Prelude.{◌≡◌, ◌≤◌, ◌↔◌, IfOk, All, Ok, None};
+ghost use Rattle.gql.specs.checked.Good.{IsGoodText, IsGoodInput};
+ghost use Rattle.gql.specs.declared.check.Found.TheVariants.{Good};
+
+use crate::output::{complain, complain_of_file};
+use crate::texts::Unread;
+use graphql_parser::lexer::Tokens;
+use graphql_parser::{Error, Limits, parse_query_limited, parse_schema_limited};
+use graphql_report::{Language, explain};
+use std::alloc::{AllocError, Global};
+use std::io::Write;
+
+/// A file by the name under which it is told, with its text, or why there is none.
+#[derive(Drop)]
+pub struct Input<'a> {
+    pub name: &'a str,
+    pub text: Result<String, Unread>,
+}
+
+/// How many files were good, refused, and without a text.
+#[derive(Clone, Copy, Debug, PartialEq, Eq)]
+pub struct Tally {
+    pub good: usize,
+    pub refused: usize,
+    pub unread: usize,
+}
+
+/// What is told of all files: the exit status, a line for each good file, and how many there were.
+#[derive(Drop)]
+pub struct Told {
+    pub status: u8,
+    pub lines: String,
+    pub tally: Tally,
+}
+
+// What was found of a file.
+#[derive(Clone, Copy, Debug, PartialEq, Eq)]
+enum Found {
+    Good,
+    Refused,
+    Unread,
+}
+
+impl Found {
+    // The exit status where all files are so.
+    fn status(self) -> u8
+        ensures least { (result ≡ 0) ↔ (self ≡ Good) }
+        ensures most { result ≤ 2 }
+    {
+        match self {
+            Found::Good => 0,
+            Found::Refused => 1,
+            Found::Unread => 2,
+        }
+    }
+}
+
+const REQUEST_WORDS: [&str; 4] = ["query", "mutation", "subscription", "fragment"];
+
+const SCHEMA_WORDS: [&str; 9] = [
+    "schema",
+    "extend",
+    "scalar",
+    "type",
+    "interface",
+    "union",
+    "enum",
+    "input",
+    "directive",
+];
+
+// What a text is: told by its first token that decides, which is a keyword of a definition, a string, with which
+/// descriptions begin, or `{` as the very first token. Where none decides, it is a request.
+fn language_of(text: &str) -> Language {
+    let mut is_first = true;
+    for token in Tokens::new(text) {
+        let is_word = token.kind.is_name();
+        if is_word && SCHEMA_WORDS.contains(&token.text) {
+            return Language::Schemas;
+        }
+        if is_word && REQUEST_WORDS.contains(&token.text) {
+            return Language::Requests;
+        }
+        if is_first && token.text == "{" {
+            return Language::Requests;
+        }
+        is_first = false;
+        if token.kind.is_string() || token.kind.is_block() {
+            return Language::Schemas;
+        }
+    }
+    Language::Requests
+}
+
+// The error of a text within these limits; None where it has none.
+fn error_of(
+    alloc: Global,
+    language: Language,
+    text: &str,
+    limits: Limits,
+) -> Result<Option<Error>, AllocError>
+    ensures { (result ≡ Ok None) → IsGoodText language limits text.now }
+{
+    let error = match language {
+        Language::Requests => match parse_query_limited(alloc, text, limits) {
+            Ok(_) => return Ok(None),
+            Err(error) => error,
+        },
+        Language::Schemas => match parse_schema_limited(alloc, text, limits) {
+            Ok(_) => return Ok(None),
+            Err(error) => error,
+        },
+    };
+    match error {
+        Error::OutOfMemory => Err(AllocError),
+        error => Ok(Some(error)),
+    }
+}
+
+/// What a text is read as: by the option, or as it tells itself.
+pub fn read_as(language: Option<Language>, text: &str) -> Language {
+    match language {
+        Some(language) => language,
+        None => language_of(text),
+    }
+}
+
+/// Checks each file, and reports on `err` what is wrong with it. The status is 0 only where each has a text that is good.
+/// An error says that memory was refused.
+pub fn check_inputs<E: Write>(
+    alloc: Global,
+    limits: Limits,
+    language: Option<Language>,
+    inputs: &[Input<'_>],
+    err: &mut E,
+) -> Result<Told, AllocError>
+    ensures status { IfOk result (λ told. told.status ≤ 2) }
+    ensures good { IfOk result (λ told. told.status ≡ 0 → All (λ input. IsGoodInput limits input) inputs.now) }
+{
+    let mut lines = String::new(alloc);
+    let mut tally = Tally {
+        good: 0,
+        refused: 0,
+        unread: 0,
+    };
+    let mut worst: u8 = 0;
+    for input in inputs {
+        let found = check_input(alloc, limits, language, input, err)?;
+        worst = worst.max(found.status());
+        tally = counted(tally, found);
+        if found == Found::Good {
+            let name = input.name;
+            writeln!(lines, "{name}: good")?;
+        }
+    }
+    Ok(Told {
+        status: worst,
+        lines,
+        tally,
+    })
+}
+
+fn counted(tally: Tally, found: Found) -> Tally {
+    let mut tally = tally;
+    let count = match found {
+        Found::Good => &mut tally.good,
+        Found::Refused => &mut tally.refused,
+        Found::Unread => &mut tally.unread,
+    };
+    *count = count.saturating_add(1);
+    tally
+}
+
+fn check_input<E: Write>(
+    alloc: Global,
+    limits: Limits,
+    language: Option<Language>,
+    input: &Input<'_>,
+    err: &mut E,
+) -> Result<Found, AllocError>
+    ensures { (result ≡ Ok Good) → IsGoodInput limits input.now }
+{
+    match &input.text {
+        Err(why) => {
+            complain_of_file(alloc, input.name, *why, err)?;
+            Ok(Found::Unread)
+        }
+        Ok(text) => {
+            let text = text.as_str();
+            let language = read_as(language, text);
+            match error_of(alloc, language, text, limits)? {
+                None => Ok(Found::Good),
+                Some(error) => {
+                    let report = explain(alloc, language, input.name, text, limits, &error)?;
+                    complain(err, report.as_str());
+                    Ok(Found::Refused)
+                }
+            }
+        }
+    }
+}
+
+/// How many files there were, as `3 files: 1 good, 1 refused, 1 not read`.
+pub fn summary(alloc: Global, tally: Tally) -> Result<String, AllocError> {
+    let Tally {
+        good,
+        refused,
+        unread,
+    } = tally;
+    let count = good.saturating_add(refused).saturating_add(unread);
+    let files = if count == 1 { "file" } else { "files" };
+    let mut line = format!(in alloc; "{count} {files}: {good} good")?;
+    if refused > 0 {
+        write!(line, ", {refused} refused")?;
+    }
+    if unread > 0 {
+        write!(line, ", {unread} not read")?;
+    }
+    line.push('\n')?;
+    Ok(line)
+}

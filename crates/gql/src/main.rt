@@ -1,0 +1,45 @@
+//! The program for people: `gql check FILE..` reports what is wrong with requests and schema files, `gql tree FILE` prints
+//! the tree of one as JSON, and `gql tokens FILE` its tokens. `gql --help` prints how it is called.
+//!
+//! Proved of it: it is safe and ends on every input; the status is 0, 1 or 2; a text is found good only where its tokens
+//! have a tree, and the files that are checked end with status 0 only where each of them was found good. What it prints is
+//! tested.
+#![tactic(auto)]
+
+mod check;
+mod command;
+mod listed;
+mod output;
+mod program;
+#[cfg(test)]
+mod tests;
+mod texts;
+
+pub use program::run;
+use std::process::ExitCode;
+use std::{env, io};
+use texts::Disk;
+
+fn main(rt: HostRuntime) -> ExitCode {
+    let alloc = rt.alloc();
+    // An argument that is no text is wrong, and so is one for which there is no memory.
+    let words = words(&rt).ok();
+    let mut disk = Disk { rt: &rt };
+    let status = run(
+        alloc,
+        words.as_ref().map(|words| words.as_slice()),
+        &mut disk,
+        &mut rt.stdout(),
+        &mut rt.stderr(),
+    );
+    ExitCode::from(status)
+}
+
+// The arguments without the program's name.
+fn words(rt: &HostRuntime) -> io::Result<Vec<String>> {
+    let mut words = Vec::new(rt.alloc());
+    for word in env::args(rt)?.skip(1) {
+        words.push(word)?;
+    }
+    Ok(words)
+}

@@ -1,0 +1,3 @@
+//! Tests of the program's work.
+mod fakes;
+mod runs;

@@ -1,0 +1,4 @@
+mod Buffers
+mod Lines
+mod Depths
+mod ToldFronts

@@ -1,0 +1,4 @@
+-- `fronts` is public: what a reader of the contracts of this crate has to believe. `inner` is for clauses of private
+-- functions.
+pub mod fronts
+pub mod inner

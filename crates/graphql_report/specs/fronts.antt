@@ -1,0 +1,2 @@
+-- Public: the texts of which `is_front` is asked, and what it answers.
+pub mod Front

@@ -1,0 +1,128 @@
+//! The line of a place, with a caret under it.
+use crate::refused::{after, before};
+use graphql_parser::Pos;
+use graphql_parser::lexer::Tokens;
+use std::alloc::{AllocError, Global};
+use unicode_width::UnicodeWidthChar;
+
+// A longer line is cut: so many columns of it are shown before the place, and so many from the place on.
+const COLUMNS_BEFORE: usize = 72;
+
+const COLUMNS_AFTER: usize = 48;
+
+// What stands where a line is cut.
+const CUT: &str = "...";
+
+fn is_line_end(c: char) -> bool {
+    c == '\n' || c == '\r'
+}
+
+// What is shown for a character: a control character other than a tab would upset a terminal.
+fn shown(c: char) -> char {
+    if c.is_control() && c != '\t' {
+        char::REPLACEMENT_CHARACTER
+    } else {
+        c
+    }
+}
+
+// The columns that a character takes. A tab counts one; it is copied and not counted where a caret is put.
+fn columns(c: char) -> usize {
+    shown(c).width().unwrap_or(1)
+}
+
+// Where the last part of the text begins that takes at most so many columns.
+fn last_part(text: &str, most: usize) -> usize {
+    let mut width = 0usize;
+    let mut start = text.len();
+    for c in text.chars().rev() {
+        width = width.saturating_add(columns(c));
+        if width > most {
+            break;
+        }
+        start = start.saturating_sub(c.len_utf8());
+    }
+    start
+}
+
+// Where the first part of the text ends that takes at most so many columns.
+fn first_part(text: &str, most: usize) -> usize {
+    let mut width = 0usize;
+    for (offset, c) in text.char_indices() {
+        width = width.saturating_add(columns(c));
+        if width > most {
+            return offset;
+        }
+    }
+    text.len()
+}
+
+/// The byte offset of the first token that stands at this place; the end of the text where none does.
+pub fn offset_of(text: &str, place: Pos) -> usize {
+    for token in Tokens::new(text) {
+        if token.pos == place {
+            return token.start;
+        }
+    }
+    text.len()
+}
+
+/// Adds the line in which this offset lies, after its number, and below it a caret under the offset.
+pub fn push_excerpt(
+    alloc: Global,
+    out: &mut String,
+    text: &str,
+    line: usize,
+    offset: usize,
+) -> Result<(), AllocError> {
+    let front = before(text, offset);
+    let back = after(text, offset);
+    let front = front.rsplit(is_line_end).next().unwrap_or(front);
+    let back = back.split(is_line_end).next().unwrap_or(back);
+    let start = last_part(front, COLUMNS_BEFORE);
+    let end = first_part(back, COLUMNS_AFTER);
+    let left = after(front, start);
+    let right = before(back, end);
+    let number = format!(in alloc; "{line}")?;
+    write!(out, " {number} | ")?;
+    if start > 0 {
+        out.push_str(CUT)?;
+    }
+    push_shown(out, left)?;
+    push_shown(out, right)?;
+    if end < back.len() {
+        out.push_str(CUT)?;
+    }
+    out.push('\n')?;
+    for _ in 0..number.len() {
+        out.push(' ')?;
+    }
+    out.push_str("  | ")?;
+    if start > 0 {
+        out.push_str("   ")?;
+    }
+    push_padding(out, left)?;
+    out.push_str("^\n")?;
+    Ok(())
+}
+
+fn push_shown(out: &mut String, text: &str) -> Result<(), AllocError> {
+    for c in text.chars() {
+        out.push(shown(c))?;
+    }
+    Ok(())
+}
+
+// Blanks as wide as the text; a tab stays a tab.
+fn push_padding(out: &mut String, text: &str) -> Result<(), AllocError> {
+    for c in text.chars() {
+        if c == '\t' {
+            out.push(c)?;
+        } else {
+            for _ in 0..columns(c) {
+                out.push(' ')?;
+            }
+        }
+    }
+    Ok(())
+}

@@ -1,0 +1,113 @@
+//! Whether some document goes on from a text: asked of the parsers.
+ghost use Rattle.std.specs.Prelude.{◌≡◌, ◌↔◌, IsTrue, IfOk, List};
+ghost use Rattle.std.specs.Str.{chars};
+ghost use Rattle.graphql_tokens.specs.tokens.Cuts.{IsCutInto};
+ghost use Rattle.graphql_tokens.specs.tokens.Place.{place_behind};
+ghost use Rattle.graphql_tokens.specs.tokens.Token.{Token as SpecToken};
+ghost use Rattle.graphql_requests.specs.grammar.Requests.{requests};
+ghost use Rattle.graphql_schemas.specs.grammar.Schemas.{schemas};
+ghost use Rattle.graphql_report.specs.fronts.Front.{LastIsLineFeed, IsFront, IsFrontOf};
+ghost use Rattle.graphql_report.specs.inner.Told.{TellsFront};
+
+use graphql_parser::pos::PositionCalculator;
+use graphql_parser::{Error, Limits, Pos, parse_query_limited, parse_schema_limited};
+use std::alloc::{AllocError, Global};
+
+/// What a text is read as.
+#[derive(Clone, Copy, Debug, PartialEq, Eq)]
+pub enum Language {
+    /// A request: operations and fragments.
+    Requests,
+    /// A schema file: definitions and extensions of schemas, types and directives.
+    Schemas,
+}
+
+/// Whether the tokens of `text` are a viable front: whether some document within the limits begins with them. A text
+/// with a fault is none (this project's own call).
+///
+/// The text ends in a line feed, which the caller owes: so the place of its end is the place of no token. It takes one
+/// parse of the text. An error says that memory was refused.
+pub fn is_front(
+    alloc: Global,
+    language: Language,
+    text: &str,
+    limits: Limits,
+) -> Result<bool, AllocError>
+    requires { LastIsLineFeed (chars text.now) }
+    ensures { IfOk result (λ answer. (tokens : List SpecToken) → IsCutInto text.now tokens → IsTrue answer ↔ IsFrontOf language limits tokens) }
+{
+    match language {
+        Language::Requests => is_request_front(alloc, text, limits),
+        Language::Schemas => is_schema_front(alloc, text, limits),
+    }
+}
+
+fn is_request_front(alloc: Global, text: &str, limits: Limits) -> Result<bool, AllocError>
+    requires { LastIsLineFeed (chars text.now) }
+    ensures { IfOk result (λ answer. (tokens : List SpecToken) → IsCutInto text.now tokens → IsTrue answer ↔ IsFront requests limits tokens) }
+{
+    let end = end_of(text);
+    match parse_query_limited(alloc, text, limits) {
+        Ok(_) => Ok(true),
+        Err(error) => goes_on(&error, end),
+    }
+}
+
+fn is_schema_front(alloc: Global, text: &str, limits: Limits) -> Result<bool, AllocError>
+    requires { LastIsLineFeed (chars text.now) }
+    ensures { IfOk result (λ answer. (tokens : List SpecToken) → IsCutInto text.now tokens → IsTrue answer ↔ IsFront schemas limits tokens) }
+{
+    let end = end_of(text);
+    match parse_schema_limited(alloc, text, limits) {
+        Ok(_) => Ok(true),
+        Err(error) => goes_on(&error, end),
+    }
+}
+
+/// Whether the text's tokens are a whole document within the limits, or one but for a rule.
+pub fn is_whole(
+    alloc: Global,
+    language: Language,
+    text: &str,
+    limits: Limits,
+) -> Result<bool, AllocError> {
+    match language {
+        Language::Requests => match parse_query_limited(alloc, text, limits) {
+            Ok(_) => Ok(true),
+            Err(error) => has_tree(&error),
+        },
+        Language::Schemas => match parse_schema_limited(alloc, text, limits) {
+            Ok(_) => Ok(true),
+            Err(error) => has_tree(&error),
+        },
+    }
+}
+
+// Whether a text that has this error has a tree, which breaks a rule.
+fn has_tree(error: &Error) -> Result<bool, AllocError> {
+    match error {
+        Error::OutOfMemory => Err(AllocError),
+        Error::RecursionLimitExceeded | Error::Syntax { .. } => Ok(false),
+        _ => Ok(true),
+    }
+}
+
+// Whether a text that ends at this place, and has this error, can be completed.
+fn goes_on(error: &Error, end: Pos) -> Result<bool, AllocError>
+    ensures { TellsFront error.now end result }
+{
+    match error {
+        Error::OutOfMemory => Err(AllocError),
+        Error::RecursionLimitExceeded => Ok(false),
+        Error::Syntax { start, .. } => Ok(*start == end),
+        _ => Ok(true),
+    }
+}
+
+// The place after the last character.
+fn end_of(text: &str) -> Pos
+    ensures { result ≡ place_behind (chars text.now) }
+{
+    let mut places = PositionCalculator::new(text);
+    places.step(text.len())
+}

@@ -1,0 +1,27 @@
+//! Reports for people: what is wrong with a text, where, and what could have stood there.
+//!
+//! [`explain`] makes a report of an error that a parser of `graphql_parser` gave: the message with the file, the line
+//! and the column, the line itself with a caret under the place, and the second place where an error has two. Of a
+//! refused token it tells what was found, and what is expected: exactly those of the samples in the module `samples` that
+//! the parser takes there. Of a limit it tells which one, and how great it is.
+//!
+//! The parsers give all of this themselves. A sample is expected where the text before the refused token, with the sample
+//! after it, is a viable front, and one parse of these tells that ([`is_front`]). So a report costs some thirty parses of
+//! the text before the refused token, and some twenty more to find that token; each is linear, and one copy of the text
+//! is kept at a time.
+//!
+//! Proved of it: `is_front` answers true exactly where the tokens of a text are a viable front, in both languages and at
+//! all limits, unless memory runs out; and every call is safe and ends. What a report says in words is tested, in
+//! `conformance_reports`.
+#![tactic(auto)]
+
+mod excerpt;
+mod expected;
+mod faults;
+mod fronts;
+mod refused;
+mod report;
+mod samples;
+
+pub use fronts::{Language, is_front};
+pub use report::explain;
