@@ -49,9 +49,9 @@ places_of (Err error) = first_two (error_places error)
 abbrev pub IsUnread : Limits → List ℕ → Status → Type 0
 IsUnread limits text status = (¬ IsAllowed limits × (status ≡ LimitTooLarge)) ⊎ (IsAllowed limits × (¬ IsUtf8 text) × (status ≡ NotUtf8))
 
--- The number of a status and the places that a call tells of a text, in a language and within limits. Three times it is
--- said when: a limit is too large, the text isn't UTF-8, and neither. In the last case they are those of the parser's
--- answer for the text's tokens.
+-- What a call tells of a text, in a language and within limits: the number of a status, and places. The status says that a
+-- limit is too large, or else that the text isn't UTF-8, exactly where that is so, and no place is told then. Where the text
+-- can be read, both are those of the parser's answer for the tokens of the text.
 pub record IsTold {D Document : Type 0} (language : Language D Document) (limits : Limits) (text : List ℕ) (number : ℕ) (places : Places) : Type 0 where
   pub too_large : (number ≡ number_of LimitTooLarge) ↔ (¬ IsAllowed limits)
   pub not_utf8 : (number ≡ number_of NotUtf8) ↔ (IsAllowed limits × (¬ IsUtf8 text))

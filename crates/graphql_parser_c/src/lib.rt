@@ -6,8 +6,9 @@
 //!
 //! Proved of each call, for every text and all limits: its status and its places are those of the parser's one answer
 //! for that text, as `graphql_parser` promises it, or the status says that a limit is too large or that the text isn't
-//! UTF-8, exactly where that is so. JSON is handed over exactly where the status is about the text, and it is UTF-8.
-//! That the JSON says what the tree or the error says is tested, here and in `conformance_json`.
+//! UTF-8, exactly where that is so. Where the status says something of the text, what a parse hands over is UTF-8; else
+//! what the caller had stays. That it is the JSON of the tree or of the error, in a block that `free` takes, is tested:
+//! here, in `conformance_json` and by `bindings/check.sh`.
 #![tactic(auto)]
 
 ghost use Rattle.graphql_parser.specs.requests.Requests.{requests};
