@@ -1,4 +1,4 @@
-mod Buffers
+pub mod Buffers
 mod Lines
 mod Depths
 mod ToldFronts
