@@ -82,6 +82,16 @@ fn trees_are_looked_at(rt: HostRuntime) -> Result<(), Fail> {
         ),
         (query(Asked::Looked(View::Defaults)), views::DEFAULTS),
         (query(Asked::Looked(View::Directives)), views::DIRECTIVES),
+        (
+            query(Asked::Looked(View::SetsOfSelections)),
+            views::SETS_OF_SELECTIONS,
+        ),
+        (query(Asked::Looked(View::Text)), views::TEXTS_OF_VALUES),
+        (query(Asked::Looked(View::Viewed)), views::VIEWED_VALUES),
+        (
+            query(Asked::Looked(View::FieldViewed)),
+            views::VIEWED_FIELDS,
+        ),
         (query(Asked::Looked(View::Operations)), views::OPERATIONS),
         (
             query(Asked::Looked(View::Named)),

@@ -65,6 +65,15 @@ F in {a} fragment F on T{a} fragment G on T{a} ⇒
 g in {a} fragment F on T{a} fragment G on T{a} ⇒
   no operation no fragment, copied no operation no fragment
 A in query A{a} fragment A on T{b} ⇒ operation 1:1 fragment 1:12, copied operation 1:1 fragment 1:12
+-- Names of 16 and of 17 bytes.
+⟨16×a⟩ in query ⟨16×a⟩{a} fragment ⟨16×a⟩ on T{b} ⇒
+  operation 1:1 fragment 1:27, copied operation 1:1 fragment 1:27
+⟨17×a⟩ in query ⟨17×a⟩{a} fragment ⟨17×a⟩ on T{b} ⇒
+  operation 1:1 fragment 1:28, copied operation 1:1 fragment 1:28
+⟨16×a⟩ in query ⟨17×a⟩{a} fragment ⟨17×a⟩ on T{b} ⇒
+  no operation no fragment, copied no operation no fragment
+⟨17×a⟩ in query ⟨16×a⟩{a} fragment ⟨16×a⟩ on T{b} ⇒
+  no operation no fragment, copied no operation no fragment
 ";
 
 /// Arguments, and the same as values without variables.
@@ -117,4 +126,61 @@ pub const CONSTANT_DIRECTIVES: &str = r"
 {a@d(b:one b:two c:{x:3})} ⇒ d@1:4 b@1:6=.one@1:8 b@1:12=.two@1:14 c@1:18={ x=3 }@1:20 and
   d@1:4 b@1:6=.one@1:8 b@1:12=.two@1:14 c@1:18={ x=3 }@1:20
 {a@d} ⇒ d@1:4 and d@1:4
+";
+
+/// Requests, and how many selections the sets of their first selections have, with their places.
+pub const SETS_OF_SELECTIONS: &str = r"
+-- A field without a set has an empty one, at 0:0; a spread has none.
+{a b{c d} ...F ...{e} ...on T{f g}} ⇒ 0 at 0:0 2 at 1:5 none 1 at 1:19 2 at 1:30
+";
+
+/// Requests, and their first arguments as GraphQL text.
+pub const TEXTS_OF_VALUES: &str = r##"
+-- What stands for itself.
+{f(a:null)} ⇒ null and null
+{f(a:$v)} ⇒ $v and none
+{f(a:-0.0e+1)} ⇒ -0.0e+1 and -0.0e+1
+{f(a:true)} ⇒ true and true
+{f(a:false)} ⇒ false and false
+{f(a:RED)} ⇒ RED and RED
+-- Lists and objects, on one line.
+{f(a:[])} ⇒ [] and []
+{f(a:{})} ⇒ {} and {}
+{f(a:[1])} ⇒ [1] and [1]
+{f(a:[1,2 , [3]])} ⇒ [1, 2, [3]] and [1, 2, [3]]
+{f(a:{x:1})} ⇒ {x: 1} and {x: 1}
+{f(a:{x:1 y:{z:[a $b]} w:""})} ⇒ {x: 1, y: {z: [a, $b]}, w: ""} and none
+-- Strings: quotes and backslashes, line ends and other control characters, and what stands for itself.
+{f(a:"")} ⇒ "" and ""
+{f(a:"a'{}#ü😀")} ⇒ "a'{}#ü😀" and "a'{}#ü😀"
+{f(a:"\"\\\/")} ⇒ "\"\\/" and "\"\\/"
+{f(a:"\n\r\t\b\f")} ⇒ "\n\r\t\b\f" and "\n\r\t\b\f"
+{f(a:"␉")} ⇒ "\t" and "\t"
+{f(a:"\u0000\u001F\u000b\u0020\u007f.")} ⇒ "\u0000\u001f\u000b ⟨7F⟩." and "\u0000\u001f\u000b ⟨7F⟩."
+{f(a:"""b "q" \n␊ c""")} ⇒ "b \"q\" \\n\nc" and "b \"q\" \\n\nc"
+"##;
+
+/// Requests, and their first arguments through views.
+pub const VIEWED_VALUES: &str = r#"
+{f(a:null)} ⇒ null and null
+{f(a:$v)} ⇒ variable v and none
+{f(a:1.50)} ⇒ number 1.50 and number 1.50
+{f(a:"x")} ⇒ string x and string x
+{f(a:true)} ⇒ boolean true and boolean true
+{f(a:RED)} ⇒ enum RED and enum RED
+{f(a:[])} ⇒ list of 0, empty, none, none; 0 and list of 0, empty, none, none; 0
+{f(a:[1])} ⇒ list of 1, 1, none; 1 1 and list of 1, 1, none; 1 1
+{f(a:[1 [2] $v])} ⇒ list of 3, 1, [2]; 3 1 [2] $v and none
+{f(a:{})} ⇒ object of 0, empty, none, none; 0 and object of 0, empty, none, none; 0
+{f(a:{x:1 y:{z:2}})} ⇒ object of 2, 1, {z: 2}; 2 x=1 y={z: 2} and object of 2, 1, {z: 2}; 2 x=1 y={z: 2}
+{f(a:{x:$v})} ⇒ object of 1, $v, none; 1 x=$v and none
+"#;
+
+/// Names, and the fields of these names in first arguments.
+pub const VIEWED_FIELDS: &str = r"
+x in {f(a:{x:1 y:2})} ⇒ 1
+y in {f(a:{x:1 y:[$v]})} ⇒ [$v]
+X in {f(a:{x:1 y:2})} ⇒ none
+ in {f(a:{x:1 y:2})} ⇒ none
+xy in {f(a:{x:1 y:2})} ⇒ none
 ";

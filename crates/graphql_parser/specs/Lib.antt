@@ -1,6 +1,7 @@
 -- Public: what a reader of the public contracts has to believe, given out from the crates below.
 pub mod trees
 pub mod calls
+pub mod types
 pub use Rattle.graphql_tokens.specs.tokens
 pub use Rattle.graphql_reading.specs.grammar as notation
 pub use Rattle.graphql_grammar.specs.grammar

@@ -4,6 +4,7 @@ pub use Rattle.graphql_syntax.specs.trees.Parts
 pub use Rattle.graphql_syntax.specs.trees.TreeEquality
 pub use Rattle.graphql_syntax.specs.trees.TypeEquality
 pub use Rattle.graphql_syntax.specs.trees.TypeTree
+pub use Rattle.graphql_syntax.specs.trees.ValueText
 pub use Rattle.graphql_syntax.specs.trees.ValueTree
 pub use Rattle.graphql_syntax.specs.trees.ValueViews
 pub use Rattle.graphql_request_trees.specs.trees.Request

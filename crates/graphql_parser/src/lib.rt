@@ -21,3 +21,4 @@ pub use graphql_schemas::{parse_schema, parse_schema_from, parse_schema_limited}
 pub use graphql_syntax::value;
 pub use graphql_tokens::pos::{Pos, Positioned};
 pub use graphql_tokens::{lexer, pos, text};
+pub use indexmap::IndexMap;

@@ -1,6 +1,9 @@
--- What is made of clones of the entries of a map has their trees.
-use Rattle.std.proofs.Common.{◌≡◌, List, [], ◌∷◌, map, refl}
+-- What a name finds among the entries of a map; and that what is made of clones of them has their trees.
+use Rattle.std.proofs.Common.{◌≡◌, ℕ, Bool, true, false, cond, List, [], ◌∷◌, map, Option, Some, nat_eq, refl, sym, ap, ap₂, ◌∙◌}
 use Rattle.std.specs.List.{AllZip}
+use Rattle.std.specs.Map.{lookup}
+use Rattle.std.specs.Cmp.Lexicographic.{pointwise, nat_list_eq_equiv}
+use Rattle.graphql_syntax.specs.calls.Named.{named}
 use Rattle.graphql_tokens.specs.declared.pos.Positioned.{Positioned}
 use Rattle.graphql_syntax.specs.trees.Parts.{Name}
 use Rattle.graphql_syntax.proofs.Clones.{IsClone, same_placed}
@@ -13,3 +16,11 @@ same_entries tree [] (f ∷ fs) clones = absurd clones
 same_entries tree (e ∷ es) [] clones = absurd clones
 same_entries tree (e ∷ es) (f ∷ fs) clones =
     λ i. (clones.0.0 i, same_placed tree e.1 f.1 clones.0.1 i) ∷ same_entries tree es fs clones.1 i
+
+same_either_way : (m n : List ℕ) → pointwise nat_eq m n ≡ pointwise nat_eq n m
+same_either_way m n = nat_list_eq_equiv.symm m n
+
+-- a map finds the value of the first entry of the name
+pub named_by_lookup : {V : Type 0} (name : List ℕ) (entries : List (List ℕ × V)) → lookup (pointwise nat_eq name) entries ≡ named name entries
+named_by_lookup name [] = refl
+named_by_lookup {V} name (entry ∷ entries) = ap₂ (λ (b : Bool) (rest : Option V). cond b (Some entry.1) rest) (same_either_way name entry.0) (named_by_lookup name entries)

@@ -2,3 +2,4 @@
 pub mod Defaults
 pub mod Lending
 pub mod Operations
+pub mod Sets

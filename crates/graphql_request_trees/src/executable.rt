@@ -11,6 +11,7 @@ ghost use Rattle.graphql_request_trees.specs.declared.executable.InlineFragment.
 ghost use Rattle.graphql_request_trees.specs.calls.Defaults.{default_of, response_key};
 ghost use Rattle.graphql_request_trees.specs.declared.executable.Field.{out-Field};
 ghost use Rattle.graphql_request_trees.specs.declared.executable.SelectionSet.{out-SelectionSet};
+ghost use Rattle.graphql_request_trees.specs.calls.Sets.{set_of};
 ghost use Rattle.graphql_request_trees.specs.calls.Operations.{operations_list, operation_named, operation_item};
 
 use crate::lookup::find_entry;
@@ -60,6 +61,7 @@ enum Left<'a> {
 
 impl<'a> Model for OperationsIter<'a> {
     ghost use Rattle.std.specs.Prelude.{List};
+    ghost use Rattle.graphql_request_trees.specs.calls.Sets.{set_of};
     ghost use Rattle.graphql_request_trees.specs.calls.Operations.{NamedOperation};
     ghost use Rattle.graphql_request_trees.specs.inner.OperationsLeft.{operations_left};
     ghost use Rattle.std.specs.Coded.{coded×, coded_list, coded_option, coded_ℕ};
@@ -75,7 +77,10 @@ impl<'a> Model for OperationsIter<'a> {
 }
 
 impl ExecutableDocument {
-    /// The fragment of this name; None where there is none. It walks the fragments from the first on.
+    /// The fragment of this name; None where there is none.
+    ///
+    /// A name of at most 16 bytes is found through the map, at once. For a longer one the fragments are walked from the
+    /// first on; `fragments.get` takes a [`Name`], as that of a spread, and finds each at once.
     pub fn fragment(&self, name: &str) -> Option<&Positioned<FragmentDefinition>>
         ensures { option_map (λ f. f.now) result ≡ named name.now self.now.fragments.entries }
     {
@@ -95,8 +100,10 @@ impl DocumentOperations {
         OperationsIter { left }
     }
 
-    /// The operation of this name; None where there is none, and always for `Single`. It walks the
-    /// operations from the first on.
+    /// The operation of this name; None where there is none, and always for `Single`.
+    ///
+    /// A name of at most 16 bytes is found through the map, at once. For a longer one the operations are walked from
+    /// the first on.
     pub fn get(&self, name: &str) -> Option<&Positioned<OperationDefinition>>
         ensures { option_map (λ o. o.now) result ≡ operation_named name.now self.now }
     {
@@ -244,6 +251,19 @@ impl SelectionSet {
 }
 
 impl Selection {
+    /// What the field or the inline fragment selects in turn, at its `{`; None for a spread.
+    ///
+    /// A field without a set has an empty one, at 0:0.
+    pub fn selection_set(&self) -> Option<&Positioned<SelectionSet>>
+        ensures { option_map (λ set. set.now) result ≡ set_of self.now }
+    {
+        match self {
+            Selection::Field(field) => Some(&field.node.selection_set),
+            Selection::FragmentSpread(_) => None,
+            Selection::InlineFragment(fragment) => Some(&fragment.node.selection_set),
+        }
+    }
+
     /// The directives of the field, the spread or the inline fragment itself, in source order.
     pub fn directives(&self) -> &Vec<Positioned<Directive>>
         ensures { result.now ≡ directives_of self.now }

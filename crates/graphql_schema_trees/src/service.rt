@@ -2,9 +2,13 @@
 //!
 //! A definition stands at its description where it has one, else at its keyword; an extension stands
 //! at its `extend`.
+ghost use Rattle.std.specs.Prelude.{◌≡◌, Some, codes};
+ghost use Rattle.graphql_schema_trees.specs.calls.Locations.{location_word};
+
 use graphql_syntax::pos::Positioned;
 use graphql_syntax::types::{ConstDirective, Type};
 use graphql_syntax::value::{ConstValue, Name};
+use std::fmt;
 
 /// A schema file (section 3.1).
 #[derive(Debug, Drop)]
@@ -209,4 +213,45 @@ pub enum DirectiveLocation {
     InputFieldDefinition,
     /// `VARIABLE_DEFINITION`.
     VariableDefinition,
+}
+
+impl DirectiveLocation {
+    /// The word of the place, as a schema file writes it: `FIELD_DEFINITION`.
+    pub fn as_str(&self) -> &'static str
+        ensures { result.now ≡ codes (location_word self.now) }
+    {
+        match self {
+            DirectiveLocation::Query => "QUERY",
+            DirectiveLocation::Mutation => "MUTATION",
+            DirectiveLocation::Subscription => "SUBSCRIPTION",
+            DirectiveLocation::Field => "FIELD",
+            DirectiveLocation::FragmentDefinition => "FRAGMENT_DEFINITION",
+            DirectiveLocation::FragmentSpread => "FRAGMENT_SPREAD",
+            DirectiveLocation::InlineFragment => "INLINE_FRAGMENT",
+            DirectiveLocation::Schema => "SCHEMA",
+            DirectiveLocation::Scalar => "SCALAR",
+            DirectiveLocation::Object => "OBJECT",
+            DirectiveLocation::FieldDefinition => "FIELD_DEFINITION",
+            DirectiveLocation::ArgumentDefinition => "ARGUMENT_DEFINITION",
+            DirectiveLocation::Interface => "INTERFACE",
+            DirectiveLocation::Union => "UNION",
+            DirectiveLocation::Enum => "ENUM",
+            DirectiveLocation::EnumValue => "ENUM_VALUE",
+            DirectiveLocation::InputObject => "INPUT_OBJECT",
+            DirectiveLocation::InputFieldDefinition => "INPUT_FIELD_DEFINITION",
+            DirectiveLocation::VariableDefinition => "VARIABLE_DEFINITION",
+        }
+    }
+}
+
+/// The word of the place (October 2021, section 3.13). A width, a precision or another option of the format changes
+/// nothing (this project's choice).
+impl fmt::Display for DirectiveLocation {
+    ghost output = { λ location. Some (codes (location_word location)) };
+
+    ghost styled_output = { λ location _. Some (codes (location_word location)) };
+
+    fn fmt<W: fmt::Write>(&self, f: &mut fmt::Formatter<W>) -> fmt::Result {
+        f.write_str(self.as_str())
+    }
 }

@@ -14,7 +14,8 @@ use Rattle.graphql_reading.proofs.Loop.{Takes, takes-one}
 use Rattle.graphql_reading.proofs.Theory.{anything}
 use Rattle.graphql_grammar.specs.grammar.Placeless.{bare_node}
 use Rattle.graphql_grammar.proofs.ArgumentProductions.{budget}
-use Rattle.graphql_schemas.specs.grammar.Directives.{location_word, IsLocation, a_location}
+use Rattle.graphql_schema_trees.specs.calls.Locations.{location_word}
+use Rattle.graphql_schemas.specs.grammar.Directives.{IsLocation, a_location}
 use Rattle.graphql_schemas.specs.reading.Directives.{all_locations, location_among, location_named, location_at}
 
 -- ---- the location of a word

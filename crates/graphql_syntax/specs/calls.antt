@@ -2,4 +2,5 @@
 pub mod Constants
 pub mod Named
 pub mod TypeText
+pub mod Views
 pub mod Words

@@ -4,5 +4,6 @@ pub mod Parts
 pub mod TreeEquality
 pub mod TypeEquality
 pub mod TypeTree
+pub mod ValueText
 pub mod ValueTree
 pub mod ValueViews

@@ -3,11 +3,14 @@ mod clones;
 mod convert;
 mod equality;
 mod literal;
+mod text;
+mod view;
 
 pub(crate) use convert::{const_of, holds_variable};
 pub use graphql_tokens::name::Name;
 pub use graphql_tokens::number::Number;
 pub use literal::Literal;
+pub use view::{ListItems, ListView, ObjectFields, ObjectView, ValueView};
 
 /// A value in which no variable stands, as in the default value of a variable.
 ///

@@ -10,7 +10,7 @@ use graphql_request_trees::{
 use graphql_schema_trees::ServiceDocument;
 use graphql_syntax::pos::Positioned;
 use graphql_syntax::types::Directive;
-use graphql_syntax::value::{Name, Value};
+use graphql_syntax::value::{Name, Value, ValueView};
 use rows::Shown;
 use std::alloc::{AllocError, Global};
 use std::borrow::Cow;
@@ -46,6 +46,14 @@ pub enum View {
     Equality,
     /// The first directive of the first field as one without variables, and that as one with them again.
     DirectiveIntoConst,
+    /// The selection sets of the selections of the first operation, by their places.
+    SetsOfSelections,
+    /// The first argument as GraphQL text, and the same of it as a value without variables.
+    Text,
+    /// The first argument through its view, and the same of it as a value without variables.
+    Viewed,
+    /// The field of a name in the first argument, through its view.
+    FieldViewed,
 }
 
 // What a call that writes can answer besides: that memory was refused.
@@ -100,6 +108,8 @@ impl View {
     ) -> Outcome {
         if matches!(self, View::Defaults) {
             write_defaults(shown, operation);
+        } else if matches!(self, View::SetsOfSelections) {
+            write_sets(shown, operation);
         } else if let Some(selection) = operation.selection_set.node.items.first() {
             match &selection.node {
                 selection if matches!(self, View::Directives) => {
@@ -128,6 +138,11 @@ impl View {
             }
             (View::IntoConst, [argument, ..], _) => {
                 write_there_and_back(alloc, shown, argument.1.node.clone()?)?;
+            }
+            (View::Text, [argument, ..], _) => write_text(alloc, shown, &argument.1.node)?,
+            (View::Viewed, [argument, ..], _) => write_viewed(alloc, shown, &argument.1.node)?,
+            (View::FieldViewed, [argument, ..], _) => {
+                write_field_viewed(shown, asked, argument.1.node.as_view());
             }
             (View::Equality, [one, other], _) => {
                 write_equality(alloc, shown, &one.1.node, &other.1.node)?;
@@ -258,4 +273,86 @@ fn write_directive(alloc: Global, shown: &mut Shown, directive: Directive) -> Ou
         None => shown.word("none"),
     }
     Ok(())
+}
+
+fn write_sets(shown: &mut Shown, operation: &OperationDefinition) {
+    for selection in &operation.selection_set.node.items {
+        match selection.node.selection_set() {
+            Some(set) => {
+                shown.item(" ", &set.node.items.len());
+                shown.place(" at ", &set.pos);
+            }
+            None => shown.word(" none"),
+        }
+    }
+}
+
+fn write_text(alloc: Global, shown: &mut Shown, value: &Value) -> Outcome {
+    shown.item("", value);
+    match value.clone()?.into_const(alloc)? {
+        Some(constant) => shown.item(" and ", &constant),
+        None => shown.word(" and none"),
+    }
+    Ok(())
+}
+
+fn write_viewed(alloc: Global, shown: &mut Shown, value: &Value) -> Outcome {
+    write_view(shown, value.as_view());
+    match value.clone()?.into_const(alloc)? {
+        Some(constant) => {
+            shown.word(" and");
+            write_view(shown, constant.as_view());
+        }
+        None => shown.word(" and none"),
+    }
+    Ok(())
+}
+
+// The case of a value with its parts: of a list or an object how many it has, each by its index and each again in turn.
+fn write_view(shown: &mut Shown, view: ValueView<'_>) {
+    match view {
+        ValueView::Variable(name) => shown.item(" variable ", name),
+        ValueView::Null => shown.word(" null"),
+        ValueView::Number(number) => shown.item(" number ", number),
+        ValueView::String(text) => shown.item(" string ", &text),
+        ValueView::Boolean(value) => shown.item(" boolean ", &value),
+        ValueView::Enum(name) => shown.item(" enum ", name),
+        ValueView::List(items) => {
+            shown.item(" list of ", &items.len());
+            shown.word(if items.is_empty() { ", empty" } else { "" });
+            write_item(shown, items.get(0));
+            write_item(shown, items.get(1));
+            shown.item("; ", &items.iter().len());
+            for item in items.iter() {
+                shown.item(" ", &item);
+            }
+        }
+        ValueView::Object(fields) => {
+            shown.item(" object of ", &fields.len());
+            shown.word(if fields.is_empty() { ", empty" } else { "" });
+            write_item(shown, fields.get(0).map(|field| field.1));
+            write_item(shown, fields.get(1).map(|field| field.1));
+            shown.item("; ", &fields.iter().len());
+            for (name, value) in fields.iter() {
+                shown.item(" ", name);
+                shown.item("=", &value);
+            }
+        }
+    }
+}
+
+fn write_item(shown: &mut Shown, item: Option<ValueView<'_>>) {
+    match item {
+        Some(item) => shown.item(", ", &item),
+        None => shown.word(", none"),
+    }
+}
+
+fn write_field_viewed(shown: &mut Shown, asked: &str, view: ValueView<'_>) {
+    if let ValueView::Object(fields) = view {
+        match fields.field(asked) {
+            Some(value) => shown.item("", &value),
+            None => shown.word("none"),
+        }
+    }
 }

@@ -4,7 +4,7 @@ use Rattle.graphql_tokens.specs.declared.pos.Positioned.{Positioned}
 use Rattle.graphql_tokens.specs.tokens.Edition.{Edition}
 use Rattle.graphql_tokens.specs.tokens.Token.{Bare, Token}
 use Rattle.graphql_schema_trees.specs.declared.service.DirectiveLocation.{DirectiveLocation}
-use Rattle.graphql_schema_trees.specs.declared.service.DirectiveLocation.TheVariants as locations
+use Rattle.graphql_schema_trees.specs.calls.Locations.{location_word}
 use Rattle.graphql_schema_trees.specs.trees.Schema.{Description, InputValues, DirectiveDefinition}
 use Rattle.graphql_reading.specs.grammar.Fronts.{Grammar}
 use Rattle.graphql_reading.specs.grammar.Places.{at, name_of}
@@ -12,31 +12,8 @@ use Rattle.graphql_reading.specs.grammar.Relations.{Rel, one, meaning, ◌⨾◌
 use Rattle.graphql_reading.specs.grammar.Tests.{punct, keyword, any_name}
 use Rattle.graphql_schemas.specs.grammar.Descriptions.{a_description, described}
 use Rattle.graphql_schemas.specs.grammar.InputValues.{arguments_definition}
-use Prim.Native.String.{String}
 
 -- ---- locations
-
--- the word of each place where a directive may stand
-abbrev pub location_word : DirectiveLocation → String
-location_word locations.Query = "QUERY"
-location_word locations.Mutation = "MUTATION"
-location_word locations.Subscription = "SUBSCRIPTION"
-location_word locations.Field = "FIELD"
-location_word locations.FragmentDefinition = "FRAGMENT_DEFINITION"
-location_word locations.FragmentSpread = "FRAGMENT_SPREAD"
-location_word locations.InlineFragment = "INLINE_FRAGMENT"
-location_word locations.Schema = "SCHEMA"
-location_word locations.Scalar = "SCALAR"
-location_word locations.Object = "OBJECT"
-location_word locations.FieldDefinition = "FIELD_DEFINITION"
-location_word locations.ArgumentDefinition = "ARGUMENT_DEFINITION"
-location_word locations.Interface = "INTERFACE"
-location_word locations.Union = "UNION"
-location_word locations.Enum = "ENUM"
-location_word locations.EnumValue = "ENUM_VALUE"
-location_word locations.InputObject = "INPUT_OBJECT"
-location_word locations.InputFieldDefinition = "INPUT_FIELD_DEFINITION"
-location_word locations.VariableDefinition = "VARIABLE_DEFINITION"
 
 -- a name that is the word of this location
 abbrev pub IsLocation : Bare → DirectiveLocation → Type 0

@@ -9,7 +9,8 @@ use Rattle.graphql_schema_trees.specs.trees.Schema.{InputValues}
 use Rattle.graphql_reading.specs.grammar.Limits.{Limits}
 use Rattle.graphql_reading.specs.grammar.Tests.{punct, keyword, any_name}
 use Rattle.graphql_reading.specs.reading.Outcome.{Reader, one_at, meaning_at, then_at, mapped_at, opt_at, after_at, separated_at}
-use Rattle.graphql_schemas.specs.grammar.Directives.{location_word, location_of, is_there}
+use Rattle.graphql_schema_trees.specs.calls.Locations.{location_word}
+use Rattle.graphql_schemas.specs.grammar.Directives.{location_of, is_there}
 use Rattle.graphql_schemas.specs.reading.InputValues.{arguments_definition_at}
 
 -- ---- locations

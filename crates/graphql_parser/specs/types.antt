@@ -1,0 +1,26 @@
+-- Public: the types that a caller's definitions name, as the crates below declare them.
+pub use Rattle.graphql_tokens.specs.declared.pos.Pos
+pub use Rattle.graphql_tokens.specs.declared.pos.Positioned
+pub use Rattle.graphql_syntax.specs.declared.value.Value
+pub use Rattle.graphql_syntax.specs.declared.value.ConstValue
+pub use Rattle.graphql_syntax.specs.declared.value.view.ValueView
+pub use Rattle.graphql_syntax.specs.declared.types.OperationType
+pub use Rattle.graphql_syntax.specs.declared.types.Directive
+pub use Rattle.graphql_syntax.specs.declared.types.ConstDirective
+pub use Rattle.graphql_request_trees.specs.declared.executable.ExecutableDocument
+pub use Rattle.graphql_request_trees.specs.declared.executable.DocumentOperations
+pub use Rattle.graphql_request_trees.specs.declared.executable.OperationDefinition
+pub use Rattle.graphql_request_trees.specs.declared.executable.VariableDefinition
+pub use Rattle.graphql_request_trees.specs.declared.executable.FragmentDefinition
+pub use Rattle.graphql_request_trees.specs.declared.executable.SelectionSet
+pub use Rattle.graphql_request_trees.specs.declared.executable.Selection
+pub use Rattle.graphql_request_trees.specs.declared.executable.Field
+pub use Rattle.graphql_request_trees.specs.declared.executable.InlineFragment
+pub use Rattle.graphql_request_trees.specs.declared.executable.FragmentSpread
+pub use Rattle.graphql_schema_trees.specs.declared.service.ServiceDocument
+pub use Rattle.graphql_schema_trees.specs.declared.service.TypeSystemDefinition
+pub use Rattle.graphql_schema_trees.specs.declared.service.TypeDefinition
+pub use Rattle.graphql_schema_trees.specs.declared.service.TypeKind
+pub use Rattle.graphql_schema_trees.specs.declared.service.FieldDefinition
+pub use Rattle.graphql_grammar.specs.declared.error.Error
+pub use Rattle.graphql_reading.specs.declared.limits.Limits

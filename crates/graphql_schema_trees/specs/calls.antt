@@ -1,0 +1,2 @@
+-- Public: what calls on the tree of a schema file give.
+pub mod Locations
