@@ -3,7 +3,7 @@ use Rattle.graphql_tokens.specs.tokens.Classes.{is_ignored}
 use Rattle.graphql_tokens.specs.inner.Reading.{skip}
 use Rattle.graphql_tokens.specs.inner.Running.{ahead}
 use Rattle.graphql_tokens.proofs.Ahead.{skip_blank, skip_hash, hash_shorter, skip_mark, skip_wide, skip_other, skip_nothing}
-use Rattle.graphql_tokens.proofs.Runs.{is_space, space_inner, space_run, run_shorter}
+use Rattle.graphql_tokens.proofs.Runs.{space_run}
 use Rattle.graphql_tokens.proofs.lexer.reading.pass_ignored.Goals as goal
 
 pub loop-b-preserved-then-b-eq32 : goal.loop-b-preserved-then-b-eq32
