@@ -1,6 +1,5 @@
 -- The operations of a request as they are walked, and those of its tree.
 use Rattle.std.proofs.Common.{◌≡◌, Bool, true, false, ◌||◌, List, [], ◌∷◌, map, refl, ap, sym}
-use Rattle.std.specs.List.{list_any}
 use Rattle.graphql_parser.specs.types.DocumentOperations.{DocumentOperations}
 use Rattle.graphql_parser.specs.types.DocumentOperations.TheVariants.{Single, Multiple}
 use Rattle.graphql_parser.specs.types.OperationDefinition.{OperationDefinition}
