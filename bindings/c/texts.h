@@ -33,11 +33,11 @@ typedef struct {
 #define NOWHERE {{0, 0}, {0, 0}}
 
 /* A text so many times. */
-#define R4(text) text text text text
-#define R16(text) R4(R4(text))
-#define R64(text) R4(R16(text))
-#define R256(text) R16(R16(text))
-#define R4096(text) R16(R256(text))
+#define TIMES_4(text) text text text text
+#define TIMES_16(text) TIMES_4(TIMES_4(text))
+#define TIMES_64(text) TIMES_4(TIMES_16(text))
+#define TIMES_256(text) TIMES_16(TIMES_16(text))
+#define TIMES_4096(text) TIMES_16(TIMES_256(text))
 
 static const row rows[] = {
     {&requests, "{a(b:\"\\u0000c\")}", 64, GRAPHQL_PARSER_ACCEPTED, NOWHERE,
@@ -48,19 +48,19 @@ static const row rows[] = {
      "\"directives\":[]}]}}]}"},
     {&requests, "query A($v: [Int!]! = [1, 2]) @d { b: a(c: {d: $v}) { ...F ... on T { e } } } fragment F on T { f }",
      64, GRAPHQL_PARSER_ACCEPTED, NOWHERE, 0},
-    {&requests, "{" R4096("a ") "}", 64, GRAPHQL_PARSER_ACCEPTED, NOWHERE, 0},
+    {&requests, "{" TIMES_4096("a ") "}", 64, GRAPHQL_PARSER_ACCEPTED, NOWHERE, 0},
     /* As deep as the limits let a text be, in all three ways. */
     {&requests,
-     "query($v:" R256("[") "A" R256("]") ")" R256("{a") "{a(b:" R256("{c:") R256("}") ")}" R256("}"), 256,
+     "query($v:" TIMES_256("[") "A" TIMES_256("]") ")" TIMES_256("{a") "{a(b:" TIMES_256("{c:") TIMES_256("}") ")}" TIMES_256("}"), 256,
      GRAPHQL_PARSER_SYNTAX, {{1, 1809}, {0, 0}}, 0},
     {&requests,
-     "query($v:" R256("[") "A" R256("]") ")" R256("{a") "{a(b:" R256("{c:") "1" R256("}") ")}" R256("}"), 256,
+     "query($v:" TIMES_256("[") "A" TIMES_256("]") ")" TIMES_256("{a") "{a(b:" TIMES_256("{c:") "1" TIMES_256("}") ")}" TIMES_256("}"), 256,
      GRAPHQL_PARSER_ACCEPTED, NOWHERE, 0},
-    {&requests, "{a(b:" R256("[") R256("]") ")}", 256, GRAPHQL_PARSER_ACCEPTED, NOWHERE, 0},
-    {&requests, R256("{a") "{a", 256, GRAPHQL_PARSER_SYNTAX, {{1, 515}, {0, 0}}, 0},
+    {&requests, "{a(b:" TIMES_256("[") TIMES_256("]") ")}", 256, GRAPHQL_PARSER_ACCEPTED, NOWHERE, 0},
+    {&requests, TIMES_256("{a") "{a", 256, GRAPHQL_PARSER_SYNTAX, {{1, 515}, {0, 0}}, 0},
     {&requests, "{a", 64, GRAPHQL_PARSER_SYNTAX, {{1, 3}, {0, 0}},
      "{\"message\":\"syntax error at 1:3\",\"locations\":[{\"line\":1,\"column\":3}]}"},
-    {&requests, R64("{a") "{a{a", 64, GRAPHQL_PARSER_RECURSION_LIMIT_EXCEEDED, NOWHERE,
+    {&requests, TIMES_64("{a") "{a{a", 64, GRAPHQL_PARSER_RECURSION_LIMIT_EXCEEDED, NOWHERE,
      "{\"message\":\"recursion limit exceeded.\"}"},
     {&requests, "{a{b}}", 0, GRAPHQL_PARSER_RECURSION_LIMIT_EXCEEDED, NOWHERE, 0},
     {&requests, "{a}query B{b}", 64, GRAPHQL_PARSER_MULTIPLE_OPERATIONS, {{1, 1}, {1, 4}}, 0},
@@ -78,11 +78,11 @@ static const row rows[] = {
      "\"value\":\"A\"},\"directives\":[]}]}"},
     {&schema_files, "\"d\" type A implements B & C @d(e: 1) { f(g: H = \"i\"): [J!]! } extend schema { query: Q }",
      64, GRAPHQL_PARSER_ACCEPTED, NOWHERE, 0},
-    {&schema_files, "type A{" R4096("a:B ") "}", 64, GRAPHQL_PARSER_ACCEPTED, NOWHERE, 0},
-    {&schema_files, "input A{f:" R256("[") "B" R256("]") "=" R256("{c:") "1" R256("}") "}", 256,
+    {&schema_files, "type A{" TIMES_4096("a:B ") "}", 64, GRAPHQL_PARSER_ACCEPTED, NOWHERE, 0},
+    {&schema_files, "input A{f:" TIMES_256("[") "B" TIMES_256("]") "=" TIMES_256("{c:") "1" TIMES_256("}") "}", 256,
      GRAPHQL_PARSER_ACCEPTED, NOWHERE, 0},
     {&schema_files, "type", 64, GRAPHQL_PARSER_SYNTAX, {{1, 5}, {0, 0}}, 0},
-    {&schema_files, "input A{f:" R64("[") "[", 64, GRAPHQL_PARSER_RECURSION_LIMIT_EXCEEDED, NOWHERE, 0},
+    {&schema_files, "input A{f:" TIMES_64("[") "[", 64, GRAPHQL_PARSER_RECURSION_LIMIT_EXCEEDED, NOWHERE, 0},
     {&schema_files, "schema{query:A query:B}", 64, GRAPHQL_PARSER_MULTIPLE_ROOTS, {{1, 16}, {1, 1}}, 0},
     {&schema_files, "scalar A schema{mutation:M}", 64, GRAPHQL_PARSER_MISSING_QUERY_ROOT,
      {{1, 10}, {0, 0}}, 0},
