@@ -1,9 +1,8 @@
 -- The fields of an object: pairs put in place one by one give the merged list.
-use Rattle.std.proofs.Common.{◌≡◌, ℕ, Bool, true, false, not, ◌&&◌, ◌||◌, cond, List, [], ◌∷◌, ◌++◌, map, nat_eq, refl, sym, ap, ap₂, ◌∙◌, subst, append_assoc, append-nil}
-use Rattle.std.specs.Cmp.Lexicographic.{pointwise, same_text}
+use Rattle.std.proofs.Common.{◌≡◌, ℕ, Bool, true, false, not, ◌&&◌, ◌||◌, cond, List, [], ◌∷◌, ◌++◌, map, refl, sym, ap, ap₂, ◌∙◌, subst, append_assoc, append-nil}
+use Rattle.std.specs.Cmp.Lexicographic.{same_text}
 use Rattle.std.specs.List.{list_any}
 use Rattle.std.specs.Str.{bytes_eq}
-use Rattle.indexmap.specs.IndexMap.{insert_entry, insert_all}
 use Rattle.graphql_grammar.specs.grammar.Merged.{has_name, without, last_value, merged}
 use Rattle.graphql_grammar.specs.reading.Fields.{are_distinct, put, put_all}
 
@@ -50,18 +49,8 @@ put-all-merged : {A : Type 0} (front ps : List (List ℕ × A)) → put_all (mer
 put-all-merged front [] = ap merged (sym (append-nil front))
 put-all-merged {A} front (p ∷ ps) = ap (λ (l : List (List ℕ × A)). put_all l ps) (sym (merged-behind front p)) ∙ put-all-merged (front ++ p ∷ []) ps ∙ ap merged (append_assoc front (p ∷ []) ps)
 
--- ---- a map in the order of insertion does the same
-
-insert-puts : {A : Type 0} (l : List (List ℕ × A)) (p : List ℕ × A) → insert_entry (pointwise nat_eq) l p.0 p.1 ≡ put l p
-insert-puts [] p = refl
-insert-puts {A} (q ∷ qs) p = ap (λ (l : List (List ℕ × A)). cond (bytes_eq p.0 q.0) ((q.0, p.1) ∷ qs) (q ∷ l)) (insert-puts qs p)
-
-insert-all-puts : {A : Type 0} (front ps : List (List ℕ × A)) → insert_all (pointwise nat_eq) front ps ≡ put_all front ps
-insert-all-puts front [] = refl
-insert-all-puts {A} front (p ∷ ps) = ap (λ (l : List (List ℕ × A)). insert_all (pointwise nat_eq) l ps) (insert-puts front p) ∙ insert-all-puts (put front p) ps
-
-pub merged-by-inserting : {A : Type 0} (ps : List (List ℕ × A)) → insert_all (pointwise nat_eq) [] ps ≡ merged ps
-merged-by-inserting ps = insert-all-puts [] ps ∙ put-all-merged [] ps
+pub merged-by-putting : {A : Type 0} (ps : List (List ℕ × A)) → put_all [] ps ≡ merged ps
+merged-by-putting ps = put-all-merged [] ps
 
 -- ---- distinct names
 

@@ -1,5 +1,6 @@
 pub mod ValueTests
 pub mod Fields
+pub mod FieldPlaces
 pub mod SimpleValues
 pub mod TypeSteps
 pub mod StringMeanings

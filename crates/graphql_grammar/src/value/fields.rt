@@ -1,17 +1,15 @@
 //! The fields of an object.
-ghost use Rattle.std.specs.Prelude.{◌≡◌, IfOk, [], nat_eq};
-ghost use Rattle.std.specs.Cmp.Lexicographic.{pointwise};
+ghost use Rattle.std.specs.Prelude.{◌≡◌, IfOk, OnOk, []};
 ghost use Rattle.std.specs.List.{list_any};
-ghost use Rattle.indexmap.specs.IndexMap.{insert_all};
 ghost use Rattle.graphql_grammar.specs.grammar.Merged as grammar;
 ghost use Rattle.graphql_grammar.specs.grammar.Merged.{has_name};
-ghost use Rattle.graphql_grammar.specs.reading.Fields.{are_distinct as distinct};
+ghost use Rattle.graphql_grammar.specs.reading.Fields.{are_distinct as distinct, place_among, places, put};
 
 use graphql_syntax::value::Name;
-use indexmap::IndexMap;
 use std::alloc::{AllocError, Global};
+use std::collections::BTreeMap;
 
-/// So many fields are compared one by one. Of more a map is made.
+/// So many fields are compared one by one. The names of more are put in order.
 const COMPARED_ONE_BY_ONE: usize = 16;
 
 fn holds<V>(fields: &[(Name, V)], name: &Name) -> bool
@@ -39,18 +37,36 @@ fn are_distinct<V>(fields: &[(Name, V)]) -> bool
     true
 }
 
-fn map_of<V: Drop>(alloc: Global, fields: Vec<(Name, V)>) -> Result<IndexMap<Name, V>, AllocError>
-    ensures { IfOk result (λ map. map.entries ≡ insert_all (pointwise nat_eq) [] fields.items) }
+/// For each field the place of its name among the names, each named once, where it comes first.
+fn places_of<V>(alloc: Global, fields: &[(Name, V)]) -> Result<Vec<usize>, AllocError>
+    ensures { IfOk result (λ found. found.items ≡ places [] fields.now) }
 {
-    let mut map = IndexMap::with_capacity(alloc, fields.len())?;
-    map.extend(fields)?;
-    Ok(map)
+    let mut known: BTreeMap<&Name, usize> = BTreeMap::new(alloc);
+    let mut found = Vec::with_capacity(alloc, fields.len())?;
+    for (name, _) in fields {
+        let place = match known.get(&name) {
+            Some(place) => *place,
+            None => {
+                let next = known.len();
+                known.insert(name, next)?;
+                next
+            }
+        };
+        found.push(place)?;
+    }
+    Ok(found)
 }
 
-fn entries_of<V: Drop>(alloc: Global, map: IndexMap<Name, V>) -> Result<Vec<(Name, V)>, AllocError>
-    ensures { IfOk result (λ fields. fields.items ≡ map.entries) }
+/// The field goes last, or its value takes the place of the one that stands there.
+fn put_at<V: Drop>(merged: &mut Vec<(Name, V)>, place: usize, field: (Name, V)) -> Result<(), AllocError>
+    requires { place ≡ place_among merged.old.items field.0 }
+    ensures { OnOk result (merged.new.items ≡ put merged.old.items field) }
 {
-    map.into_iter().collect(alloc)
+    match merged.get_mut(place) {
+        Some(first) => first.1 = field.1,
+        None => merged.push(field)?,
+    }
+    Ok(())
 }
 
 /// Each name once: where it comes first, with the value with which it comes last.
@@ -60,5 +76,10 @@ pub fn merge<V: Drop>(alloc: Global, fields: Vec<(Name, V)>) -> Result<Vec<(Name
     if fields.len() <= COMPARED_ONE_BY_ONE && are_distinct(&fields) {
         return Ok(fields);
     }
-    entries_of(alloc, map_of(alloc, fields)?)
+    let places = places_of(alloc, &fields)?;
+    let mut merged = Vec::with_capacity(alloc, fields.len())?;
+    for (field, place) in fields.into_iter().zip(places) {
+        put_at(&mut merged, place, field)?;
+    }
+    Ok(merged)
 }

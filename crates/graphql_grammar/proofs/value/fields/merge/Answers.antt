@@ -1,12 +1,32 @@
-use Rattle.std.proofs.Common.{◌≡◌, ℕ, List, IfOk, ap, sym, ◌∙◌, subst}
-use Rattle.graphql_grammar.specs.reading.Fields.{are_distinct}
-use Rattle.graphql_grammar.proofs.Fields.{merged-distinct, merged-by-inserting}
+use Rattle.std.proofs.Common.{◌≡◌, [], arith, inl, inr, ap, ap₂, sym, ◌∙◌}
+use Rattle.graphql_grammar.specs.reading.Fields.{are_distinct, put_all, places}
+use Rattle.graphql_grammar.proofs.Fields.{merged-distinct, merged-by-putting}
+use Rattle.graphql_grammar.proofs.FieldPlaces.{put-next, all-put}
 use Rattle.graphql_grammar.proofs.value.fields.merge.Goals as goal
 
 pub returns-then-are_distinct : goal.returns-then-are_distinct
 returns-then-are_distinct g c = sym (merged-distinct c.args.fields.items (ap are_distinct (sym c.deref.ensures.value) ∙ sym c.are_distinct.ensures ∙ c.if-are_distinct.true))
 
+pub loop-field-init : goal.loop-field-init
+loop-field-init g c =
+    let gives = c.into_iter-field-iterator.ensures.into_iter_gives in
+    let fields : c.into_iter-field-iterator.result.a.rest.items ≡ c.args.fields.items = ap (λ z. z.a.rest.items) gives ∙ ap (λ x. x.rest.items) c.zip-field-items.ensures.first ∙ c.into_iter.ensures.rest in
+    let found : c.into_iter-field-iterator.result.b.rest.items ≡ c.in_ok-places.places.items = ap (λ z. z.b.rest.items) gives ∙ c.zip-field-items.ensures.second.0 in
+    (ap₂ put_all c.in_ok-merged.ensures.items fields, found ∙ c.in_ok-places.ensures ∙ ap (places []) c.deref-2.ensures.value ∙ sym (ap₂ places c.in_ok-merged.ensures.items fields))
+
+pub put_at-requires : goal.put_at-requires
+put_at-requires g c =
+    let steps = c.in-Some.ensures.steps in
+    (put-next c.loop-field.merged.items c.loop-field.field-iterator.a.rest.items _ c.in-Some.field c.in-Some.place c.loop-field.field-iterator.b.rest.items _ c.loop-field.invariant.1 steps.0.0 steps.1.0).0
+
+pub loop-field-preserved : goal.loop-field-preserved
+loop-field-preserved g c =
+    let steps = c.in-Some.ensures.steps in
+    let now = c.in_ok-put_at.ensures in
+    (ap (λ l. put_all l c.next.new.self.a.rest.items) now ∙ sym (ap (put_all c.loop-field.merged.items) steps.0.0) ∙ c.loop-field.invariant.0
+    , (put-next c.loop-field.merged.items c.loop-field.field-iterator.a.rest.items _ c.in-Some.field c.in-Some.place c.loop-field.field-iterator.b.rest.items _ c.loop-field.invariant.1 steps.0.0 steps.1.0).1
+        ∙ sym (ap (λ l. places l c.next.new.self.a.rest.items) now))
+
 pub returns : goal.returns
-returns g c =
-    let is = c.in_ok-map_of.ensures ∙ merged-by-inserting c.args.fields.items in
-    subst (λ (l : List (List ℕ × g.row.V.Denot)). IfOk c.entries_of.result (λ merged. merged.items ≡ l)) is c.entries_of.ensures
+returns g c = all-put c.loop-field.merged.items c.loop-field.field-iterator.a.rest.items c.loop-field.field-iterator.b.rest.items _ (c.loop-field.invariant.0 ∙ merged-by-putting c.args.fields.items) c.loop-field.invariant.1
+    (elim c.in-None.ensures.steps [ inl w ↦ inl (omega (arith, w.1, c.loop-field.field-iterator.a.rest.ok)) | inr w ↦ inr (omega (arith, w.1, c.loop-field.field-iterator.b.rest.ok)) ])
