@@ -11,8 +11,17 @@ pub fn hash_of<T: Hash>(value: &T) -> u64 {
     state.finish()
 }
 
-/// What a name gives as text, and prints plain, after blanks and for a developer; and whether a copy is equal and has
-/// one hash with it.
+/// Whether a name of the same text takes no memory.
+fn in_place(name: &Name) -> &'static str {
+    match Name::in_place(name.as_str()) {
+        Some(short) if short == *name => " in place",
+        Some(_) => " with another in place",
+        None => "",
+    }
+}
+
+/// What a name gives as text, and prints plain, after blanks and for a developer; whether it takes no memory; and
+/// whether a copy is equal and has one hash with it.
 pub fn printed(alloc: Global, name: &Name) -> Result<String, AllocError> {
     let (text, copy) = (name.as_str(), name.clone()?);
     let of_copy = if copy == *name && hash_of(&copy) == hash_of(name) {
@@ -20,7 +29,8 @@ pub fn printed(alloc: Global, name: &Name) -> Result<String, AllocError> {
     } else {
         " with another copy"
     };
-    format!(in alloc; "'{text}' '{name}' '{name:>6}' {name:?}{of_copy}")
+    let in_place = in_place(name);
+    format!(in alloc; "'{text}' '{name}' '{name:>6}' {name:?}{in_place}{of_copy}")
 }
 
 /// The word for how two names are ordered.
@@ -39,14 +49,14 @@ pub fn ordered(alloc: Global, one: &Name, other: &Name) -> Result<String, AllocE
 
 /// Texts, and what their names print.
 pub const NAMES: &str = r#"
--- Any text is a name.
-abc ⇒ 'abc' 'abc' '␠␠␠abc' Name("abc")
- ⇒ '' '' '␠␠␠␠␠␠' Name("")
-0 é␊ ⇒ '0 é␊' '0 é␊' '␠␠0 é␊' Name("0 é\n")
-query ⇒ 'query' 'query' ' query' Name("query")
-abcdefghijklmnop ⇒ 'abcdefghijklmnop' 'abcdefghijklmnop' 'abcdefghijklmnop' Name("abcdefghijklmnop")
+-- Any text is a name. One of at most 16 bytes takes no memory.
+abc ⇒ 'abc' 'abc' '␠␠␠abc' Name("abc") in place
+ ⇒ '' '' '␠␠␠␠␠␠' Name("") in place
+0 é␊ ⇒ '0 é␊' '0 é␊' '␠␠0 é␊' Name("0 é\n") in place
+query ⇒ 'query' 'query' ' query' Name("query") in place
+abcdefghijklmnop ⇒ 'abcdefghijklmnop' 'abcdefghijklmnop' 'abcdefghijklmnop' Name("abcdefghijklmnop") in place
 abcdefghijklmnopq ⇒ 'abcdefghijklmnopq' 'abcdefghijklmnopq' 'abcdefghijklmnopq' Name("abcdefghijklmnopq")
-éééééééé ⇒ 'éééééééé' 'éééééééé' 'éééééééé' Name("éééééééé")
+éééééééé ⇒ 'éééééééé' 'éééééééé' 'éééééééé' Name("éééééééé") in place
 aéééééééé ⇒ 'aéééééééé' 'aéééééééé' 'aéééééééé' Name("aéééééééé")
 "#;
 

@@ -61,7 +61,6 @@ enum Left<'a> {
 
 impl<'a> Model for OperationsIter<'a> {
     ghost use Rattle.std.specs.Prelude.{List};
-    ghost use Rattle.graphql_request_trees.specs.calls.Sets.{set_of};
     ghost use Rattle.graphql_request_trees.specs.calls.Operations.{NamedOperation};
     ghost use Rattle.graphql_request_trees.specs.inner.OperationsLeft.{operations_left};
     ghost use Rattle.std.specs.Coded.{coded×, coded_list, coded_option, coded_ℕ};

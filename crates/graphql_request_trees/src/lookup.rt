@@ -8,17 +8,12 @@ ghost use Rattle.graphql_syntax.specs.calls.Named.{named};
 use graphql_syntax::value::Name;
 use indexmap::IndexMap;
 
-/// A name of at most so many bytes takes no memory.
-const IN_PLACE: usize = 16;
-
 /// The value of the first entry of this name.
 #[tactic(auto, using(crate::proofs::Entries::named_by_lookup))]
 pub(crate) fn find_entry<'a, V>(map: &'a IndexMap<Name, V>, name: &str) -> Option<&'a V>
     ensures { option_map (λ v. v.now) result ≡ named name.now map.now.entries }
 {
-    if name.len() <= IN_PLACE
-        && let Ok(key) = Name::new(*map.allocator(), name)
-    {
+    if let Some(key) = Name::in_place(name) {
         return map.get(&key);
     }
     for (key, value) in map.iter() {

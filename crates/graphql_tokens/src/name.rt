@@ -46,11 +46,12 @@ impl Model for Name {
 impl Name {
     ghost use Rattle.std.specs.Prelude.{◌≤◌, length, IsOk, IfSome, IsSome};
 
-    // The name that holds this text in itself, where there is room for it.
+    /// The name with this text, if it is at most 16 bytes long, and so takes no memory; None where it is longer.
     #[inline]
-    fn in_place(text: &str) -> Option<Name>
+    pub fn in_place(text: &str) -> Option<Name>
         ensures name { IfSome result (λ name. name ≡ text.now) }
         ensures room { length text.now ≤ 16 → IsSome result }
+        ensures fits { IsSome result → length text.now ≤ 16 }
     {
         let text = ArrayString::from(text).ok()?;
         Some(Name(Text::Short(text)))
