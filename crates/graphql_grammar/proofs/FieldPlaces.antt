@@ -143,18 +143,20 @@ module _ {A : Type 0} (fields : List (List ℕ × A)) (known : BTreeMap (Bor (Li
   known-one-more e =
       let at = sym (kept.0 p.0) ∙ e in
       subst (λ (l : List (List ℕ × A)). Knows known l × (length known.entries ≡ length l) × (found' ++ places l (drop (i + 1) fields) ≡ places [] fields)) (sym up-to)
-        (λ q. kept.0 q ∙ sym (place-of-known front p q n at), kept.1 ∙ sym (as-many front p n at), found-so (place-of front p.0 n at))
+      (λ q. kept.0 q ∙ sym (place-of-known front p q n at), kept.1 ∙ sym (as-many front p n at), found-so (place-of front p.0 n at))
 
   pub new-one-more : (known' : BTreeMap (Bor (List ℕ)) ℕ) → found_at known p.0 ≡ None → n ≡ length known.entries → length known'.entries ≡ length known.entries + 1
-    → ((name : List ℕ) → found_at known' name ≡ cond (is_eq (slice_cmp nat_cmp p.0 name)) (Some n) (found_at known name))
-    → IsFound fields known' found' (i + 1)
+      → ((name : List ℕ) → found_at known' name ≡ cond (is_eq (slice_cmp nat_cmp p.0 name)) (Some n) (found_at known name))
+      → IsFound fields known' found' (i + 1)
   new-one-more known' e last longer holds =
       let at = sym (kept.0 p.0) ∙ e in
       let size : length (put front p) ≡ length front + 1 = ap length (put-new front p at) ∙ length-append front (p ∷ []) in
-      subst (λ (l : List (List ℕ × A)). Knows known' l × (length known'.entries ≡ length l) × (found' ++ places l (drop (i + 1) fields) ≡ places [] fields)) (sym up-to)
-        (λ name. holds name ∙ ap₂ (λ (b : Bool) (o : Option ℕ). cond b (Some n) o) (is_eq-slice_cmp p.0 name) (kept.0 name)
-            ∙ ap (λ (n : ℕ). cond (bytes_eq p.0 name) (Some n) (place_in front name)) (last ∙ kept.1) ∙ sym (place-of-new front p name at)
-        , omega (arith, longer, kept.1, size), found-so (last ∙ kept.1 ∙ all-before front p.0 at))
+      subst (λ (l : List (List ℕ × A)). Knows known' l × (length known'.entries ≡ length l) × (found' ++ places l (drop (i + 1) fields) ≡ places [] fields)) (sym up-to) (
+        λ name. holds name ∙ ap₂ (λ (b : Bool) (o : Option ℕ). cond b (Some n) o) (is_eq-slice_cmp p.0 name) (kept.0 name)
+            ∙ ap (λ (n : ℕ). cond (bytes_eq p.0 name) (Some n) (place_in front name)) (last ∙ kept.1) ∙ sym (place-of-new front p name at),
+        omega (arith, longer, kept.1, size),
+        found-so (last ∙ kept.1 ∙ all-before front p.0 at),
+      )
 
 -- ---- the pairs are put where the places say
 

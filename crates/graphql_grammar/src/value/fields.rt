@@ -58,7 +58,11 @@ fn places_of<V>(alloc: Global, fields: &[(Name, V)]) -> Result<Vec<usize>, Alloc
 }
 
 /// The field goes last, or its value takes the place of the one that stands there.
-fn put_at<V: Drop>(merged: &mut Vec<(Name, V)>, place: usize, field: (Name, V)) -> Result<(), AllocError>
+fn put_at<V: Drop>(
+    merged: &mut Vec<(Name, V)>,
+    place: usize,
+    field: (Name, V),
+) -> Result<(), AllocError>
     requires { place ≡ place_among merged.old.items field.0 }
     ensures { OnOk result (merged.new.items ≡ put merged.old.items field) }
 {

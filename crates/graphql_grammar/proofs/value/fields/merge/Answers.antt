@@ -22,10 +22,11 @@ put_at-requires g c =
 pub loop-field-preserved : goal.loop-field-preserved
 loop-field-preserved g c =
     let steps = c.in-Some.ensures.steps in
-    let now = c.in_ok-put_at.ensures in
-    (ap (λ l. put_all l c.next.new.self.a.rest.items) now ∙ sym (ap (put_all c.loop-field.merged.items) steps.0.0) ∙ c.loop-field.invariant.0
-    , (put-next c.loop-field.merged.items c.loop-field.field-iterator.a.rest.items _ c.in-Some.field c.in-Some.place c.loop-field.field-iterator.b.rest.items _ c.loop-field.invariant.1 steps.0.0 steps.1.0).1
-        ∙ sym (ap (λ l. places l c.next.new.self.a.rest.items) now))
+    let now = c.in_ok-put_at.ensures in (
+      ap (λ l. put_all l c.next.new.self.a.rest.items) now ∙ sym (ap (put_all c.loop-field.merged.items) steps.0.0) ∙ c.loop-field.invariant.0,
+      (put-next c.loop-field.merged.items c.loop-field.field-iterator.a.rest.items _ c.in-Some.field c.in-Some.place c.loop-field.field-iterator.b.rest.items _ c.loop-field.invariant.1 steps.0.0 steps.1.0).1
+          ∙ sym (ap (λ l. places l c.next.new.self.a.rest.items) now),
+    )
 
 pub returns : goal.returns
 returns g c = all-put c.loop-field.merged.items c.loop-field.field-iterator.a.rest.items c.loop-field.field-iterator.b.rest.items _ (c.loop-field.invariant.0 ∙ merged-by-putting c.args.fields.items) c.loop-field.invariant.1

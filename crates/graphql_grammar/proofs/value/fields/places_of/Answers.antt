@@ -17,16 +17,17 @@ loop-name-preserved g c =
     let place = c.match-get.place in
     let kept : IsFound fields known found i = (c.loop-name.invariant.0, c.loop-name.invariant.1, c.loop-name.invariant.2) in
     let now : IsFound fields c.match-get.known c.push.new.self.items (i + 1) =
-        elim c.match-get.branch [
-          in-Some w ↦ subst (λ (m : BTreeMap (Bor (List ℕ)) ℕ). IsFound fields m c.push.new.self.items (i + 1)) (sym w.known-is)
-            (known-one-more fields known found c.push.new.self.items i place field c.loop-name-test.true c.loop-name-item.is kept c.in_ok-push.ensures.items
-              (sym c.get.ensures.value ∙ ap option_copied w.in-Some.is ∙ ap Some (sym w.place-is)))
-        | in-None+in_ok-insert-in-None w ↦
-            let absent = sym c.get.ensures.value ∙ ap option_copied w.in-None.is in
-            let held = w.in_ok-insert-in-None.ensures in
-            subst (λ (m : BTreeMap (Bor (List ℕ)) ℕ). IsFound fields m c.push.new.self.items (i + 1)) (sym w.known-is)
-              (new-one-more fields known found c.push.new.self.items i place field c.loop-name-test.true c.loop-name-item.is kept c.in_ok-push.ensures.items
-                w.insert.new.self absent (w.place-is ∙ w.len-next.ensures.len)
-                (held.len ∙ ap (λ (o : Option ℕ). length known.entries + (if is_some o then 0 else 1)) (held.old ∙ absent))
-                (λ name. held.updates.0 (record { ref_ptr = (0, 0); now = name }) ∙ ap (λ (n : ℕ). cond (is_eq (slice_cmp nat_cmp field.0 name)) (Some n) (found_at known name)) (sym w.place-is))) ] in
+    elim c.match-get.branch [
+      | in-Some w ↦ subst (λ (m : BTreeMap (Bor (List ℕ)) ℕ). IsFound fields m c.push.new.self.items (i + 1)) (sym w.known-is)
+          (known-one-more fields known found c.push.new.self.items i place field c.loop-name-test.true c.loop-name-item.is kept c.in_ok-push.ensures.items
+          (sym c.get.ensures.value ∙ ap option_copied w.in-Some.is ∙ ap Some (sym w.place-is)))
+      | in-None+in_ok-insert-in-None w ↦
+          let absent = sym c.get.ensures.value ∙ ap option_copied w.in-None.is in
+          let held = w.in_ok-insert-in-None.ensures in
+          subst (λ (m : BTreeMap (Bor (List ℕ)) ℕ). IsFound fields m c.push.new.self.items (i + 1)) (sym w.known-is)
+          (new-one-more fields known found c.push.new.self.items i place field c.loop-name-test.true c.loop-name-item.is kept c.in_ok-push.ensures.items
+          w.insert.new.self absent (w.place-is ∙ w.len-next.ensures.len)
+          (held.len ∙ ap (λ (o : Option ℕ). length known.entries + (if is_some o then 0 else 1)) (held.old ∙ absent))
+          (λ name. held.updates.0 (record { ref_ptr = (0, 0); now = name }) ∙ ap (λ (n : ℕ). cond (is_eq (slice_cmp nat_cmp field.0 name)) (Some n) (found_at known name)) (sym w.place-is)))
+    ] in
     (now.0, now.1, now.2, refl)
