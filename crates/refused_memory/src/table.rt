@@ -100,6 +100,12 @@ pub const ROWS: &[Row] = &[
         is_free: false,
     },
     Row {
+        call: Call::Query,
+        text: "{a(b:{q:1 w:2 e:3 r:4 t:5 y:6 u:7 i:8 q:90 o:9 p:10 a:11 s:12 d:13 f:14 g:15 h:16 j:17 h:91 q:92 z:93 z:94})}",
+        answer: "single (query 1:1 {1:1 (field 1:2 a@1:2 b@1:4={ q=92 w=2 e=3 r=4 t=5 y=6 u=7 i=8 o=9 p=10 a=11 s=12 d=13 f=14 g=15 h=91 j=17 z=94 }@1:6)})",
+        is_free: false,
+    },
+    Row {
         call: Call::QueryLimited,
         text: "{a{b(c:[1])}}",
         answer: "single (query 1:1 {1:1 (field 1:2 a@1:2 {1:3 (field 1:4 b@1:4 c@1:6=[ 1 ]@1:8)})})",

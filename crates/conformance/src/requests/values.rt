@@ -64,6 +64,13 @@ mutation { add(big: 21474836470000) }␠ ⇒
 {a(b:{x:1 y:2 x:3})} ⇒ single (query 1:1 {1:1 (field 1:2 a@1:2 b@1:4={ x=3 y=2 }@1:6)})
 {a(b:{x:1 x:2 x:3})} ⇒ single (query 1:1 {1:1 (field 1:2 a@1:2 b@1:4={ x=3 }@1:6)})
 {a(b:{y:1 x:{x:1 x:[2]} y:{}})} ⇒ single (query 1:1 {1:1 (field 1:2 a@1:2 b@1:4={ y={ } x={ x=[ 2 ] } }@1:6)})
+-- More than sixteen fields: all names distinct; some twice and one three times; one name alone.
+{a(b:{q:1 w:2 e:3 r:4 t:5 y:6 u:7 i:8 o:9 p:10 a:11 s:12 d:13 f:14 g:15 h:16 j:17})} ⇒
+  single (query 1:1 {1:1 (field 1:2 a@1:2 b@1:4={ q=1 w=2 e=3 r=4 t=5 y=6 u=7 i=8 o=9 p=10 a=11 s=12 d=13 f=14 g=15 h=16 j=17 }@1:6)})
+{a(b:{q:1 w:2 e:3 r:4 t:5 y:6 u:7 i:8 q:90 o:9 p:10 a:11 s:12 d:13 f:14 g:15 h:16 j:17 h:91 q:92 z:93 z:94})} ⇒
+  single (query 1:1 {1:1 (field 1:2 a@1:2 b@1:4={ q=92 w=2 e=3 r=4 t=5 y=6 u=7 i=8 o=9 p=10 a=11 s=12 d=13 f=14 g=15 h=91 j=17 z=94 }@1:6)})
+{a(b:{x:1 x:2 x:3 x:4 x:5 x:6 x:7 x:8 x:9 x:10 x:11 x:12 x:13 x:14 x:15 x:16 x:17 x:18 x:19 x:20})} ⇒
+  single (query 1:1 {1:1 (field 1:2 a@1:2 b@1:4={ x=20 }@1:6)})
 -- Arguments are all kept.
 {a(b:1 b:2)} ⇒ single (query 1:1 {1:1 (field 1:2 a@1:2 b@1:4=1@1:6 b@1:8=2@1:10)})
 -- Arguments.
