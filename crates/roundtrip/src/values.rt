@@ -1,6 +1,4 @@
 //! Random values as trees, and whether their texts are read as them again.
-ghost use Rattle.std.specs.Prelude.{◌<◌, length};
-
 use crate::random::Random;
 use graphql_parser::parse_query;
 use graphql_parser::types::{DocumentOperations, Selection};
@@ -146,10 +144,19 @@ impl ValueSource {
         Ok(match kind {
             4 => Value::Null,
             5 => Value::Boolean(self.random.one_in(2)),
-            6 => Value::Enum(Name::new(alloc, self.one_of(&ENUM_NAMES))?),
-            7 => Value::Number(Number::new(alloc, self.one_of(&NUMBERS))?.ok_or("no number")?),
+            6 => {
+                let name = ENUM_NAMES[self.random.below(ENUM_NAMES.len())];
+                Value::Enum(Name::new(alloc, name)?)
+            }
+            7 => {
+                let literal = NUMBERS[self.random.below(NUMBERS.len())];
+                Value::Number(Number::new(alloc, literal)?.ok_or("no number")?)
+            }
             8 | 9 => Value::String(self.string(alloc)?),
-            _ => Value::Variable(Name::new(alloc, self.one_of(&NAMES))?),
+            _ => {
+                let name = NAMES[self.random.below(NAMES.len())];
+                Value::Variable(Name::new(alloc, name)?)
+            }
         })
     }
 
@@ -159,12 +166,6 @@ impl ValueSource {
             text.push(CHARACTERS[self.random.below(CHARACTERS.len())])?;
         }
         Ok(text)
-    }
-
-    fn one_of(&mut self, words: &[&'static str]) -> &'static str
-        requires { 0 < length words.now }
-    {
-        words[self.random.below(words.len())]
     }
 }
 
