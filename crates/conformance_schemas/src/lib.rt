@@ -13,6 +13,8 @@ mod kinds;
 #[cfg(test)]
 mod limits;
 #[cfg(test)]
+mod locations;
+#[cfg(test)]
 mod members;
 #[cfg(test)]
 mod refused;

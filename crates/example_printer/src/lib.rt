@@ -5,7 +5,8 @@
 //! are gone, and descriptions and block strings are strings in quotes. A request has its operations first, and then its
 //! fragments.
 //!
-//! Proved of it: the printing ends without a fault on every tree, also on those that no text has. What is printed is tested.
+//! Proved of it: the printing ends without a fault on every tree, also on those that no text has. What is printed is tested,
+//! also that it is read as the same tree again, by random texts (`roundtrip`).
 #![tactic(auto)]
 
 mod parts;

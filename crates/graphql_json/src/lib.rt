@@ -12,7 +12,7 @@
 //! - an object has each field once, with the value that stands last.
 //!
 //! Proved of it: on every tree and every error, also those that no text has, the calls end without a fault, and what
-//! they give is UTF-8. That it is JSON, and the JSON that is told here, is tested in `conformance_json`.
+//! they give is UTF-8, as an empty text is too. That it is JSON, and this JSON, is tested in `conformance_json`.
 #![tactic(auto)]
 
 ghost use Rattle.std.specs.Prelude.{IfOk};

@@ -165,31 +165,7 @@ impl Node for DirectiveDefinition {
 impl Node for DirectiveLocation {
     fn write(&self, sheet: &mut Sheet, place: Option<Pos>) -> Outcome {
         sheet.begin("Name", place)?;
-        sheet.text("value", location_word(*self))?;
+        sheet.text("value", self.as_str())?;
         sheet.close()
-    }
-}
-
-fn location_word(location: DirectiveLocation) -> &'static str {
-    match location {
-        DirectiveLocation::Query => "QUERY",
-        DirectiveLocation::Mutation => "MUTATION",
-        DirectiveLocation::Subscription => "SUBSCRIPTION",
-        DirectiveLocation::Field => "FIELD",
-        DirectiveLocation::FragmentDefinition => "FRAGMENT_DEFINITION",
-        DirectiveLocation::FragmentSpread => "FRAGMENT_SPREAD",
-        DirectiveLocation::InlineFragment => "INLINE_FRAGMENT",
-        DirectiveLocation::Schema => "SCHEMA",
-        DirectiveLocation::Scalar => "SCALAR",
-        DirectiveLocation::Object => "OBJECT",
-        DirectiveLocation::FieldDefinition => "FIELD_DEFINITION",
-        DirectiveLocation::ArgumentDefinition => "ARGUMENT_DEFINITION",
-        DirectiveLocation::Interface => "INTERFACE",
-        DirectiveLocation::Union => "UNION",
-        DirectiveLocation::Enum => "ENUM",
-        DirectiveLocation::EnumValue => "ENUM_VALUE",
-        DirectiveLocation::InputObject => "INPUT_OBJECT",
-        DirectiveLocation::InputFieldDefinition => "INPUT_FIELD_DEFINITION",
-        DirectiveLocation::VariableDefinition => "VARIABLE_DEFINITION",
     }
 }

@@ -1,8 +1,7 @@
 //! The two languages: their grammars, and what their calls answer.
 use crate::grammars;
-use crate::printing_requests::print_request;
-use crate::printing_schemas::print_file;
 use answer_text::shown;
+use example_printer::{print_request, print_schema};
 use graphql_parser::lexer::Tokens;
 use graphql_parser::types::{ExecutableDocument, ServiceDocument};
 use graphql_parser::{
@@ -34,7 +33,7 @@ pub struct Seen {
     pub placed: String,
     /// The tree or the error, without places.
     pub placeless: String,
-    /// The tree as GraphQL text; empty for an error.
+    /// The tree as `example_printer` prints it; empty for an error.
     pub printed: String,
 }
 
@@ -108,9 +107,7 @@ fn of_request(alloc: Global, answer: Answer<ExecutableDocument>) -> Result<Seen,
             write_request(&mut placed, &document);
             let mut placeless = Shown::new(alloc, false);
             write_request(&mut placeless, &document);
-            let mut printed = Shown::new(alloc, false);
-            print_request(&mut printed, &document);
-            accepted(placed, placeless, printed)
+            accepted(placed, placeless, print_request(alloc, &document)?)
         }
         Err(error) => refused(alloc, &error),
     }
@@ -123,20 +120,18 @@ fn of_file(alloc: Global, answer: Answer<ServiceDocument>) -> Result<Seen, Alloc
             write_file(&mut placed, &document);
             let mut placeless = Shown::new(alloc, false);
             write_file(&mut placeless, &document);
-            let mut printed = Shown::new(alloc, false);
-            print_file(&mut printed, &document);
-            accepted(placed, placeless, printed)
+            accepted(placed, placeless, print_schema(alloc, &document)?)
         }
         Err(error) => refused(alloc, &error),
     }
 }
 
-fn accepted(placed: Shown, placeless: Shown, printed: Shown) -> Result<Seen, AllocError> {
+fn accepted(placed: Shown, placeless: Shown, printed: String) -> Result<Seen, AllocError> {
     Ok(Seen {
         kind: Kind::Accepted,
         placed: placed.finish()?,
         placeless: placeless.finish()?,
-        printed: printed.finish()?,
+        printed,
     })
 }
 

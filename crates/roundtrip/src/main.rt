@@ -1,22 +1,22 @@
 //! A differential run: random texts of both languages, and what the parsers make of them.
 //!
-//! `roundtrip SEED COUNT` checks so many texts of each language. An accepted text is printed from its tree; the printed
-//! text has the same tree, and is printed the same again. Each text has the same answer by each form of its call, and
-//! when each of its tokens stands on a line of its own; within narrow limits it has that answer, or nests too deep. Half
-//! of the texts are made by the grammar and are accepted, or break a rule for documents; the others have one edit.
+//! `roundtrip SEED COUNT` checks so many texts of each language. The tree of an accepted text is printed by
+//! `example_printer`; the printed text has the same tree, and is printed the same again. Each text has the same answer by
+//! each form of its call, and when each of its tokens stands on a line of its own; within narrow limits it has that answer,
+//! or nests too deep. Half of the texts are made by the grammar and are accepted, or break a rule for documents; the others
+//! have one edit. The tests do the same with random values: each is printed, and read as an argument or a default again.
 #![tactic(auto)]
 
 mod checking;
 mod grammars;
 mod languages;
-mod printing;
-mod printing_requests;
-mod printing_schemas;
 mod random;
 mod rules;
 #[cfg(test)]
 mod tests;
 mod texts;
+#[cfg(test)]
+mod values;
 
 use checking::run;
 use languages::{Language, Requests, Schemas};

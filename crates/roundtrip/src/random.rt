@@ -1,4 +1,5 @@
 //! Numbers that look random, each run of them made by a seed.
+ghost use Rattle.std.specs.Prelude.{◌<◌};
 
 /// A generator of the kind xorshift.
 #[derive(Drop)]
@@ -15,7 +16,9 @@ impl Random {
     }
 
     /// A number below this one; 0 where there is none.
-    pub fn below(&mut self, end: usize) -> usize {
+    pub fn below(&mut self, end: usize) -> usize
+        ensures { 0 < end → result < end }
+    {
         let mut next = self.state;
         next ^= next << 13;
         next ^= next >> 7;

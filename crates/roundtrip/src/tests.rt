@@ -1,6 +1,7 @@
 //! Runs from a fixed seed, and checks that have to fail.
 use crate::checking::run;
 use crate::languages::{Form, Kind, Language, Requests, Schemas, Seen};
+use crate::values::{ValueSource, is_argument, is_default};
 use std::alloc::{AllocError, Global};
 use std::test::Fail;
 
@@ -106,6 +107,53 @@ fn forms_that_answer_otherwise_are_found(rt: HostRuntime) -> Result<(), Fail> {
             form,
         };
         assert!(rt; run(alloc, &language, SEED, COUNT)?.failure.is_some());
+    }
+    Ok(())
+}
+
+#[test]
+fn values_are_read_as_they_are_printed(rt: HostRuntime) -> Result<(), Fail> {
+    let alloc = rt.alloc();
+    let mut source = ValueSource::new(SEED);
+    let mut constants = 0u64;
+    for _ in 0..COUNT {
+        let value = source.next_value(alloc)?;
+        let text = format!(in alloc; "{value}")?;
+        assert!(rt; is_argument(alloc, text.as_str(), &value)?, "{text}");
+        if let Some(constant) = value.into_const(alloc)? {
+            let text = format!(in alloc; "{constant}")?;
+            assert!(rt; is_default(alloc, text.as_str(), &constant)?, "{text}");
+            constants = constants.wrapping_add(1);
+        }
+    }
+    assert!(rt;
+        constants > 500 && constants < COUNT - 250,
+        "{constants} constants"
+    );
+    Ok(())
+}
+
+#[test]
+fn values_that_are_printed_otherwise_are_found(rt: HostRuntime) -> Result<(), Fail> {
+    let alloc = rt.alloc();
+    for forgotten in ["\\", "\"", "$", "-", "[]", "{}", "😀"] {
+        let mut source = ValueSource::new(SEED);
+        let mut arguments = 0u64;
+        let mut defaults = 0u64;
+        for _ in 0..COUNT {
+            let value = source.next_value(alloc)?;
+            let text = format!(in alloc; "{value}")?.replace(alloc, forgotten, "")?;
+            if !is_argument(alloc, text.as_str(), &value)? {
+                arguments = arguments.wrapping_add(1);
+            }
+            if let Some(constant) = value.into_const(alloc)?
+                && !is_default(alloc, text.as_str(), &constant)?
+            {
+                defaults = defaults.wrapping_add(1);
+            }
+        }
+        assert!(rt; arguments > 0, "{forgotten}");
+        assert!(rt; defaults > 0 || forgotten == "$", "{forgotten}");
     }
     Ok(())
 }

@@ -16,6 +16,6 @@ mod values;
 mod views;
 
 pub use request::write_request;
-pub use schema::{keyword, write_file};
+pub use schema::write_file;
 pub use values::Written;
 pub use views::View;

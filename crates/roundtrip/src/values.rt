@@ -1,0 +1,205 @@
+//! Random values as trees, and whether their texts are read as them again.
+use crate::random::Random;
+use graphql_parser::parse_query;
+use graphql_parser::types::{DocumentOperations, Selection};
+use graphql_parser::value::{ConstValue, Name, Number, Value};
+use std::alloc::{AllocError, Global};
+use std::test::Fail;
+
+// A value is made in so many steps at most, each of which makes one that can hold earlier ones.
+const STEPS: usize = 24;
+
+// A list or an object has fewer nodes than this, and a string fewer characters.
+const NODES: usize = 5;
+
+const LETTERS: usize = 9;
+
+// The kinds of values that are made, variables last.
+const KINDS: usize = 11;
+
+// The names of fields and variables; an object takes some that follow each other.
+const NAMES: [&str; 8] = [
+    "a",
+    "on",
+    "true",
+    "null",
+    "query",
+    "_0",
+    "__typename",
+    "aNameOfMoreThanSixteenBytes",
+];
+
+const ENUM_NAMES: [&str; 5] = ["A", "on", "True", "nulls", "mutation"];
+
+const NUMBERS: [&str; 10] = [
+    "0",
+    "-0",
+    "7",
+    "-12",
+    "1.50",
+    "1e3",
+    "-1E+10",
+    "0.0e-0",
+    "9223372036854775808",
+    "-123456789012345678901234567890.5",
+];
+
+// Characters of strings: those that are escaped, those that look like a token, and those at the ends of the ranges
+// that are encoded alike.
+const CHARACTERS: [char; 28] = [
+    '"',
+    '\\',
+    '\n',
+    '\r',
+    '\t',
+    '\0',
+    '\u{1}',
+    '\u{8}',
+    '\u{b}',
+    '\u{c}',
+    '\u{1f}',
+    ' ',
+    'a',
+    'u',
+    '/',
+    '{',
+    '$',
+    '#',
+    '\u{7f}',
+    '\u{80}',
+    '\u{7ff}',
+    '\u{2028}',
+    '\u{d7ff}',
+    '\u{e000}',
+    '\u{feff}',
+    '\u{ffff}',
+    '😀',
+    '\u{10ffff}',
+];
+
+/// A source of values.
+#[derive(Drop)]
+pub struct ValueSource {
+    random: Random,
+}
+
+impl ValueSource {
+    /// The values from this seed on.
+    pub fn new(seed: u64) -> ValueSource {
+        ValueSource {
+            random: Random::new(seed),
+        }
+    }
+
+    /// The next value. In half of them variables may stand.
+    pub fn next_value(&mut self, alloc: Global) -> Result<Value, Fail> {
+        let kinds = if self.random.one_in(2) {
+            KINDS
+        } else {
+            KINDS - 1
+        };
+        let mut made = Vec::new(alloc);
+        for _ in 0..=self.random.below(STEPS) {
+            let value = match self.random.below(kinds) {
+                0 | 1 => Value::List(self.items(alloc, &mut made)?),
+                2 | 3 => Value::Object(self.fields(alloc, &mut made)?),
+                kind => self.simple(alloc, kind)?,
+            };
+            made.push(value)?;
+        }
+        if self.random.one_in(2) {
+            return Ok(Value::List(made));
+        }
+        Ok(made.pop().unwrap_or(Value::Null))
+    }
+
+    // Some of the values that were made last.
+    fn items(&mut self, alloc: Global, made: &mut Vec<Value>) -> Result<Vec<Value>, AllocError> {
+        let mut items = Vec::new(alloc);
+        for _ in 0..self.random.below(NODES) {
+            if let Some(item) = made.pop() {
+                items.push(item)?;
+            }
+        }
+        Ok(items)
+    }
+
+    // The same, each under a name of its own.
+    fn fields(
+        &mut self,
+        alloc: Global,
+        made: &mut Vec<Value>,
+    ) -> Result<Vec<(Name, Value)>, AllocError> {
+        let mut fields = Vec::new(alloc);
+        let first = self.random.below(NAMES.len());
+        for (index, item) in self.items(alloc, made)?.into_iter().enumerate() {
+            let name = NAMES[first.wrapping_add(index) % NAMES.len()];
+            fields.push((Name::new(alloc, name)?, item))?;
+        }
+        Ok(fields)
+    }
+
+    // A value of this kind that holds no other.
+    fn simple(&mut self, alloc: Global, kind: usize) -> Result<Value, Fail> {
+        Ok(match kind {
+            4 => Value::Null,
+            5 => Value::Boolean(self.random.one_in(2)),
+            6 => {
+                let name = ENUM_NAMES[self.random.below(ENUM_NAMES.len())];
+                Value::Enum(Name::new(alloc, name)?)
+            }
+            7 => {
+                let literal = NUMBERS[self.random.below(NUMBERS.len())];
+                Value::Number(Number::new(alloc, literal)?.ok_or("no number")?)
+            }
+            8 | 9 => Value::String(self.string(alloc)?),
+            _ => {
+                let name = NAMES[self.random.below(NAMES.len())];
+                Value::Variable(Name::new(alloc, name)?)
+            }
+        })
+    }
+
+    fn string(&mut self, alloc: Global) -> Result<String, AllocError> {
+        let mut text = String::new(alloc);
+        for _ in 0..self.random.below(LETTERS) {
+            text.push(CHARACTERS[self.random.below(CHARACTERS.len())])?;
+        }
+        Ok(text)
+    }
+}
+
+/// Whether a text is read as this value where it stands for an argument.
+pub fn is_argument(alloc: Global, text: &str, value: &Value) -> Result<bool, AllocError> {
+    let request = format!(in alloc; "{{f(a: {text})}}")?;
+    let Ok(document) = parse_query(alloc, request.as_str()) else {
+        return Ok(false);
+    };
+    let DocumentOperations::Single(operation) = &document.operations else {
+        return Ok(false);
+    };
+    for item in &operation.node.selection_set.node.items {
+        if let Selection::Field(field) = &item.node {
+            let argument = field.node.get_argument("a");
+            return Ok(argument.is_some_and(|found| found.node == *value));
+        }
+    }
+    Ok(false)
+}
+
+/// Whether a text is read as this value where it stands for the default of a variable.
+pub fn is_default(alloc: Global, text: &str, value: &ConstValue) -> Result<bool, AllocError> {
+    let request = format!(in alloc; "query($v: T = {text}){{f}}")?;
+    let Ok(document) = parse_query(alloc, request.as_str()) else {
+        return Ok(false);
+    };
+    let DocumentOperations::Single(operation) = &document.operations else {
+        return Ok(false);
+    };
+    for variable in &operation.node.variable_definitions {
+        if let Some(default) = &variable.node.default_value {
+            return Ok(default.node == *value);
+        }
+    }
+    Ok(false)
+}
