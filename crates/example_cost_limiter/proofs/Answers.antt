@@ -48,7 +48,7 @@ too_dear limit cost d p h =
     (found.0, (length d.fragments, found.1), found.2)
 
 pub endless : (limit : ℕ) (d : Document) → price_of limit d ≡ None → (cost : ℕ) → ¬ Costs d cost
-endless limit d p cost q = 
+endless limit d p cost q =
     let e : cost_at_depth (length d.fragments) d ≡ Some cost = enough d cost q in
     let n : cost_at_depth (length d.fragments) d ≡ None = nothing limit (cost_at_depth (length d.fragments) d) (sym (price_of_is limit d) ∙ p) in
     absurd (cc)

@@ -59,7 +59,7 @@ both_assoc c (Some a) (Some b) = ap Some (omega arith)
 pub sum_step : (limit c m : ℕ) (x r : Option ℕ) → capped limit x ≡ Some m → capped limit (both (Some (min (c + m) (limit + 1))) r) ≡ capped limit (both (Some c) (both x r))
 sum_step limit c m x r p =
     let again : capped limit (Some (min (c + m) (limit + 1))) ≡ capped limit (both (Some c) x) =
-      capped_again limit (Some (c + m)) ∙ both_alike limit (Some c) (Some m) (Some c) x refl (ap (capped limit) (sym p) ∙ capped_again limit x) in
+    capped_again limit (Some (c + m)) ∙ both_alike limit (Some c) (Some m) (Some c) x refl (ap (capped limit) (sym p) ∙ capped_again limit x) in
     both_alike limit (Some (min (c + m) (limit + 1))) r (both (Some c) x) r again refl ∙ ap (capped limit) (both_assoc c x r)
 
 pub sum_missing : (limit c : ℕ) (x r : Option ℕ) → capped limit x ≡ None → capped limit (both (Some c) (both x r)) ≡ None

@@ -112,8 +112,8 @@ progress_one : (fs : Fragments) (k : ℕ) → (table fs k ≡ table fs (suc k)) 
 progress_one fs k (inl e) = inl (table_suc fs k (suc k) e)
 progress_one fs k (inr h) =
     elim (further (length fs) k (table fs k) (table fs (suc k)) h ((steps (fragment_cost fs k) (fragment_cost fs (suc k)) (grows_deeper fs k) fs).moves))
-      as (λ _. (table fs (suc k) ≡ table fs (suc (suc k))) ⊎ (missing (table fs (suc k)) + suc k ≤ length fs))
-      [ inl e ↦ inl (table_suc fs k (suc k) e) | inr few ↦ inr few ]
+    as (λ _. (table fs (suc k) ≡ table fs (suc (suc k))) ⊎ (missing (table fs (suc k)) + suc k ≤ length fs))
+    [ inl e ↦ inl (table_suc fs k (suc k) e) | inr few ↦ inr few ]
 
 progress : (fs : Fragments) (k : ℕ) → (table fs k ≡ table fs (suc k)) ⊎ (missing (table fs k) + k ≤ length fs)
 progress fs zero = inr (start fs)
@@ -136,7 +136,7 @@ named_grows_by : (fs : Fragments) (depth : ℕ) → ((f : Fragment) → Grows (f
     (name : Name) → Grows (named_cost fs depth name) (named_cost fs (length fs) name)
 named_grows_by fs depth p name =
     subst (Grows (named_cost fs depth name)) (sym (named_by_table fs (length fs) (suc (length fs)) (stable fs) name))
-      (grows_named (fragment_cost fs depth) (fragment_cost fs (suc (length fs))) p (named name fs))
+    (grows_named (fragment_cost fs depth) (fragment_cost fs (suc (length fs))) p (named name fs))
 
 fragment_grows : (fs : Fragments) (depth : ℕ) (f : Fragment) → Grows (fragment_cost fs depth f) (fragment_cost fs (suc (length fs)) f)
 fragment_grows fs zero f = grows_none None (fragment_cost fs (suc (length fs)) f) refl

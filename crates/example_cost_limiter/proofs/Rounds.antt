@@ -23,7 +23,7 @@ lt-suc p n = grind (arith, nat_tests)
 -- of a first fragment and the others, the place that is looked up
 step : (x : Option ℕ) (prices : List (Option ℕ)) (b : Bool) (p n : ℕ) →
     option_and_then (λ (i : ℕ). option_flatten (slice_get (x ∷ prices) i)) (cond (nat_lt (cond (not b) (1 + p) 0) (suc n)) (Some (cond (not b) (1 + p) 0)) None)
-      ≡ cond b x (option_and_then (λ (i : ℕ). option_flatten (slice_get prices i)) (cond (nat_lt p n) (Some p) None))
+    ≡ cond b x (option_and_then (λ (i : ℕ). option_flatten (slice_get prices i)) (cond (nat_lt p n) (Some p) None))
 step x prices true p n = rw (zero-lt n) refl
 step x prices false p n =
     let e : 1 + p ≡ suc p = omega arith in
@@ -68,7 +68,7 @@ round_is : (limit : ℕ) (fs : Fragments) (k : ℕ) (prices : List (Option ℕ))
     next_prices limit fs prices ≡ map (λ (f : Name × Fragment). capped limit (fragment_cost fs (suc k) f.1)) fs
 round_is limit fs k prices same =
     ap (λ (h : Fragment → Option ℕ). map (λ (f : Name × Fragment). h f.1) fs)
-       (λ i. λ f. set_alike limit (price_in fs prices) (named_cost fs k) (λ name. ap (capped limit) (same name) ∙ capped_again limit (named_cost fs k name)) f.node.selection_set.node i)
+    (λ i. λ f. set_alike limit (price_in fs prices) (named_cost fs k) (λ name. ap (capped limit) (same name) ∙ capped_again limit (named_cost fs k name)) f.node.selection_set.node i)
 
 -- the prices are the costs, up to the limit
 pub priced : (limit : ℕ) → (fs : Fragments) → (k : ℕ) → (name : Name) → price_in fs (prices_after limit fs k) name ≡ capped limit (named_cost fs k name)

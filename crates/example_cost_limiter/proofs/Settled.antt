@@ -36,7 +36,7 @@ pub early : (limit : ℕ) (es : List (Name × Positioned FragmentDefinition)) (k
     prices ≡ prices_after limit (map (entry_tree fragment_tree) es) (length (map (entry_tree fragment_tree) es))
 early limit es k prices next r p q e t h =
     settled_by limit (map (entry_tree fragment_tree) es) k (length (map (entry_tree fragment_tree) es)) prices next p q (same_prices next prices (sym e ∙ t))
-      (let n = entries_many es in omega arith)
+    (let n = entries_many es in omega arith)
 
 -- there was a round for each fragment
 pub late : (limit : ℕ) (es : List (Name × Positioned FragmentDefinition)) (k : ℕ) (prices : List (Option ℕ)) →

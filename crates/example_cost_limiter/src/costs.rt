@@ -36,11 +36,7 @@ impl From<AllocError> for Refusal {
 }
 
 /// What the request costs, where that is at most the limit.
-pub fn cost_within(
-    alloc: Global,
-    document: &ExecutableDocument,
-    limit: u32,
-) -> Result<u64, Refusal>
+pub fn cost_within(alloc: Global, document: &ExecutableDocument, limit: u32) -> Result<u64, Refusal>
     ensures cost { IfOk result (Costs (document_tree document.now)) }
     ensures no_other { IfOk result (λ cost. (other : ℕ) → Costs (document_tree document.now) other → other ≡ cost) }
     ensures within { IfOk result (λ cost. cost ≤ limit) }
@@ -89,12 +85,7 @@ fn round(
 {
     let mut next = Vec::new(alloc);
     for (_, fragment) in document.fragments.iter() {
-        next.push(price_of_set(
-            &fragment.node.selection_set.node,
-            document,
-            prices,
-            limit,
-        ))?;
+        next.push(price_of_set(&fragment.node.selection_set.node, document, prices, limit))?;
     }
     Ok(next)
 }

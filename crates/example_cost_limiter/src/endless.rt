@@ -21,8 +21,7 @@ pub enum Fault<'a> {
 pub fn first_fault<'a>(
     alloc: Global,
     document: &'a ExecutableDocument,
-) -> Result<Option<Fault<'a>>, AllocError>
-{
+) -> Result<Option<Fault<'a>>, AllocError> {
     let prices = prices_of_fragments(alloc, document, 0)?;
     let Some(first) = first_of_operations(document, prices.as_slice()) else {
         return Ok(None);
@@ -42,8 +41,7 @@ fn far_from<'a>(
     document: &'a ExecutableDocument,
     prices: &[Option<u64>],
     first: &'a Name,
-) -> &'a Name
-{
+) -> &'a Name {
     let mut name = first;
     for _ in 0..document.fragments.len() {
         let Some(next) = next_of(document, prices, name) else {
@@ -55,8 +53,7 @@ fn far_from<'a>(
 }
 
 // Whether the walk from this fragment comes back to it, after at most as many spreads as there are fragments.
-fn comes_back(document: &ExecutableDocument, prices: &[Option<u64>], start: &Name) -> bool
-{
+fn comes_back(document: &ExecutableDocument, prices: &[Option<u64>], start: &Name) -> bool {
     let mut name = start;
     for _ in 0..document.fragments.len() {
         let Some(next) = next_of(document, prices, name) else {
@@ -75,8 +72,7 @@ fn next_of<'a>(
     document: &'a ExecutableDocument,
     prices: &[Option<u64>],
     name: &Name,
-) -> Option<&'a Name>
-{
+) -> Option<&'a Name> {
     let fragment = document.fragments.get(name)?;
     first_in(&fragment.node.selection_set.node, document, prices)
 }
@@ -85,8 +81,7 @@ fn next_of<'a>(
 fn first_of_operations<'a>(
     document: &'a ExecutableDocument,
     prices: &[Option<u64>],
-) -> Option<&'a Name>
-{
+) -> Option<&'a Name> {
     for (_, operation) in document.operations.iter() {
         let found = first_in(&operation.node.selection_set.node, document, prices);
         if found.is_some() {
@@ -102,8 +97,7 @@ fn first_in<'a>(
     set: &'a SelectionSet,
     document: &ExecutableDocument,
     prices: &[Option<u64>],
-) -> Option<&'a Name>
-{
+) -> Option<&'a Name> {
     for item in &set.items {
         let found = first_of_selection(&item.node, document, prices);
         if found.is_some() {
@@ -118,8 +112,7 @@ fn first_of_selection<'a>(
     selection: &'a Selection,
     document: &ExecutableDocument,
     prices: &[Option<u64>],
-) -> Option<&'a Name>
-{
+) -> Option<&'a Name> {
     match selection {
         Selection::Field(field) => first_in(&field.node.selection_set.node, document, prices),
         Selection::FragmentSpread(spread) => {

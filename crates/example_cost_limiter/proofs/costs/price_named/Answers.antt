@@ -7,7 +7,7 @@ use Rattle.example_cost_limiter.proofs.costs.price_named.Goals as goal
 pub returns : goal.returns
 returns c =
     let item : option_copied c.get.result ≡ slice_get c.args.prices.now c.in_ok-place.place =
-      item_copied c.args.prices.now c.in_ok-place.place c.get.result c.get.ensures.lookup in
+    item_copied c.args.prices.now c.in_ok-place.place c.get.result c.get.ensures.lookup in
     let found = price_found c.args.document.now.fragments.entries c.args.prices.now c.args.name.now (Some c.in_ok-place.place) c.in_ok-place.ensures.index in
     c.flatten.ensures ∙ (ap option_flatten (c.copied.ensures ∙ item) ∙ sym found)
 

@@ -10,4 +10,4 @@ invariant-loop-fragment l =
     (goal.iterator-loop-fragment).can_next l.fragment-iterator ×
     (goal.iterator-loop-fragment).is_finite l.fragment-iterator ×
     (l.next.items ++ map (λ f. capped l.limit (set_cost (price_in fragments l.prices) f.1.node.selection_set.node)) (map (entry_tree fragment_tree) l.fragment-iterator)
-      ≡ next_prices l.limit fragments l.prices)
+    ≡ next_prices l.limit fragments l.prices)
