@@ -1,6 +1,5 @@
 -- Sums of prices.
-use Rattle.std.proofs.Common.{arith, ◌≡◌, ℕ, List, [], ◌∷◌, zero, suc, ◌+◌, min, ◌≤◌, Option, Some, None, refl, ap, ap₂, sym, ◌∙◌}
-use Rattle.std.specs.Option.{option_map}
+use Rattle.std.proofs.Common.{arith, ◌≡◌, ℕ, List, [], ◌∷◌, ◌+◌, min, Option, Some, None, refl, ap, ap₂, sym, ◌∙◌}
 use Rattle.graphql_parser.specs.trees.Parts.{Name}
 use Rattle.graphql_parser.specs.trees.Request.{Operations, OperationDefinition, Selection, SelectionSet, field, fragment_spread, inline_fragment, no_selections, selection_and, single, multiple}
 use Rattle.graphql_parser.specs.types.Positioned.{Positioned}

@@ -1,7 +1,7 @@
 -- No depth gives another cost than as many as there are fragments.
-use Rattle.std.proofs.Common.{arith, subst, ◌≡◌, ℕ, zero, suc, ◌+◌, ◌≤◌, ◌⊎◌, inl, inr, Bool, true, false, cond, List, [], ◌∷◌, map, length, Option, Some, None, nat_eq, refl, ap, ap₂, sym, ◌∙◌}
+use Rattle.std.proofs.Common.{arith, subst, ◌≡◌, ℕ, zero, suc, ◌+◌, ◌≤◌, ◌⊎◌, inl, inr, List, [], ◌∷◌, map, length, Option, Some, None, refl, ap, ap₂, sym, ◌∙◌}
 use Rattle.std.proofs.lemmas.List.{length-map}
-use Rattle.std.specs.Option.{option_map, option_and_then, option_flatten}
+use Rattle.std.specs.Option.{option_and_then}
 use Rattle.graphql_parser.specs.calls.Named.{named}
 use Rattle.graphql_parser.specs.trees.Parts.{Name}
 use Rattle.graphql_parser.specs.trees.Request.{Document, Operations, OperationDefinition, Selection, SelectionSet, field, fragment_spread, inline_fragment, no_selections, selection_and, single, multiple}

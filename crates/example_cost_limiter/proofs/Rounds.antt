@@ -2,12 +2,12 @@
 use Rattle.std.proofs.Common.{arith, ◌≡◌, ◌≤◌, ◌-◌, ℕ, zero, suc, ◌+◌, Bool, true, false, cond, List, [], ◌∷◌, map, length, Option, Some, None, nat_eq, refl, ap, ap₂, sym, ◌∙◌}
 use Rattle.std.proofs.lemmas.Bool.Decides.{nat_tests}
 use Rattle.std.specs.Prelude.{nat_lt, not}
-use Rattle.std.specs.Option.{option_map, option_and_then, option_flatten}
+use Rattle.std.specs.Option.{option_and_then, option_flatten}
 use Rattle.std.specs.List.{slice_get, position, prefix_len}
 use Rattle.std.specs.Cmp.Lexicographic.{pointwise, nat_list_eq_equiv}
 use Rattle.graphql_parser.specs.calls.Named.{named}
 use Rattle.graphql_parser.specs.trees.Parts.{Name}
-use Rattle.example_cost_limiter.specs.Costs.{Fragment, Fragments, set_cost, fragment_cost, named_cost}
+use Rattle.example_cost_limiter.specs.Costs.{Fragment, Fragments, fragment_cost, named_cost}
 use Rattle.example_cost_limiter.specs.Prices.{capped, price_in, next_prices, prices_after}
 use Rattle.example_cost_limiter.proofs.Capped.{capped_again, set_alike}
 

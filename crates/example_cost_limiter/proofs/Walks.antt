@@ -1,6 +1,5 @@
 -- The operations of a request as they are walked, and those of its tree.
-use Rattle.std.proofs.Common.{arith, ◌≡◌, ℕ, ◌+◌, List, [], ◌∷◌, map, Option, Some, None, refl, ap, sym}
-use Rattle.std.specs.Option.{option_map}
+use Rattle.std.proofs.Common.{arith, ◌≡◌, ℕ, List, [], ◌∷◌, map, Option, Some, None, refl, ap, sym}
 use Rattle.graphql_parser.specs.types.DocumentOperations.{DocumentOperations}
 use Rattle.graphql_parser.specs.types.DocumentOperations.TheVariants.{Single, Multiple}
 use Rattle.graphql_parser.specs.types.OperationDefinition.{OperationDefinition}

@@ -1,4 +1,4 @@
-use Rattle.std.proofs.Common.{rules, refl}
+use Rattle.std.proofs.Common.{rules}
 use Rattle.example_cost_limiter.proofs.costs.round.Goals as goal
 
 pub loop-fragment-init : goal.loop-fragment-init
