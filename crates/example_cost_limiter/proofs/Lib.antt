@@ -1,0 +1,7 @@
+pub mod Answers
+pub mod Capped
+pub mod Depths
+pub mod Entries
+pub mod Rounds
+pub mod Walks
+pub mod Settled

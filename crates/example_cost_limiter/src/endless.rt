@@ -1,0 +1,130 @@
+//! Why the spreads of a request never end: one names no fragment, or a fragment spreads itself.
+//!
+//! What has no price spreads something that has none. So a walk from such a spread in an operation to the next one in its
+//! fragment, and so on, comes to a fragment that isn't there, or goes round.
+
+use crate::costs::{price_named, prices_of_fragments};
+use graphql_parser::types::{ExecutableDocument, Selection, SelectionSet};
+use graphql_parser::value::Name;
+use std::alloc::{AllocError, Global};
+
+/// What is wrong with the spread of a fragment.
+#[derive(Debug, Drop)]
+pub enum Fault<'a> {
+    /// There is no fragment of this name.
+    Missing(&'a Name),
+    /// The fragment of this name spreads itself, directly or through others.
+    SpreadsItself(&'a Name),
+}
+
+/// A fault among the spreads that the operations lead to.
+pub fn first_fault<'a>(
+    alloc: Global,
+    document: &'a ExecutableDocument,
+) -> Result<Option<Fault<'a>>, AllocError> {
+    let prices = prices_of_fragments(alloc, document, 0)?;
+    let Some(first) = first_of_operations(document, prices.as_slice()) else {
+        return Ok(None);
+    };
+    let last = far_from(document, prices.as_slice(), first);
+    if !document.fragments.contains_key(last) {
+        return Ok(Some(Fault::Missing(last)));
+    }
+    if comes_back(document, prices.as_slice(), last) {
+        return Ok(Some(Fault::SpreadsItself(last)));
+    }
+    Ok(None)
+}
+
+// As many spreads on as there are fragments, or as far as they lead: then the walk goes round.
+fn far_from<'a>(
+    document: &'a ExecutableDocument,
+    prices: &[Option<u64>],
+    first: &'a Name,
+) -> &'a Name {
+    let mut name = first;
+    for _ in 0..document.fragments.len() {
+        let Some(next) = next_of(document, prices, name) else {
+            break;
+        };
+        name = next;
+    }
+    name
+}
+
+// Whether the walk from this fragment comes back to it, after at most as many spreads as there are fragments.
+fn comes_back(document: &ExecutableDocument, prices: &[Option<u64>], start: &Name) -> bool {
+    let mut name = start;
+    for _ in 0..document.fragments.len() {
+        let Some(next) = next_of(document, prices, name) else {
+            return false;
+        };
+        if next == start {
+            return true;
+        }
+        name = next;
+    }
+    false
+}
+
+// The first name that the fragment of this name spreads and that has no price.
+fn next_of<'a>(
+    document: &'a ExecutableDocument,
+    prices: &[Option<u64>],
+    name: &Name,
+) -> Option<&'a Name> {
+    let fragment = document.fragments.get(name)?;
+    first_in(&fragment.node.selection_set.node, document, prices)
+}
+
+// The first name that an operation spreads and that has no price.
+fn first_of_operations<'a>(
+    document: &'a ExecutableDocument,
+    prices: &[Option<u64>],
+) -> Option<&'a Name> {
+    for (_, operation) in document.operations.iter() {
+        let found = first_in(&operation.node.selection_set.node, document, prices);
+        if found.is_some() {
+            return found;
+        }
+    }
+    None
+}
+
+// The first name that a set spreads and that has no price.
+#[cycle(first)]
+fn first_in<'a>(
+    set: &'a SelectionSet,
+    document: &ExecutableDocument,
+    prices: &[Option<u64>],
+) -> Option<&'a Name> {
+    for item in &set.items {
+        let found = first_of_selection(&item.node, document, prices);
+        if found.is_some() {
+            return found;
+        }
+    }
+    None
+}
+
+#[cycle(first)]
+fn first_of_selection<'a>(
+    selection: &'a Selection,
+    document: &ExecutableDocument,
+    prices: &[Option<u64>],
+) -> Option<&'a Name> {
+    match selection {
+        Selection::Field(field) => first_in(&field.node.selection_set.node, document, prices),
+        Selection::FragmentSpread(spread) => {
+            let name = &spread.node.fragment_name.node;
+            if price_named(document, prices, name).is_none() {
+                Some(name)
+            } else {
+                None
+            }
+        }
+        Selection::InlineFragment(fragment) => {
+            first_in(&fragment.node.selection_set.node, document, prices)
+        }
+    }
+}
