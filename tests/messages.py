@@ -80,7 +80,7 @@ def main():
     for number, (title, text, told) in enumerate(cases(table), 1):
         text = meant(text)
         print(f"## {number}. {title}\n")
-        shown = text if len(text) < 100 else text[:60] + "..."
+        shown = text if len(text) < 100 else text[:60] + "..." + text[-10:]
         print(fence(shown.split("\n")))
         print("Ours:\n\n" + fence(report(told)))
         print("graphql-core:\n\n" + fence(core(text)))
