@@ -17,7 +17,9 @@ HEAD = """# Messages
 What a person is told of a request that is refused: by `gql check`, and by graphql-core {version}, the port of GraphQL.js
 to Python, which has its messages (it prints single quotes where GraphQL.js prints double ones). The texts and our half are rows
 of `crates/conformance_reports/src/messages.rt`, which are tested. `tests/messages.py` makes this page of them, and asks
-graphql-core for its parser's message, or else for those of its three rules on the names of operations and fragments.
+graphql-core for its parser's message, or else for those of its three rules on the names of operations and fragments. Where
+it has no message it takes the text: it sets no limit to how deep a text nests, reads definitions of types in the same
+document, and asks for no operation.
 
 Ours tells at each place all that could have stood there, and shows the line.
 """
@@ -80,7 +82,7 @@ def main():
     for number, (title, text, told) in enumerate(cases(table), 1):
         text = meant(text)
         print(f"## {number}. {title}\n")
-        shown = text if len(text) < 100 else text[:60] + "..."
+        shown = text if len(text) < 100 else text[:60] + "..." + text[-10:]
         print(fence(shown.split("\n")))
         print("Ours:\n\n" + fence(report(told)))
         print("graphql-core:\n\n" + fence(core(text)))

@@ -22,38 +22,32 @@ pub struct RawJson {
     length: usize,
 }
 
-pub type CheckCall =
-    unsafe extern "C" fn(*const u8, usize, usize, usize, usize, *mut RawPlaces) -> u32;
+/// Declares the functions of C that have these parameters, and the type of a pointer to one of them.
+macro_rules! functions {
+    ($call:ident: $parameters:tt, $($function:ident),*) => {
+        pub type $call = unsafe extern "C" fn $parameters -> u32;
 
-pub type ParseCall = unsafe extern "C" fn(
-    *const u8,
-    usize,
-    usize,
-    usize,
-    usize,
-    bool,
-    *mut RawPlaces,
-    *mut RawJson,
-) -> u32;
+        extern "C" {
+            $(pub fn $function $parameters -> u32;)*
+        }
+    };
+}
 
-extern "C" {
-    pub fn graphql_parser_check_query(
+functions! {
+    CheckCall: (
         text: *const u8,
         length: usize,
         selections: usize,
         values: usize,
         types: usize,
         places: *mut RawPlaces,
-    ) -> u32;
-    pub fn graphql_parser_check_schema(
-        text: *const u8,
-        length: usize,
-        selections: usize,
-        values: usize,
-        types: usize,
-        places: *mut RawPlaces,
-    ) -> u32;
-    pub fn graphql_parser_parse_query(
+    ),
+    graphql_parser_check_query,
+    graphql_parser_check_schema
+}
+
+functions! {
+    ParseCall: (
         text: *const u8,
         length: usize,
         selections: usize,
@@ -62,17 +56,9 @@ extern "C" {
         with_places: bool,
         places: *mut RawPlaces,
         json: *mut RawJson,
-    ) -> u32;
-    pub fn graphql_parser_parse_schema(
-        text: *const u8,
-        length: usize,
-        selections: usize,
-        values: usize,
-        types: usize,
-        with_places: bool,
-        places: *mut RawPlaces,
-        json: *mut RawJson,
-    ) -> u32;
+    ),
+    graphql_parser_parse_query,
+    graphql_parser_parse_schema
 }
 
 /// What a call tells and hands over.
@@ -86,63 +72,63 @@ fn place(RawPlace { line, column }: RawPlace) -> Option<Place> {
     (line > 0).then_some(Place { line, column })
 }
 
-pub fn check(call: CheckCall, text: &str, limits: Limits) -> Outcome {
+/// Has a function called with the limits, one by one, and with room for the places that it tells.
+fn told(
+    limits: Limits,
+    call: impl FnOnce([usize; 3], &mut RawPlaces) -> u32,
+) -> (u32, [Option<Place>; 2]) {
     let Limits {
         selections,
         values,
         types,
     } = limits;
     let mut places = RawPlaces::default();
-    // SAFETY: the pointer and the length are those of one `str`, whose pointer is never null, and `places` is ours.
-    let status = unsafe {
-        call(
-            text.as_ptr(),
-            text.len(),
-            selections,
-            values,
-            types,
-            &mut places,
-        )
-    };
+    let status = call([selections, values, types], &mut places);
+    (status, [place(places.first), place(places.second)])
+}
+
+pub fn check(call: CheckCall, text: &str, limits: Limits) -> Outcome {
+    let (start, length) = (text.as_ptr(), text.len());
+    let (status, places) = told(limits, |[selections, values, types], places| {
+        // SAFETY: `start` and `length` are those of one `str`, whose pointer is never null, and `places` is ours.
+        unsafe { call(start, length, selections, values, types, places) }
+    });
     Outcome {
         status,
-        places: [place(places.first), place(places.second)],
+        places,
         json: None,
     }
 }
 
 pub fn parse(call: ParseCall, text: &str, limits: Limits, places_of_nodes: Places) -> Outcome {
-    let Limits {
-        selections,
-        values,
-        types,
-    } = limits;
+    let (start, length) = (text.as_ptr(), text.len());
     let with_places = places_of_nodes == Places::Written;
-    let mut places = RawPlaces::default();
     let nothing = b"".as_ptr();
     let mut json = RawJson {
         start: nothing,
         length: 0,
     };
-    // SAFETY: as at `check`; `json` is ours, begins with no bytes as the header asks, and overlaps nothing.
-    let status = unsafe {
-        call(
-            text.as_ptr(),
-            text.len(),
-            selections,
-            values,
-            types,
-            with_places,
-            &mut places,
-            &mut json,
-        )
-    };
+    let (status, places) = told(limits, |[selections, values, types], places| {
+        // SAFETY: as at `check`; `json` is ours, begins with no bytes as the header asks, and overlaps nothing.
+        unsafe {
+            call(
+                start,
+                length,
+                selections,
+                values,
+                types,
+                with_places,
+                places,
+                &mut json,
+            )
+        }
+    });
     // SAFETY: a call that handed something over has set `json` to a block of `malloc` that is now ours, whose first
     // `length` bytes are UTF-8. No such text is empty, and a call that handed nothing over has left the length 0.
     let json = (json.length > 0).then(|| unsafe { Json::from_block(json.start, json.length) });
     Outcome {
         status,
-        places: [place(places.first), place(places.second)],
+        places,
         json,
     }
 }

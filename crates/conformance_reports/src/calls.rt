@@ -99,7 +99,11 @@ fn limits_are_told(rt: HostRuntime) -> Result<(), Fail> {
             (requests_at(0, 0, 0), limits::NOTHING),
             (requests_at(1, 2, 3), limits::FEW),
             (requests_at(256, 0, 0), limits::MANY),
+            (requests_at(0, 256, 256), limits::MANY_OTHERS),
+            (requests_at(256, 256, 256), limits::MOST),
+            (requests_at(2, 2, 2), limits::TWO),
             (schemas_at(0, 1, 2), limits::SCHEMAS),
+            (schemas_at(256, 256, 256), limits::SCHEMAS_MOST),
         ],
     )?;
     assert_eq!(rt; found.as_str(), "");

@@ -112,8 +112,8 @@ fragment F{a} ⇒ f:1:11: syntax error: found "{", expected "on"
   ·1·|·{a·?}
   ···|····^
 -- Sets that nest too deep
-⟨66×{a⟩ ⇒ f:1:131: recursion limit exceeded: selection sets may nest 64 deep
-  ·1·|·...⟨37×{a⟩
+⟨66×{a⟩⟨66×}⟩ ⇒ f:1:131: recursion limit exceeded: selection sets may nest 64 deep
+  ·1·|·...⟨37×{a⟩⟨46×}⟩...
   ···|·⟨75×·⟩^
 -- Two operations of one name
 query A{a}␊query A{b} ⇒ f:2:1: operation A is defined twice

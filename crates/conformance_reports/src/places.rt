@@ -38,6 +38,12 @@ pub const PLACES: &str = r#"
 {a(b:"⟨1B⟩" ()} ⇒ f:1:10: syntax error: found "(", expected a name or ")"
   ·1·|·{a(b:"⟨FFFD⟩"·()}
   ···|··········^
+{"⟨1B⟩"} ⇒ f:1:2: syntax error: found the string "⟨FFFD⟩", expected a name or "..."
+  ·1·|·{"⟨FFFD⟩"}
+  ···|··^
+{a(b:"\⟨1B⟩")} ⇒ f:1:6: syntax error: the escape \⟨FFFD⟩ in this string stands for no character, expected a value or "$"
+  ·1·|·{a(b:"\⟨FFFD⟩")}
+  ···|······^
 -- Carriage returns: alone they begin the columns anew and count no line.
 {␍␊a()␍␊} ⇒ f:2:3: syntax error: found ")", expected a name
   ·2·|·a()

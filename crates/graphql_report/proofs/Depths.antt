@@ -1,15 +1,15 @@
 -- The token that only greater limits take is not the end of the text: no phrase has the end inside it.
-use Rattle.std.proofs.Common.{◌≡◌, ℕ, suc, ◌<◌, Bool, true, false, cond, IsTrue, ◌⊎◌, List, [], ◌∷◌, ◌++◌, length, refl, sym, ap, ◌∙◌, subst, append_assoc, append-nil, arith}
+use Rattle.std.proofs.Common.{◌≡◌, suc, Bool, true, false, cond, List, [], ◌∷◌, ◌++◌, length, sym, ap, ◌∙◌, subst, append_assoc, append-nil, arith}
 use Rattle.graphql_tokens.specs.tokens.Cuts.{is_last, EndsOnce}
 use Rattle.graphql_tokens.specs.tokens.Edition.{Current}
 use Rattle.graphql_tokens.specs.tokens.Proper.{AreProperButFaults}
-use Rattle.graphql_tokens.specs.tokens.Token.{Bare, Token}
+use Rattle.graphql_tokens.specs.tokens.Token.{Token}
 use Rattle.graphql_tokens.specs.declared.lexer.TokenKind.TheVariants.{End}
-use Rattle.graphql_reading.specs.grammar.Fronts.{Verdict, syntax, limit, RefusedToken, IsRefused, whole}
+use Rattle.graphql_reading.specs.grammar.Fronts.{syntax, limit, RefusedToken}
 use Rattle.graphql_reading.specs.grammar.Limits.{Limits}
 use Rattle.graphql_reading.specs.grammar.Tests.{the_end}
 use Rattle.graphql_reading.specs.reading.Outcome.{Outcome, Read, Refused, Reader, ◌>>=◌, whole_at}
-use Rattle.graphql_reading.proofs.Theory.{Exact, IsDead, IsRead as Reads, IsStopped, Quiet, Begins, peek}
+use Rattle.graphql_reading.proofs.Theory.{Exact, IsDead, IsStopped, Quiet, peek}
 use Rattle.graphql_reading.proofs.TokenTests.{end-sample}
 use Rattle.graphql_reading.proofs.Whole.{Says, Refuses, whole-answers, one-refusal}
 use Rattle.graphql_grammar.specs.answers.Language.{Language, grammar}

@@ -2,3 +2,5 @@ pub mod Buffers
 mod Lines
 mod Depths
 mod ToldFronts
+mod TakenSamples
+mod Trees

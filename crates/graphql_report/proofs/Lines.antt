@@ -3,7 +3,7 @@
 use Rattle.std.proofs.Common.{◌≡◌, ℕ, ◌+◌, ◌<◌, ◌≤◌, cond, false, true, ◌⊎◌, inl, inr, List, [], ◌∷◌, ◌++◌, length, refl, sym, ap, ◌∙◌, subst, append_assoc, append-nil, length-append, arith}
 use Rattle.std.proofs.lemmas.List.Sums.{sum_by-append}
 use Rattle.std.specs.List.{concat, count_by}
-use Rattle.graphql_tokens.specs.tokens.Cuts.{token, is_last, Cuts, GoesOn}
+use Rattle.graphql_tokens.specs.tokens.Cuts.{is_last, Cuts, GoesOn}
 use Rattle.graphql_tokens.specs.tokens.Edition.{Current}
 use Rattle.graphql_tokens.specs.tokens.Place.{place_behind, is_line_feed}
 use Rattle.graphql_tokens.specs.tokens.Token.{Token}

@@ -1,5 +1,5 @@
 -- What the answer of a parser tells of a text that ends in a line feed: whether its tokens are a viable front.
-use Rattle.std.proofs.Common.{◌≡◌, ℕ, zero, suc, ◌+◌, ◌<◌, ◌≤◌, Bool, true, false, IsTrue, ◌↔◌, ◌⊎◌, inl, inr, Result, Ok, Err, List, [], ◌∷◌, ◌++◌, length, take, drop, refl, sym, ap, ◌∙◌, subst, append_assoc, length-append, take-append-drop, arith}
+use Rattle.std.proofs.Common.{◌≡◌, ℕ, zero, suc, ◌≤◌, Bool, true, false, IsTrue, ◌↔◌, ◌⊎◌, inl, inr, Result, Ok, Err, List, [], ◌∷◌, ◌++◌, length, take, drop, refl, sym, ap, ◌∙◌, subst, append_assoc, length-append, take-append-drop, arith}
 use Rattle.std.specs.Prelude.{IfOk}
 use Rattle.std.specs.Str.{chars, IsUtf8}
 use Rattle.std.specs.declared.alloc.AllocError.{AllocError}
@@ -15,7 +15,7 @@ use Rattle.graphql_tokens.specs.declared.lexer.TokenKind.{TokenKind}
 use Rattle.graphql_tokens.specs.declared.lexer.TokenKind.TheVariants.{Fault, End}
 use Rattle.graphql_tokens.proofs.Lists.{cuts_ends}
 use Rattle.graphql_tokens.proofs.Propers.{text_scalars, cuts_proper}
-use Rattle.graphql_reading.specs.grammar.Fronts.{Completes, Viable, Verdict, syntax, limit, RefusedToken, whole}
+use Rattle.graphql_reading.specs.grammar.Fronts.{Completes, Viable, Verdict, syntax, limit, RefusedToken}
 use Rattle.graphql_reading.specs.grammar.Limits.{Limits}
 use Rattle.graphql_reading.specs.grammar.Relations.{Rel}
 use Rattle.graphql_reading.specs.reading.Outcome.{Reader}

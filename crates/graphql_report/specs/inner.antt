@@ -1,2 +1,3 @@
 -- Inner: what private clauses cite.
 pub mod Told
+pub mod Expected

@@ -1,5 +1,6 @@
 //! The line of a place, with a caret under it.
 use crate::refused::{after, before};
+use crate::style::{Part, Style};
 use graphql_parser::Pos;
 use graphql_parser::lexer::Tokens;
 use std::alloc::{AllocError, Global};
@@ -17,8 +18,8 @@ fn is_line_end(c: char) -> bool {
     c == '\n' || c == '\r'
 }
 
-// What is shown for a character: a control character other than a tab would upset a terminal.
-fn shown(c: char) -> char {
+/// What is shown for a character: a control character other than a tab would upset a terminal.
+pub fn shown(c: char) -> char {
     if c.is_control() && c != '\t' {
         char::REPLACEMENT_CHARACTER
     } else {
@@ -70,6 +71,7 @@ pub fn offset_of(text: &str, place: Pos) -> usize {
 /// Adds the line in which this offset lies, after its number, and below it a caret under the offset.
 pub fn push_excerpt(
     alloc: Global,
+    style: Style,
     out: &mut String,
     text: &str,
     line: usize,
@@ -102,11 +104,13 @@ pub fn push_excerpt(
         out.push_str("   ")?;
     }
     push_padding(out, left)?;
-    out.push_str("^\n")?;
+    style.push(out, Part::Caret, "^")?;
+    out.push('\n')?;
     Ok(())
 }
 
-fn push_shown(out: &mut String, text: &str) -> Result<(), AllocError> {
+/// Adds a text as it is shown.
+pub fn push_shown(out: &mut String, text: &str) -> Result<(), AllocError> {
     for c in text.chars() {
         out.push(shown(c))?;
     }

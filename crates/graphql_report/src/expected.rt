@@ -1,40 +1,28 @@
 //! What could have stood in place of the refused token.
-use crate::fronts::{Language, is_front, is_whole};
+ghost use Rattle.std.specs.Prelude.{◌≡◌, [], ◌∷◌, ◌++◌, IfOk, OnOk, string_bytes};
+ghost use Rattle.graphql_report.specs.inner.Expected.{AreTaken, texts};
+
+use crate::fronts::{Language, is_whole};
+use crate::probes::{line_of, takes};
 use crate::refused::before;
 use crate::samples::{KEYWORDS, LITERALS, NAME, PUNCTUATORS, Sample};
 use graphql_parser::Limits;
 use std::alloc::{AllocError, Global};
 
-// Whether some document within the limits begins with the front and this sample. The buffer is there to be used again.
-fn takes(
-    alloc: Global,
-    language: Language,
-    front: &str,
-    limits: Limits,
-    sample: &str,
-    buffer: &mut String,
-) -> Result<bool, AllocError> {
-    buffer.clear();
-    buffer.push_str(front)?;
-    // A comment may stand last.
-    buffer.push('\n')?;
-    buffer.push_str(sample)?;
-    buffer.push('\n')?;
-    is_front(alloc, language, buffer.as_str(), limits)
-}
-
-// Those of the samples that `takes` takes.
+// The names of those of the samples that `takes` takes.
 fn taken(
     alloc: Global,
     language: Language,
-    front: &str,
     limits: Limits,
+    buffer: &mut String,
     samples: &[Sample],
-) -> Result<Vec<&'static str>, AllocError> {
+) -> Result<Vec<&'static str>, AllocError>
+    ensures names { IfOk result (λ names. AreTaken language limits (string_bytes buffer.old) samples.now (texts names.items)) }
+    ensures kept { OnOk result (string_bytes buffer.new ≡ string_bytes buffer.old) }
+{
     let mut taken = Vec::new(alloc);
-    let mut buffer = String::new(alloc);
     for sample in samples {
-        if takes(alloc, language, front, limits, sample.text, &mut buffer)? {
+        if takes(alloc, language, limits, buffer, sample.text)? {
             taken.push(sample.name)?;
         }
     }
@@ -51,14 +39,14 @@ pub fn expected_at(
     offset: usize,
 ) -> Result<Vec<&'static str>, AllocError> {
     let front = before(text, offset);
-    let mut buffer = String::new(alloc);
-    let has_name = takes(alloc, language, front, limits, NAME.text, &mut buffer)?;
-    let literals = taken(alloc, language, front, limits, &LITERALS)?;
-    let punctuators = taken(alloc, language, front, limits, &PUNCTUATORS)?;
+    let mut buffer = line_of(alloc, front)?;
+    let has_name = takes(alloc, language, limits, &mut buffer, NAME.text)?;
+    let literals = taken(alloc, language, limits, &mut buffer, &LITERALS)?;
+    let punctuators = taken(alloc, language, limits, &mut buffer, &PUNCTUATORS)?;
     let keywords = if has_name {
         Vec::new(alloc)
     } else {
-        taken(alloc, language, front, limits, &KEYWORDS)?
+        taken(alloc, language, limits, &mut buffer, &KEYWORDS)?
     };
     let mut names = names_of_values(alloc, has_name, literals.as_slice())?;
     names.extend_from_slice(punctuators.as_slice())?;

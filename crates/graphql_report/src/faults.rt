@@ -1,4 +1,5 @@
 //! What is wrong where no token begins, in a person's words.
+use crate::excerpt::push_shown;
 use crate::refused::before;
 use graphql_parser::text::string_value;
 use std::alloc::{AllocError, Global};
@@ -135,6 +136,13 @@ fn shown_escape(text: &str) -> &str {
     }
 }
 
+fn escape_fault(alloc: Global, escape: &str) -> Result<String, AllocError> {
+    let mut message = String::from_str(alloc, "the escape ")?;
+    push_shown(&mut message, escape)?;
+    message.push_str(" in this string stands for no character")?;
+    Ok(message)
+}
+
 fn string_fault(alloc: Global, text: &str) -> Result<String, AllocError> {
     if text.starts_with("\"\"\"") {
         return String::from_str(alloc, "this block string is not closed by \"\"\"");
@@ -149,10 +157,7 @@ fn string_fault(alloc: Global, text: &str) -> Result<String, AllocError> {
                 _ => match good_escape(alloc, rest)? {
                     Some(escape) => rest = without(rest, escape),
                     None => {
-                        let escape = shown_escape(rest);
-                        return format!(in alloc;
-                            "the escape {escape} in this string stands for no character"
-                        );
+                        return escape_fault(alloc, shown_escape(rest));
                     }
                 },
             },

@@ -7,7 +7,8 @@ ghost use Rattle.graphql_tokens.specs.tokens.Token.{Token as SpecToken};
 ghost use Rattle.graphql_requests.specs.grammar.Requests.{requests};
 ghost use Rattle.graphql_schemas.specs.grammar.Schemas.{schemas};
 ghost use Rattle.graphql_report.specs.fronts.Front.{LastIsLineFeed, IsFront, IsFrontOf};
-ghost use Rattle.graphql_report.specs.inner.Told.{TellsFront};
+ghost use Rattle.graphql_report.specs.inner.Expected.{HasTree, TellsTreeOf};
+ghost use Rattle.graphql_report.specs.inner.Told.{TellsFront, TellsTree};
 
 use graphql_parser::pos::PositionCalculator;
 use graphql_parser::{Error, Limits, Pos, parse_query_limited, parse_schema_limited};
@@ -70,21 +71,37 @@ pub fn is_whole(
     language: Language,
     text: &str,
     limits: Limits,
-) -> Result<bool, AllocError> {
+) -> Result<bool, AllocError>
+    ensures { IfOk result (TellsTreeOf language limits text.now) }
+{
     match language {
-        Language::Requests => match parse_query_limited(alloc, text, limits) {
-            Ok(_) => Ok(true),
-            Err(error) => has_tree(&error),
-        },
-        Language::Schemas => match parse_schema_limited(alloc, text, limits) {
-            Ok(_) => Ok(true),
-            Err(error) => has_tree(&error),
-        },
+        Language::Requests => is_whole_request(alloc, text, limits),
+        Language::Schemas => is_whole_schema(alloc, text, limits),
+    }
+}
+
+fn is_whole_request(alloc: Global, text: &str, limits: Limits) -> Result<bool, AllocError>
+    ensures { IfOk result (λ answer. (tokens : List SpecToken) → IsCutInto text.now tokens → IsTrue answer ↔ HasTree requests limits tokens) }
+{
+    match parse_query_limited(alloc, text, limits) {
+        Ok(_) => Ok(true),
+        Err(error) => has_tree(&error),
+    }
+}
+
+fn is_whole_schema(alloc: Global, text: &str, limits: Limits) -> Result<bool, AllocError>
+    ensures { IfOk result (λ answer. (tokens : List SpecToken) → IsCutInto text.now tokens → IsTrue answer ↔ HasTree schemas limits tokens) }
+{
+    match parse_schema_limited(alloc, text, limits) {
+        Ok(_) => Ok(true),
+        Err(error) => has_tree(&error),
     }
 }
 
 // Whether a text that has this error has a tree, which breaks a rule.
-fn has_tree(error: &Error) -> Result<bool, AllocError> {
+fn has_tree(error: &Error) -> Result<bool, AllocError>
+    ensures { TellsTree error.now result }
+{
     match error {
         Error::OutOfMemory => Err(AllocError),
         Error::RecursionLimitExceeded | Error::Syntax { .. } => Ok(false),

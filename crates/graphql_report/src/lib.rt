@@ -19,9 +19,12 @@ mod excerpt;
 mod expected;
 mod faults;
 mod fronts;
+mod probes;
 mod refused;
 mod report;
 mod samples;
+mod style;
 
 pub use fronts::{Language, is_front};
-pub use report::explain;
+pub use report::{explain, explain_in};
+pub use style::Style;

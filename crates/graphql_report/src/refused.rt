@@ -1,5 +1,7 @@
 //! Where a text is refused, and by which limit.
 use crate::fronts::{Language, is_front};
+use crate::probes::{line_of, takes};
+use crate::samples::NUMBER;
 use graphql_parser::Limits;
 use graphql_parser::lexer::{Token, Tokens};
 use std::alloc::{AllocError, Global};
@@ -71,14 +73,9 @@ pub struct Depth {
     pub most: usize,
 }
 
-const SETS: &str = "selection sets";
-
-const VALUES: &str = "lists and objects";
-
-const TYPES: &str = "list types";
-
-/// Which limit refuses the token: the one that takes it when it is raised by one. A limit that is as great as a limit may
-/// be can't be raised; it is the one if no other is.
+/// Which limit refuses the token. Where a number could stand, a value begins: there the token opens a list or an object.
+/// Elsewhere a `[` opens a list type. What is left opens a selection set, or has to have one after it, as the `on` and the
+/// `@` of an inline fragment.
 pub fn reached_limit(
     alloc: Global,
     language: Language,
@@ -86,26 +83,13 @@ pub fn reached_limit(
     limits: Limits,
     token: &Token<'_>,
 ) -> Result<Depth, AllocError> {
-    let (sets, values, types) = (limits.selections(), limits.values(), limits.types());
-    let raised = [
-        (SETS, sets, Limits::new(sets + 1, values, types)),
-        (VALUES, values, Limits::new(sets, values + 1, types)),
-        (TYPES, types, Limits::new(sets, values, types + 1)),
-    ];
-    let mut buffer = String::new(alloc);
-    let mut found = Depth {
-        what: SETS,
-        most: sets,
+    let mut line = line_of(alloc, before(text, token.start))?;
+    let (what, most) = if takes(alloc, language, limits, &mut line, NUMBER.text)? {
+        ("lists and objects", limits.values())
+    } else if token.text == "[" {
+        ("list types", limits.types())
+    } else {
+        ("selection sets", limits.selections())
     };
-    for (what, most, limits) in raised {
-        match limits {
-            Some(limits) => {
-                if is_front_up_to(alloc, language, text, limits, token, &mut buffer)? {
-                    return Ok(Depth { what, most });
-                }
-            }
-            None => found = Depth { what, most },
-        }
-    }
-    Ok(found)
+    Ok(Depth { what, most })
 }

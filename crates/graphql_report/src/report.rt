@@ -1,9 +1,10 @@
 //! The report of an error.
-use crate::excerpt::{offset_of, push_excerpt};
+use crate::excerpt::{offset_of, push_excerpt, shown};
 use crate::expected::expected_at;
 use crate::faults::fault;
 use crate::fronts::Language;
 use crate::refused::{after, reached_limit, refused_token};
+use crate::style::{Part, Style};
 use graphql_parser::lexer::{Token, TokenKind};
 use graphql_parser::{Error, Limits, Pos};
 use std::alloc::{AllocError, Global};
@@ -33,7 +34,29 @@ pub fn explain(
     limits: Limits,
     error: &Error,
 ) -> Result<String, AllocError> {
+    explain_in(
+        Style::Plain,
+        alloc,
+        language,
+        file_name,
+        text,
+        limits,
+        error,
+    )
+}
+
+/// What [`explain`] gives, in this style. (This project's own call.)
+pub fn explain_in(
+    style: Style,
+    alloc: Global,
+    language: Language,
+    file_name: &str,
+    text: &str,
+    limits: Limits,
+    error: &Error,
+) -> Result<String, AllocError> {
     let mut out = Report {
+        style,
         file_name,
         text,
         out: String::new(alloc),
@@ -50,6 +73,7 @@ pub fn explain(
 // A report that is being written.
 #[derive(Drop)]
 struct Report<'a> {
+    style: Style,
     file_name: &'a str,
     text: &'a str,
     out: String,
@@ -65,8 +89,18 @@ impl Report<'_> {
         message: &str,
     ) -> Result<(), AllocError> {
         let file_name = self.file_name;
-        writeln!(self.out, "{file_name}:{place}: {message}")?;
-        push_excerpt(alloc, &mut self.out, self.text, place.line, offset)
+        let shown_place = format!(in alloc; "{file_name}:{place}:")?;
+        self.style
+            .push(&mut self.out, Part::Place, shown_place.as_str())?;
+        writeln!(self.out, " {message}")?;
+        push_excerpt(
+            alloc,
+            self.style,
+            &mut self.out,
+            self.text,
+            place.line,
+            offset,
+        )
     }
 
     fn push_part_at(&mut self, alloc: Global, place: Pos, message: &str) -> Result<(), AllocError> {
@@ -92,7 +126,7 @@ impl Report<'_> {
                 let (what, most) = (depth.what, depth.most);
                 format!(in alloc; "recursion limit exceeded: {what} may nest {most} deep")?
             }
-            _ => syntax_message(alloc, language, text, limits, &token)?,
+            _ => syntax_message(self.style, alloc, language, text, limits, &token)?,
         };
         self.push_part(alloc, token.pos, token.start, message.as_str())
     }
@@ -132,6 +166,7 @@ impl Report<'_> {
 }
 
 fn syntax_message(
+    style: Style,
     alloc: Global,
     language: Language,
     text: &str,
@@ -139,7 +174,9 @@ fn syntax_message(
     token: &Token<'_>,
 ) -> Result<String, AllocError> {
     let expected = expected_at(alloc, language, text, limits, token.start)?;
-    let mut message = String::from_str(alloc, "syntax error: ")?;
+    let mut message = String::from_str(alloc, "syntax ")?;
+    style.push(&mut message, Part::Error, "error")?;
+    message.push_str(": ")?;
     if matches!(token.kind, TokenKind::Fault) {
         message.push_str(fault(alloc, after(text, token.start))?.as_str())?;
     } else {
@@ -179,7 +216,7 @@ fn push_cut(out: &mut String, text: &str) -> Result<(), AllocError> {
         if index >= SHOWN_TOKEN {
             return out.push_str("...");
         }
-        out.push(c)?;
+        out.push(shown(c))?;
     }
     Ok(())
 }

@@ -13,12 +13,15 @@ pub const NAME: Sample = Sample {
     name: "a name",
 };
 
+/// A number, which stands wherever a value may begin, and nowhere else.
+pub const NUMBER: Sample = Sample {
+    text: "0",
+    name: "a number",
+};
+
 /// What a value may begin with that is neither a variable nor a name. A block string stands wherever a string does.
 pub const LITERALS: [Sample; 4] = [
-    Sample {
-        text: "0",
-        name: "a number",
-    },
+    NUMBER,
     Sample {
         text: "\"\"",
         name: "a string",

@@ -1,4 +1,5 @@
--- What an error tells of a text whose end stands at a place of its own: whether it can be completed.
+-- What an error tells of a text: whether it can be completed, where its end stands at a place of its own; and whether it
+-- has a tree.
 -- Source: this project's choice.
 use Rattle.std.specs.Prelude.{◌≡◌, ◌↔◌, Bool, true, false, IsTrue, Result, Ok, Err}
 use Rattle.std.specs.declared.alloc.AllocError.{AllocError}
@@ -12,3 +13,11 @@ TellsFront (Syntax message start stop) end (Ok answer) = IsTrue answer ↔ (star
 TellsFront RecursionLimitExceeded end (Ok answer) = answer ≡ false
 TellsFront OutOfMemory end (Ok answer) = ⊥
 TellsFront broken end (Ok answer) = answer ≡ true
+
+-- whether the text has a tree, which breaks a rule
+abbrev pub TellsTree : Error → Result Bool AllocError → Type 0
+TellsTree error (Err refused) = Unit {0}
+TellsTree (Syntax message start stop) (Ok answer) = answer ≡ false
+TellsTree RecursionLimitExceeded (Ok answer) = answer ≡ false
+TellsTree OutOfMemory (Ok answer) = ⊥
+TellsTree broken (Ok answer) = answer ≡ true

@@ -1,0 +1,14 @@
+use Rattle.std.proofs.Common.{ℕ, List, [], ◌∷◌, ◌++◌, length, ap, ◌∙◌, lit<}
+use Rattle.std.proofs.lemmas.Str.{IsUtf8-string_bytes}
+use Rattle.std.specs.String.{string_bytes}
+use Rattle.graphql_report.proofs.Buffers.{pushed-line-feed, split-seam}
+use Rattle.graphql_report.proofs.probes.takes.Goals as goal
+
+pub is_front-requires : goal.is_front-requires
+is_front-requires c = pushed-line-feed (string_bytes c.push_str.new.self) c.as_str.result.now (IsUtf8-string_bytes c.push_str.new.self) (c.as_str.ensures.value ∙ c.in_ok-push.ensures.bytes ∙ ap (λ (l : List ℕ). string_bytes c.push_str.new.self ++ l) (c.in_ok-push.ensures.ascii (lit< tt)))
+
+pub truncate-requires : goal.truncate-requires
+truncate-requires c = λ _.
+    split-seam (string_bytes c.push.new.self) (string_bytes c.args.buffer.now) c.args.sample.now (length c.as_str-length.result.now) c.utf8.sample
+    (c.in_ok-push.ensures.bytes ∙ ap (λ (l : List ℕ). string_bytes c.push_str.new.self ++ l) (c.in_ok-push.ensures.ascii (lit< tt)) ∙ ap (λ (l : List ℕ). l ++ 10 ∷ []) c.in_ok-push_str.ensures.bytes)
+    (ap length c.as_str-length.ensures.value)

@@ -1,0 +1,40 @@
+//! A front with samples after it, of which the parsers are asked.
+ghost use Rattle.std.specs.Prelude.{◌≡◌, [], ◌∷◌, ◌++◌, IfOk, OnOk, string_bytes};
+ghost use Rattle.graphql_report.specs.inner.Expected.{TellsFrontOf, with_sample};
+
+use crate::fronts::{Language, is_front};
+use graphql_parser::Limits;
+use std::alloc::{AllocError, Global};
+
+// How many bytes at least a text has room for after its line feed: no sample is longer, with a line feed after it.
+const ROOM: usize = 16;
+
+/// The front, and a line feed after it, since a comment may stand last.
+pub fn line_of(alloc: Global, front: &str) -> Result<String, AllocError>
+    ensures { IfOk result (λ line. string_bytes line ≡ front.now ++ 10 ∷ []) }
+{
+    let mut line = String::with_capacity(alloc, front.len().saturating_add(ROOM))?;
+    line.push_str(front)?;
+    line.push('\n')?;
+    Ok(line)
+}
+
+/// Whether some document within the limits begins with the front that the buffer holds and this sample. The sample is put
+/// after the front, and cut off again.
+pub fn takes(
+    alloc: Global,
+    language: Language,
+    limits: Limits,
+    buffer: &mut String,
+    sample: &str,
+) -> Result<bool, AllocError>
+    ensures answer { IfOk result (TellsFrontOf language limits (with_sample (string_bytes buffer.old) sample.now)) }
+    ensures kept { OnOk result (string_bytes buffer.new ≡ string_bytes buffer.old) }
+{
+    let length = buffer.as_str().len();
+    buffer.push_str(sample)?;
+    buffer.push('\n')?;
+    let answer = is_front(alloc, language, buffer.as_str(), limits)?;
+    buffer.truncate(length);
+    Ok(answer)
+}
