@@ -1,22 +1,16 @@
 //! Checking texts: what they are read as, and whether each is good.
-ghost use Rattle.std.specs.Prelude.{◌≡◌, ◌≤◌, ◌↔◌, IfOk, All, Ok, None};
-ghost use Rattle.gql.specs.checked.Good.{IsGoodText, IsGoodInput};
+ghost use Rattle.std.specs.Prelude.{◌≡◌, ◌≤◌, ◌↔◌, IfOk, map, Ok, None};
+ghost use Rattle.gql.specs.checked.Good.{IsGoodText, IsGood, GiveGoodTexts};
 ghost use Rattle.gql.specs.declared.check.Found.TheVariants.{Good};
 
-use crate::output::{complain, complain_of_file};
-use crate::texts::Unread;
+use crate::command::Call;
+use crate::output::{complain, complain_of_file, shown_name};
+use crate::texts::{Texts, Unread};
 use graphql_parser::lexer::Tokens;
 use graphql_parser::{Error, Limits, parse_query_limited, parse_schema_limited};
-use graphql_report::{Language, explain};
+use graphql_report::{Language, Style, explain_in};
 use std::alloc::{AllocError, Global};
 use std::io::Write;
-
-/// A file by the name under which it is told, with its text, or why there is none.
-#[derive(Drop)]
-pub struct Input<'a> {
-    pub name: &'a str,
-    pub text: Result<String, Unread>,
-}
 
 /// How many files were good, refused, and without a text.
 #[derive(Clone, Copy, Debug, PartialEq, Eq)]
@@ -71,7 +65,7 @@ const SCHEMA_WORDS: [&str; 9] = [
 ];
 
 // What a text is: told by its first token that decides, which is a keyword of a definition, a string, with which
-/// descriptions begin, or `{` as the very first token. Where none decides, it is a request.
+// descriptions begin, or `{` as the very first token. Where none decides, it is a request.
 fn language_of(text: &str) -> Language {
     let mut is_first = true;
     for token in Tokens::new(text) {
@@ -126,17 +120,17 @@ pub fn read_as(language: Option<Language>, text: &str) -> Language {
     }
 }
 
-/// Checks each file, and reports on `err` what is wrong with it. The status is 0 only where each has a text that is good.
-/// An error says that memory was refused.
-pub fn check_inputs<E: Write>(
+/// Reads each file and checks it, one after another, and reports on `err` what is wrong with it. No text is kept while the
+/// next one is read. The status is 0 only where each file has a text that is good. An error says that memory was refused.
+pub fn check_files<T: Texts, E: Write>(
     alloc: Global,
-    limits: Limits,
-    language: Option<Language>,
-    inputs: &[Input<'_>],
+    call: &Call<'_>,
+    style: Style,
+    texts: &mut T,
     err: &mut E,
 ) -> Result<Told, AllocError>
     ensures status { IfOk result (λ told. told.status ≤ 2) }
-    ensures good { IfOk result (λ told. told.status ≡ 0 → All (λ input. IsGoodInput limits input) inputs.now) }
+    ensures good { IfOk result (λ told. told.status ≡ 0 → GiveGoodTexts T.gives call.now.limits texts.old (map (λ name. name.now) call.now.files.items) texts.new) }
 {
     let mut lines = String::new(alloc);
     let mut tally = Tally {
@@ -145,12 +139,13 @@ pub fn check_inputs<E: Write>(
         unread: 0,
     };
     let mut worst: u8 = 0;
-    for input in inputs {
-        let found = check_input(alloc, limits, language, input, err)?;
+    for name in &call.files {
+        let text = texts.text(alloc, name);
+        let name = shown_name(name);
+        let found = check_text(alloc, call, style, name, &text, err)?;
         worst = worst.max(found.status());
         tally = counted(tally, found);
         if found == Found::Good {
-            let name = input.name;
             writeln!(lines, "{name}: good")?;
         }
     }
@@ -172,27 +167,37 @@ fn counted(tally: Tally, found: Found) -> Tally {
     tally
 }
 
-fn check_input<E: Write>(
+// What is found of the text of a file, or of there being none.
+fn check_text<E: Write>(
     alloc: Global,
-    limits: Limits,
-    language: Option<Language>,
-    input: &Input<'_>,
+    call: &Call<'_>,
+    style: Style,
+    name: &str,
+    text: &Result<String, Unread>,
     err: &mut E,
 ) -> Result<Found, AllocError>
-    ensures { (result ≡ Ok Good) → IsGoodInput limits input.now }
+    ensures { (result ≡ Ok Good) → IsGood call.now.limits text.now }
 {
-    match &input.text {
+    match text {
         Err(why) => {
-            complain_of_file(alloc, input.name, *why, err)?;
+            complain_of_file(alloc, name, *why, err)?;
             Ok(Found::Unread)
         }
         Ok(text) => {
             let text = text.as_str();
-            let language = read_as(language, text);
-            match error_of(alloc, language, text, limits)? {
+            let language = read_as(call.language, text);
+            match error_of(alloc, language, text, call.limits)? {
                 None => Ok(Found::Good),
                 Some(error) => {
-                    let report = explain(alloc, language, input.name, text, limits, &error)?;
+                    let report = explain_in(
+                        style,
+                        alloc,
+                        language,
+                        name,
+                        text,
+                        call.limits,
+                        &error,
+                    )?;
                     complain(err, report.as_str());
                     Ok(Found::Refused)
                 }

@@ -15,7 +15,10 @@ mod program;
 mod tests;
 mod texts;
 
+use graphql_report::Style;
 pub use program::run;
+use std::env::VarError;
+use std::io::IsTerminal;
 use std::process::ExitCode;
 use std::{env, io};
 use texts::Disk;
@@ -28,6 +31,7 @@ fn main(rt: HostRuntime) -> ExitCode {
     let status = run(
         alloc,
         words.as_ref().map(|words| words.as_slice()),
+        style_of(&rt),
         &mut disk,
         &mut rt.stdout(),
         &mut rt.stderr(),
@@ -42,4 +46,17 @@ fn words(rt: &HostRuntime) -> io::Result<Vec<String>> {
         words.push(word)?;
     }
     Ok(words)
+}
+
+// Reports have colours on a terminal, unless the variable NO_COLOR is set to something.
+fn style_of(rt: &HostRuntime) -> Style {
+    let allows_colours = match env::var(rt, "NO_COLOR") {
+        Ok(value) => value.is_empty(),
+        Err(error) => matches!(error, VarError::NotPresent),
+    };
+    if allows_colours && rt.stderr().is_terminal() {
+        Style::Coloured
+    } else {
+        Style::Plain
+    }
 }

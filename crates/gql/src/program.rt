@@ -1,14 +1,14 @@
 //! The program's work, over any source of texts and any writers.
 ghost use Rattle.std.specs.Prelude.{◌≤◌, IfOk};
 
-use crate::check::{Input, check_inputs, read_as, summary};
+use crate::check::{check_files, read_as, summary};
 use crate::command::{Asked, Call, Command, command_of};
 use crate::listed::token_lines;
 use crate::output::{Stop, complain, complain_of_file, put, shown_name};
-use crate::texts::{Texts, text_of};
+use crate::texts::Texts;
 use graphql_json::{Places, request_json, schema_json};
 use graphql_parser::{Error, parse_query_limited, parse_schema_limited};
-use graphql_report::{Language, explain};
+use graphql_report::{Language, Style, explain_in};
 use std::alloc::{AllocError, Global};
 use std::io::Write;
 
@@ -35,25 +35,27 @@ Options:
   -h, --help       prints this
   -V, --version    prints the version
 
-Reports go to standard error. The status is 0 where all files are good, 1 where one is refused, and 2 where one
-can't be read, where the output can't be written, and for a wrong call.
+Reports go to standard error, in colours if that is a terminal and NO_COLOR is not set or empty. The status is 0
+where all files are good, 1 where one is refused, and 2 where one can't be read, where the output can't be written,
+and for a wrong call.
 ";
 
 /// Does the work of the program, and gives the exit status: 0, or 1 where a text is refused, or 2 for wrong arguments, a
 /// file that can't be read or is no UTF-8, output that can't be written, and memory that is refused.
 ///
 /// `words` are the arguments without the program's name; None where they are no text. Texts are read from `texts`, lists
-/// and trees go to `out`, reports and complaints to `err`.
+/// and trees go to `out`, reports and complaints to `err`, the reports in this style.
 pub fn run<T: Texts, O: Write, E: Write>(
     alloc: Global,
     words: Option<&[String]>,
+    style: Style,
     texts: &mut T,
     out: &mut O,
     err: &mut E,
 ) -> u8
     ensures { result ≤ 2 }
 {
-    match served(alloc, words, texts, out, err) {
+    match served(alloc, words, style, texts, out, err) {
         Ok(status) => status,
         Err(Stop::Unwritable) => {
             complain(err, "gql: cannot write standard output\n");
@@ -69,6 +71,7 @@ pub fn run<T: Texts, O: Write, E: Write>(
 fn served<T: Texts, O: Write, E: Write>(
     alloc: Global,
     words: Option<&[String]>,
+    style: Style,
     texts: &mut T,
     out: &mut O,
     err: &mut E,
@@ -93,40 +96,24 @@ fn served<T: Texts, O: Write, E: Write>(
             Ok(2)
         }
         Asked::Call(call) => match call.command {
-            Command::Check => check(alloc, &call, texts, out, err),
-            Command::Tree | Command::Tokens => print_one(alloc, &call, texts, out, err),
+            Command::Check => check(alloc, &call, style, texts, out, err),
+            Command::Tree | Command::Tokens => print_one(alloc, &call, style, texts, out, err),
         },
     }
-}
-
-// The texts of all files.
-fn inputs_of<'a, T: Texts>(
-    alloc: Global,
-    call: &Call<'a>,
-    texts: &mut T,
-) -> Result<Vec<Input<'a>>, AllocError> {
-    let mut inputs = Vec::new(alloc);
-    for name in &call.files {
-        inputs.push(Input {
-            name: shown_name(name),
-            text: text_of(alloc, texts, name),
-        })?;
-    }
-    Ok(inputs)
 }
 
 // `check`: a report of each file that is refused, and how many there were of each kind.
 fn check<T: Texts, O: Write, E: Write>(
     alloc: Global,
     call: &Call<'_>,
+    style: Style,
     texts: &mut T,
     out: &mut O,
     err: &mut E,
 ) -> Result<u8, Stop>
     ensures { IfOk result (λ status. status ≤ 2) }
 {
-    let inputs = inputs_of(alloc, call, texts)?;
-    let told = check_inputs(alloc, call.limits, call.language, inputs.as_slice(), err)?;
+    let told = check_files(alloc, call, style, texts, err)?;
     if call.is_verbose {
         put(out, told.lines.as_str())?;
     }
@@ -138,6 +125,7 @@ fn check<T: Texts, O: Write, E: Write>(
 fn print_one<T: Texts, O: Write, E: Write>(
     alloc: Global,
     call: &Call<'_>,
+    style: Style,
     texts: &mut T,
     out: &mut O,
     err: &mut E,
@@ -145,7 +133,7 @@ fn print_one<T: Texts, O: Write, E: Write>(
     ensures { IfOk result (λ status. status ≤ 2) }
 {
     let name = call.files.first().copied().unwrap_or("-");
-    let text = match text_of(alloc, texts, name) {
+    let text = match texts.text(alloc, name) {
         Ok(text) => text,
         Err(why) => {
             complain_of_file(alloc, shown_name(name), why, err)?;
@@ -168,7 +156,7 @@ fn print_one<T: Texts, O: Write, E: Write>(
         }
         Err(error) => {
             let name = shown_name(name);
-            let report = explain(alloc, language, name, text, call.limits, &error)?;
+            let report = explain_in(style, alloc, language, name, text, call.limits, &error)?;
             complain(err, report.as_str());
             Ok(1)
         }

@@ -1,4 +1,9 @@
 //! Where the texts come from: files, and standard input.
+ghost use Rattle.std.specs.Prelude.{ℕ, List, Result};
+ghost use Rattle.std.specs.declared.alloc.Global.{Global};
+ghost use Rattle.std.specs.declared.string.String.{String as Text};
+ghost use Rattle.gql.specs.declared.texts.Unread.{Unread};
+
 use std::alloc::{AllocError, Global};
 use std::fs;
 use std::io::{ErrorKind, Read};
@@ -22,13 +27,16 @@ impl From<AllocError> for Unread {
 
 /// What texts are read from by their names.
 pub trait Texts {
-    /// The bytes under this name; `-` is standard input.
-    fn bytes(&mut self, alloc: Global, name: &str) -> Result<Vec<u8>, Unread>;
+    // What may be read under a name at a state of these, and the state after that.
+    ghost gives: { Self → List ℕ → Result (Text Global) Unread → Self → Type 0 };
+
+    /// The text under this name; `-` is standard input.
+    fn text(&mut self, alloc: Global, name: &str) -> Result<String, Unread>
+        ensures { Self.gives self.old name.now result self.new };
 }
 
-/// The text under this name.
-pub fn text_of<T: Texts>(alloc: Global, texts: &mut T, name: &str) -> Result<String, Unread> {
-    let bytes = texts.bytes(alloc, name)?;
+/// The text that these bytes are.
+pub fn text_of(bytes: Vec<u8>) -> Result<String, Unread> {
     String::from_utf8(bytes).map_err(|_| Unread::NotText)
 }
 
@@ -39,7 +47,10 @@ pub struct Disk<'a> {
 }
 
 impl Texts for Disk<'_> {
-    fn bytes(&mut self, alloc: Global, name: &str) -> Result<Vec<u8>, Unread> {
+    // Nothing is known of what a machine's files hold.
+    ghost gives = { λ _ _ _ _. Unit {0} };
+
+    fn text(&mut self, alloc: Global, name: &str) -> Result<String, Unread> {
         let read = if name == "-" {
             let mut bytes = Vec::new(alloc);
             match self.rt.stdin().read_to_end(&mut bytes) {
@@ -49,9 +60,10 @@ impl Texts for Disk<'_> {
         } else {
             fs::read(self.rt, name)
         };
-        read.map_err(|error| match error.kind() {
-            ErrorKind::OutOfMemory => Unread::NoMemory,
-            _ => Unread::Unreadable,
-        })
+        match read {
+            Ok(bytes) => text_of(bytes),
+            Err(error) if error.kind() == ErrorKind::OutOfMemory => Err(Unread::NoMemory),
+            Err(_) => Err(Unread::Unreadable),
+        }
     }
 }

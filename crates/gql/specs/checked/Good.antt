@@ -1,6 +1,8 @@
 -- When a text is good: its tokens have their one tree within the limits, which breaks no rule and lacks nothing.
 -- Source: this project's choice.
-use Rattle.std.specs.Prelude.{◌≡◌, ℕ, List, None, IsOkAnd, string_bytes}
+use Rattle.std.specs.Prelude.{◌≡◌, ℕ, List, [], ◌∷◌, None, Result, IsOkAnd, string_bytes}
+use Rattle.std.specs.declared.alloc.Global.{Global}
+use Rattle.std.specs.declared.string.String.{String}
 use Rattle.graphql_parser.specs.tokens.Cuts.{IsCutInto}
 use Rattle.graphql_parser.specs.tokens.Token.{Token}
 use Rattle.graphql_parser.specs.notation.Limits.{Limits}
@@ -10,7 +12,7 @@ use Rattle.graphql_parser.specs.requests.Requests.{requests}
 use Rattle.graphql_parser.specs.schemas.Schemas.{schemas}
 use Rattle.graphql_report.specs.declared.fronts.Language.{Language}
 use Rattle.graphql_report.specs.declared.fronts.Language.TheVariants.{Requests, Schemas}
-use Rattle.gql.specs.declared.check.Input.{Input}
+use Rattle.gql.specs.declared.texts.Unread.{Unread}
 
 -- these tokens have one tree, and it is a document
 pub record HasDocument {D Document : Type 0} (language : Described D Document) (limits : Limits) (tokens : List Token) : Type 0 where
@@ -28,5 +30,11 @@ abbrev pub IsGoodText : Language → Limits → List ℕ → Type 0
 IsGoodText language limits text = (tokens : List Token) → IsCutInto text tokens → HasDocumentOf language limits tokens
 
 -- there is a text, and it is good when it is read as one of the two
-abbrev pub IsGoodInput : Limits → Input → Type 0
-IsGoodInput limits input = IsOkAnd input.text (λ text. (language : Language) × IsGoodText language limits (string_bytes text))
+abbrev pub IsGood : Limits → Result (String Global) Unread → Type 0
+IsGood limits read = IsOkAnd read (λ text. (language : Language) × IsGoodText language limits (string_bytes text))
+
+-- Read under these names one after another, from one state of what texts are read from to another, there is a text each
+-- time, and it is good. `gives` says what may be read under a name at a state, and the state after that.
+abbrev pub GiveGoodTexts : {T : Type 0} → (T → List ℕ → Result (String Global) Unread → T → Type 0) → Limits → T → List (List ℕ) → T → Type 0
+GiveGoodTexts gives limits here [] there = here ≡ there
+GiveGoodTexts {T} gives limits here (name ∷ names) there = (read : Result (String Global) Unread) × (next : T) × gives here name read next × IsGood limits read × GiveGoodTexts gives limits next names there

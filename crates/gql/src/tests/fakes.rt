@@ -1,5 +1,5 @@
 //! Texts and writers over memory.
-use crate::texts::{Texts, Unread};
+use crate::texts::{Texts, Unread, text_of};
 use std::alloc::Global;
 use std::io::{Error, ErrorKind, Result as IoResult, Write};
 
@@ -10,10 +10,12 @@ pub struct Files<'a> {
 }
 
 impl Texts for Files<'_> {
-    fn bytes(&mut self, alloc: Global, name: &str) -> Result<Vec<u8>, Unread> {
+    ghost gives = { λ _ _ _ _. Unit {0} };
+
+    fn text(&mut self, alloc: Global, name: &str) -> Result<String, Unread> {
         for (known, contents) in self.files {
             if *known == name {
-                return Ok(Vec::from_slice(alloc, contents)?);
+                return text_of(Vec::from_slice(alloc, contents)?);
             }
         }
         Err(Unread::Unreadable)

@@ -1,6 +1,7 @@
 //! What a run prints, and the status that it ends with.
 use super::fakes::{Files, Sheet};
 use crate::run;
+use graphql_report::Style;
 use std::alloc::{AllocError, Global};
 use std::process::Abort;
 use std::str;
@@ -63,6 +64,7 @@ fn holds(rt: &impl Abort, alloc: Global, row: &Case<'_>) -> Result<(), AllocErro
     let status = run(
         alloc,
         Some(words.as_slice()),
+        Style::Plain,
         &mut files,
         &mut out,
         &mut err,
@@ -217,7 +219,17 @@ fn wrong_calls_are_told(rt: HostRuntime) -> Result<(), Fail> {
     let mut files = Files { files: FILES };
     let mut out = sheet(rt.alloc(), MANY);
     let mut err = sheet(rt.alloc(), MANY);
-    assert_eq!(rt; run(rt.alloc(), None, &mut files, &mut out, &mut err), 2);
+    assert_eq!(rt;
+        run(
+            rt.alloc(),
+            None,
+            Style::Plain,
+            &mut files,
+            &mut out,
+            &mut err
+        ),
+        2
+    );
     assert_eq!(rt; str::from_utf8(err.held.as_slice()), Ok(usage));
     Ok(())
 }
@@ -233,6 +245,7 @@ fn help_is_printed(rt: HostRuntime) -> Result<(), Fail> {
         run(
             alloc,
             Some(words.as_slice()),
+            Style::Plain,
             &mut files,
             &mut out,
             &mut err
@@ -269,6 +282,7 @@ fn output_that_fails_ends_with_status_2(rt: HostRuntime) -> Result<(), Fail> {
                 run(
                     alloc,
                     Some(words.as_slice()),
+                    Style::Plain,
                     &mut files,
                     &mut out,
                     &mut err
@@ -290,11 +304,45 @@ fn output_that_fails_ends_with_status_2(rt: HostRuntime) -> Result<(), Fail> {
         run(
             alloc,
             Some(words.as_slice()),
+            Style::Plain,
             &mut files,
             &mut out,
             &mut err
         ),
         1
     );
+    Ok(())
+}
+
+#[test]
+fn reports_have_colours_where_they_are_asked_for(rt: HostRuntime) -> Result<(), Fail> {
+    let alloc = rt.alloc();
+    for (words, told) in [
+        (
+            "check bad.graphql good.graphql",
+            "\u{1b}[1mbad.graphql:1:4:\u{1b}[0m syntax \u{1b}[1;31merror\u{1b}[0m: found \")\", expected a name\n 1 | {a()}\n   |    \u{1b}[31m^\u{1b}[0m\n",
+        ),
+        (
+            "tree --limits 0,0,0 short.graphql",
+            "\u{1b}[1mshort.graphql:1:3:\u{1b}[0m recursion limit exceeded: selection sets may nest 0 deep\n 1 | {a{b}}\n   |   \u{1b}[31m^\u{1b}[0m\n",
+        ),
+        ("check none", "gql: none cannot be read\n"),
+    ] {
+        let words = strings(alloc, words)?;
+        let mut files = Files { files: FILES };
+        let mut out = sheet(alloc, MANY);
+        let mut err = sheet(alloc, MANY);
+        run(
+            alloc,
+            Some(words.as_slice()),
+            Style::Coloured,
+            &mut files,
+            &mut out,
+            &mut err,
+        );
+        assert_eq!(rt; str::from_utf8(err.held.as_slice()), Ok(told));
+        // Standard output never has any.
+        assert!(rt; !out.held.contains(&27));
+    }
     Ok(())
 }
