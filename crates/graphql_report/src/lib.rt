@@ -10,9 +10,9 @@
 //! the text before the refused token, and some twenty more to find that token; each is linear, and one copy of the text
 //! is kept at a time.
 //!
-//! Proved of it: `is_front` answers true exactly where the tokens of a text are a viable front, in both languages and at
-//! all limits, unless memory runs out; and every call is safe and ends. What a report says in words is tested, in
-//! `conformance_reports`.
+//! Proved of it, unless memory runs out: `is_front` answers true exactly where the tokens of a text are a viable front, in
+//! both languages and at all limits; of each table of samples those are told, in its order, that can stand after a front;
+//! and every call is safe and ends. What a report says in words is tested, in `conformance_reports`.
 #![tactic(auto)]
 
 mod excerpt;
