@@ -178,13 +178,12 @@ pub fn is_argument(alloc: Global, text: &str, value: &Value) -> Result<bool, All
     let DocumentOperations::Single(operation) = &document.operations else {
         return Ok(false);
     };
-    for item in &operation.node.selection_set.node.items {
-        if let Selection::Field(field) = &item.node {
-            let argument = field.node.get_argument("a");
-            return Ok(argument.is_some_and(|found| found.node == *value));
-        }
-    }
-    Ok(false)
+    let first = operation.node.selection_set.node.items.first();
+    let Some(Selection::Field(field)) = first.map(|item| &item.node) else {
+        return Ok(false);
+    };
+    let argument = field.node.get_argument("a");
+    Ok(argument.is_some_and(|found| found.node == *value))
 }
 
 /// Whether a text is read as this value where it stands for the default of a variable.
@@ -196,10 +195,9 @@ pub fn is_default(alloc: Global, text: &str, value: &ConstValue) -> Result<bool,
     let DocumentOperations::Single(operation) = &document.operations else {
         return Ok(false);
     };
-    for variable in &operation.node.variable_definitions {
-        if let Some(default) = &variable.node.default_value {
-            return Ok(default.node == *value);
-        }
-    }
-    Ok(false)
+    let Some(variable) = operation.node.variable_definitions.first() else {
+        return Ok(false);
+    };
+    let default = variable.node.default_value.as_ref();
+    Ok(default.is_some_and(|found| found.node == *value))
 }

@@ -1,4 +1,4 @@
--- Whether the names of an object's fields are distinct, and what the fields are with one pair more.
+-- Whether the names of an object's fields are distinct, what the fields are with one pair more, and where each pair is put.
 use Rattle.std.specs.Prelude.{◌≡◌, ℕ, Bool, true, cond, not, ◌&&◌, suc, List, [], ◌∷◌, Option, Some, None}
 use Rattle.std.specs.Borrow.{Bor}
 use Rattle.std.specs.Option.{option_map}
