@@ -11,13 +11,22 @@
 //! - a string has no `block`, which tells whether it is a block string;
 //! - an object has each field once, with the value that stands last.
 //!
-//! Proved of it: on every tree and every error, also those that no text has, the calls end without a fault, and what
-//! they give is UTF-8, as an empty text is too. That it is JSON, and this JSON, is tested in `conformance_json`.
+//! Proved of it, on every tree and every error, also those that no text has: what a call gives is the text of the one JSON
+//! value that `specs/nodes` defines for the tree or the error, member by member; or it tells that memory ran out.
 #![tactic(auto)]
 
-ghost use Rattle.std.specs.Prelude.{IfOk};
+ghost use Rattle.std.specs.Prelude.{◌≡◌, IfOk};
 ghost use Rattle.std.specs.Str.{IsUtf8};
+ghost use Rattle.graphql_parser.specs.errors.Errors.{error_text, error_places};
+ghost use Rattle.graphql_parser.specs.trees.RequestViews.{document_tree};
+ghost use Rattle.graphql_parser.specs.trees.SchemaViews.{schema_document_tree};
+ghost use Rattle.graphql_json.specs.nodes.Errors.{error_value};
+ghost use Rattle.graphql_json.specs.nodes.Nodes.{json_text};
+ghost use Rattle.graphql_json.specs.nodes.Requests.{request_value};
+ghost use Rattle.graphql_json.specs.nodes.Schemas.{schema_value};
 
+mod error;
+mod place;
 mod request;
 mod schema;
 mod sheet;
@@ -25,23 +34,25 @@ mod values;
 
 use graphql_parser::Error;
 use graphql_parser::types::{ExecutableDocument, ServiceDocument};
-pub use sheet::Places;
+pub use place::Places;
 use sheet::Sheet;
 use std::alloc::{AllocError, Global};
 
 /// The tree of a request as JSON, a `Document` of GraphQL.js.
 ///
 /// `document` is the tree that `parse_query` gives, and `places` tells whether its places are written. The operations
-/// and the fragments come in the order of their places, which is that of the text. It fails only where memory runs out.
+/// come in their order and the fragments in theirs, and of the next operation and the next fragment the one first that
+/// stands first: that is the order of the text. It fails only where memory runs out.
 pub fn request_json(
     alloc: Global,
     document: &ExecutableDocument,
     places: Places,
 ) -> Result<Vec<u8>, AllocError>
-    ensures { IfOk result (λ json. IsUtf8 json.items) }
+    ensures text { IfOk result (λ json. json.items ≡ json_text (request_value places (document_tree document.now))) }
+    ensures utf8 { IfOk result (λ json. IsUtf8 json.items) }
 {
-    let mut sheet = Sheet::new(alloc, places);
-    request::write_document(alloc, &mut sheet, document)?;
+    let mut sheet = Sheet::new(alloc);
+    request::write_document(&mut sheet, document, places)?;
     Ok(sheet.finish())
 }
 
@@ -55,10 +66,11 @@ pub fn schema_json(
     document: &ServiceDocument,
     places: Places,
 ) -> Result<Vec<u8>, AllocError>
-    ensures { IfOk result (λ json. IsUtf8 json.items) }
+    ensures text { IfOk result (λ json. json.items ≡ json_text (schema_value places (schema_document_tree document.now))) }
+    ensures utf8 { IfOk result (λ json. IsUtf8 json.items) }
 {
-    let mut sheet = Sheet::new(alloc, places);
-    schema::write_document(&mut sheet, document)?;
+    let mut sheet = Sheet::new(alloc);
+    schema::write_document(&mut sheet, document, places)?;
     Ok(sheet.finish())
 }
 
@@ -68,22 +80,10 @@ pub fn schema_json(
 /// first, each with its `line` and `column`. An error that names no place has no `locations`. It fails only where memory
 /// runs out.
 pub fn error_json(alloc: Global, error: &Error) -> Result<Vec<u8>, AllocError>
-    ensures { IfOk result (λ json. IsUtf8 json.items) }
+    ensures text { IfOk result (λ json. json.items ≡ json_text (error_value (error_text error.now) (error_places error.now))) }
+    ensures utf8 { IfOk result (λ json. IsUtf8 json.items) }
 {
-    let mut sheet = Sheet::new(alloc, Places::Written);
-    let message = format!(in alloc; "{error}")?;
-    sheet.open()?;
-    sheet.text("message", message.as_str())?;
-    let positions = error.positions();
-    if positions.len() > 0 {
-        sheet.open_list("locations")?;
-        for place in positions {
-            sheet.open()?;
-            sheet.place(place)?;
-            sheet.close()?;
-        }
-        sheet.close_list()?;
-    }
-    sheet.close()?;
+    let mut sheet = Sheet::new(alloc);
+    error::write_error(alloc, &mut sheet, error)?;
     Ok(sheet.finish())
 }

@@ -1,4 +1,16 @@
 //! Requests.
+ghost use Rattle.std.specs.Prelude.{◌≡◌, ◌++◌, List, option_map, IfOk, OnOk, map, drop, codes};
+ghost use Rattle.graphql_parser.specs.trees.Parts.{placed};
+ghost use Rattle.graphql_parser.specs.trees.Request.{of_field, of_inline_fragment};
+ghost use Rattle.graphql_parser.specs.trees.RequestViews.{document_tree, entry_tree, field_tree, fragment_tree, inline_fragment_tree, operation_tree, selection_tree, selection_set_tree, type_condition_tree};
+ghost use Rattle.graphql_json.specs.inner.Written.{Adds, lent_name, member_tokens, optional_tokens};
+ghost use Rattle.graphql_json.specs.nodes.Nodes.{at, nowhere, node, items_of, placed_json};
+ghost use Rattle.graphql_json.specs.nodes.Requests.{Fragment as FragmentTree, after_fragments, condition_json, definitions_json, fragment_json, operation_json, operations_of, request_value, selection_json, selections_json, set_json, set_node, some_of};
+ghost use Rattle.graphql_json.specs.nodes.Values.{name_json};
+ghost use Rattle.json.specs.Json.{Json, Items, no_items, item, array, member, no_members};
+ghost use Rattle.json.specs.Tree.{json_tokens, items_tokens};
+
+use crate::place::{Place, Places, stands_before};
 use crate::sheet::{Node, Outcome, Sheet};
 use crate::values::{operation_word, write_arguments, write_name, write_named_type};
 use graphql_parser::types::{
@@ -6,142 +18,266 @@ use graphql_parser::types::{
     OperationDefinition, Selection, SelectionSet, TypeCondition, VariableDefinition,
 };
 use graphql_parser::value::Name;
-use graphql_parser::{Pos, Positioned};
-use std::alloc::Global;
-
-// A definition of a request, with the name that its document keeps it under.
-#[derive(Drop)]
-enum Definition<'a> {
-    Operation(Option<&'a Name>, &'a Positioned<OperationDefinition>),
-    Fragment(&'a Name, &'a Positioned<FragmentDefinition>),
-}
-
-impl Definition<'_> {
-    fn place(&self) -> Pos {
-        match self {
-            Definition::Operation(_, operation) => operation.pos,
-            Definition::Fragment(_, fragment) => fragment.pos,
-        }
-    }
-}
+use graphql_parser::{IndexMap, Pos, Positioned};
+use std::alloc::AllocError;
 
 /// The tree of a request, its definitions in the order of their places.
-pub fn write_document(alloc: Global, sheet: &mut Sheet, document: &ExecutableDocument) -> Outcome {
-    let mut definitions = Vec::new(alloc);
-    for (name, operation) in document.operations.iter() {
-        definitions.push(Definition::Operation(name, operation))?;
-    }
-    for (name, fragment) in document.fragments.iter() {
-        definitions.push(Definition::Fragment(name, fragment))?;
-    }
-    definitions.sort_by_key(|definition| definition.place())?;
-    sheet.begin("Document", None)?;
-    sheet.open_list("definitions")?;
-    for definition in &definitions {
-        match definition {
-            Definition::Operation(name, operation) => write_operation(sheet, *name, operation)?,
-            Definition::Fragment(name, fragment) => write_fragment(sheet, name, fragment)?,
-        }
-    }
-    sheet.close_list()?;
+pub fn write_document(sheet: &mut Sheet, document: &ExecutableDocument, places: Places) -> Outcome
+    ensures { Adds result sheet.old sheet.new (json_tokens (request_value places (document_tree document.now))) }
+{
+    let place = Place::none(places);
+    sheet.begin("Document", place)?;
+    write_definitions(sheet, document, place)?;
     sheet.close()
+}
+
+// The member `definitions`: each operation after the fragments that stand before it.
+#[tactic(auto, using(crate::proofs::Operations::operations_walked))]
+fn write_definitions(sheet: &mut Sheet, document: &ExecutableDocument, place: Place) -> Outcome
+    ensures { Adds result sheet.old sheet.new (member_tokens (codes "definitions") (array (definitions_json place (operations_of (document_tree document.now).operations) (document_tree document.now).fragments))) }
+{
+    sheet.open_list("definitions")?;
+    let fragments = &document.fragments;
+    let mut next = 0;
+    for (name, operation) in document.operations.iter() {
+        next = write_fragments_before(sheet, fragments, next, operation.pos, place)?;
+        write_operation(sheet, name, operation, place)?;
+    }
+    write_fragments(sheet, fragments, next, place)?;
+    sheet.close_list()
+}
+
+// The fragments from an index on that stand before a place. Gives the index of the first that doesn't.
+fn write_fragments_before(
+    sheet: &mut Sheet,
+    fragments: &IndexMap<Name, Positioned<FragmentDefinition>>,
+    from: usize,
+    pos: Pos,
+    place: Place,
+) -> Result<usize, AllocError>
+    ensures { IfOk result (λ next. (definition : Json) → (others : List FragmentTree → Items) →
+        sheet.new ++ items_tokens (item definition (others (map (entry_tree fragment_tree) (drop next fragments.now.entries))))
+        ≡ sheet.old ++ items_tokens (after_fragments place pos definition others (map (entry_tree fragment_tree) (drop from fragments.now.entries)))) }
+{
+    for index in from..fragments.len() {
+        let Some((name, fragment)) = fragments.get_index(index) else {
+            return Ok(index);
+        };
+        if !stands_before(fragment.pos, pos) {
+            return Ok(index);
+        }
+        write_fragment(sheet, name, fragment, place)?;
+    }
+    Ok(fragments.len())
+}
+
+// The fragments from an index on.
+fn write_fragments(
+    sheet: &mut Sheet,
+    fragments: &IndexMap<Name, Positioned<FragmentDefinition>>,
+    from: usize,
+    place: Place,
+) -> Outcome
+    ensures { OnOk result (sheet.new ++ items_tokens no_items ≡ sheet.old ++ items_tokens (items_of (fragment_json place) (map (entry_tree fragment_tree) (drop from fragments.now.entries)))) }
+{
+    for index in from..fragments.len() {
+        let Some((name, fragment)) = fragments.get_index(index) else {
+            return Ok(());
+        };
+        write_fragment(sheet, name, fragment, place)?;
+    }
+    Ok(())
 }
 
 fn write_operation(
     sheet: &mut Sheet,
     name: Option<&Name>,
     operation: &Positioned<OperationDefinition>,
-) -> Outcome {
-    sheet.begin("OperationDefinition", Some(operation.pos))?;
+    place: Place,
+) -> Outcome
+    ensures { Adds result sheet.old sheet.new (json_tokens (operation_json place (lent_name name.entry, placed operation_tree operation.now))) }
+{
+    sheet.begin("OperationDefinition", place.at(operation.pos))?;
     sheet.text("operation", operation_word(operation.node.ty))?;
-    if let Some(name) = name {
-        write_name(sheet, name, None)?;
-    }
-    sheet.nodes("variableDefinitions", &operation.node.variable_definitions)?;
-    sheet.nodes("directives", &operation.node.directives)?;
-    write_set(sheet, &operation.node.selection_set)?;
+    write_optional_name(sheet, name, place)?;
+    sheet.nodes(
+        "variableDefinitions",
+        &operation.node.variable_definitions,
+        place,
+    )?;
+    sheet.nodes("directives", &operation.node.directives, place)?;
+    write_set(sheet, &operation.node.selection_set, place)?;
     sheet.close()
+}
+
+fn write_optional_name(sheet: &mut Sheet, name: Option<&Name>, place: Place) -> Outcome
+    ensures { Adds result sheet.old sheet.new (optional_tokens (codes "name") (name_json (nowhere place)) (lent_name name.entry)) }
+{
+    match name {
+        Some(name) => write_name(sheet, name, place.nowhere()),
+        None => Ok(()),
+    }
 }
 
 fn write_fragment(
     sheet: &mut Sheet,
     name: &Name,
     fragment: &Positioned<FragmentDefinition>,
-) -> Outcome {
-    sheet.begin("FragmentDefinition", Some(fragment.pos))?;
-    write_name(sheet, name, None)?;
-    write_condition(sheet, &fragment.node.type_condition)?;
-    sheet.nodes("directives", &fragment.node.directives)?;
-    write_set(sheet, &fragment.node.selection_set)?;
+    place: Place,
+) -> Outcome
+    ensures { Adds result sheet.old sheet.new (json_tokens (fragment_json place (name.now, placed fragment_tree fragment.now))) }
+{
+    sheet.begin("FragmentDefinition", place.at(fragment.pos))?;
+    write_name(sheet, name, place.nowhere())?;
+    write_condition(sheet, &fragment.node.type_condition, place)?;
+    sheet.nodes("directives", &fragment.node.directives, place)?;
+    write_set(sheet, &fragment.node.selection_set, place)?;
     sheet.close()
 }
 
 /// The variable stands at its `$`, as its definition does.
 impl Node for VariableDefinition {
-    fn write(&self, sheet: &mut Sheet, place: Option<Pos>) -> Outcome {
+    ghost use Rattle.graphql_parser.specs.trees.Request.{VariableDefinition as VariableTree};
+    ghost use Rattle.graphql_parser.specs.trees.RequestViews.{variable_definition_tree};
+    ghost use Rattle.graphql_json.specs.nodes.Requests.{variable_json};
+
+    ghost Tree = { VariableTree };
+
+    ghost tree = { variable_definition_tree };
+
+    ghost json = { variable_json };
+
+    fn write(&self, sheet: &mut Sheet, place: Place) -> Outcome {
         sheet.begin("VariableDefinition", place)?;
         sheet.key("variable")?;
-        sheet.begin("Variable", place)?;
-        sheet.node("name", &self.name)?;
-        sheet.close()?;
-        sheet.node("type", &self.var_type)?;
-        sheet.optional("defaultValue", &self.default_value)?;
-        sheet.nodes("directives", &self.directives)?;
+        write_variable(sheet, &self.name, place)?;
+        sheet.node("type", &self.var_type, place)?;
+        sheet.optional("defaultValue", &self.default_value, place)?;
+        sheet.nodes("directives", &self.directives, place)?;
         sheet.close()
     }
 }
 
-fn write_condition(sheet: &mut Sheet, condition: &Positioned<TypeCondition>) -> Outcome {
+fn write_variable(sheet: &mut Sheet, name: &Positioned<Name>, place: Place) -> Outcome
+    ensures { Adds result sheet.old sheet.new (json_tokens (node (codes "Variable") place (member (codes "name") (placed_json name_json place name.now) no_members))) }
+{
+    sheet.begin("Variable", place)?;
+    sheet.node("name", name, place)?;
+    sheet.close()
+}
+
+fn write_condition(
+    sheet: &mut Sheet,
+    condition: &Positioned<TypeCondition>,
+    place: Place,
+) -> Outcome
+    ensures { Adds result sheet.old sheet.new (member_tokens (codes "typeCondition") (condition_json place (placed type_condition_tree condition.now))) }
+{
     let name = &condition.node.on;
     sheet.key("typeCondition")?;
-    write_named_type(sheet, &name.node, Some(name.pos))
+    write_named_type(sheet, &name.node, place.at(name.pos))
+}
+
+fn write_optional_condition(
+    sheet: &mut Sheet,
+    condition: &Option<Positioned<TypeCondition>>,
+    place: Place,
+) -> Outcome
+    ensures { Adds result sheet.old sheet.new (optional_tokens (codes "typeCondition") (condition_json place) (option_map (placed type_condition_tree) condition.now)) }
+{
+    match condition {
+        Some(condition) => write_condition(sheet, condition, place),
+        None => Ok(()),
+    }
 }
 
 // The member `selectionSet`.
 #[cycle(set)]
-fn write_set(sheet: &mut Sheet, set: &Positioned<SelectionSet>) -> Outcome {
+fn write_set(sheet: &mut Sheet, set: &Positioned<SelectionSet>, place: Place) -> Outcome
+    ensures { Adds result sheet.old sheet.new (member_tokens (codes "selectionSet") (set_json place (placed selection_set_tree set.now))) }
+{
     sheet.key("selectionSet")?;
-    sheet.begin("SelectionSet", Some(set.pos))?;
+    sheet.begin("SelectionSet", place.at(set.pos))?;
+    write_selections(sheet, &set.node, place)?;
+    sheet.close()
+}
+
+#[cycle(set)]
+fn write_selections(sheet: &mut Sheet, set: &SelectionSet, place: Place) -> Outcome
+    ensures { Adds result sheet.old sheet.new (member_tokens (codes "selections") (array (selections_json place (selection_set_tree set.now)))) }
+{
     sheet.open_list("selections")?;
-    for item in &set.node.items {
-        match &item.node {
-            Selection::Field(field) => write_field(sheet, field)?,
-            Selection::FragmentSpread(spread) => write_spread(sheet, spread)?,
-            Selection::InlineFragment(fragment) => write_inline_fragment(sheet, fragment)?,
-        }
+    for item in &set.items {
+        write_selection(sheet, &item.node, place)?;
     }
-    sheet.close_list()?;
+    sheet.close_list()
+}
+
+#[cycle(set)]
+fn write_selection(sheet: &mut Sheet, selection: &Selection, place: Place) -> Outcome
+    ensures { Adds result sheet.old sheet.new (json_tokens (selection_json place (selection_tree selection.now))) }
+{
+    match selection {
+        Selection::Field(field) => write_field(sheet, field, place),
+        Selection::FragmentSpread(spread) => spread.node.write(sheet, place.at(spread.pos)),
+        Selection::InlineFragment(fragment) => write_inline_fragment(sheet, fragment, place),
+    }
+}
+
+#[cycle(set)]
+fn write_field(sheet: &mut Sheet, field: &Positioned<Field>, place: Place) -> Outcome
+    ensures { Adds result sheet.old sheet.new (json_tokens (selection_json place (of_field (placed field_tree field.now)))) }
+{
+    sheet.begin("Field", place.at(field.pos))?;
+    sheet.optional("alias", &field.node.alias, place)?;
+    sheet.node("name", &field.node.name, place)?;
+    write_arguments(sheet, &field.node.arguments, place)?;
+    sheet.nodes("directives", &field.node.directives, place)?;
+    write_optional_set(sheet, &field.node.selection_set, place)?;
     sheet.close()
 }
 
 // A field that selects nothing has no `selectionSet`.
 #[cycle(set)]
-fn write_field(sheet: &mut Sheet, field: &Positioned<Field>) -> Outcome {
-    sheet.begin("Field", Some(field.pos))?;
-    sheet.optional("alias", &field.node.alias)?;
-    sheet.node("name", &field.node.name)?;
-    write_arguments(sheet, &field.node.arguments)?;
-    sheet.nodes("directives", &field.node.directives)?;
-    if !field.node.selection_set.node.items.is_empty() {
-        write_set(sheet, &field.node.selection_set)?;
+fn write_optional_set(sheet: &mut Sheet, set: &Positioned<SelectionSet>, place: Place) -> Outcome
+    ensures { Adds result sheet.old sheet.new (optional_tokens (codes "selectionSet") (set_node (at place set.now.pos)) (some_of (selections_json place (selection_set_tree set.now.node)))) }
+{
+    if set.node.items.is_empty() {
+        return Ok(());
     }
-    sheet.close()
+    write_set(sheet, set, place)
 }
 
-fn write_spread(sheet: &mut Sheet, spread: &Positioned<FragmentSpread>) -> Outcome {
-    sheet.begin("FragmentSpread", Some(spread.pos))?;
-    sheet.node("name", &spread.node.fragment_name)?;
-    sheet.nodes("directives", &spread.node.directives)?;
-    sheet.close()
+impl Node for FragmentSpread {
+    ghost use Rattle.graphql_parser.specs.trees.Request.{FragmentSpread as SpreadTree};
+    ghost use Rattle.graphql_parser.specs.trees.RequestViews.{fragment_spread_tree};
+    ghost use Rattle.graphql_json.specs.nodes.Requests.{spread_json};
+
+    ghost Tree = { SpreadTree };
+
+    ghost tree = { fragment_spread_tree };
+
+    ghost json = { spread_json };
+
+    fn write(&self, sheet: &mut Sheet, place: Place) -> Outcome {
+        sheet.begin("FragmentSpread", place)?;
+        sheet.node("name", &self.fragment_name, place)?;
+        sheet.nodes("directives", &self.directives, place)?;
+        sheet.close()
+    }
 }
 
 #[cycle(set)]
-fn write_inline_fragment(sheet: &mut Sheet, fragment: &Positioned<InlineFragment>) -> Outcome {
-    sheet.begin("InlineFragment", Some(fragment.pos))?;
-    if let Some(condition) = &fragment.node.type_condition {
-        write_condition(sheet, condition)?;
-    }
-    sheet.nodes("directives", &fragment.node.directives)?;
-    write_set(sheet, &fragment.node.selection_set)?;
+fn write_inline_fragment(
+    sheet: &mut Sheet,
+    fragment: &Positioned<InlineFragment>,
+    place: Place,
+) -> Outcome
+    ensures { Adds result sheet.old sheet.new (json_tokens (selection_json place (of_inline_fragment (placed inline_fragment_tree fragment.now)))) }
+{
+    sheet.begin("InlineFragment", place.at(fragment.pos))?;
+    write_optional_condition(sheet, &fragment.node.type_condition, place)?;
+    sheet.nodes("directives", &fragment.node.directives, place)?;
+    write_set(sheet, &fragment.node.selection_set, place)?;
     sheet.close()
 }

@@ -1,95 +1,202 @@
 //! Schema files.
+ghost use Rattle.std.specs.Prelude.{◌≡◌, [], codes, map};
+ghost use Rattle.graphql_parser.specs.trees.Parts.{placed};
+ghost use Rattle.graphql_parser.specs.trees.SchemaViews.{definition_tree, kind_tree, schema_definition_tree, schema_document_tree};
+ghost use Rattle.graphql_json.specs.inner.Roots.{and_then, goes_before as goes_before_of, root_tokens};
+ghost use Rattle.graphql_json.specs.inner.Written.{Adds, member_tokens, optional_tokens};
+ghost use Rattle.graphql_json.specs.nodes.Nodes.{items_of, placed_list};
+ghost use Rattle.graphql_json.specs.nodes.Schemas.{named_types_json, kind_word as kind_word_of, schema_word as schema_word_of, interfaces, contents, root_json, with_root, roots_of, definition_json, schema_value};
+ghost use Rattle.json.specs.Json.{array, no_members, member};
+ghost use Rattle.json.specs.Tree.{json_tokens, members_tokens};
+
+use crate::place::{Place, Places, stands_before};
 use crate::sheet::{Node, Outcome, Sheet};
-use crate::values::{operation_word, write_named_type};
+use crate::values::{operation_word, write_named_type, write_text};
+use graphql_parser::Positioned;
 use graphql_parser::types::{
     DirectiveDefinition, DirectiveLocation, EnumValueDefinition, FieldDefinition,
     InputValueDefinition, OperationType, SchemaDefinition, ServiceDocument, TypeDefinition,
     TypeKind, TypeSystemDefinition,
 };
 use graphql_parser::value::Name;
-use graphql_parser::{Pos, Positioned};
 
 /// The tree of a schema file, its definitions and extensions in their order.
-pub fn write_document(sheet: &mut Sheet, document: &ServiceDocument) -> Outcome {
-    sheet.begin("Document", None)?;
-    sheet.open_list("definitions")?;
-    for definition in &document.definitions {
-        match definition {
-            TypeSystemDefinition::Schema(schema) => schema.node.write(sheet, Some(schema.pos))?,
-            TypeSystemDefinition::TypeDef(ty) => ty.node.write(sheet, Some(ty.pos))?,
-            TypeSystemDefinition::Directive(directive) => {
-                directive.node.write(sheet, Some(directive.pos))?
-            }
-        }
-    }
-    sheet.close_list()?;
+pub fn write_document(sheet: &mut Sheet, document: &ServiceDocument, places: Places) -> Outcome
+    ensures { Adds result sheet.old sheet.new (json_tokens (schema_value places (schema_document_tree document.now))) }
+{
+    let place = Place::none(places);
+    sheet.begin("Document", place)?;
+    write_definitions(sheet, &document.definitions, place)?;
     sheet.close()
 }
 
-impl Node for SchemaDefinition {
-    fn write(&self, sheet: &mut Sheet, place: Option<Pos>) -> Outcome {
-        let kind = if self.extend {
-            "SchemaExtension"
-        } else {
-            "SchemaDefinition"
-        };
-        sheet.begin(kind, place)?;
-        sheet.optional("description", &self.description)?;
-        sheet.nodes("directives", &self.directives)?;
-        sheet.open_list("operationTypes")?;
-        let mut roots = [
-            (OperationType::Query, &self.query),
-            (OperationType::Mutation, &self.mutation),
-            (OperationType::Subscription, &self.subscription),
-        ];
-        roots.sort_unstable_by_key(|root| root.1.as_ref().map(|name| name.pos));
-        for (kind, root) in roots {
-            if let Some(name) = root {
-                write_root(sheet, kind, name)?;
-            }
+fn write_definitions(
+    sheet: &mut Sheet,
+    definitions: &Vec<TypeSystemDefinition>,
+    place: Place,
+) -> Outcome
+    ensures { Adds result sheet.old sheet.new (member_tokens (codes "definitions") (array (items_of (definition_json place) (map definition_tree definitions.now.items)))) }
+{
+    sheet.open_list("definitions")?;
+    for definition in definitions {
+        write_definition(sheet, definition, place)?;
+    }
+    sheet.close_list()
+}
+
+fn write_definition(sheet: &mut Sheet, definition: &TypeSystemDefinition, place: Place) -> Outcome
+    ensures { Adds result sheet.old sheet.new (json_tokens (definition_json place (definition_tree definition.now))) }
+{
+    match definition {
+        TypeSystemDefinition::Schema(schema) => schema.node.write(sheet, place.at(schema.pos)),
+        TypeSystemDefinition::TypeDef(ty) => ty.node.write(sheet, place.at(ty.pos)),
+        TypeSystemDefinition::Directive(directive) => {
+            directive.node.write(sheet, place.at(directive.pos))
         }
-        sheet.close_list()?;
+    }
+}
+
+impl Node for SchemaDefinition {
+    ghost use Rattle.graphql_parser.specs.trees.Schema.{SchemaDefinition as SchemaTree};
+    ghost use Rattle.graphql_parser.specs.trees.SchemaViews.{schema_definition_tree};
+    ghost use Rattle.graphql_json.specs.nodes.Schemas.{schema_definition_json};
+
+    ghost Tree = { SchemaTree };
+
+    ghost tree = { schema_definition_tree };
+
+    ghost json = { schema_definition_json };
+
+    fn write(&self, sheet: &mut Sheet, place: Place) -> Outcome {
+        sheet.begin(schema_word(self.extend), place)?;
+        sheet.optional("description", &self.description, place)?;
+        sheet.nodes("directives", &self.directives, place)?;
+        write_roots(sheet, self, place)?;
         sheet.close()
+    }
+}
+
+fn schema_word(is_extension: bool) -> &'static str
+    ensures { result.now ≡ schema_word_of is_extension }
+{
+    if is_extension {
+        "SchemaExtension"
+    } else {
+        "SchemaDefinition"
+    }
+}
+
+// A kind of operation, and the name of the type that it begins at, where there is one.
+type Root<'a> = (OperationType, &'a Option<Positioned<Name>>);
+
+// The roots, in the order of their places.
+fn write_roots(sheet: &mut Sheet, schema: &SchemaDefinition, place: Place) -> Outcome
+    ensures { Adds result sheet.old sheet.new (member_tokens (codes "operationTypes") (array (items_of (root_json place) (roots_of (schema_definition_tree schema.now))))) }
+{
+    let query = (OperationType::Query, &schema.query);
+    let mutation = (OperationType::Mutation, &schema.mutation);
+    let subscription = (OperationType::Subscription, &schema.subscription);
+    if goes_before(&schema.mutation, &schema.query) {
+        write_third(sheet, mutation, query, subscription, place)
+    } else {
+        write_third(sheet, query, mutation, subscription, place)
+    }
+}
+
+// The third root goes before the first that stands later.
+fn write_third(
+    sheet: &mut Sheet,
+    first: Root<'_>,
+    second: Root<'_>,
+    third: Root<'_>,
+    place: Place,
+) -> Outcome
+    ensures { Adds result sheet.old sheet.new (member_tokens (codes "operationTypes") (array (items_of (root_json place) (with_root third.entry.0 third.entry.1.now (and_then first.entry.0 first.entry.1.now (and_then second.entry.0 second.entry.1.now [])))))) }
+{
+    if goes_before(third.1, first.1) {
+        write_ordered(sheet, third, first, second, place)
+    } else if goes_before(third.1, second.1) {
+        write_ordered(sheet, first, third, second, place)
+    } else {
+        write_ordered(sheet, first, second, third, place)
+    }
+}
+
+// Whether both are there, and the first stands before the second.
+fn goes_before(one: &Option<Positioned<Name>>, other: &Option<Positioned<Name>>) -> bool
+    ensures { result ≡ goes_before_of one.now other.now }
+{
+    match (one, other) {
+        (Some(one), Some(other)) => stands_before(one.pos, other.pos),
+        _ => false,
+    }
+}
+
+fn write_ordered(
+    sheet: &mut Sheet,
+    first: Root<'_>,
+    second: Root<'_>,
+    third: Root<'_>,
+    place: Place,
+) -> Outcome
+    ensures { Adds result sheet.old sheet.new (member_tokens (codes "operationTypes") (array (items_of (root_json place) (and_then first.entry.0 first.entry.1.now (and_then second.entry.0 second.entry.1.now (and_then third.entry.0 third.entry.1.now [])))))) }
+{
+    sheet.open_list("operationTypes")?;
+    write_root(sheet, first, place)?;
+    write_root(sheet, second, place)?;
+    write_root(sheet, third, place)?;
+    sheet.close_list()
+}
+
+fn write_root(sheet: &mut Sheet, root: Root<'_>, place: Place) -> Outcome
+    ensures { Adds result sheet.old sheet.new (root_tokens place root.entry.0 root.entry.1.now) }
+{
+    match root.1 {
+        Some(name) => write_named_root(sheet, root.0, name, place),
+        None => Ok(()),
     }
 }
 
 // The tree keeps the place of the name alone, and not that of the keyword.
-fn write_root(sheet: &mut Sheet, kind: OperationType, name: &Positioned<Name>) -> Outcome {
-    sheet.begin("OperationTypeDefinition", None)?;
+fn write_named_root(
+    sheet: &mut Sheet,
+    kind: OperationType,
+    name: &Positioned<Name>,
+    place: Place,
+) -> Outcome
+    ensures { Adds result sheet.old sheet.new (json_tokens (root_json place (kind, name.now))) }
+{
+    sheet.begin("OperationTypeDefinition", place.nowhere())?;
     sheet.text("operation", operation_word(kind))?;
     sheet.key("type")?;
-    write_named_type(sheet, &name.node, Some(name.pos))?;
+    write_named_type(sheet, &name.node, place.at(name.pos))?;
     sheet.close()
 }
 
 impl Node for TypeDefinition {
-    fn write(&self, sheet: &mut Sheet, place: Option<Pos>) -> Outcome {
+    ghost use Rattle.graphql_parser.specs.trees.Schema.{TypeDefinition as TypeTree};
+    ghost use Rattle.graphql_parser.specs.trees.SchemaViews.{type_definition_tree};
+    ghost use Rattle.graphql_json.specs.nodes.Schemas.{type_definition_json};
+
+    ghost Tree = { TypeTree };
+
+    ghost tree = { type_definition_tree };
+
+    ghost json = { type_definition_json };
+
+    fn write(&self, sheet: &mut Sheet, place: Place) -> Outcome {
         sheet.begin(kind_word(&self.kind, self.extend), place)?;
-        sheet.optional("description", &self.description)?;
-        sheet.node("name", &self.name)?;
-        match &self.kind {
-            TypeKind::Object(object) => {
-                write_named_types(sheet, "interfaces", &object.implements)?;
-            }
-            TypeKind::Interface(interface) => {
-                write_named_types(sheet, "interfaces", &interface.implements)?;
-            }
-            _ => {}
-        }
-        sheet.nodes("directives", &self.directives)?;
-        match &self.kind {
-            TypeKind::Scalar => {}
-            TypeKind::Object(object) => sheet.nodes("fields", &object.fields)?,
-            TypeKind::Interface(interface) => sheet.nodes("fields", &interface.fields)?,
-            TypeKind::Union(union) => write_named_types(sheet, "types", &union.members)?,
-            TypeKind::Enum(values) => sheet.nodes("values", &values.values)?,
-            TypeKind::InputObject(input) => sheet.nodes("fields", &input.fields)?,
-        }
-        sheet.close()
+        sheet.optional("description", &self.description, place)?;
+        sheet.node("name", &self.name, place)?;
+        write_interfaces(sheet, &self.kind, place)?;
+        sheet.nodes("directives", &self.directives, place)?;
+        write_contents(sheet, &self.kind, place)
     }
 }
 
-fn kind_word(kind: &TypeKind, is_extension: bool) -> &'static str {
+fn kind_word(kind: &TypeKind, is_extension: bool) -> &'static str
+    ensures { result.now ≡ kind_word_of (kind_tree kind.now) is_extension }
+{
     match (kind, is_extension) {
         (TypeKind::Scalar, false) => "ScalarTypeDefinition",
         (TypeKind::Scalar, true) => "ScalarTypeExtension",
@@ -106,66 +213,170 @@ fn kind_word(kind: &TypeKind, is_extension: bool) -> &'static str {
     }
 }
 
+// The member `interfaces`, where the kind of type may have some.
+fn write_interfaces(sheet: &mut Sheet, kind: &TypeKind, place: Place) -> Outcome
+    ensures { Adds result sheet.old sheet.new (optional_tokens (codes "interfaces") (named_types_json place) (interfaces (kind_tree kind.now))) }
+{
+    match kind {
+        TypeKind::Object(object) => {
+            write_named_types(sheet, "interfaces", &object.implements, place)
+        }
+        TypeKind::Interface(interface) => {
+            write_named_types(sheet, "interfaces", &interface.implements, place)
+        }
+        _ => Ok(()),
+    }
+}
+
+// The member that comes last in this kind of type, and what closes the node.
+fn write_contents(sheet: &mut Sheet, kind: &TypeKind, place: Place) -> Outcome
+    ensures { Adds result sheet.old sheet.new (members_tokens (contents place (kind_tree kind.now))) }
+{
+    match kind {
+        TypeKind::Scalar => sheet.close(),
+        TypeKind::Object(object) => write_last(sheet, "fields", &object.fields, place),
+        TypeKind::Interface(interface) => write_last(sheet, "fields", &interface.fields, place),
+        TypeKind::Union(union) => write_types(sheet, &union.members, place),
+        TypeKind::Enum(values) => write_last(sheet, "values", &values.values, place),
+        TypeKind::InputObject(input) => write_last(sheet, "fields", &input.fields, place),
+    }
+}
+
+// The last member, which is a list of nodes, and what closes the node.
+fn write_last<N: Node>(
+    sheet: &mut Sheet,
+    key: &str,
+    nodes: &Vec<Positioned<N>>,
+    place: Place,
+) -> Outcome
+    ensures { Adds result sheet.old sheet.new (members_tokens (member key.now (placed_list N.json place (map (placed N.tree) nodes.now.items)) no_members)) }
+{
+    sheet.nodes(key, nodes, place)?;
+    sheet.close()
+}
+
+// The types of a union, its last member, and what closes the node.
+fn write_types(sheet: &mut Sheet, names: &Vec<Positioned<Name>>, place: Place) -> Outcome
+    ensures { Adds result sheet.old sheet.new (members_tokens (member (codes "types") (named_types_json place names.now.items) no_members)) }
+{
+    write_named_types(sheet, "types", names, place)?;
+    sheet.close()
+}
+
 // A member that is a list of types, each by its name.
-fn write_named_types(sheet: &mut Sheet, key: &str, names: &Vec<Positioned<Name>>) -> Outcome {
+fn write_named_types(
+    sheet: &mut Sheet,
+    key: &str,
+    names: &Vec<Positioned<Name>>,
+    place: Place,
+) -> Outcome
+    ensures { Adds result sheet.old sheet.new (member_tokens key.now (named_types_json place names.now.items)) }
+{
     sheet.open_list(key)?;
     for name in names {
-        write_named_type(sheet, &name.node, Some(name.pos))?;
+        write_named_type(sheet, &name.node, place.at(name.pos))?;
     }
     sheet.close_list()
 }
 
 impl Node for FieldDefinition {
-    fn write(&self, sheet: &mut Sheet, place: Option<Pos>) -> Outcome {
+    ghost use Rattle.graphql_parser.specs.trees.Schema.{FieldDefinition as FieldTree};
+    ghost use Rattle.graphql_parser.specs.trees.SchemaViews.{field_definition_tree};
+    ghost use Rattle.graphql_json.specs.nodes.Schemas.{field_definition_json};
+
+    ghost Tree = { FieldTree };
+
+    ghost tree = { field_definition_tree };
+
+    ghost json = { field_definition_json };
+
+    fn write(&self, sheet: &mut Sheet, place: Place) -> Outcome {
         sheet.begin("FieldDefinition", place)?;
-        sheet.optional("description", &self.description)?;
-        sheet.node("name", &self.name)?;
-        sheet.nodes("arguments", &self.arguments)?;
-        sheet.node("type", &self.ty)?;
-        sheet.nodes("directives", &self.directives)?;
+        sheet.optional("description", &self.description, place)?;
+        sheet.node("name", &self.name, place)?;
+        sheet.nodes("arguments", &self.arguments, place)?;
+        sheet.node("type", &self.ty, place)?;
+        sheet.nodes("directives", &self.directives, place)?;
         sheet.close()
     }
 }
 
 impl Node for InputValueDefinition {
-    fn write(&self, sheet: &mut Sheet, place: Option<Pos>) -> Outcome {
+    ghost use Rattle.graphql_parser.specs.trees.Schema.{InputValueDefinition as InputValueTree};
+    ghost use Rattle.graphql_parser.specs.trees.SchemaViews.{input_value_tree};
+    ghost use Rattle.graphql_json.specs.nodes.Schemas.{input_value_json};
+
+    ghost Tree = { InputValueTree };
+
+    ghost tree = { input_value_tree };
+
+    ghost json = { input_value_json };
+
+    fn write(&self, sheet: &mut Sheet, place: Place) -> Outcome {
         sheet.begin("InputValueDefinition", place)?;
-        sheet.optional("description", &self.description)?;
-        sheet.node("name", &self.name)?;
-        sheet.node("type", &self.ty)?;
-        sheet.optional("defaultValue", &self.default_value)?;
-        sheet.nodes("directives", &self.directives)?;
+        sheet.optional("description", &self.description, place)?;
+        sheet.node("name", &self.name, place)?;
+        sheet.node("type", &self.ty, place)?;
+        sheet.optional("defaultValue", &self.default_value, place)?;
+        sheet.nodes("directives", &self.directives, place)?;
         sheet.close()
     }
 }
 
 impl Node for EnumValueDefinition {
-    fn write(&self, sheet: &mut Sheet, place: Option<Pos>) -> Outcome {
+    ghost use Rattle.graphql_parser.specs.trees.Schema.{EnumValueDefinition as EnumValueTree};
+    ghost use Rattle.graphql_parser.specs.trees.SchemaViews.{enum_value_tree};
+    ghost use Rattle.graphql_json.specs.nodes.Schemas.{enum_value_json};
+
+    ghost Tree = { EnumValueTree };
+
+    ghost tree = { enum_value_tree };
+
+    ghost json = { enum_value_json };
+
+    fn write(&self, sheet: &mut Sheet, place: Place) -> Outcome {
         sheet.begin("EnumValueDefinition", place)?;
-        sheet.optional("description", &self.description)?;
-        sheet.node("name", &self.value)?;
-        sheet.nodes("directives", &self.directives)?;
+        sheet.optional("description", &self.description, place)?;
+        sheet.node("name", &self.value, place)?;
+        sheet.nodes("directives", &self.directives, place)?;
         sheet.close()
     }
 }
 
 impl Node for DirectiveDefinition {
-    fn write(&self, sheet: &mut Sheet, place: Option<Pos>) -> Outcome {
+    ghost use Rattle.graphql_parser.specs.trees.Schema.{DirectiveDefinition as DirectiveTree};
+    ghost use Rattle.graphql_parser.specs.trees.SchemaViews.{directive_definition_tree};
+    ghost use Rattle.graphql_json.specs.nodes.Schemas.{directive_definition_json};
+
+    ghost Tree = { DirectiveTree };
+
+    ghost tree = { directive_definition_tree };
+
+    ghost json = { directive_definition_json };
+
+    fn write(&self, sheet: &mut Sheet, place: Place) -> Outcome {
         sheet.begin("DirectiveDefinition", place)?;
-        sheet.optional("description", &self.description)?;
-        sheet.node("name", &self.name)?;
-        sheet.nodes("arguments", &self.arguments)?;
+        sheet.optional("description", &self.description, place)?;
+        sheet.node("name", &self.name, place)?;
+        sheet.nodes("arguments", &self.arguments, place)?;
         sheet.boolean("repeatable", self.is_repeatable)?;
-        sheet.nodes("locations", &self.locations)?;
+        sheet.nodes("locations", &self.locations, place)?;
         sheet.close()
     }
 }
 
 /// A name, as GraphQL.js has it.
 impl Node for DirectiveLocation {
-    fn write(&self, sheet: &mut Sheet, place: Option<Pos>) -> Outcome {
-        sheet.begin("Name", place)?;
-        sheet.text("value", self.as_str())?;
-        sheet.close()
+    ghost use Rattle.graphql_schema_trees.specs.declared.service.DirectiveLocation.{DirectiveLocation};
+    ghost use Rattle.graphql_json.specs.nodes.Schemas.{location_json};
+
+    ghost Tree = { DirectiveLocation };
+
+    ghost tree = { λ location. location };
+
+    ghost json = { location_json };
+
+    fn write(&self, sheet: &mut Sheet, place: Place) -> Outcome {
+        write_text(sheet, "Name", place, self.as_str())
     }
 }

@@ -1,141 +1,184 @@
 //! The JSON that is being written, node by node.
+ghost use Rattle.std.specs.Prelude.{◌≡◌, [], ◌∷◌, List, map, option_map};
 ghost use Rattle.std.specs.Str.{IsUtf8};
+ghost use Rattle.graphql_parser.specs.trees.Parts.{placed};
+ghost use Rattle.graphql_json.specs.inner.Written.{Adds, pos_tokens, opening, member_tokens, optional_tokens};
+ghost use Rattle.graphql_json.specs.nodes.Nodes.{placed_json, placed_list};
+ghost use Rattle.json.specs.Json.{Json, string, boolean};
+ghost use Rattle.json.specs.Print.{print};
+ghost use Rattle.json.specs.Token.{begin_object, end_object, begin_array, end_array, key as key_token};
+ghost use Rattle.json.specs.Tree.{json_tokens};
 
+use crate::place::{Place, Places};
 use graphql_parser::{Pos, Positioned};
 use json::Writer;
 use std::alloc::{AllocError, Global};
 use std::marker::Model;
-
-/// Whether nodes are written with their places.
-#[derive(Clone, Copy, Debug, PartialEq, Eq)]
-pub enum Places {
-    /// No node has a place.
-    LeftOut,
-    /// Each node that has a place in the tree has the numbers `line` and `column`, both counted from 1. A node at 0:0,
-    /// which is no place of a text, has neither.
-    Written,
-}
 
 // What a call that writes answers: an error says that memory was refused.
 pub type Outcome = Result<(), AllocError>;
 
 /// What is written as an object with a `kind`.
 pub trait Node {
-    /// Writes the node, which stands at `place` where the tree knows it.
-    fn write(&self, sheet: &mut Sheet, place: Option<Pos>) -> Outcome;
+    ghost use Rattle.graphql_json.specs.declared.place.Place.{Place};
+
+    /// The tree of a node.
+    ghost Tree: { Type 0 };
+
+    ghost tree: { Self → Tree };
+
+    /// The JSON of a tree that stands at a place.
+    ghost json: { Place → Tree → Json };
+
+    /// Writes the node.
+    fn write(&self, sheet: &mut Sheet, place: Place) -> Outcome
+        ensures { Adds result sheet.old sheet.new (json_tokens (json place (tree self.now))) };
 }
 
 /// A text of JSON that is being written: nothing stands before it. Objects and lists are closed by the caller.
+///
+/// A contract sees the tokens that are written.
 #[derive(Drop)]
 pub struct Sheet {
     json: Writer,
-    places: Places,
 }
 
 impl Model for Sheet {
-    ghost use Rattle.std.specs.Prelude.{◌≡◌, ⊤, []};
+    ghost use Rattle.std.specs.Prelude.{◌≡◌, [], List};
+    ghost use Rattle.json.specs.Token.{Token, tokens_code};
 
-    ghost Value = { ⊤ };
+    ghost Value = { List Token };
 
-    ghost view = { λ _. tt };
+    ghost coded = { tokens_code };
+
+    ghost view = { λ sheet. sheet.json.tokens };
 
     ghost invariant = { λ sheet. sheet.json.before ≡ [] };
 }
 
 impl Sheet {
     /// An empty text.
-    pub fn new(alloc: Global, places: Places) -> Sheet {
+    pub fn new(alloc: Global) -> Sheet
+        ensures { result ≡ [] }
+    {
         Sheet {
             json: Writer::new(Vec::new(alloc)),
-            places,
         }
     }
 
     /// The whole text.
     pub fn finish(self) -> Vec<u8>
-        ensures { IsUtf8 result.items }
+        ensures text { result.items ≡ print self }
+        ensures utf8 { IsUtf8 result.items }
     {
-        let Sheet { json, .. } = self;
+        let Sheet { json } = self;
         json.into_inner()
     }
 
     /// Opens an object.
-    pub fn open(&mut self) -> Outcome {
+    pub fn open(&mut self) -> Outcome
+        ensures { Adds result self.old self.new (begin_object ∷ []) }
+    {
         self.json.begin_object()
     }
 
     /// Closes an object.
-    pub fn close(&mut self) -> Outcome {
+    pub fn close(&mut self) -> Outcome
+        ensures { Adds result self.old self.new (end_object ∷ []) }
+    {
         self.json.end_object()
     }
 
     /// Opens the object of a node: its kind, and its place where it is known and asked for.
-    pub fn begin(&mut self, kind: &str, place: Option<Pos>) -> Outcome {
+    pub fn begin(&mut self, kind: &str, place: Place) -> Outcome
+        ensures { Adds result self.old self.new (opening kind.now place) }
+    {
         self.open()?;
         self.text("kind", kind)?;
-        match place {
-            Some(place) if self.places == Places::Written && place != Pos::default() => {
-                self.place(place)
-            }
+        match place.pos {
+            Some(pos) if place.places == Places::Written && pos != Pos::default() => self.pos(pos),
             _ => Ok(()),
         }
     }
 
     /// The members `line` and `column`.
-    pub fn place(&mut self, place: Pos) -> Outcome {
+    pub fn pos(&mut self, pos: Pos) -> Outcome
+        ensures { Adds result self.old self.new (pos_tokens pos) }
+    {
         self.json.key("line")?;
-        self.json.u64(place.line as u64)?;
+        self.json.u64(pos.line as u64)?;
         self.json.key("column")?;
-        self.json.u64(place.column as u64)
+        self.json.u64(pos.column as u64)
     }
 
     /// The key of a member, whose value is written next.
-    pub fn key(&mut self, key: &str) -> Outcome {
+    pub fn key(&mut self, key: &str) -> Outcome
+        ensures { Adds result self.old self.new (key_token key.now ∷ []) }
+    {
         self.json.key(key)
     }
 
     /// A member that is a text.
-    pub fn text(&mut self, key: &str, text: &str) -> Outcome {
+    pub fn text(&mut self, key: &str, text: &str) -> Outcome
+        ensures { Adds result self.old self.new (member_tokens key.now (string text.now)) }
+    {
         self.json.key(key)?;
         self.json.string(text)
     }
 
     /// A member that is true or false.
-    pub fn boolean(&mut self, key: &str, value: bool) -> Outcome {
+    pub fn boolean(&mut self, key: &str, value: bool) -> Outcome
+        ensures { Adds result self.old self.new (member_tokens key.now (boolean value)) }
+    {
         self.json.key(key)?;
         self.json.boolean(value)
     }
 
     /// Opens a member that is a list.
-    pub fn open_list(&mut self, key: &str) -> Outcome {
+    pub fn open_list(&mut self, key: &str) -> Outcome
+        ensures { Adds result self.old self.new (key_token key.now ∷ begin_array ∷ []) }
+    {
         self.json.key(key)?;
         self.json.begin_array()
     }
 
     /// Closes a list.
-    pub fn close_list(&mut self) -> Outcome {
+    pub fn close_list(&mut self) -> Outcome
+        ensures { Adds result self.old self.new (end_array ∷ []) }
+    {
         self.json.end_array()
     }
 
     /// A member that is a node.
-    pub fn node<N: Node>(&mut self, key: &str, node: &Positioned<N>) -> Outcome {
+    pub fn node<N: Node>(&mut self, key: &str, node: &Positioned<N>, place: Place) -> Outcome
+        ensures { Adds result self.old self.new (member_tokens key.now (placed_json N.json place (placed N.tree node.now))) }
+    {
         self.key(key)?;
-        node.node.write(self, Some(node.pos))
+        node.node.write(self, place.at(node.pos))
     }
 
     /// A member that is a node, where there is one.
-    pub fn optional<N: Node>(&mut self, key: &str, node: &Option<Positioned<N>>) -> Outcome {
+    pub fn optional<N: Node>(
+        &mut self,
+        key: &str,
+        node: &Option<Positioned<N>>,
+        place: Place,
+    ) -> Outcome
+        ensures { Adds result self.old self.new (optional_tokens key.now (placed_json N.json place) (option_map (placed N.tree) node.now)) }
+    {
         match node {
-            Some(node) => self.node(key, node),
+            Some(node) => self.node(key, node, place),
             None => Ok(()),
         }
     }
 
     /// A member that is a list of nodes.
-    pub fn nodes<N: Node>(&mut self, key: &str, nodes: &Vec<Positioned<N>>) -> Outcome {
+    pub fn nodes<N: Node>(&mut self, key: &str, nodes: &Vec<Positioned<N>>, place: Place) -> Outcome
+        ensures { Adds result self.old self.new (member_tokens key.now (placed_list N.json place (map (placed N.tree) nodes.now.items))) }
+    {
         self.open_list(key)?;
         for node in nodes {
-            node.node.write(self, Some(node.pos))?;
+            node.node.write(self, place.at(node.pos))?;
         }
         self.close_list()
     }

@@ -1,180 +1,305 @@
 //! What requests and schema files share: names, values, arguments, directives and types.
+ghost use Rattle.std.specs.Prelude.{◌≡◌, List, map, string_bytes, true, codes};
+ghost use Rattle.std.specs.List.{list_any};
+ghost use Rattle.graphql_parser.specs.calls.Views.{view_tree, list_items, object_fields};
+ghost use Rattle.graphql_parser.specs.calls.Words.{operation_word as operation_word_of};
+ghost use Rattle.graphql_parser.specs.trees.Parts.{placed};
+ghost use Rattle.graphql_parser.specs.trees.TypeTree.{base_tree, type_tree};
+ghost use Rattle.graphql_parser.specs.trees.ValueTree.{variable, null, boolean, list, object, trees_of, fields_of};
+ghost use Rattle.graphql_json.specs.inner.Written.{Adds, member_tokens};
+ghost use Rattle.graphql_json.specs.nodes.Nodes.{node, nowhere, items_of};
+ghost use Rattle.graphql_json.specs.nodes.Values.{text_json, name_json, value_json, items_json, fields_json, field_node, argument_tree, marks_float, number_kind as number_kind_of, argument_with, named_type_json, type_json};
+ghost use Rattle.json.specs.Json.{array};
+ghost use Rattle.json.specs.Tree.{json_tokens};
+
+use crate::place::Place;
 use crate::sheet::{Node, Outcome, Sheet};
+use graphql_parser::Positioned;
 use graphql_parser::types::{BaseType, ConstDirective, Directive, OperationType, Type};
-use graphql_parser::value::{ConstValue, Name, Number, Value};
-use graphql_parser::{Pos, Positioned};
+use graphql_parser::value::{ConstValue, ListView, Name, ObjectView, Value, ValueView};
 
 impl Node for Name {
-    fn write(&self, sheet: &mut Sheet, place: Option<Pos>) -> Outcome {
+    ghost use Rattle.std.specs.Prelude.{ℕ, List};
+    ghost use Rattle.graphql_json.specs.nodes.Values.{name_json};
+
+    ghost Tree = { List ℕ };
+
+    ghost tree = { λ name. name };
+
+    ghost json = { name_json };
+
+    fn write(&self, sheet: &mut Sheet, place: Place) -> Outcome {
         write_text(sheet, "Name", place, self.as_str())
     }
 }
 
 /// What a string or a block string stands for, in a description.
 impl Node for String {
-    fn write(&self, sheet: &mut Sheet, place: Option<Pos>) -> Outcome {
+    ghost use Rattle.std.specs.Prelude.{ℕ, List, string_bytes};
+    ghost use Rattle.graphql_json.specs.nodes.Values.{string_json};
+
+    ghost Tree = { List ℕ };
+
+    ghost tree = { string_bytes };
+
+    ghost json = { string_json };
+
+    fn write(&self, sheet: &mut Sheet, place: Place) -> Outcome {
         write_text(sheet, "StringValue", place, self.as_str())
     }
 }
 
 impl Node for Value {
-    fn write(&self, sheet: &mut Sheet, place: Option<Pos>) -> Outcome {
-        write_value(sheet, self, place)
+    ghost use Rattle.graphql_parser.specs.trees.ValueTree.{Tree as ValueTree};
+    ghost use Rattle.graphql_parser.specs.trees.ValueViews.{value_tree};
+    ghost use Rattle.graphql_json.specs.nodes.Values.{value_json};
+
+    ghost Tree = { ValueTree };
+
+    ghost tree = { value_tree };
+
+    ghost json = { value_json };
+
+    fn write(&self, sheet: &mut Sheet, place: Place) -> Outcome {
+        write_value(sheet, &self.as_view(), place)
     }
 }
 
 impl Node for ConstValue {
-    fn write(&self, sheet: &mut Sheet, place: Option<Pos>) -> Outcome {
-        write_constant(sheet, self, place)
+    ghost use Rattle.graphql_parser.specs.trees.ValueTree.{Tree as ValueTree};
+    ghost use Rattle.graphql_parser.specs.trees.ValueViews.{const_tree};
+    ghost use Rattle.graphql_json.specs.nodes.Values.{value_json};
+
+    ghost Tree = { ValueTree };
+
+    ghost tree = { const_tree };
+
+    ghost json = { value_json };
+
+    fn write(&self, sheet: &mut Sheet, place: Place) -> Outcome {
+        write_value(sheet, &self.as_view(), place)
     }
 }
 
-impl Node for Directive {
-    fn write(&self, sheet: &mut Sheet, place: Option<Pos>) -> Outcome {
-        sheet.begin("Directive", place)?;
-        sheet.node("name", &self.name)?;
-        write_arguments(sheet, &self.arguments)?;
-        sheet.close()
+// A node whose `value` is a text.
+pub fn write_text(sheet: &mut Sheet, kind: &str, place: Place, text: &str) -> Outcome
+    ensures { Adds result sheet.old sheet.new (json_tokens (text_json kind.now place text.now)) }
+{
+    sheet.begin(kind, place)?;
+    sheet.text("value", text)?;
+    sheet.close()
+}
+
+/// A member that is a name.
+pub fn write_name(sheet: &mut Sheet, name: &Name, place: Place) -> Outcome
+    ensures { Adds result sheet.old sheet.new (member_tokens (codes "name") (name_json place name.now)) }
+{
+    sheet.key("name")?;
+    name.write(sheet, place)
+}
+
+// A number with a fraction or an exponent is a float (section 2.9.2).
+fn number_kind(literal: &str) -> &'static str
+    ensures { result.now ≡ number_kind_of literal.now }
+{
+    for byte in literal.as_bytes() {
+        if matches!(byte, b'.' | b'e' | b'E') {
+            return "FloatValue";
+        }
+    }
+    "IntValue"
+}
+
+fn write_variable(sheet: &mut Sheet, name: &Name, place: Place) -> Outcome
+    ensures { Adds result sheet.old sheet.new (json_tokens (value_json place (variable name.now))) }
+{
+    sheet.begin("Variable", place)?;
+    write_name(sheet, name, place.nowhere())?;
+    sheet.close()
+}
+
+fn write_null(sheet: &mut Sheet, place: Place) -> Outcome
+    ensures { Adds result sheet.old sheet.new (json_tokens (value_json place null)) }
+{
+    sheet.begin("NullValue", place)?;
+    sheet.close()
+}
+
+fn write_boolean(sheet: &mut Sheet, value: bool, place: Place) -> Outcome
+    ensures { Adds result sheet.old sheet.new (json_tokens (value_json place (boolean value))) }
+{
+    sheet.begin("BooleanValue", place)?;
+    sheet.boolean("value", value)?;
+    sheet.close()
+}
+
+#[cycle(value)]
+fn write_value(sheet: &mut Sheet, value: &ValueView<'_>, place: Place) -> Outcome
+    ensures { Adds result sheet.old sheet.new (json_tokens (value_json place (view_tree value.now))) }
+{
+    match value {
+        ValueView::Variable(name) => write_variable(sheet, name, place),
+        ValueView::Null => write_null(sheet, place),
+        ValueView::Number(number) => {
+            let literal = number.as_str();
+            write_text(sheet, number_kind(literal), place, literal)
+        }
+        ValueView::String(text) => write_text(sheet, "StringValue", place, text),
+        ValueView::Boolean(value) => write_boolean(sheet, *value, place),
+        ValueView::Enum(name) => write_text(sheet, "EnumValue", place, name.as_str()),
+        ValueView::List(items) => write_list(sheet, items, place),
+        ValueView::Object(fields) => write_object(sheet, fields, place),
     }
 }
 
-impl Node for ConstDirective {
-    fn write(&self, sheet: &mut Sheet, place: Option<Pos>) -> Outcome {
-        sheet.begin("Directive", place)?;
-        sheet.node("name", &self.name)?;
-        write_arguments(sheet, &self.arguments)?;
-        sheet.close()
-    }
+// What is inside a list or an object has no place of its own.
+#[cycle(value)]
+fn write_list(sheet: &mut Sheet, items: &ListView<'_>, place: Place) -> Outcome
+    ensures { Adds result sheet.old sheet.new (json_tokens (value_json place (list (trees_of (list_items items.now))))) }
+{
+    sheet.begin("ListValue", place)?;
+    write_items(sheet, items, place.nowhere())?;
+    sheet.close()
 }
 
-impl Node for Type {
-    fn write(&self, sheet: &mut Sheet, place: Option<Pos>) -> Outcome {
-        write_type(sheet, self, place)
+#[cycle(value)]
+fn write_items(sheet: &mut Sheet, items: &ListView<'_>, place: Place) -> Outcome
+    ensures { Adds result sheet.old sheet.new (member_tokens (codes "values") (array (items_json place (trees_of (list_items items.now))))) }
+{
+    sheet.open_list("values")?;
+    for item in items.iter() {
+        write_value(sheet, &item, place)?;
     }
+    sheet.close_list()
+}
+
+#[cycle(value)]
+fn write_object(sheet: &mut Sheet, fields: &ObjectView<'_>, place: Place) -> Outcome
+    ensures { Adds result sheet.old sheet.new (json_tokens (value_json place (object (fields_of (object_fields fields.now))))) }
+{
+    sheet.begin("ObjectValue", place)?;
+    write_fields(sheet, fields, place.nowhere())?;
+    sheet.close()
+}
+
+#[cycle(value)]
+fn write_fields(sheet: &mut Sheet, fields: &ObjectView<'_>, place: Place) -> Outcome
+    ensures { Adds result sheet.old sheet.new (member_tokens (codes "fields") (array (fields_json place (fields_of (object_fields fields.now))))) }
+{
+    sheet.open_list("fields")?;
+    for (name, value) in fields.iter() {
+        write_field(sheet, name, &value, place)?;
+    }
+    sheet.close_list()
+}
+
+#[cycle(value)]
+fn write_field(sheet: &mut Sheet, name: &Name, value: &ValueView<'_>, place: Place) -> Outcome
+    ensures { Adds result sheet.old sheet.new (json_tokens (field_node place name.now (value_json place (view_tree value.now)))) }
+{
+    sheet.begin("ObjectField", place)?;
+    write_name(sheet, name, place)?;
+    sheet.key("value")?;
+    write_value(sheet, value, place)?;
+    sheet.close()
 }
 
 /// The member `arguments`. An argument stands at its name.
 pub fn write_arguments<V: Node>(
     sheet: &mut Sheet,
     arguments: &Vec<(Positioned<Name>, Positioned<V>)>,
-) -> Outcome {
+    place: Place,
+) -> Outcome
+    ensures { Adds result sheet.old sheet.new (member_tokens (codes "arguments") (array (items_of (argument_with V.json place) (map (argument_tree V.tree) arguments.now.items)))) }
+{
     sheet.open_list("arguments")?;
     for argument in arguments {
-        sheet.begin("Argument", Some(argument.0.pos))?;
-        sheet.node("name", &argument.0)?;
-        sheet.node("value", &argument.1)?;
-        sheet.close()?;
+        write_argument(sheet, &argument.0, &argument.1, place)?;
     }
     sheet.close_list()
 }
 
+fn write_argument<V: Node>(
+    sheet: &mut Sheet,
+    name: &Positioned<Name>,
+    value: &Positioned<V>,
+    place: Place,
+) -> Outcome
+    ensures { Adds result sheet.old sheet.new (json_tokens (argument_with V.json place (name.now, placed V.tree value.now))) }
+{
+    sheet.begin("Argument", place.at(name.pos))?;
+    sheet.node("name", name, place)?;
+    sheet.node("value", value, place)?;
+    sheet.close()
+}
+
+impl Node for Directive {
+    ghost use Rattle.graphql_parser.specs.trees.Parts.{Directive as DirectiveTree};
+    ghost use Rattle.graphql_parser.specs.trees.PartViews.{directive_tree};
+    ghost use Rattle.graphql_json.specs.nodes.Values.{directive_json};
+
+    ghost Tree = { DirectiveTree };
+
+    ghost tree = { directive_tree };
+
+    ghost json = { directive_json };
+
+    fn write(&self, sheet: &mut Sheet, place: Place) -> Outcome {
+        sheet.begin("Directive", place)?;
+        sheet.node("name", &self.name, place)?;
+        write_arguments(sheet, &self.arguments, place)?;
+        sheet.close()
+    }
+}
+
+impl Node for ConstDirective {
+    ghost use Rattle.graphql_parser.specs.trees.Parts.{Directive as DirectiveTree};
+    ghost use Rattle.graphql_parser.specs.trees.PartViews.{const_directive_tree};
+    ghost use Rattle.graphql_json.specs.nodes.Values.{directive_json};
+
+    ghost Tree = { DirectiveTree };
+
+    ghost tree = { const_directive_tree };
+
+    ghost json = { directive_json };
+
+    fn write(&self, sheet: &mut Sheet, place: Place) -> Outcome {
+        sheet.begin("Directive", place)?;
+        sheet.node("name", &self.name, place)?;
+        write_arguments(sheet, &self.arguments, place)?;
+        sheet.close()
+    }
+}
+
 /// A type that is named.
-pub fn write_named_type(sheet: &mut Sheet, name: &Name, place: Option<Pos>) -> Outcome {
+pub fn write_named_type(sheet: &mut Sheet, name: &Name, place: Place) -> Outcome
+    ensures { Adds result sheet.old sheet.new (json_tokens (named_type_json place name.now)) }
+{
     sheet.begin("NamedType", place)?;
     write_name(sheet, name, place)?;
     sheet.close()
 }
 
-/// The member `name`.
-pub fn write_name(sheet: &mut Sheet, name: &Name, place: Option<Pos>) -> Outcome {
-    sheet.key("name")?;
-    name.write(sheet, place)
-}
+impl Node for Type {
+    ghost use Rattle.graphql_parser.specs.trees.TypeTree.{TypeTree, type_tree};
+    ghost use Rattle.graphql_json.specs.nodes.Values.{type_json};
 
-/// The keyword of a kind of operation.
-pub fn operation_word(kind: OperationType) -> &'static str {
-    match kind {
-        OperationType::Query => "query",
-        OperationType::Mutation => "mutation",
-        OperationType::Subscription => "subscription",
+    ghost Tree = { TypeTree };
+
+    ghost tree = { type_tree };
+
+    ghost json = { type_json };
+
+    fn write(&self, sheet: &mut Sheet, place: Place) -> Outcome {
+        write_type(sheet, self, place)
     }
-}
-
-// A node whose `value` is a text.
-fn write_text(sheet: &mut Sheet, kind: &str, place: Option<Pos>, text: &str) -> Outcome {
-    sheet.begin(kind, place)?;
-    sheet.text("value", text)?;
-    sheet.close()
-}
-
-fn write_boolean(sheet: &mut Sheet, place: Option<Pos>, value: bool) -> Outcome {
-    sheet.begin("BooleanValue", place)?;
-    sheet.boolean("value", value)?;
-    sheet.close()
-}
-
-fn write_null(sheet: &mut Sheet, place: Option<Pos>) -> Outcome {
-    sheet.begin("NullValue", place)?;
-    sheet.close()
-}
-
-fn write_variable(sheet: &mut Sheet, place: Option<Pos>, name: &Name) -> Outcome {
-    sheet.begin("Variable", place)?;
-    write_name(sheet, name, None)?;
-    sheet.close()
-}
-
-// A number with a fraction or an exponent is a float (section 2.9.2).
-fn write_number(sheet: &mut Sheet, place: Option<Pos>, number: &Number) -> Outcome {
-    let literal = number.as_str();
-    let kind = if literal.contains(&['.', 'e', 'E']) {
-        "FloatValue"
-    } else {
-        "IntValue"
-    };
-    write_text(sheet, kind, place, literal)
-}
-
-// Writes a value: the cases in which the types of values differ are handed over. What is inside a list or an object has
-// no place of its own.
-macro_rules! write_value {
-    ($values:ident, $write:ident, $sheet:ident, $value:ident, $place:ident, { $($own:tt)* }) => {
-        match $value {
-            $($own)*
-            $values::Null => write_null($sheet, $place),
-            $values::Number(number) => write_number($sheet, $place, number),
-            $values::String(text) => write_text($sheet, "StringValue", $place, text.as_str()),
-            $values::Boolean(value) => write_boolean($sheet, $place, *value),
-            $values::Enum(name) => write_text($sheet, "EnumValue", $place, name.as_str()),
-            $values::List(items) => {
-                $sheet.begin("ListValue", $place)?;
-                $sheet.open_list("values")?;
-                for item in items {
-                    $write($sheet, item, None)?;
-                }
-                $sheet.close_list()?;
-                $sheet.close()
-            }
-            $values::Object(fields) => {
-                $sheet.begin("ObjectValue", $place)?;
-                $sheet.open_list("fields")?;
-                for field in fields {
-                    $sheet.begin("ObjectField", None)?;
-                    write_name($sheet, &field.0, None)?;
-                    $sheet.key("value")?;
-                    $write($sheet, &field.1, None)?;
-                    $sheet.close()?;
-                }
-                $sheet.close_list()?;
-                $sheet.close()
-            }
-        }
-    };
-}
-
-fn write_value(sheet: &mut Sheet, value: &Value, place: Option<Pos>) -> Outcome {
-    write_value!(Value, write_value, sheet, value, place, {
-        Value::Variable(name) => write_variable(sheet, place, name),
-    })
-}
-
-fn write_constant(sheet: &mut Sheet, value: &ConstValue, place: Option<Pos>) -> Outcome {
-    write_value!(ConstValue, write_constant, sheet, value, place, {})
 }
 
 // A type and what it is of without its mark stand at one place; the types inside a list have none.
 #[cycle(types)]
-fn write_type(sheet: &mut Sheet, ty: &Type, place: Option<Pos>) -> Outcome {
+fn write_type(sheet: &mut Sheet, ty: &Type, place: Place) -> Outcome
+    ensures { Adds result sheet.old sheet.new (json_tokens (type_json place (type_tree ty.now))) }
+{
     if ty.nullable {
         return write_base(sheet, &ty.base, place);
     }
@@ -185,14 +310,27 @@ fn write_type(sheet: &mut Sheet, ty: &Type, place: Option<Pos>) -> Outcome {
 }
 
 #[cycle(types)]
-fn write_base(sheet: &mut Sheet, base: &BaseType, place: Option<Pos>) -> Outcome {
+fn write_base(sheet: &mut Sheet, base: &BaseType, place: Place) -> Outcome
+    ensures { Adds result sheet.old sheet.new (json_tokens (type_json place (base_tree base.now true))) }
+{
     match base {
         BaseType::Named(name) => write_named_type(sheet, name, place),
         BaseType::List(inner) => {
             sheet.begin("ListType", place)?;
             sheet.key("type")?;
-            write_type(sheet, inner, None)?;
+            write_type(sheet, inner, place.nowhere())?;
             sheet.close()
         }
+    }
+}
+
+/// The keyword of a kind of operation.
+pub fn operation_word(kind: OperationType) -> &'static str
+    ensures { result.now ≡ operation_word_of kind }
+{
+    match kind {
+        OperationType::Query => "query",
+        OperationType::Mutation => "mutation",
+        OperationType::Subscription => "subscription",
     }
 }

@@ -1,15 +1,43 @@
--- What a call in C hands over.
+-- What a call in C hands over: the JSON of the parser's one answer.
 -- Source: this project's choice.
-use Rattle.std.specs.Prelude.{◌≡◌, ◌⊎◌, ℕ}
-use Rattle.std.specs.Str.{IsUtf8}
-use Rattle.graphql_parser_c.specs.Statuses.{number_of}
+use Rattle.std.specs.Prelude.{◌≡◌, ◌⊎◌, ℕ, List, Bool, true, false, Result, Ok, Err}
+use Rattle.graphql_grammar.specs.declared.error.Error.{Error}
+use Rattle.graphql_json.specs.declared.place.Places.{Places}
+use Rattle.graphql_json.specs.declared.place.Places.TheVariants as places
+use Rattle.graphql_json.specs.nodes.Errors.{error_value}
+use Rattle.graphql_json.specs.nodes.Nodes.{json_text}
+use Rattle.graphql_parser.specs.answers.Answers.{Answers}
+use Rattle.graphql_parser.specs.answers.Language.{Language}
+use Rattle.graphql_parser.specs.errors.Errors.{error_text, error_places}
+use Rattle.graphql_parser.specs.notation.Limits.{Limits}
+use Rattle.graphql_parser.specs.tokens.Cuts.{IsCutInto}
+use Rattle.graphql_parser.specs.tokens.Token.{Token}
+use Rattle.graphql_parser_c.specs.Statuses.{number_of, status_of}
 use Rattle.graphql_parser_c.specs.declared.handing.Json.{Json}
 use Rattle.graphql_parser_c.specs.declared.status.Status.TheVariants.{OutOfMemory, NotUtf8, LimitTooLarge}
+use Rattle.json.specs.Json as json
 
 -- the number of a status that says nothing of a text
 abbrev pub SaysNothing : ℕ → Type 0
 SaysNothing number = (number ≡ number_of OutOfMemory) ⊎ (number ≡ number_of NotUtf8) ⊎ (number ≡ number_of LimitTooLarge)
 
--- Where the status says something of the text, a text in UTF-8 is handed over; else what was there stays.
-abbrev pub IsHanded : ℕ → Json → Json → Type 0
-IsHanded number before after = (SaysNothing number → after ≡ before) × (¬ SaysNothing number → IsUtf8 after.bytes.now)
+-- whether a caller asked for the places of nodes
+abbrev pub places_asked : Bool → Places
+places_asked true = places.Written
+places_asked false = places.LeftOut
+
+-- the JSON of an answer: that of its tree, or that of its error
+abbrev pub answer_value : {Document : Type 0} → (Document → json.Json) → Result Document Error → json.Json
+answer_value value (Ok document) = value document
+answer_value value (Err error) = error_value (error_text error) (error_places error)
+
+-- where the status says something of the text, this JSON is handed over; else what was there stays
+abbrev pub IsHanded : List ℕ → ℕ → Json → Json → Type 0
+IsHanded text number before after = (SaysNothing number → after ≡ before) × (¬ SaysNothing number → after.bytes.now ≡ text)
+
+-- What a call hands over of a text, in a language and within limits, where `value` gives the JSON of a document: nothing, where
+-- the status says nothing of the text, and else the JSON of the parser's answer for the tokens of the text.
+pub record IsAnswered {D Document : Type 0} (language : Language D Document) (value : Document → json.Json) (limits : Limits) (text : List ℕ) (number : ℕ) (before after : Json) : Type 0 where
+  pub nothing : SaysNothing number → after ≡ before
+  pub answer : ¬ SaysNothing number → (tokens : List Token) → IsCutInto text tokens
+      → (answer : Result Document Error) × Answers language limits tokens answer × (number ≡ number_of (status_of answer)) × (after.bytes.now ≡ json_text (answer_value value answer))

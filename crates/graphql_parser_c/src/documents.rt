@@ -1,6 +1,8 @@
 //! What the calls of both languages share.
-ghost use Rattle.std.specs.Prelude.{List, IfOk};
-ghost use Rattle.std.specs.Str.{IsUtf8};
+ghost use Rattle.std.specs.Prelude.{◌≡◌, List, IfOk};
+ghost use Rattle.graphql_json.specs.nodes.Nodes.{json_text};
+ghost use Rattle.graphql_json.specs.nodes.Requests.{request_value};
+ghost use Rattle.graphql_json.specs.nodes.Schemas.{schema_value};
 ghost use Rattle.graphql_parser.specs.answers.Answers.{Answers};
 ghost use Rattle.graphql_parser.specs.answers.Language.{Language};
 ghost use Rattle.graphql_parser.specs.requests.Request.{Definition as RequestDefinition};
@@ -9,6 +11,8 @@ ghost use Rattle.graphql_parser.specs.schemas.SchemaFile.{Definition as SchemaDe
 ghost use Rattle.graphql_parser.specs.schemas.Schemas.{schemas};
 ghost use Rattle.graphql_parser.specs.tokens.Cuts.{IsCutInto};
 ghost use Rattle.graphql_parser.specs.tokens.Token.{Token};
+ghost use Rattle.graphql_parser.specs.trees.RequestViews.{document_tree};
+ghost use Rattle.graphql_parser.specs.trees.SchemaViews.{schema_document_tree};
 
 use graphql_json::{Places, request_json, schema_json};
 use graphql_parser::types::{ExecutableDocument, ServiceDocument};
@@ -17,10 +21,16 @@ use std::alloc::{AllocError, Global};
 
 /// The documents of a language: how a text is read, and its tree written.
 pub trait Document: Drop {
+    ghost use Rattle.graphql_json.specs.declared.place.Places.{Places as WrittenPlaces};
+    ghost use Rattle.json.specs.Json.{Json};
+
     // The tree of a definition.
     ghost Tree: { Type 0 };
 
     ghost language: { Language Self.Tree Self };
+
+    // The JSON of a document.
+    ghost value: { WrittenPlaces → Self → Json };
 
     /// Reads a text.
     fn read(alloc: Global, text: &str, limits: Limits) -> Result<Self>
@@ -28,13 +38,15 @@ pub trait Document: Drop {
 
     /// The tree as JSON.
     fn json(&self, alloc: Global, places: Places) -> std::result::Result<Vec<u8>, AllocError>
-        ensures { IfOk result (λ json. IsUtf8 json.items) };
+        ensures { IfOk result (λ json. json.items ≡ json_text (Self.value places self.now)) };
 }
 
 impl Document for ExecutableDocument {
     ghost Tree = { RequestDefinition };
 
     ghost language = { requests };
+
+    ghost value = { λ places document. request_value places (document_tree document) };
 
     fn read(alloc: Global, text: &str, limits: Limits) -> Result<ExecutableDocument> {
         parse_query_limited(alloc, text, limits)
@@ -49,6 +61,8 @@ impl Document for ServiceDocument {
     ghost Tree = { SchemaDefinition };
 
     ghost language = { schemas };
+
+    ghost value = { λ places document. schema_value places (schema_document_tree document) };
 
     fn read(alloc: Global, text: &str, limits: Limits) -> Result<ServiceDocument> {
         parse_schema_limited(alloc, text, limits)

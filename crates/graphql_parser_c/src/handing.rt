@@ -1,9 +1,9 @@
 //! How a tree, or an error, is handed over as JSON.
 ghost use Rattle.std.specs.Prelude.{◌≡◌, ◌⊎◌, Err, IfOk, IsErr, Result as SpecResult};
-ghost use Rattle.std.specs.Str.{IsUtf8};
 ghost use Rattle.graphql_grammar.specs.declared.error.Error.{Error as SpecError};
 ghost use Rattle.graphql_grammar.specs.declared.error.Error.TheVariants.{OutOfMemory};
-ghost use Rattle.graphql_parser_c.specs.Handing.{IsHanded};
+ghost use Rattle.graphql_json.specs.nodes.Nodes.{json_text};
+ghost use Rattle.graphql_parser_c.specs.Handing.{IsHanded, IsAnswered, answer_value, places_asked};
 ghost use Rattle.graphql_parser_c.specs.Statuses.{number_of, status_of};
 ghost use Rattle.graphql_parser_c.specs.Telling.{IsTold, limits_of, places_of};
 
@@ -28,7 +28,7 @@ fn written<D: Document>(
     answer: &Result<D>,
     with_places: bool,
 ) -> std::result::Result<Vec<u8>, AllocError>
-    ensures text { IfOk result (λ json. IsUtf8 json.items) }
+    ensures text { IfOk result (λ json. json.items ≡ json_text (answer_value (D.value (places_asked with_places)) answer.now)) }
     ensures memory { answer.now ≡ Err OutOfMemory → IsErr result }
 {
     match answer {
@@ -48,7 +48,7 @@ fn hand_over<D: Document>(
     json: &mut Json,
 ) -> Status
     ensures told { (told : SpecResult D SpecError) × ((told ≡ answer.now) ⊎ (told ≡ Err OutOfMemory)) × (result ≡ status_of told) × (places.new ≡ places_of told) }
-    ensures handed { IsHanded (number_of result) json.old json.new }
+    ensures handed { IsHanded (json_text (answer_value (D.value (places_asked with_places)) answer.now)) (number_of result) json.old json.new }
 {
     let Ok(bytes) = written(alloc, answer, with_places) else {
         *places = Places::none();
@@ -69,7 +69,7 @@ pub fn parse<D: Document>(
     json: &mut Json,
 ) -> u32
     ensures told { IsTold D.language (limits_of question.now.selections question.now.values question.now.types) question.now.text.now result places.new }
-    ensures handed { IsHanded result json.old json.new }
+    ensures handed { IsAnswered D.language (D.value (places_asked with_places)) (limits_of question.now.selections question.now.values question.now.types) question.now.text.now result json.old json.new }
 {
     let ReadableText { text, limits } = match question.readable() {
         Ok(readable) => readable,

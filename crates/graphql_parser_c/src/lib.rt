@@ -6,14 +6,18 @@
 //!
 //! Proved of each call, for every text and all limits: its status and its places are those of the parser's one answer
 //! for that text, as `graphql_parser` promises it, or the status says that a limit is too large or that the text isn't
-//! UTF-8, exactly where that is so. Where the status says something of the text, what a parse hands over is UTF-8; else
-//! what the caller had stays. That it is the JSON of the tree or of the error, in a block that `free` takes, is tested:
-//! here, in `conformance_json` and by `bindings/check.sh`.
+//! UTF-8, exactly where that is so. Where the status says something of the text, what a parse hands over is the JSON of
+//! that answer's tree or error, as `graphql_json` defines it; else what the caller had stays. That it lies in a block
+//! that `free` takes is tested, by `bindings/check.sh`.
 #![tactic(auto)]
 
 ghost use Rattle.graphql_parser.specs.requests.Requests.{requests};
 ghost use Rattle.graphql_parser.specs.schemas.Schemas.{schemas};
-ghost use Rattle.graphql_parser_c.specs.Handing.{IsHanded};
+ghost use Rattle.graphql_json.specs.nodes.Requests.{request_value};
+ghost use Rattle.graphql_json.specs.nodes.Schemas.{schema_value};
+ghost use Rattle.graphql_parser.specs.trees.RequestViews.{document_tree};
+ghost use Rattle.graphql_parser.specs.trees.SchemaViews.{schema_document_tree};
+ghost use Rattle.graphql_parser_c.specs.Handing.{IsAnswered, places_asked};
 ghost use Rattle.graphql_parser_c.specs.Telling.{IsTold, limits_of};
 
 mod documents;
@@ -96,7 +100,7 @@ pub extern "C" fn graphql_parser_parse_query(
     json: &mut Json,
 ) -> u32
     ensures told { IsTold requests (limits_of selections values types) text.now result places.new }
-    ensures handed { IsHanded result json.old json.new }
+    ensures handed { IsAnswered requests (λ document. request_value (places_asked with_places) (document_tree document)) (limits_of selections values types) text.now result json.old json.new }
 {
     let question = Question {
         text,
@@ -121,7 +125,7 @@ pub extern "C" fn graphql_parser_parse_schema(
     json: &mut Json,
 ) -> u32
     ensures told { IsTold schemas (limits_of selections values types) text.now result places.new }
-    ensures handed { IsHanded result json.old json.new }
+    ensures handed { IsAnswered schemas (λ document. schema_value (places_asked with_places) (schema_document_tree document)) (limits_of selections values types) text.now result json.old json.new }
 {
     let question = Question {
         text,

@@ -1,0 +1,8 @@
+-- What the answers share.
+pub mod Steps
+pub mod Types
+pub mod Selections
+pub mod Fragments
+pub mod Operations
+pub mod Errors
+pub mod Schemas

@@ -1,0 +1,5 @@
+use Rattle.graphql_json.proofs.Steps.{whole_node}
+use Rattle.graphql_json.proofs.values.write_null.Goals as goal
+
+pub returns : goal.returns
+returns c = whole_node _ _ _ c.in_ok-begin.ensures c.close.ensures

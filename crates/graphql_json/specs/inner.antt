@@ -1,0 +1,3 @@
+-- Inner: what is written so far.
+pub mod Written
+pub mod Roots

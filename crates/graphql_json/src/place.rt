@@ -1,0 +1,55 @@
+//! Where nodes stand, and whether that is written.
+ghost use Rattle.std.specs.Prelude.{◌≡◌, None};
+ghost use Rattle.graphql_json.specs.nodes.Nodes.{at, nowhere, stands_before as stands_before_at};
+
+use graphql_parser::Pos;
+
+/// Whether nodes are written with their places.
+#[derive(Clone, Copy, Debug, PartialEq, Eq)]
+pub enum Places {
+    /// No node has a place.
+    LeftOut,
+    /// Each node that has a place in the tree has the numbers `line` and `column`, both counted from 1. A node at 0:0,
+    /// which is no place of a text, has neither.
+    Written,
+}
+
+/// Where a node stands in the tree, and whether places are written.
+#[derive(Clone, Copy)]
+pub struct Place {
+    pub places: Places,
+    pub pos: Option<Pos>,
+}
+
+impl Place {
+    /// No place, for a node that the tree keeps none of.
+    pub fn none(places: Places) -> Place
+        ensures { result ≡ record { places = places; pos = None } }
+    {
+        Place { places, pos: None }
+    }
+
+    /// Another place in the same tree.
+    pub fn at(self, pos: Pos) -> Place
+        ensures { result ≡ at self pos }
+    {
+        Place {
+            places: self.places,
+            pos: Some(pos),
+        }
+    }
+
+    /// No place, in the same tree.
+    pub fn nowhere(self) -> Place
+        ensures { result ≡ nowhere self }
+    {
+        Place::none(self.places)
+    }
+}
+
+/// Whether a place is earlier in the text than another.
+pub fn stands_before(one: Pos, other: Pos) -> bool
+    ensures { result ≡ stands_before_at one other }
+{
+    one.line < other.line || one.line == other.line && one.column < other.column
+}
