@@ -3,4 +3,5 @@ mod Lines
 mod Depths
 mod ToldFronts
 mod TakenSamples
+mod ExpectedNames
 mod Trees

@@ -1,11 +1,10 @@
 //! What could have stood in place of the refused token.
 ghost use Rattle.std.specs.Prelude.{◌≡◌, [], ◌∷◌, ◌++◌, IfOk, OnOk, string_bytes};
-ghost use Rattle.graphql_report.specs.inner.Expected.{AreTaken, texts};
+ghost use Rattle.graphql_report.specs.inner.Expected.{AreExpected, AreTaken, samples_of, texts, value_names};
 
 use crate::fronts::{Language, is_whole};
 use crate::probes::{line_of, takes};
-use crate::refused::before;
-use crate::samples::{KEYWORDS, LITERALS, NAME, PUNCTUATORS, Sample};
+use crate::samples::{END, KEYWORDS, LITERALS, NAME, NAME_TEXT, PUNCTUATORS, Sample, VALUE};
 use graphql_parser::Limits;
 use std::alloc::{AllocError, Global};
 
@@ -17,30 +16,31 @@ fn taken(
     buffer: &mut String,
     samples: &[Sample],
 ) -> Result<Vec<&'static str>, AllocError>
-    ensures names { IfOk result (λ names. AreTaken language limits (string_bytes buffer.old) samples.now (texts names.items)) }
+    ensures names { IfOk result (λ names. AreTaken language limits (string_bytes buffer.old) (samples_of samples.now) (texts names.items)) }
     ensures kept { OnOk result (string_bytes buffer.new ≡ string_bytes buffer.old) }
 {
     let mut taken = Vec::new(alloc);
     for sample in samples {
-        if takes(alloc, language, limits, buffer, sample.text)? {
-            taken.push(sample.name)?;
+        let (text, name) = *sample;
+        if takes(alloc, language, limits, buffer, text)? {
+            taken.push(name)?;
         }
     }
     Ok(taken)
 }
 
-/// What is expected at this offset of a text: each sample such that some document within the limits begins with the text
-/// before the offset and the sample. Keywords are left out where a plain name is expected.
-pub fn expected_at(
+/// What is expected after a front: each sample such that some document within the limits begins with the front and the
+/// sample, and the end of the text where the front is a whole document. Keywords are left out where a plain name is expected.
+pub fn expected_after(
     alloc: Global,
     language: Language,
-    text: &str,
+    front: &str,
     limits: Limits,
-    offset: usize,
-) -> Result<Vec<&'static str>, AllocError> {
-    let front = before(text, offset);
+) -> Result<Vec<&'static str>, AllocError>
+    ensures { IfOk result (λ names. AreExpected language limits front.now (texts names.items)) }
+{
     let mut buffer = line_of(alloc, front)?;
-    let has_name = takes(alloc, language, limits, &mut buffer, NAME.text)?;
+    let has_name = takes(alloc, language, limits, &mut buffer, NAME_TEXT)?;
     let literals = taken(alloc, language, limits, &mut buffer, &LITERALS)?;
     let punctuators = taken(alloc, language, limits, &mut buffer, &PUNCTUATORS)?;
     let keywords = if has_name {
@@ -52,7 +52,7 @@ pub fn expected_at(
     names.extend_from_slice(punctuators.as_slice())?;
     names.extend_from_slice(keywords.as_slice())?;
     if is_whole(alloc, language, front, limits)? {
-        names.push("the end of the text")?;
+        names.push(END)?;
     }
     Ok(names)
 }
@@ -62,14 +62,16 @@ fn names_of_values(
     alloc: Global,
     has_name: bool,
     literals: &[&'static str],
-) -> Result<Vec<&'static str>, AllocError> {
+) -> Result<Vec<&'static str>, AllocError>
+    ensures { IfOk result (λ names. texts names.items ≡ value_names has_name (texts literals.now)) }
+{
     let mut names = Vec::new(alloc);
     if has_name && literals.len() == LITERALS.len() {
-        names.push("a value")?;
+        names.push(VALUE)?;
         return Ok(names);
     }
     if has_name {
-        names.push(NAME.name)?;
+        names.push(NAME)?;
     }
     names.extend_from_slice(literals)?;
     Ok(names)

@@ -11,8 +11,9 @@
 //! is kept at a time.
 //!
 //! Proved of it, unless memory runs out: `is_front` answers true exactly where the tokens of a text are a viable front, in
-//! both languages and at all limits; of each table of samples those are told, in its order, that can stand after a front;
-//! and every call is safe and ends. What a report says in words is tested, in `conformance_reports`.
+//! both languages and at all limits; what is expected is exactly those of the samples, in their order, that can stand
+//! after the text before the refused token, a keyword only where a name can't, and the end of the text where that text is a
+//! whole document; and every call is safe and ends. What a report says in words is tested, in `conformance_reports`.
 #![tactic(auto)]
 
 mod excerpt;

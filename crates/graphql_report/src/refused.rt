@@ -1,7 +1,7 @@
 //! Where a text is refused, and by which limit.
 use crate::fronts::{Language, is_front};
 use crate::probes::{line_of, takes};
-use crate::samples::NUMBER;
+use crate::samples::NUMBER_TEXT;
 use graphql_parser::Limits;
 use graphql_parser::lexer::{Token, Tokens};
 use std::alloc::{AllocError, Global};
@@ -84,7 +84,7 @@ pub fn reached_limit(
     token: &Token<'_>,
 ) -> Result<Depth, AllocError> {
     let mut line = line_of(alloc, before(text, token.start))?;
-    let (what, most) = if takes(alloc, language, limits, &mut line, NUMBER.text)? {
+    let (what, most) = if takes(alloc, language, limits, &mut line, NUMBER_TEXT)? {
         ("lists and objects", limits.values())
     } else if token.text == "[" {
         ("list types", limits.types())

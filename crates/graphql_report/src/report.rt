@@ -1,9 +1,10 @@
 //! The report of an error.
 use crate::excerpt::{offset_of, push_excerpt, shown};
-use crate::expected::expected_at;
+use crate::expected::expected_after;
 use crate::faults::fault;
 use crate::fronts::Language;
-use crate::refused::{after, reached_limit, refused_token};
+use crate::refused::{after, before, reached_limit, refused_token};
+use crate::samples::{END, NAME, VALUE};
 use crate::style::{Part, Style};
 use graphql_parser::lexer::{Token, TokenKind};
 use graphql_parser::{Error, Limits, Pos};
@@ -173,7 +174,7 @@ fn syntax_message(
     limits: Limits,
     token: &Token<'_>,
 ) -> Result<String, AllocError> {
-    let expected = expected_at(alloc, language, text, limits, token.start)?;
+    let expected = expected_after(alloc, language, before(text, token.start), limits)?;
     let mut message = String::from_str(alloc, "syntax ")?;
     style.push(&mut message, Part::Error, "error")?;
     message.push_str(": ")?;
@@ -192,7 +193,7 @@ fn syntax_message(
 fn push_found(out: &mut String, token: &Token<'_>) -> Result<(), AllocError> {
     let text = token.text;
     match token.kind {
-        TokenKind::End => out.push_str("the end of the text"),
+        TokenKind::End => out.push_str(END),
         TokenKind::Block => out.push_str("a block string"),
         TokenKind::String => {
             out.push_str("the string ")?;
@@ -244,11 +245,11 @@ fn push_expected(
 
 // What was found, where it is the one thing of what is expected that may not stand there.
 fn push_exception(out: &mut String, token: &Token<'_>, name: &str) -> Result<(), AllocError> {
-    if token.kind.is_name() && (name == "a name" || name == "a value") {
+    if token.kind.is_name() && (name == NAME || name == VALUE) {
         let word = token.text;
         return write!(out, " other than \"{word}\"");
     }
-    if token.text == "$" && name == "a value" {
+    if token.text == "$" && name == VALUE {
         return out.push_str(" without variables");
     }
     Ok(())

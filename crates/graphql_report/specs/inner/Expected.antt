@@ -1,6 +1,6 @@
--- Which samples can stand after a front.
+-- Which samples can stand after a front, and what of them a report tells.
 -- Source: this project's choice.
-use Rattle.std.specs.Prelude.{◌≡◌, ◌↔◌, ℕ, Bool, cond, IsTrue, List, [], ◌∷◌, ◌++◌, map}
+use Rattle.std.specs.Prelude.{◌≡◌, ◌↔◌, ℕ, Bool, true, false, cond, ◌&&◌, ◌==◌, IsTrue, List, [], ◌∷◌, ◌++◌, length, map}
 use Rattle.std.specs.Borrow.{Bor}
 use Rattle.graphql_tokens.specs.tokens.Cuts.{IsCutInto}
 use Rattle.graphql_tokens.specs.tokens.Edition.{Current}
@@ -11,7 +11,7 @@ use Rattle.graphql_requests.specs.grammar.Requests.{requests}
 use Rattle.graphql_schemas.specs.grammar.Schemas.{schemas}
 use Rattle.graphql_report.specs.declared.fronts.Language.{Language}
 use Rattle.graphql_report.specs.declared.fronts.Language.TheVariants.{Requests, Schemas}
-use Rattle.graphql_report.specs.declared.samples.Sample.{Sample}
+use Rattle.graphql_report.specs.declared.samples.TheConstants.{NAME_TEXT, NAME, LITERALS, PUNCTUATORS, KEYWORDS, VALUE, END}
 use Rattle.graphql_report.specs.fronts.Front.{IsFrontOf}
 
 -- the answer is true exactly where the tokens of the text are a viable front
@@ -35,14 +35,51 @@ TellsTreeOf language limits text answer = (tokens : List Token) → IsCutInto te
 abbrev pub with_sample : List ℕ → List ℕ → List ℕ
 with_sample front sample = front ++ sample ++ 10 ∷ []
 
+-- The samples of a table, each with the text of a token and what it is called.
+abbrev pub Samples : Type 0
+Samples = List (List ℕ × List ℕ)
+
+abbrev pub literals : Samples
+literals = map (λ s. (s.0.now, s.1.now)) LITERALS
+
+abbrev pub punctuators : Samples
+punctuators = map (λ s. (s.0.now, s.1.now)) PUNCTUATORS
+
+abbrev pub keywords : Samples
+keywords = map (λ s. (s.0.now, s.1.now)) KEYWORDS
+
+-- samples as the code has them
+abbrev pub samples_of : List (Bor (List ℕ) × Bor (List ℕ)) → Samples
+samples_of samples = map (λ s. (s.0.now, s.1.now)) samples
+
 abbrev pub texts : List (Bor (List ℕ)) → List (List ℕ)
 texts names = map (λ name. name.now) names
 
 -- the names of those samples with which the front is viable, in their order
-abbrev pub AreTaken : Language → Limits → List ℕ → List Sample → List (List ℕ) → Type 0
+abbrev pub AreTaken : Language → Limits → List ℕ → Samples → List (List ℕ) → Type 0
 AreTaken language limits front [] names = names ≡ []
 AreTaken language limits front (s ∷ samples) names =
     (answer : Bool) × (rest : List (List ℕ))
-    × TellsFrontOf language limits (with_sample front s.text.now) answer
-    × (names ≡ cond answer (s.name.now ∷ rest) rest)
+    × TellsFrontOf language limits (with_sample front s.0) answer
+    × (names ≡ cond answer (s.1 ∷ rest) rest)
     × AreTaken language limits front samples rest
+
+-- a name, and the literals that are taken; a value, where it is a name and all literals
+abbrev pub value_names : Bool → List (List ℕ) → List (List ℕ)
+value_names has_name names = cond (has_name && (length names == length literals)) (VALUE.now ∷ []) (cond has_name (NAME.now ∷ []) [] ++ names)
+
+-- What is expected after a front: of each table the samples that can stand on the line after it, but keywords only where
+-- a name can't; and the end of the text, where the front has a tree.
+pub record AreExpected (language : Language) (limits : Limits) (front : List ℕ) (names : List (List ℕ)) : Type 0 where
+  pub has_name : Bool
+  pub tells_name : TellsFrontOf language limits (with_sample (front ++ 10 ∷ []) NAME_TEXT.now) has_name
+  pub of_literals : List (List ℕ)
+  pub are_literals : AreTaken language limits (front ++ 10 ∷ []) literals of_literals
+  pub of_punctuators : List (List ℕ)
+  pub are_punctuators : AreTaken language limits (front ++ 10 ∷ []) punctuators of_punctuators
+  pub of_keywords : List (List ℕ)
+  pub none_beside_a_name : has_name ≡ true → of_keywords ≡ []
+  pub are_keywords : has_name ≡ false → AreTaken language limits (front ++ 10 ∷ []) keywords of_keywords
+  pub is_whole : Bool
+  pub tells_whole : TellsTreeOf language limits front is_whole
+  pub are_names : names ≡ value_names has_name of_literals ++ of_punctuators ++ of_keywords ++ cond is_whole (END.now ∷ []) []
