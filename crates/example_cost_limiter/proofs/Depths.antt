@@ -89,7 +89,7 @@ steps {V} g h p (f ∷ fs) = cons_step (g f.1) (h f.1) (map (λ (f : Name × V).
 
 -- ---- as many levels as there are fragments are enough
 
-abbrev table : Fragments → ℕ → List (Option ℕ)
+abbrev pub table : Fragments → ℕ → List (Option ℕ)
 table fs k = map (λ (f : Name × Fragment). fragment_cost fs k f.1) fs
 
 -- where two depths give the same costs to the fragments, names have the same costs
@@ -127,7 +127,7 @@ stable_from : (fs : Fragments) (n : ℕ) → n ≡ length fs → (table fs n ≡
 stable_from fs n e (inl same) = same
 stable_from fs n e (inr h) = none_missing n (table fs n) (table fs (suc n)) (omega arith) ((steps (fragment_cost fs n) (fragment_cost fs (suc n)) (grows_deeper fs n) fs).moves)
 
-stable : (fs : Fragments) → table fs (length fs) ≡ table fs (suc (length fs))
+pub stable : (fs : Fragments) → table fs (length fs) ≡ table fs (suc (length fs))
 stable fs = stable_from fs (length fs) refl (progress fs (length fs))
 
 -- ---- so any depth gives the cost at that one

@@ -1,12 +1,12 @@
 -- The names of the fragments of a request, and those of its tree.
 use Rattle.std.proofs.Common.{◌≡◌, ℕ, List, [], ◌∷◌, map, length, Option, Some, None, nat_eq, refl, ap, sym, ◌∙◌}
-use Rattle.std.specs.Option.{option_and_then, option_copied, option_flatten}
+use Rattle.std.specs.Option.{option_and_then, option_copied, option_flatten, option_map}
 use Rattle.std.specs.List.{slice_get, position}
 use Rattle.std.specs.Cmp.Lexicographic.{pointwise}
 use Rattle.std.specs.Borrow.{Bor}
 use Rattle.std.specs.Slice.{IsItemAt}
 use Rattle.std.proofs.lemmas.List.{length-map}
-use Rattle.std.proofs.lemmas.Option.{slice_get_past, slice_get-get_or}
+use Rattle.std.proofs.lemmas.Option.{slice_get_past, slice_get-get_or, slice_get-map}
 use Rattle.graphql_parser.specs.types.FragmentDefinition.{FragmentDefinition}
 use Rattle.example_cost_limiter.specs.Prices.{price_in}
 use Rattle.graphql_parser.specs.types.Positioned.{Positioned}
@@ -30,3 +30,7 @@ entries_many es = length-map es (entry_tree fragment_tree)
 pub item_copied : {X : Type 0} (xs : List X) (i : ℕ) (r : Option (Bor X)) → IsItemAt xs i r → option_copied r ≡ slice_get xs i
 item_copied xs i None h = sym (slice_get_past xs i h.3)
 item_copied xs i (Some x) h = ap Some h.1 ∙ sym (slice_get-get_or xs i x.now h.3.0)
+
+-- what stands at a place of the entries stands there in the tree
+pub entry_at : (es : List (Name × Positioned FragmentDefinition)) (i : ℕ) (e : Name × Positioned FragmentDefinition) → slice_get es i ≡ Some e → slice_get (map (entry_tree fragment_tree) es) i ≡ Some (entry_tree fragment_tree e)
+entry_at es i e at = slice_get-map (entry_tree fragment_tree) es i ∙ ap (option_map (entry_tree fragment_tree)) at

@@ -1,5 +1,5 @@
 -- What the prices are after some rounds.
-use Rattle.std.proofs.Common.{arith, ◌≡◌, ◌≤◌, ◌-◌, ℕ, zero, suc, ◌+◌, Bool, true, false, cond, List, [], ◌∷◌, map, length, Option, Some, None, nat_eq, refl, ap, ap₂, sym, ◌∙◌}
+use Rattle.std.proofs.Common.{arith, ◌≡◌, ℕ, zero, suc, ◌+◌, Bool, true, false, cond, List, [], ◌∷◌, map, length, Option, Some, None, nat_eq, refl, ap, ap₂, ◌∙◌}
 use Rattle.std.proofs.lemmas.Bool.Decides.{nat_tests}
 use Rattle.std.specs.Prelude.{nat_lt, not}
 use Rattle.std.specs.Option.{option_and_then, option_flatten}
@@ -64,7 +64,7 @@ none_capped limit None = refl
 none_capped limit (Some v) = refl
 
 -- a round by prices that are costs up to the limit gives such prices, one level deeper
-round_is : (limit : ℕ) (fs : Fragments) (k : ℕ) (prices : List (Option ℕ)) → ((name : Name) → price_in fs prices name ≡ capped limit (named_cost fs k name)) →
+pub round_is : (limit : ℕ) (fs : Fragments) (k : ℕ) (prices : List (Option ℕ)) → ((name : Name) → price_in fs prices name ≡ capped limit (named_cost fs k name)) →
     next_prices limit fs prices ≡ map (λ (f : Name × Fragment). capped limit (fragment_cost fs (suc k) f.1)) fs
 round_is limit fs k prices same =
     ap (λ (h : Fragment → Option ℕ). map (λ (f : Name × Fragment). h f.1) fs)
@@ -75,27 +75,3 @@ pub priced : (limit : ℕ) → (fs : Fragments) → (k : ℕ) → (name : Name) 
 priced limit fs zero name =
     none_known (position (pointwise nat_eq name) (map (λ (f : Name × Fragment). f.0) fs)) (named name fs) ∙ none_capped limit (named name fs)
 priced limit fs (suc k) name = looked_up limit fs (suc k) (prices_after limit fs (suc k)) (round_is limit fs k (prices_after limit fs k) (priced limit fs k)) name
-
--- ---- rounds that change nothing
-
-settled_after : (limit : ℕ) (fs : Fragments) (k : ℕ) → next_prices limit fs (prices_after limit fs k) ≡ prices_after limit fs k →
-    (more n : ℕ) → n ≡ more + k → prices_after limit fs n ≡ prices_after limit fs k
-settled_after limit fs k e zero n p =
-    let same : n ≡ k = omega arith in
-    ap (prices_after limit fs) same
-settled_after limit fs k e (suc more) zero p =
-    let same : 0 ≡ k = omega arith in
-    ap (prices_after limit fs) same
-settled_after limit fs k e (suc more) (suc n) p =
-    ap (next_prices limit fs) (settled_after limit fs k e more n (omega arith)) ∙ e
-
--- where a round changes nothing, no later one does
-pub settled : (limit : ℕ) (fs : Fragments) (k n : ℕ) → k ≤ n → next_prices limit fs (prices_after limit fs k) ≡ prices_after limit fs k →
-    prices_after limit fs k ≡ prices_after limit fs n
-settled limit fs k n h e = sym (settled_after limit fs k e (n - k) n (omega arith))
-
-pub settled_by : (limit : ℕ) (fs : Fragments) (k n : ℕ) (prices next : List (Option ℕ)) → prices ≡ prices_after limit fs k → next ≡ next_prices limit fs prices → next ≡ prices →
-    k ≤ n → prices ≡ prices_after limit fs n
-settled_by limit fs k n prices next p q e h =
-    let same : next_prices limit fs (prices_after limit fs k) ≡ prices_after limit fs k = ap (next_prices limit fs) (sym p) ∙ (sym q ∙ (e ∙ p)) in
-    p ∙ settled limit fs k n h same

@@ -1,5 +1,5 @@
 -- How the costs of fragments come to be known, in rounds, as prices that are at most one more than the limit.
-use Rattle.std.specs.Prelude.{ℕ, zero, suc, ◌+◌, min, List, [], map, Option, nat_eq}
+use Rattle.std.specs.Prelude.{◌≡◌, ℕ, zero, suc, ◌+◌, min, List, [], map, Option, Some, nat_eq}
 use Rattle.std.specs.Option.{option_map, option_and_then, option_flatten}
 use Rattle.std.specs.List.{slice_get, position}
 use Rattle.std.specs.Cmp.Lexicographic.{pointwise}
@@ -22,3 +22,7 @@ next_prices limit fragments prices = map (λ f. capped limit (set_cost (price_in
 abbrev pub prices_after : ℕ → Fragments → ℕ → List (Option ℕ)
 prices_after limit fragments zero = []
 prices_after limit fragments (suc rounds) = next_prices limit fragments (prices_after limit fragments rounds)
+
+-- each price that is known among these is known among the others, and is the same there
+abbrev pub AreKnownIn : List (Option ℕ) → List (Option ℕ) → Type 0
+AreKnownIn prices others = (place price : ℕ) → slice_get prices place ≡ Some (Some price) → slice_get others place ≡ Some (Some price)

@@ -1,8 +1,8 @@
 //! What a request costs.
 //!
-//! The fragments are priced in rounds. A price is None while it isn't known; each round prices each fragment by the prices
-//! of the round before, so that after so many rounds those are known whose spreads nest less deep than that. Where no
-//! fragment spreads itself, a round for each fragment is enough, and the rounds end as soon as one changes nothing.
+//! The fragments are priced one after another, each after those that it spreads, so that their prices are known: the price
+//! of a fragment is None while it isn't. Then rounds price each fragment by the prices of the round before, until one changes
+//! nothing. That is the first, and it shows that what has no price then has no cost.
 //!
 //! A price greater than the limit is kept as one more than the limit, so that no sum overflows.
 
@@ -10,8 +10,9 @@ ghost use Rattle.std.specs.Prelude.{◌≡◌, ◌+◌, ◌≤◌, ◌<◌, ℕ,
 ghost use Rattle.graphql_parser.specs.trees.RequestViews.{document_tree, selection_set_tree, selection_tree};
 ghost use Rattle.example_cost_limiter.specs.Costs.{Costs, selection_cost, set_cost, operations_cost};
 ghost use Rattle.example_cost_limiter.specs.declared.costs.Refusal.TheVariants.{TooDear, Endless, OutOfMemory};
-ghost use Rattle.example_cost_limiter.specs.Prices.{capped, price_in, next_prices, prices_after};
+ghost use Rattle.example_cost_limiter.specs.Prices.{AreKnownIn, capped, price_in, next_prices, prices_after};
 
+use crate::order::order_of;
 use graphql_parser::types::{ExecutableDocument, Selection, SelectionSet};
 use graphql_parser::value::Name;
 use std::alloc::{AllocError, Global};
@@ -55,7 +56,6 @@ pub fn cost_within(alloc: Global, document: &ExecutableDocument, limit: u32) -> 
 }
 
 /// The price of each fragment, in their order.
-#[tactic(auto, using(crate::proofs::Settled::early, crate::proofs::Settled::late))]
 pub(crate) fn prices_of_fragments(
     alloc: Global,
     document: &ExecutableDocument,
@@ -63,13 +63,32 @@ pub(crate) fn prices_of_fragments(
 ) -> Result<Vec<Option<u64>>, AllocError>
     ensures { IfOk result (λ prices. prices.items ≡ prices_after limit (document_tree document.now).fragments (length (document_tree document.now).fragments)) }
 {
-    let mut prices = Vec::new(alloc);
+    let mut prices = first_prices(alloc, document, limit)?;
     for _ in 0..document.fragments.len() {
         let next = round(alloc, document, prices.as_slice(), limit)?;
         if next == prices {
             return Ok(prices);
         }
         prices = next;
+    }
+    Ok(prices)
+}
+
+// The prices that are known when each fragment was priced after those that it spreads.
+fn first_prices(
+    alloc: Global,
+    document: &ExecutableDocument,
+    limit: u32,
+) -> Result<Vec<Option<u64>>, AllocError>
+    ensures many { IfOk result (λ prices. length prices.items ≡ length (document_tree document.now).fragments) }
+    ensures known { IfOk result (λ prices. AreKnownIn prices.items (prices_after limit (document_tree document.now).fragments (length (document_tree document.now).fragments))) }
+{
+    let mut prices = vec![in alloc; None; document.fragments.len()]?;
+    for place in order_of(alloc, document)? {
+        if let Some((_, fragment)) = document.fragments.get_index(place) {
+            let set = &fragment.node.selection_set.node;
+            prices[place] = price_of_set(set, document, prices.as_slice(), limit);
+        }
     }
     Ok(prices)
 }

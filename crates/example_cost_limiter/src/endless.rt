@@ -1,12 +1,13 @@
 //! Why the spreads of a request never end: one names no fragment, or a fragment spreads itself.
 //!
 //! What has no price spreads something that has none. So a walk from such a spread in an operation to the next one in its
-//! fragment, and so on, comes to a fragment that isn't there, or goes round.
+//! fragment, and so on, comes to a fragment that isn't there, or to one where it was before.
 
 use crate::costs::{price_named, prices_of_fragments};
 use graphql_parser::types::{ExecutableDocument, Selection, SelectionSet};
 use graphql_parser::value::Name;
 use std::alloc::{AllocError, Global};
+use std::mem;
 
 /// What is wrong with the spread of a fragment.
 #[derive(Debug, Drop)]
@@ -23,57 +24,32 @@ pub fn first_fault<'a>(
     document: &'a ExecutableDocument,
 ) -> Result<Option<Fault<'a>>, AllocError> {
     let prices = prices_of_fragments(alloc, document, 0)?;
-    let Some(first) = first_of_operations(document, prices.as_slice()) else {
+    let Some(mut name) = first_of_operations(document, prices.as_slice()) else {
         return Ok(None);
     };
-    let last = far_from(document, prices.as_slice(), first);
-    if !document.fragments.contains_key(last) {
-        return Ok(Some(Fault::Missing(last)));
-    }
-    if comes_back(document, prices.as_slice(), last) {
-        return Ok(Some(Fault::SpreadsItself(last)));
+    let mut seen = vec![in alloc; false; document.fragments.len()]?;
+    for _ in 0..=document.fragments.len() {
+        let Some(place) = document.fragments.get_index_of(name) else {
+            return Ok(Some(Fault::Missing(name)));
+        };
+        if mem::replace(&mut seen[place], true) {
+            return Ok(Some(Fault::SpreadsItself(name)));
+        }
+        let Some(next) = next_of(document, prices.as_slice(), place) else {
+            return Ok(None);
+        };
+        name = next;
     }
     Ok(None)
 }
 
-// As many spreads on as there are fragments, or as far as they lead: then the walk goes round.
-fn far_from<'a>(
-    document: &'a ExecutableDocument,
-    prices: &[Option<u64>],
-    first: &'a Name,
-) -> &'a Name {
-    let mut name = first;
-    for _ in 0..document.fragments.len() {
-        let Some(next) = next_of(document, prices, name) else {
-            break;
-        };
-        name = next;
-    }
-    name
-}
-
-// Whether the walk from this fragment comes back to it, after at most as many spreads as there are fragments.
-fn comes_back(document: &ExecutableDocument, prices: &[Option<u64>], start: &Name) -> bool {
-    let mut name = start;
-    for _ in 0..document.fragments.len() {
-        let Some(next) = next_of(document, prices, name) else {
-            return false;
-        };
-        if next == start {
-            return true;
-        }
-        name = next;
-    }
-    false
-}
-
-// The first name that the fragment of this name spreads and that has no price.
+// The first name that the fragment at this place spreads and that has no price.
 fn next_of<'a>(
     document: &'a ExecutableDocument,
     prices: &[Option<u64>],
-    name: &Name,
+    place: usize,
 ) -> Option<&'a Name> {
-    let fragment = document.fragments.get(name)?;
+    let (_, fragment) = document.fragments.get_index(place)?;
     first_in(&fragment.node.selection_set.node, document, prices)
 }
 

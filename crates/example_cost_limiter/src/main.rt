@@ -3,8 +3,9 @@
 //! refused one, with status 2 where its arguments are wrong, and else with status 0.
 //!
 //! A field costs one and what is selected of it, a spread what its fragment selects, each time that it is spread. So a
-//! request of forty lines can cost as much as a million million fields. The limiter prices each fragment and never writes
-//! one out: its time grows with the length of the request and with how deep its spreads nest, and not with the cost.
+//! request of forty lines can cost as much as a million million fields. The limiter prices each fragment after those that it
+//! spreads, and never writes one out: its time grows with the length of the request, and neither with the cost nor with how
+//! deep its spreads nest. Forty thousand fragments that spread each other in a row take a tenth of a second.
 //!
 //! Proved of it: what a request costs, that it is let through exactly where that is at most the limit, unless memory runs
 //! out, and that what is refused as endless has no cost at all, as the contract of `cost_within` says. The lines are tested,
@@ -13,6 +14,7 @@
 
 mod costs;
 mod endless;
+mod order;
 
 use costs::{Refusal, cost_within};
 use endless::{Fault, first_fault};
