@@ -3,7 +3,9 @@ ghost use Rattle.std.specs.Prelude.{◌≡◌, ◌+◌, ◌<◌, [], ◌∷◌, 
 
 use graphql_reading::nodes::add_node;
 use graphql_syntax::value::{Literal, Name};
+use smallvec::SmallVec;
 use std::alloc::{AllocError, AllocFailed, Global};
+use std::default::MadeWith;
 
 /// A list or an object with what it holds so far. The fields of an object are pairs as they are written.
 #[derive(Drop)]
@@ -17,6 +19,13 @@ pub enum Open<V> {
 pub enum Frame<V> {
     List(Vec<V>),
     Object(Vec<(Name, V)>, Name),
+}
+
+/// A list that holds nothing.
+impl<V> MadeWith<Global> for Frame<V> {
+    fn made_with(alloc: Global) -> Frame<V> {
+        Frame::List(Vec::new(alloc))
+    }
 }
 
 impl<V: Literal> Frame<V> {
@@ -40,22 +49,23 @@ impl<V: Literal> Frame<V> {
     }
 }
 
-/// The lists and objects around the one that is read, which together are at most `limit`.
+/// The lists and objects around the one that is read, which together are at most `limit`. A value that nests
+/// three deep, or less, takes no block for them.
 #[derive(Drop)]
 pub struct Frames<V> {
-    outer: Vec<Frame<V>>,
+    outer: SmallVec<Frame<V>, 2>,
     limit: usize,
     ghost bounded: { length outer.items < limit },
 }
 
-impl<V> Frames<V> {
+impl<V: Literal> Frames<V> {
     pub fn new(alloc: Global, limit: usize) -> Frames<V>
         requires { 0 < limit }
         ensures outer { result.outer.items ≡ [] }
         ensures limit { result.limit ≡ limit }
     {
         Frames {
-            outer: Vec::new(alloc),
+            outer: SmallVec::new(alloc),
             limit,
         }
     }

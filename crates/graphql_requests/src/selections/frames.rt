@@ -8,11 +8,28 @@ ghost use Rattle.graphql_requests.specs.reading.OpenSets.{part};
 
 use graphql_request_trees::{Selection, SelectionSet};
 use graphql_syntax::pos::{Pos, Positioned};
+use smallvec::SmallVec;
 use std::alloc::{AllocError, Global};
 use std::marker::Model;
+use std::mem;
+
+/// Cuts the items from `first` on off a list. They get a block that is as large as they need: where they are the
+/// whole list they keep its block, and give back the rest of it.
+fn cut_off<T>(items: &mut Vec<T>, first: usize) -> Result<Vec<T>, AllocError>
+    requires { first ≤ vec_len items.old }
+    ensures own { IfOk result (λ own. own.items ≡ drop first items.old.items) }
+    ensures rest { IfOk result (λ _. items.new.items ≡ take first items.old.items) }
+{
+    if first > 0 {
+        return items.split_off(first);
+    }
+    let mut all = mem::try_take(items)?;
+    all.shrink_to_fit();
+    Ok(all)
+}
 
 /// A set, as far as it is read. One list has the selections of all open sets.
-#[derive(Drop)]
+#[derive(Default, Drop)]
 pub(super) struct OpenSet {
     /// Where its `{` stands.
     pub(super) place: Pos,
@@ -21,7 +38,7 @@ pub(super) struct OpenSet {
 }
 
 impl OpenSet {
-    /// Cuts the set off the list. It gets a block that is as large as it needs.
+    /// Cuts the set off the list.
     pub(super) fn close(
         &self,
         items: &mut Vec<Positioned<Selection>>,
@@ -30,7 +47,7 @@ impl OpenSet {
         ensures set { IfOk result (λ set. placed selection_set_tree set ≡ closed (part self.now (selection_trees items.old.items))) }
         ensures rest { IfOk result (λ _. selection_trees items.new.items ≡ take self.now.first (selection_trees items.old.items)) }
     {
-        let own = items.split_off(self.first)?;
+        let own = cut_off(items, self.first)?;
         Ok(Positioned::new(SelectionSet { items: own }, self.place))
     }
 }
@@ -55,10 +72,10 @@ pub(super) fn fill_last(items: &mut Vec<Positioned<Selection>>, set: Positioned<
 }
 
 /// The open sets around the one that is read, the outermost first. The last selection of each waits
-/// for its set. There are never more of them than sets may nest.
+/// for its set. There are never more of them than sets may nest. Up to eight take no block.
 #[derive(Drop)]
 pub(super) struct Frames {
-    outer: Vec<OpenSet>,
+    outer: SmallVec<OpenSet, 8>,
     limit: usize,
 }
 
@@ -84,7 +101,7 @@ impl Frames {
         ensures left { result.left ≡ limit }
     {
         Frames {
-            outer: Vec::new(alloc),
+            outer: SmallVec::new(alloc),
             limit,
         }
     }
@@ -102,8 +119,7 @@ impl Frames {
         ensures outer { IfOk result (λ _. self.new.outer ≡ outer ∷ self.old.outer) }
         ensures left { IfOk result (λ _. suc self.new.left ≡ self.old.left) }
     {
-        self.outer.reserve(1)?;
-        self.outer.push_reserved(outer);
+        self.outer.push(outer)?;
         Ok(())
     }
 

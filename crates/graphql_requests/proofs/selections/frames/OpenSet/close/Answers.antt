@@ -11,7 +11,7 @@ pub returns-clause-set : goal.returns-clause-set
 returns-clause-set c =
     ap (placed selection_set_tree) c.new.ensures
     ∙ ap (λ (t : request.SelectionSet). record { pos = c.args.self.now.place; node = t }) (set_tree_roll (record { items = c.in_ok-own.own })
-    ∙ ap (λ (xs : List (Positioned request.Selection)). request.set_of xs) (ap selection_trees c.in_ok-own.ensures.tail ∙ sym (drop-map (placed selection_tree) c.args.self.now.first c.args.items.now.items)))
+    ∙ ap (λ (xs : List (Positioned request.Selection)). request.set_of xs) (ap selection_trees c.in_ok-own.ensures.own ∙ sym (drop-map (placed selection_tree) c.args.self.now.first c.args.items.now.items)))
 
 pub returns-clause-rest : goal.returns-clause-rest
-returns-clause-rest c = ap selection_trees c.in_ok-own.ensures.items ∙ sym (take-map (placed selection_tree) c.args.self.now.first c.args.items.now.items)
+returns-clause-rest c = ap selection_trees c.in_ok-own.ensures.rest ∙ sym (take-map (placed selection_tree) c.args.self.now.first c.args.items.now.items)
