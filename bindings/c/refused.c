@@ -1,38 +1,56 @@
 /* Has each request for memory of each call refused, one after the other, until the call meets no refusal. A call must
- * tell then that memory was refused, hand nothing over, and have given back all that it took. Where the request was to
- * resize a block it may answer instead as if nothing had been refused: what is to be given back of a block can be kept.
+ * tell then that memory was refused, hand nothing over, and have given back all that it took. But a request that makes a
+ * block smaller asks for no memory: where it is refused, the call must answer as if nothing had been.
  *
  * Linked with --wrap for `malloc`, `realloc` and `free`, so that the functions below stand in their place, in the library
  * and in this program, and in nothing else. */
 #include "texts.h"
+
+#include <stddef.h>
 
 void *__real_malloc(size_t size);
 void *__real_realloc(void *block, size_t size);
 void __real_free(void *block);
 
 static long requests_made, refused_request, live_blocks;
-static bool was_to_resize; /* whether the refused request was to resize a block */
+static bool was_to_shrink; /* whether the refused request was to make a block smaller */
+
+/* What stands before each block: its size. */
+typedef union {
+    size_t size;
+    max_align_t aligned;
+} head;
+
+static head *head_of(void *block) {
+    return block ? (head *)block - 1 : NULL;
+}
+
+static void *block_after(head *head, size_t size) {
+    if (!head) return NULL;
+    head->size = size;
+    return head + 1;
+}
 
 void *__wrap_malloc(size_t size) {
     if (++requests_made == refused_request) return NULL;
-    void *block = __real_malloc(size);
+    void *block = block_after(__real_malloc(sizeof(head) + size), size);
     if (block) live_blocks++;
     return block;
 }
 
 void *__wrap_realloc(void *block, size_t size) {
     if (++requests_made == refused_request) {
-        was_to_resize = block != NULL;
+        was_to_shrink = block && size < head_of(block)->size;
         return NULL;
     }
-    void *moved = __real_realloc(block, size);
+    void *moved = block_after(__real_realloc(head_of(block), sizeof(head) + size), size);
     if (moved && !block) live_blocks++;
     return moved;
 }
 
 void __wrap_free(void *block) {
     if (block) live_blocks--;
-    __real_free(block);
+    __real_free(head_of(block));
 }
 
 static const graphql_parser_json no_json = GRAPHQL_PARSER_NO_JSON;
@@ -43,7 +61,7 @@ typedef struct {
     graphql_parser_places places;
     graphql_parser_json json;
     bool is_refused;
-    bool was_to_resize;
+    bool lacks_memory; /* whether what was refused is memory */
     long kept_blocks;
 } outcome;
 
@@ -53,13 +71,13 @@ static outcome called(const row *row, const uint8_t *text, size_t length, bool i
     outcome outcome = {.places = {{700, 700}, {700, 700}}, .json = no_json};
     requests_made = 0;
     refused_request = refused;
-    was_to_resize = false;
+    was_to_shrink = false;
     outcome.status = is_parse
         ? row->language->parse(text, length, limit, limit, limit, true, &outcome.places, &outcome.json)
         : row->language->check(text, length, limit, limit, limit, &outcome.places);
     refused_request = 0;
     outcome.is_refused = refused && requests_made >= refused;
-    outcome.was_to_resize = was_to_resize;
+    outcome.lacks_memory = outcome.is_refused && !was_to_shrink;
     outcome.kept_blocks = live_blocks - before;
     return outcome;
 }
@@ -77,14 +95,8 @@ static bool tells_refusal(const outcome *outcome) {
         outcome->json.start == no_json.start && outcome->json.length == 0 && outcome->kept_blocks == 0;
 }
 
-/* Whether the call answers right, of the row whose text it was given. */
-static bool is_right(const row *row, const outcome *outcome, bool is_parse) {
-    if (outcome->is_refused && tells_refusal(outcome)) return true;
-    return (!outcome->is_refused || outcome->was_to_resize) && is_whole(row, outcome, is_parse);
-}
-
 int main(void) {
-    long calls = 0, refusals = 0, told = 0, wrong = 0;
+    long calls = 0, refusals = 0, shrinks = 0, wrong = 0;
     for (size_t i = 0; i < ROW_COUNT; i++) {
         size_t length;
         uint8_t *text = text_of(&rows[i], &length);
@@ -93,19 +105,20 @@ int main(void) {
             for (long number = 1; goes_on; number++) {
                 outcome outcome = called(&rows[i], text, length, is_parse, number);
                 goes_on = outcome.is_refused;
-                if (!is_right(&rows[i], &outcome, is_parse) && wrong++ < 5)
+                bool is_right = outcome.lacks_memory ? tells_refusal(&outcome) : is_whole(&rows[i], &outcome, is_parse);
+                if (!is_right && wrong++ < 5)
                     printf("wrong at %.60s, request %ld refused: status %u, %ld blocks kept\n", rows[i].text, number,
                            (unsigned)outcome.status, outcome.kept_blocks);
                 if (outcome.json.start != no_json.start) free((void *)outcome.json.start);
                 calls++;
                 refusals += goes_on;
-                told += goes_on && tells_refusal(&outcome);
+                shrinks += goes_on && !outcome.lacks_memory;
             }
         }
         free(text);
     }
     if (live_blocks) wrong++;
-    printf("%ld calls, with %ld requests for memory refused, of which %ld were told: %ld wrong answers, %ld blocks leaked\n",
-           calls, refusals, told, wrong, live_blocks);
+    printf("%ld calls, with %ld requests refused, %ld of them to make a block smaller: ", calls, refusals, shrinks);
+    printf("%ld wrong answers, %ld blocks leaked\n", wrong, live_blocks);
     return wrong != 0;
 }
