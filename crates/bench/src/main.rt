@@ -1,9 +1,7 @@
 //! Measures the library as it is built. `bench tokens` cuts the text on standard input into its tokens,
 //! again and again, and prints a line for each round: `lex NANOSECONDS COUNT`, the count being that of
 //! the tokens. `bench query` reads it as a request, and `bench schema` as a schema file; they drop the tree, and
-//! print `parse NANOSECONDS ANSWER` for each round, the answer being `accepted` or `refused`. `bench copy-query` and
-//! `bench copy-schema` read it once, and then copy its tree and drop the copy: that is what the tree alone costs. They
-//! print `copy NANOSECONDS ANSWER` for each round, and nothing where the text is refused.
+//! print `parse NANOSECONDS ANSWER` for each round, the answer being `accepted` or `refused`.
 #![tactic(auto)]
 
 use graphql_parser::lexer::{Token, Tokens};
@@ -16,7 +14,7 @@ use std::{env, io};
 // rounds find the machine cold.
 const BYTES: usize = 10_000_000;
 
-const USAGE: &str = "usage: bench tokens|query|schema|copy-query|copy-schema < TEXT";
+const USAGE: &str = "usage: bench tokens|query|schema < TEXT";
 
 fn main(rt: HostRuntime) -> io::Result<()> {
     let mut words = env::args(&rt)?;
@@ -26,8 +24,6 @@ fn main(rt: HostRuntime) -> io::Result<()> {
         Some("tokens") => time_tokens(&rt),
         Some("query") => time_parser(&rt, Parser::Query),
         Some("schema") => time_parser(&rt, Parser::Schema),
-        Some("copy-query") => time_copies(&rt, Parser::Query),
-        Some("copy-schema") => time_copies(&rt, Parser::Schema),
         _ => println!(rt; "{USAGE}"),
     }
 }
@@ -76,34 +72,6 @@ fn time_parser(rt: &HostRuntime, parser: Parser) -> io::Result<()> {
         let time = start.elapsed(rt)?.as_nanos();
         let answer = if is_accepted { "accepted" } else { "refused" };
         println!(rt; "parse {time} {answer}")?;
-    }
-    Ok(())
-}
-
-// Reads the text once, and times copies of its tree.
-fn time_copies(rt: &HostRuntime, parser: Parser) -> io::Result<()> {
-    let text = io::read_to_string(rt.alloc(), rt.stdin())?;
-    let count = rounds(text.as_str());
-    match parser {
-        Parser::Query => time_clones(rt, count, parse_query(rt.alloc(), text.as_str()).ok()),
-        Parser::Schema => time_clones(rt, count, parse_schema(rt.alloc(), text.as_str()).ok()),
-    }
-}
-
-fn time_clones<D: Clone + Drop>(
-    rt: &HostRuntime,
-    count: usize,
-    document: Option<D>,
-) -> io::Result<()> {
-    let Some(document) = document else {
-        return Ok(());
-    };
-    for _ in 0..count {
-        let start = Instant::now(rt)?;
-        let is_copied = document.clone().is_ok();
-        let time = start.elapsed(rt)?.as_nanos();
-        let answer = if is_copied { "copied" } else { "refused" };
-        println!(rt; "copy {time} {answer}")?;
     }
     Ok(())
 }
