@@ -1,0 +1,71 @@
+# How the scripts `gqlparse` and `gql` at the top run their programs: read by them, with `.`.
+#
+# Where the program isn't built, or a source of its crates is newer, the libraries below it are proved and built first, and
+# then the program. What is said meanwhile goes to standard error, a line for each library.
+
+root=$(dirname -- "$(readlink -f -- "$0")")
+
+# The crates of this program, lowest first, a line for each level: the crates of one line don't depend on each other.
+levels_of() {
+    awk -v crate="$1" -f "$root/tools/crates.awk" "$root/crates.txt"
+}
+
+is_built() {
+    program=$root/crates/$1/out/$1
+    [ -x "$program" ] || return 1
+    for crate in $(levels_of "$1"); do
+        set -- "$@" "$root/crates/$crate/src"
+    done
+    shift
+    [ -z "$(find "$root/crates.txt" "$@" -newer "$program" | head -n 1)" ]
+}
+
+# Proves and builds the libraries of one level side by side, and shares the processors among them.
+build_level() {
+    jobs=$(($(nproc) / $#))
+    running=
+    for crate; do
+        mkdir -p "$root/crates/$crate/out"
+        (cd "$root/crates/$crate" && exec rt lib --jobs "$((jobs > 1 ? jobs : 1))" >out/build.log 2>&1) &
+        running="$running $!:$crate"
+    done
+    for one in $running; do
+        if ! wait "${one%%:*}"; then
+            cat "$root/crates/${one#*:}/out/build.log" >&2
+            return 1
+        fi
+    done
+}
+
+# Proves and builds the libraries below this program.
+build_libraries() {
+    libraries=$(levels_of "$1" | sed '$d')
+    left=$(echo "$libraries" | wc -w)
+    echo "$1: proving its $left libraries first, which takes some minutes" >&2
+    echo "$libraries" | while read -r level; do
+        echo "$1: proving $level ($left left)" >&2
+        # (split into words)
+        # shellcheck disable=SC2086
+        build_level $level || exit 1
+        left=$((left - $(echo "$level" | wc -w)))
+    done
+}
+
+# Runs a program: its name, a word with which it reads a small request, and then what it is called with.
+run_program() {
+    name=$1
+    sample=$2
+    shift 2
+    if ! is_built "$name"; then
+        echo "$name: for an answer in half a minute, without proofs: cd crates/$name && rt try -- $sample" >&2
+        # `rt run` leaves the program in out/. What it prints of this small request is not wanted.
+        if ! { build_libraries "$name" && echo "$name: proving the program" >&2 &&
+            (cd "$root/crates/$name" && printf '{a}' | rt run -- "$sample" >/dev/null 2>out/build.log); }; then
+            cat "$root/crates/$name/out/build.log" >&2
+            echo "$name: cannot build the program" >&2
+            exit 2
+        fi
+        touch "$root/crates/$name/out/$name"
+    fi
+    exec "$root/crates/$name/out/$name" "$@"
+}
