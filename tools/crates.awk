@@ -1,5 +1,4 @@
-# Reads crates.txt and prints the crates that `crate` depends on, lowest first, a line for each level: the crates of one
-# line don't depend on each other. `crate` itself comes last, on a line of its own.
+# Reads crates.txt and prints the crates that `crate` depends on, lowest first, and then `crate` itself, a line for each:
 #
 #   awk -v crate=gqlparse -f tools/crates.awk crates.txt
 
@@ -13,22 +12,17 @@
     below[name] = substr($0, index($0, ":") + 1)
 }
 
-# One more than the highest level of what a crate depends on. Crates of the kit have no line here, and no level.
-function level_of(name,    part, count, parts, level) {
-    if (!(name in levels)) {
-        levels[name] = 1
-        count = split(below[name], parts, " ")
-        for (part = 1; part <= count; part++) {
-            if (parts[part] in below) {
-                level = level_of(parts[part]) + 1
-                if (level > levels[name]) {
-                    levels[name] = level
-                }
-            }
-        }
-        lines[levels[name]] = lines[levels[name]] " " name
+# Prints what a crate depends on, and the crate, each once. Crates of the kit have no line here.
+function print_crate(name,    count, part, parts) {
+    if (!(name in below) || name in printed) {
+        return
     }
-    return levels[name]
+    printed[name] = 1
+    count = split(below[name], parts, " ")
+    for (part = 1; part <= count; part++) {
+        print_crate(parts[part])
+    }
+    print name
 }
 
 END {
@@ -36,8 +30,5 @@ END {
         print "crates.txt has no crate " crate > "/dev/stderr"
         exit 1
     }
-    highest = level_of(crate)
-    for (level = 1; level <= highest; level++) {
-        print substr(lines[level], 2)
-    }
+    print_crate(crate)
 }

@@ -5,49 +5,34 @@
 
 root=$(dirname -- "$(readlink -f -- "$0")")
 
-# The crates of this program, lowest first, a line for each level: the crates of one line don't depend on each other.
-levels_of() {
+# The crates of this program, lowest first, a line for each.
+crates_of() {
     awk -v crate="$1" -f "$root/tools/crates.awk" "$root/crates.txt"
 }
 
 is_built() {
     program=$root/crates/$1/out/$1
     [ -x "$program" ] || return 1
-    for crate in $(levels_of "$1"); do
+    for crate in $(crates_of "$1"); do
         set -- "$@" "$root/crates/$crate/src"
     done
     shift
     [ -z "$(find "$root/crates.txt" "$@" -newer "$program" | head -n 1)" ]
 }
 
-# Proves and builds the libraries of one level side by side, and shares the processors among them.
-build_level() {
-    jobs=$(($(nproc) / $#))
-    running=
-    for crate; do
-        mkdir -p "$root/crates/$crate/out"
-        (cd "$root/crates/$crate" && exec rt lib --jobs "$((jobs > 1 ? jobs : 1))" >out/build.log 2>&1) &
-        running="$running $!:$crate"
-    done
-    for one in $running; do
-        if ! wait "${one%%:*}"; then
-            cat "$root/crates/${one#*:}/out/build.log" >&2
+# Proves and builds the libraries below this program, one after another: each is proved in as many jobs as it gains from.
+build_libraries() {
+    libraries=$(crates_of "$1" | sed '$d')
+    left=$(echo "$libraries" | wc -l)
+    echo "$1: its $left libraries are proved first, which takes some minutes" >&2
+    for library in $libraries; do
+        echo "$1: proving $library ($left left)" >&2
+        mkdir -p "$root/crates/$library/out"
+        if ! (cd "$root/crates/$library" && rt lib >out/build.log 2>&1); then
+            cat "$root/crates/$library/out/build.log" >&2
             return 1
         fi
-    done
-}
-
-# Proves and builds the libraries below this program.
-build_libraries() {
-    libraries=$(levels_of "$1" | sed '$d')
-    left=$(echo "$libraries" | wc -w)
-    echo "$1: proving its $left libraries first, which takes some minutes" >&2
-    echo "$libraries" | while read -r level; do
-        echo "$1: proving $level ($left left)" >&2
-        # (split into words)
-        # shellcheck disable=SC2086
-        build_level $level || exit 1
-        left=$((left - $(echo "$level" | wc -w)))
+        left=$((left - 1))
     done
 }
 
