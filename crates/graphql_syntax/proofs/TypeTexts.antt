@@ -113,6 +113,11 @@ pub list_type : (text after inside : List ℕ) (nullable : Bool) (t : TypeTree) 
 list_type text after inside nullable t p q is =
     (is.0, ap (λ s. 91 ∷ (s ++ 93 ∷ mark nullable)) is.1 ∙ ap (λ s. 91 ∷ s) (sym (append_assoc inside (93 ∷ []) (mark nullable))) ∙ ap (λ s. 91 ∷ (s ++ mark nullable)) (sym q) ∙ ap (λ s. s ++ mark nullable) (sym p))
 
+-- a text that begins with no bracket is that of a name
+pub name_type : (text : List ℕ) (nullable : Bool) → ¬ BeginsWith (91 ∷ []) text → (IsTrue nullable → ¬ EndsWith (33 ∷ []) text) →
+    IsTypeOf (text ++ mark nullable) (named text nullable)
+name_type text nullable begins ends = ((begins, ends), refl)
+
 -- ---- at most one proper type has a text
 
 names : (m n : List ℕ) (a b : Bool) → IsProper (named m a) → IsProper (named n b) → m ++ mark a ≡ n ++ mark b → named m a ≡ named n b
@@ -171,6 +176,10 @@ proper (list item nullable) name = proper item name
 -- what `Type::new` answers of a text
 abbrev pub IsAnswer : List ℕ → Option TypeReference → Type 0
 IsAnswer text answer = MatchOption answer ((t : TypeTree) → ¬ IsTypeOf text t) (λ t. IsTypeOf text (type_tree t))
+
+-- what it answers where there is none
+abbrev pub IsRefused : List ℕ → Result (Option TypeReference) AllocError → Type 0
+IsRefused text result = ((t : TypeTree) → ¬ IsTypeOf text t) → result ≡ Ok None
 
 pub given_back : (text : List ℕ) (result : Result (Option TypeReference) AllocError) → IfOk result (IsAnswer text) →
     (t : TypeTree) → HasGraphqlName t → type_text t ≡ text → IfOk result (λ answer. option_map type_tree answer ≡ Some t)

@@ -10,7 +10,7 @@ use Rattle.graphql_tokens.proofs.BlockIndents.{indents, indents_blank, indents_t
 use Rattle.graphql_tokens.proofs.BlockLines.{lines_some, from_text_here, from_text_blank}
 use Rattle.graphql_tokens.proofs.BlockEnds.{to_text_more}
 use Rattle.graphql_tokens.proofs.EscapeUnits.{both}
-use Rattle.graphql_tokens.proofs.BlockValue.{IsDeep, AreDeep, deep, from_text-map, to_text-map, to_text-all, from_text-all, same_all, cleaned_map, cleaned_zero, lines_of-unquoted, value_is}
+use Rattle.graphql_tokens.proofs.BlockValue.{IsDeep, AreDeep, deep, SameBlank, from_text-map, to_text-map, to_text-all, from_text-all, same_all, cleaned_map, cleaned_zero, lines_of-unquoted, unquoted_blank, value_is}
 
 -- ---- the indent is of the lines between the ends
 
@@ -103,7 +103,54 @@ none_value t h =
         other_value first others e ∙ ap (λ x. written (common_indent (to_text x)) (common_indent (to_text x)) (to_text x)) f
     by first others false e f = let g : (first ∷ others) ≡ [] = sym (from_text_here (first ∷ others) e) ∙ f in absurd (cc)
 
--- the value of the lines between the ends
+-- ---- an empty value
+
+none_mapped : (g : List ℕ → List ℕ) (lines : List (List ℕ)) → map g lines ≡ [] → lines ≡ []
+none_mapped g [] h = refl
+none_mapped g (line ∷ lines) h = absurd cc
+
+text_joined : (line : List ℕ) (more : List (List ℕ)) → is_blank line ≡ false → joined (line ∷ more) ≡ [] → ⊥
+text_joined [] more e h = cc
+text_joined (c ∷ cs) [] e h = cc
+text_joined (c ∷ cs) (next ∷ more) e h = cc
+
+-- lines with a text in them are joined to some
+none_joined : (lines : List (List ℕ)) → joined (to_text (from_text lines)) ≡ [] → from_text lines ≡ []
+none_joined [] h = refl
+none_joined (line ∷ lines) h = by (is_blank line) refl h (none_joined lines)
+  where
+    by : (b : Bool) → is_blank line ≡ b → joined (to_text (cond b (from_text lines) (line ∷ lines))) ≡ [] → (joined (to_text (from_text lines)) ≡ [] → from_text lines ≡ []) → cond b (from_text lines) (line ∷ lines) ≡ []
+    by true e h r = r h
+    by false e h r = absurd (text_joined line (to_text lines) e (ap joined (sym (to_text_more line lines (ap (λ b. b && list_all is_blank lines) e))) ∙ h))
+
+none_dedented : (lines : List (List ℕ)) → from_text (dedent lines) ≡ [] → from_text lines ≡ []
+none_dedented [] h = refl
+none_dedented (first ∷ others) h = by (is_blank first) h
+  where
+    by : (b : Bool) → cond b (from_text (map (dedented (common_indent others)) others)) (first ∷ map (dedented (common_indent others)) others) ≡ [] → cond b (from_text others) (first ∷ others) ≡ []
+    by true h = none_mapped (dedented (common_indent others)) (from_text others) (sym (from_text-map (dedented (common_indent others)) others (same_all (common_indent others) others (deep others))) ∙ h)
+    by false h = absurd cc
+
+same_unquoted : (lines : List (List ℕ)) → SameBlank unquoted lines
+same_unquoted [] = tt
+same_unquoted (line ∷ lines) = (unquoted_blank line, same_unquoted lines)
+
+-- where the value is empty, each line is blank
+none_lines : (t : List ℕ) → block_value t ≡ [] → from_text (lines_of t) ≡ []
+unfolding block_value
+none_lines t h =
+    let unquoted_none : from_text (lines_of (unquoted t)) ≡ [] = none_dedented (lines_of (unquoted t)) (none_joined (dedent (lines_of (unquoted t))) h) in
+    none_mapped unquoted (from_text (lines_of t)) (sym (from_text-map unquoted (lines_of t) (same_unquoted (lines_of t))) ∙ ap from_text (sym (lines_of-unquoted t)) ∙ unquoted_none)
+
+-- so a text with a line that isn't blank has a value that isn't empty
+pub some_value : (raw bytes : List ℕ) (at : ℕ) → bytes ≡ raw → StartsText bytes at → block_value raw ≢ []
+some_value raw bytes at a s h =
+    let some = lines_some (drop at bytes) in
+    let none : some.0 ∷ some.1 ≡ [] = sym some.2 ∙ sym s.lines ∙ none_lines bytes (ap block_value a ∙ h) in
+    absurd cc
+
+-- ---- the value of the lines between the ends
+
 pub text_value : (bs text : List ℕ) (at p n : ℕ) (later : Bool) → StartsText bs at → EndsText (drop at bs) p → text ≡ take p (drop at bs) → ltb 0 at ≡ later
     → n ≡ common_indent (counted later (lines_of text)) → block_value bs ≡ written (cond later n 0) n (lines_of text)
 text_value bs text at p n later s e is l i =

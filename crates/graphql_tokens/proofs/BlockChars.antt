@@ -214,3 +214,7 @@ pub value_chars : (bs value : List ℕ) → IsUtf8 bs → IsUtf8 value → value
 value_chars bs value u v e =
     encodes_same (chars value) (block_value (chars bs))
     (encodes-chars value v ∙ e ∙ ap block_value (sym (encodes-chars bs u)) ∙ encode_value (chars bs))
+
+-- and a value without characters has no bytes
+pub no_bytes : (bs : List ℕ) → IsUtf8 bs → block_value (chars bs) ≡ [] → block_value bs ≡ []
+no_bytes bs u h = ap block_value (sym (encodes-chars bs u)) ∙ encode_value (chars bs) ∙ ap encode_utf8_all h

@@ -294,7 +294,7 @@ lines_of-unquoted (c ∷ cs) = by (begins_quotes (c ∷ cs)) refl (lines_of-unqu
 blank_no_slash : (c : ℕ) → is_blank_char c ≡ true → eqb c 92 ≡ false
 blank_no_slash c h = grind (arith, nat_tests)
 
-unquoted_blank : (line : List ℕ) → is_blank (unquoted line) ≡ is_blank line
+pub unquoted_blank : (line : List ℕ) → is_blank (unquoted line) ≡ is_blank line
 unquoted_blank [] = refl
 unquoted_blank (c ∷ cs) = by (begins_quotes (c ∷ cs)) refl (unquoted_blank cs)
   where

@@ -179,6 +179,9 @@ impl<T: Hash> Hash for Positioned<T> {
 /// The offsets must not fall. Each step goes on where the last one stopped, so no character is passed
 /// twice; `stepped` tells how many were passed. It takes no memory. (This project's choice; how lines
 /// and columns are counted stands at `Pos`.)
+///
+/// The contracts speak of this one walk. That a step doesn't go over the text a second time beside it is
+/// carried by the type: the walk is its only field, and gives the text to nobody.
 #[derive(Debug, Drop)]
 pub struct PositionCalculator<'a> {
     counted: CountedPlace<'a>,

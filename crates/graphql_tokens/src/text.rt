@@ -1,6 +1,6 @@
 //! What strings and block strings mean.
 
-ghost use Rattle.std.specs.Prelude.{◌≡◌, ◌≤◌, ◌<◌, Bool, ◌+◌, drop, length, slice_index, IfOk, IfSome, IfNone, Some, List, ℕ, string_bytes};
+ghost use Rattle.std.specs.Prelude.{◌≡◌, ◌≤◌, ◌<◌, Bool, ◌+◌, [], drop, length, slice_index, IfOk, IfSome, IfNone, IsOk, Some, List, ℕ, string_bytes};
 ghost use Rattle.std.specs.List.{prefix_len};
 ghost use Rattle.std.specs.Str.{chars};
 ghost use Rattle.graphql_tokens.specs.calls.Contents.{content_value};
@@ -95,12 +95,14 @@ pub fn string_value(alloc: Global, content: &str) -> Result<Option<String>, Allo
 /// go, and the others are joined by line feeds. A line is blank that holds tabs and spaces alone, or nothing.
 /// The common indent is the least one of the lines after the first that aren't blank.
 ///
-/// Every text has a value. It fails only where memory runs out.
+/// Every text has a value. It fails only where memory runs out, and an empty value takes none.
 ///
 /// GraphQL October 2021, section 2.9.4. It departs in one thing: a blank line that is shorter than the common
 /// indent stays as it is (this project's choice).
 pub fn block_string_value(alloc: Global, raw: &str) -> Result<String, AllocError>
-    ensures { IfOk result (λ value. chars (string_bytes value) ≡ block_value (chars raw.now)) }
+    ensures value { IfOk result (λ value. chars (string_bytes value) ≡ block_value (chars raw.now)) }
+    // An empty value, as that of white space alone, takes no memory.
+    ensures empty { block_value (chars raw.now) ≡ [] → IsOk result }
 {
     let Some(first) = first_text(raw.as_bytes()) else {
         return Ok(String::new(alloc));

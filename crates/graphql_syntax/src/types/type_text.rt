@@ -1,5 +1,5 @@
 //! Types as texts.
-ghost use Rattle.std.specs.Prelude.{◌≡◌, ◌++◌, Some, IfOk, MatchOption, IsTrue, codes, option_map};
+ghost use Rattle.std.specs.Prelude.{◌≡◌, ◌++◌, Ok, Some, None, IfOk, MatchOption, IsTrue, codes, option_map};
 ghost use Rattle.graphql_syntax.specs.calls.TypeText.{EndsWith, HasGraphqlName, IsTypeOf};
 ghost use Rattle.graphql_syntax.specs.trees.TypeTree.{TypeTree, type_tree, base_text, type_text, mark};
 
@@ -53,12 +53,13 @@ impl Type {
     ///
     /// So the text of a type whose name is a GraphQL name gives that type back. Nothing else is asked of a
     /// name, so it may be empty (this project's choice). A list in a list may go as deep as memory does.
-    /// Fails only where no memory is left for the names and the lists of the answer.
+    /// Fails only where no memory is left for the names and the lists of the answer; the text of no type takes none.
     #[cycle(new)]
     pub fn new(alloc: Global, text: &str) -> Result<Option<Type>, AllocError>
         ensures shown { IfOk result (λ answer. MatchOption answer
             ((t : TypeTree) → ¬ IsTypeOf text.now t)
             (λ t. IsTypeOf text.now (type_tree t))) }
+        ensures refused { ((t : TypeTree) → ¬ IsTypeOf text.now t) → result ≡ Ok None }
         ensures one { (s t : TypeTree) → IsTypeOf text.now s → IsTypeOf text.now t → s ≡ t }
         ensures back { (t : TypeTree) → HasGraphqlName t → type_text t ≡ text.now
             → IfOk result (λ answer. option_map type_tree answer ≡ Some t) }
@@ -74,9 +75,10 @@ impl Type {
 #[cycle(new)]
 fn type_of(alloc: Global, text: &str, nullable: bool) -> Result<Option<Type>, AllocError>
     requires { IsTrue nullable → ¬ EndsWith (codes "!") text.now }
-    ensures { IfOk result (λ answer. MatchOption answer
+    ensures shown { IfOk result (λ answer. MatchOption answer
         ((t : TypeTree) → ¬ IsTypeOf (text.now ++ mark nullable) t)
         (λ t. IsTypeOf (text.now ++ mark nullable) (type_tree t))) }
+    ensures refused { ((t : TypeTree) → ¬ IsTypeOf (text.now ++ mark nullable) t) → result ≡ Ok None }
 {
     let Some(after) = text.strip_prefix('[') else {
         let base = BaseType::Named(Name::new(alloc, text)?);

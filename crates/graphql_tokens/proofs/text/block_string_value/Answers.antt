@@ -6,19 +6,19 @@ use Rattle.std.specs.Str.{chars}
 use Rattle.graphql_tokens.specs.tokens.BlockText.{block_value, lines_of}
 use Rattle.graphql_tokens.specs.inner.Blocks.{written, IsPlainBetween}
 use Rattle.graphql_tokens.proofs.BlockValue.{whole}
-use Rattle.graphql_tokens.proofs.BlockAnswers.{none_value, code_value, plain_value, cut_later, cut_first}
-use Rattle.graphql_tokens.proofs.BlockChars.{value_chars}
+use Rattle.graphql_tokens.proofs.BlockAnswers.{none_value, some_value, code_value, plain_value, cut_later, cut_first}
+use Rattle.graphql_tokens.proofs.BlockChars.{value_chars, no_bytes}
 use Rattle.graphql_tokens.proofs.text.block_string_value.Goals as goal
 use Rattle.graphql_tokens.proofs.text.block_string_value.Goals.{then-is_later, else-is_later}
 
-pub returns-in_default : goal.returns-in_default
-returns-in_default c =
+pub returns-in_default-clause-value : goal.returns-in_default-clause-value
+returns-in_default-clause-value c =
     let none : block_value c.as_bytes.result.now ≡ [] = none_value c.as_bytes.result.now c.in_default.ensures in
     value_chars c.args.raw.now (string_bytes c.new.result) c.utf8.raw (IsUtf8-string_bytes c.new.result)
     (c.new.ensures.bytes ∙ sym none ∙ ap block_value c.as_bytes.ensures.value)
 
-pub returns-then-is_plain : goal.returns-then-is_plain
-returns-then-is_plain c =
+pub returns-then-is_plain-clause-value : goal.returns-then-is_plain-clause-value
+returns-then-is_plain-clause-value c =
     let raw = c.args.raw.now in
     let back = c.range_from-text.result.now in
     let text = c.range-text.result.now in
@@ -32,8 +32,8 @@ returns-then-is_plain c =
     IfOk-weaker c.from_str.result (λ s. string_bytes s ≡ text) (λ s. chars (string_bytes s) ≡ block_value (chars raw))
     (λ s e. value_chars raw (string_bytes s) c.utf8.raw (IsUtf8-string_bytes s) (e ∙ sym is)) c.from_str.ensures.ok
 
-pub returns : goal.returns
-returns c =
+pub returns-clause-value : goal.returns-clause-value
+returns-clause-value c =
     let raw = c.args.raw.now in
     let back = c.range_from-text.result.now in
     let text = c.range-text.result.now in
@@ -45,3 +45,15 @@ returns c =
     let new = string_bytes c.push_lines.new.value in
     let is : new ≡ written c.if-is_later.first_indent n (lines_of text) = c.in_ok-push_lines.ensures ∙ ap (λ x. x ++ written c.if-is_later.first_indent n (lines_of text)) c.in_ok-value.ensures.bytes in
     value_chars raw new c.utf8.raw (IsUtf8-string_bytes c.push_lines.new.value) (is ∙ ap (λ k. written k n (lines_of text)) cut ∙ sym v)
+
+pub returns-then-is_plain-clause-empty : goal.returns-then-is_plain-clause-empty
+returns-then-is_plain-clause-empty c = λ empty.
+    absurd (some_value c.args.raw.now c.as_bytes.result.now c.in-Some.first c.as_bytes.ensures.value c.in-Some.ensures (no_bytes c.args.raw.now c.utf8.raw empty))
+
+pub returns-in_err-value-clause-empty : goal.returns-in_err-value-clause-empty
+returns-in_err-value-clause-empty c = λ empty.
+    absurd (some_value c.args.raw.now c.as_bytes.result.now c.in-Some.first c.as_bytes.ensures.value c.in-Some.ensures (no_bytes c.args.raw.now c.utf8.raw empty))
+
+pub returns-in_err-push_lines-clause-empty : goal.returns-in_err-push_lines-clause-empty
+returns-in_err-push_lines-clause-empty c = λ empty.
+    absurd (some_value c.args.raw.now c.as_bytes.result.now c.in-Some.first c.as_bytes.ensures.value c.in-Some.ensures (no_bytes c.args.raw.now c.utf8.raw empty))
