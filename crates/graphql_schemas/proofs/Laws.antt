@@ -3,7 +3,7 @@
 use Rattle.std.proofs.Common.{◌≡◌, true, false, IsSome, Option, Some, None, option_map, List, [], ◌∷◌, ◌++◌, Result, Ok, Err, IfOk, refl, sym, ◌∙◌, subst, append_assoc}
 use Rattle.std.specs.List.{AllByRecursion}
 use Rattle.graphql_tokens.specs.declared.pos.Positioned.{Positioned}
-use Rattle.graphql_tokens.specs.tokens.Edition.{Current}
+use Rattle.graphql_tokens.specs.tokens.Edition.{Former, Current}
 use Rattle.graphql_tokens.specs.tokens.Token.{Token}
 use Rattle.graphql_syntax.specs.declared.types.OperationType.TheVariants.{Query}
 use Rattle.graphql_schema_trees.specs.declared.service.ServiceDocument.{ServiceDocument}
@@ -13,14 +13,15 @@ use Rattle.graphql_grammar.specs.answers.Language.{grammar}
 use Rattle.graphql_grammar.specs.declared.error.Error.{Error}
 use Rattle.graphql_grammar.proofs.Breaches.{none-second}
 use Rattle.graphql_reading.specs.grammar.Limits.{Limits}
-use Rattle.graphql_reading.proofs.Keeps.{Keeps, Anything, keeps-any, keeps-mapped, keeps-either, keeps-plus, keeps-whole}
+use Rattle.graphql_reading.proofs.Keeps.{Keeps, Anything, BothOf, OfOption, keeps-any, keeps-never, keeps-mapped, keeps-then, keeps-either, keeps-opt, keeps-plus, keeps-whole}
 use Rattle.graphql_schemas.specs.grammar.Directives.{a_directive_definition}
 use Rattle.graphql_schemas.specs.grammar.Documents.{tree_of, document_of}
 use Rattle.graphql_schemas.specs.grammar.Laws.{IsLawfulDefinition, IsLawful}
 use Rattle.graphql_schemas.specs.grammar.Rules.{breach_of, first_of_kind, repeats_a_root, lacks_a_query, missing_query}
-use Rattle.graphql_schemas.specs.grammar.Schema.{Root, Schema}
-use Rattle.graphql_schemas.specs.grammar.SchemaFile.{Definition, schema, type_def, directive, a_definition, definitions}
+use Rattle.graphql_schemas.specs.grammar.Schema.{Root, Schema, a_schema}
+use Rattle.graphql_schemas.specs.grammar.SchemaFile.{Definition, schema, type_def, directive, a_definition, definitions, HasNoDescribedSchema}
 use Rattle.graphql_schemas.specs.grammar.Schemas.{schemas}
+use Rattle.graphql_schemas.specs.grammar.Types.{a_type_definition, a_type_extension}
 use Rattle.graphql_schemas.proofs.DistinctObjects.{distinct-objects}
 use Rattle.graphql_schemas.proofs.Finished.{anywhere}
 
@@ -44,6 +45,26 @@ undescribed c =
 
 all-undescribed : (c : Limits) (ts : List Token) (ds : List Definition) → grammar schemas Current c ts ds → AllByRecursion IsUndescribed ds
 all-undescribed c = (keeps-whole {p = definitions Current} (λ c. keeps-plus (undescribed c)) c).by
+
+-- ---- and what the former grammar gives: no schema has one
+
+no-description : {A : Type 0} (o : Option A) → OfOption (λ a. ⊥) o → o ≡ None
+no-description None h = refl
+no-description (Some a) h = absurd h
+
+former-schema : (c : Limits) → Keeps (a_schema Former c) (λ s. s.node.description ≡ None)
+former-schema c = keeps-mapped {P = BothOf (OfOption (λ text. ⊥)) Anything} (λ x h. no-description x.0 h.0) (keeps-then (keeps-opt keeps-never) keeps-any)
+
+former-definition : (c : Limits) → Keeps (a_definition Former c) HasNoDescribedSchema
+former-definition c =
+    keeps-either (keeps-mapped {P = λ s. s.node.description ≡ None} (λ s h. h) (former-schema c))
+    (keeps-either (keeps-mapped {P = λ s. s.node.description ≡ None} (λ s h. h) (keeps-mapped {P = Anything} (λ x h. refl) keeps-any))
+    (keeps-either (keeps-mapped {P = Anything} (λ t h. tt) (keeps-any {p = a_type_definition Former c}))
+    (keeps-either (keeps-mapped {P = Anything} (λ t h. tt) (keeps-any {p = a_type_extension Former c}))
+    (keeps-mapped {P = Anything} (λ d h. tt) (keeps-any {p = a_directive_definition Former c})))))
+
+pub none-described : (c : Limits) (ts : List Token) (ds : List Definition) → grammar schemas Former c ts ds → AllByRecursion HasNoDescribedSchema ds
+none-described c = (keeps-whole {p = definitions Former} (λ c. keeps-plus (former-definition c)) c).by
 
 -- ---- what the rules give: a definition has a query root
 

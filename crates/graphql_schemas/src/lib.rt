@@ -12,6 +12,7 @@
 #![tactic(auto)]
 
 ghost use Rattle.std.specs.Prelude.{◌≡◌, ◌≢◌, ◌+◌, ℕ, List, [], IfOk};
+ghost use Rattle.std.specs.List.{AllByRecursion};
 ghost use Rattle.std.specs.Str.{chars};
 ghost use Rattle.graphql_tokens.specs.tokens.Cuts.{Cuts, HasNoFault, IsCutInto};
 ghost use Rattle.graphql_tokens.specs.tokens.Edition.{Former};
@@ -22,7 +23,7 @@ ghost use Rattle.graphql_grammar.specs.answers.Language.{grammar};
 ghost use Rattle.graphql_grammar.specs.reading.DocumentOf.{IsDocumentOf};
 ghost use Rattle.graphql_reading.specs.grammar.Limits.{default_limits};
 ghost use Rattle.graphql_schemas.specs.grammar.Laws.{IsLawful};
-ghost use Rattle.graphql_schemas.specs.grammar.SchemaFile.{Definition as SpecDefinition};
+ghost use Rattle.graphql_schemas.specs.grammar.SchemaFile.{Definition as SpecDefinition, HasNoDescribedSchema};
 ghost use Rattle.graphql_schemas.specs.grammar.Schemas.{schemas};
 ghost use Rattle.graphql_schemas.specs.reading.SchemaFile.{definitions_at};
 ghost use Rattle.graphql_schemas.specs.reading.Views.{definition_tree, definition_trees};
@@ -89,8 +90,8 @@ impl graphql_grammar::document::Definition for Definition {
 /// - `OutOfMemory` where memory was refused.
 pub fn parse_schema(alloc: Global, text: &str) -> Result<ServiceDocument>
     ensures answer { (tokens : List SpecToken) → IsCutInto text.now tokens → Answers schemas default_limits tokens result }
-    // A text that has a tree by the former grammar has the same tree now; its schemas have no description.
-    ensures former { (tokens : List SpecToken) (ds : List SpecDefinition) → Cuts Former [] (chars text.now) tokens → grammar schemas Former default_limits tokens ds → IsCutInto text.now tokens × AreTheDefinitions schemas default_limits tokens ds }
+    // A text that has a tree by the former grammar has the same tree now, and no schema in it has a description.
+    ensures former { (tokens : List SpecToken) (ds : List SpecDefinition) → Cuts Former [] (chars text.now) tokens → grammar schemas Former default_limits tokens ds → IsCutInto text.now tokens × AreTheDefinitions schemas default_limits tokens ds × AllByRecursion HasNoDescribedSchema ds }
     // The tokens of a text that the former edition cuts without a fault are those of now.
     ensures former_tokens { (tokens : List SpecToken) → HasNoFault tokens → Cuts Former [] (chars text.now) tokens → Answers schemas default_limits tokens result }
     // These three hold of each text, also where memory runs out.
@@ -107,7 +108,7 @@ pub fn parse_schema(alloc: Global, text: &str) -> Result<ServiceDocument>
 /// a schema file has no selection sets.
 pub fn parse_schema_limited(alloc: Global, text: &str, limits: Limits) -> Result<ServiceDocument>
     ensures answer { (tokens : List SpecToken) → IsCutInto text.now tokens → Answers schemas limits tokens result }
-    ensures former { (tokens : List SpecToken) (ds : List SpecDefinition) → Cuts Former [] (chars text.now) tokens → grammar schemas Former limits tokens ds → IsCutInto text.now tokens × AreTheDefinitions schemas limits tokens ds }
+    ensures former { (tokens : List SpecToken) (ds : List SpecDefinition) → Cuts Former [] (chars text.now) tokens → grammar schemas Former limits tokens ds → IsCutInto text.now tokens × AreTheDefinitions schemas limits tokens ds × AllByRecursion HasNoDescribedSchema ds }
     ensures former_tokens { (tokens : List SpecToken) → HasNoFault tokens → Cuts Former [] (chars text.now) tokens → Answers schemas limits tokens result }
     ensures one_tree { (tokens : List SpecToken) → IsCutInto text.now tokens → HasOneTree schemas tokens }
     ensures decided { (tokens : List SpecToken) → IsCutInto text.now tokens → IsDecided schemas limits tokens }

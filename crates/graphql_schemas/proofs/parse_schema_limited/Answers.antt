@@ -8,7 +8,7 @@ use Rattle.graphql_grammar.proofs.Languages.{EndsWell, ends-well, former-tree}
 use Rattle.graphql_schemas.specs.grammar.SchemaFile.{definitions}
 use Rattle.graphql_schemas.specs.grammar.Schemas.{schemas}
 use Rattle.graphql_schemas.specs.reading.SchemaFile.{definitions_at}
-use Rattle.graphql_schemas.proofs.Laws.{lawful-answer}
+use Rattle.graphql_schemas.proofs.Laws.{lawful-answer, none-described}
 use Rattle.graphql_schemas.proofs.SchemaFileProductions.{schemas-are-read, schemas-read-by}
 use Rattle.graphql_schemas.proofs.parse_schema_limited.Goals as goal
 
@@ -23,5 +23,8 @@ returns-clause-former c ts ds cuts h =
     let now : grammar schemas Current c.args.limits ts ds = former-tree schemas definitions_at schemas-are-read c.args.limits ts ds h in
     let end : EndsWell ts = ends-well (definitions Current) c.args.limits ts ds now in
     let cut = former-cuts c.args.text.now ts cuts end.front end.last end.joined end.is_end in
-    let same : ts ≡ left c.new-tokens.result = c.new-tokens.ensures.only ts cut in
-    (cut, subst (λ us. AreTheDefinitions schemas c.args.limits us ds) (sym same) (c.read_document.ensures.only ds (subst (λ us. grammar schemas Current c.args.limits us ds) same now)))
+    let same : ts ≡ left c.new-tokens.result = c.new-tokens.ensures.only ts cut in (
+      cut,
+      subst (λ us. AreTheDefinitions schemas c.args.limits us ds) (sym same) (c.read_document.ensures.only ds (subst (λ us. grammar schemas Current c.args.limits us ds) same now)),
+      none-described c.args.limits ts ds h,
+    )

@@ -1,6 +1,6 @@
 -- The grammar of schema files: definitions and extensions of schemas, types and directives (GraphQL October 2021,
 -- section 3.1).
-use Rattle.std.specs.Prelude.{List}
+use Rattle.std.specs.Prelude.{◌≡◌, None, List}
 use Rattle.graphql_tokens.specs.declared.pos.Positioned.{Positioned}
 use Rattle.graphql_tokens.specs.tokens.Edition.{Edition}
 use Rattle.graphql_schema_trees.specs.trees.Schema.{TypeDefinition, DirectiveDefinition}
@@ -29,3 +29,11 @@ a_definition edition limits =
 -- The end of the text is put to the definitions where answers are defined.
 abbrev pub definitions : Edition → Grammar (List Definition)
 definitions edition limits = plus (a_definition edition limits)
+
+-- ---- what the former edition leaves out
+
+-- no schema in it has a description
+abbrev pub HasNoDescribedSchema : Definition → Type 0
+HasNoDescribedSchema (schema s) = s.node.description ≡ None
+HasNoDescribedSchema (type_def t) = Unit {0}
+HasNoDescribedSchema (directive d) = Unit {0}
