@@ -36,6 +36,17 @@ build_libraries() {
     done
 }
 
+# Proves and builds a program, which reads a small request with this word.
+build_program() {
+    echo "$1: proving the program" >&2
+    mkdir -p "$root/crates/$1/out"
+    # `rt run` leaves the program in out/. What it prints of this small request is not wanted.
+    if ! (cd "$root/crates/$1" && printf '{a}' | rt run -- "$2" >/dev/null 2>out/build.log); then
+        cat "$root/crates/$1/out/build.log" >&2
+        return 1
+    fi
+}
+
 # Runs a program: its name, a word with which it reads a small request, and then what it is called with.
 run_program() {
     name=$1
@@ -43,10 +54,7 @@ run_program() {
     shift 2
     if ! is_built "$name"; then
         echo "$name: for an answer in half a minute, without proofs: cd crates/$name && rt try -- $sample" >&2
-        # `rt run` leaves the program in out/. What it prints of this small request is not wanted.
-        if ! { build_libraries "$name" && echo "$name: proving the program" >&2 &&
-            (cd "$root/crates/$name" && printf '{a}' | rt run -- "$sample" >/dev/null 2>out/build.log); }; then
-            cat "$root/crates/$name/out/build.log" >&2
+        if ! { build_libraries "$name" && build_program "$name" "$sample"; }; then
             echo "$name: cannot build the program" >&2
             exit 2
         fi
