@@ -178,4 +178,39 @@ query($v: T!) {a(x: {y: 1})} ⇒ {"kind": "OperationDefinition", "line": 1, "col
   "selectionSet": {"kind": "SelectionSet", "line": 3, "column": 18,
   "selections": [{"kind": "Field", "line": 3, "column": 19,
   "name": {"kind": "Name", "line": 3, "column": 19, "value": "b"}, "arguments": [], "directives": []}]}}
+-- After a carriage return without a line feed the columns begin anew on the same line. A fragment whose place is smaller
+-- than that of an operation is written first; at the same place the operation is.
+␠␠␠␠{a}␍fragment F on T{b} ⇒ {"kind": "FragmentDefinition", "line": 1, "column": 1, "name": {"kind": "Name", "value": "F"},
+  "typeCondition": {"kind": "NamedType", "line": 1, "column": 15,
+  "name": {"kind": "Name", "line": 1, "column": 15, "value": "T"}}, "directives": [],
+  "selectionSet": {"kind": "SelectionSet", "line": 1, "column": 16,
+  "selections": [{"kind": "Field", "line": 1, "column": 17,
+  "name": {"kind": "Name", "line": 1, "column": 17, "value": "b"}, "arguments": [], "directives": []}]}},
+  {"kind": "OperationDefinition", "line": 1, "column": 5, "operation": "query",
+  "variableDefinitions": [], "directives": [],
+  "selectionSet": {"kind": "SelectionSet", "line": 1, "column": 5,
+  "selections": [{"kind": "Field", "line": 1, "column": 6,
+  "name": {"kind": "Name", "line": 1, "column": 6, "value": "a"}, "arguments": [], "directives": []}]}}
+␠␠␠␠{a}␊fragment F on T{b} ⇒ {"kind": "OperationDefinition", "line": 1, "column": 5, "operation": "query",
+  "variableDefinitions": [], "directives": [],
+  "selectionSet": {"kind": "SelectionSet", "line": 1, "column": 5,
+  "selections": [{"kind": "Field", "line": 1, "column": 6,
+  "name": {"kind": "Name", "line": 1, "column": 6, "value": "a"}, "arguments": [], "directives": []}]}},
+  {"kind": "FragmentDefinition", "line": 2, "column": 1, "name": {"kind": "Name", "value": "F"},
+  "typeCondition": {"kind": "NamedType", "line": 2, "column": 15,
+  "name": {"kind": "Name", "line": 2, "column": 15, "value": "T"}}, "directives": [],
+  "selectionSet": {"kind": "SelectionSet", "line": 2, "column": 16,
+  "selections": [{"kind": "Field", "line": 2, "column": 17,
+  "name": {"kind": "Name", "line": 2, "column": 17, "value": "b"}, "arguments": [], "directives": []}]}}
+fragment F on T{b}␍{a} ⇒ {"kind": "OperationDefinition", "line": 1, "column": 1, "operation": "query",
+  "variableDefinitions": [], "directives": [],
+  "selectionSet": {"kind": "SelectionSet", "line": 1, "column": 1,
+  "selections": [{"kind": "Field", "line": 1, "column": 2,
+  "name": {"kind": "Name", "line": 1, "column": 2, "value": "a"}, "arguments": [], "directives": []}]}},
+  {"kind": "FragmentDefinition", "line": 1, "column": 1, "name": {"kind": "Name", "value": "F"},
+  "typeCondition": {"kind": "NamedType", "line": 1, "column": 15,
+  "name": {"kind": "Name", "line": 1, "column": 15, "value": "T"}}, "directives": [],
+  "selectionSet": {"kind": "SelectionSet", "line": 1, "column": 16,
+  "selections": [{"kind": "Field", "line": 1, "column": 17,
+  "name": {"kind": "Name", "line": 1, "column": 17, "value": "b"}, "arguments": [], "directives": []}]}}
 "#;

@@ -186,6 +186,21 @@ extend schema { mutation: M query: Q }␊directive @d on FIELD | ENUM␊union U 
   "name": {"kind": "Name", "line": 4, "column": 6, "value": "E"}, "directives": [],
   "values": [{"kind": "EnumValueDefinition", "line": 4, "column": 10,
   "name": {"kind": "Name", "line": 4, "column": 10, "value": "X"}, "directives": []}]}
+-- The roots of a schema stand in the order of the places of their types, also after a carriage return without a line feed.
+schema{␠␠␠query:Q␍mutation:M} ⇒ {"kind": "SchemaDefinition", "line": 1, "column": 1,
+  "directives": [], "operationTypes": [{"kind": "OperationTypeDefinition", "operation": "mutation",
+  "type": {"kind": "NamedType", "line": 1, "column": 10,
+  "name": {"kind": "Name", "line": 1, "column": 10, "value": "M"}}},
+  {"kind": "OperationTypeDefinition", "operation": "query",
+  "type": {"kind": "NamedType", "line": 1, "column": 17,
+  "name": {"kind": "Name", "line": 1, "column": 17, "value": "Q"}}}]}
+schema{␠␠␠query:Q␊mutation:M} ⇒ {"kind": "SchemaDefinition", "line": 1, "column": 1,
+  "directives": [], "operationTypes": [{"kind": "OperationTypeDefinition", "operation": "query",
+  "type": {"kind": "NamedType", "line": 1, "column": 17,
+  "name": {"kind": "Name", "line": 1, "column": 17, "value": "Q"}}},
+  {"kind": "OperationTypeDefinition", "operation": "mutation",
+  "type": {"kind": "NamedType", "line": 2, "column": 10,
+  "name": {"kind": "Name", "line": 2, "column": 10, "value": "M"}}}]}
 "#;
 
 // A tree that a program built: the type stands somewhere, and its name nowhere.

@@ -41,8 +41,10 @@ use std::alloc::{AllocError, Global};
 /// The tree of a request as JSON, a `Document` of GraphQL.js.
 ///
 /// `document` is the tree that `parse_query` gives, and `places` tells whether its places are written. The operations
-/// come in their order and the fragments in theirs, and of the next operation and the next fragment the one first that
-/// stands first: that is the order of the text. It fails only where memory runs out.
+/// come in their order and the fragments in theirs, which in such a tree are those of the text. The next operation comes
+/// before the next fragment unless the fragment's place is smaller. So the order is that of the text wherever places
+/// grow. They do, but after a carriage return without a line feed: there the columns begin anew on the same line, and
+/// the tree doesn't keep whether the operation or the fragment comes first. It fails only where memory runs out.
 pub fn request_json(
     alloc: Global,
     document: &ExecutableDocument,
@@ -59,8 +61,9 @@ pub fn request_json(
 /// The tree of a schema file as JSON, a `Document` of GraphQL.js.
 ///
 /// `document` is the tree that `parse_schema` gives, and `places` tells whether its places are written. The definitions
-/// and extensions come in the order of the tree, which is that of the text, and the roots of a schema in the order of
-/// their places. It fails only where memory runs out.
+/// and extensions come in the order of the tree, which is that of the text. The roots of a schema come in the order of
+/// the places of their types, which is that of the text but after a carriage return without a line feed. It fails only
+/// where memory runs out.
 pub fn schema_json(
     alloc: Global,
     document: &ServiceDocument,

@@ -47,7 +47,7 @@ impl Place {
     }
 }
 
-/// Whether a place is earlier in the text than another.
+/// Whether a place is smaller than another: on an earlier line, or further left on the same line.
 pub fn stands_before(one: Pos, other: Pos) -> bool
     ensures { result ≡ stands_before_at one other }
 {

@@ -21,7 +21,7 @@ use graphql_parser::value::Name;
 use graphql_parser::{IndexMap, Pos, Positioned};
 use std::alloc::AllocError;
 
-/// The tree of a request, its definitions in the order of their places.
+/// The tree of a request: its operations in their order and its fragments in theirs, merged by their places.
 pub fn write_document(sheet: &mut Sheet, document: &ExecutableDocument, places: Places) -> Outcome
     ensures { Adds result sheet.old sheet.new (json_tokens (request_value places (document_tree document.now))) }
 {
@@ -31,7 +31,7 @@ pub fn write_document(sheet: &mut Sheet, document: &ExecutableDocument, places: 
     sheet.close()
 }
 
-// The member `definitions`: each operation after the fragments that stand before it.
+// The member `definitions`: each operation after the fragments whose places are smaller.
 #[tactic(auto, using(crate::proofs::Operations::operations_walked))]
 fn write_definitions(sheet: &mut Sheet, document: &ExecutableDocument, place: Place) -> Outcome
     ensures { Adds result sheet.old sheet.new (member_tokens (codes "definitions") (array (definitions_json place (operations_of (document_tree document.now).operations) (document_tree document.now).fragments))) }
@@ -47,7 +47,7 @@ fn write_definitions(sheet: &mut Sheet, document: &ExecutableDocument, place: Pl
     sheet.close_list()
 }
 
-// The fragments from an index on that stand before a place. Gives the index of the first that doesn't.
+// The fragments from an index on whose places are smaller than one. Gives the index of the first whose isn't.
 fn write_fragments_before(
     sheet: &mut Sheet,
     fragments: &IndexMap<Name, Positioned<FragmentDefinition>>,

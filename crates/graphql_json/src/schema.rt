@@ -103,7 +103,7 @@ fn write_roots(sheet: &mut Sheet, schema: &SchemaDefinition, place: Place) -> Ou
     }
 }
 
-// The third root goes before the first that stands later.
+// The third root goes before the first whose place is larger.
 fn write_third(
     sheet: &mut Sheet,
     first: Root<'_>,
@@ -122,7 +122,7 @@ fn write_third(
     }
 }
 
-// Whether both are there, and the first stands before the second.
+// Whether both are there, and the place of the first is smaller.
 fn goes_before(one: &Option<Positioned<Name>>, other: &Option<Positioned<Name>>) -> bool
     ensures { result ≡ goes_before_of one.now other.now }
 {
@@ -367,7 +367,7 @@ impl Node for DirectiveDefinition {
 
 /// A name, as GraphQL.js has it.
 impl Node for DirectiveLocation {
-    ghost use Rattle.graphql_schema_trees.specs.declared.service.DirectiveLocation.{DirectiveLocation};
+    ghost use Rattle.graphql_parser.specs.types.DirectiveLocation.{DirectiveLocation};
     ghost use Rattle.graphql_json.specs.nodes.Schemas.{location_json};
 
     ghost Tree = { DirectiveLocation };

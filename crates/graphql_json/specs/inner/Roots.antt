@@ -14,7 +14,7 @@ abbrev pub and_then : OperationType → Option (Positioned Name) → List Root �
 and_then kind None roots = roots
 and_then kind (Some name) roots = (kind, name) ∷ roots
 
--- both are there, and the first stands before the second
+-- both are there, and the place of the first is smaller
 abbrev pub goes_before : Option (Positioned Name) → Option (Positioned Name) → Bool
 goes_before (Some a) (Some b) = stands_before a.pos b.pos
 goes_before (Some a) None = false

@@ -29,7 +29,8 @@ at place pos = record { places = place.places; pos = Some pos }
 abbrev pub nowhere : Place → Place
 nowhere place = record { places = place.places; pos = None }
 
--- a place is earlier in the text than another
+-- A place is smaller than another: on an earlier line, or further left on the same line. It is then earlier in the text,
+-- unless a carriage return without a line feed stands between the two, where the columns begin anew.
 abbrev pub stands_before : Pos → Pos → Bool
 stands_before a b = nat_lt a.line b.line || ((a.line == b.line) && nat_lt a.column b.column)
 

@@ -97,14 +97,17 @@ abbrev pub operations_of : Operations → List Operation
 operations_of (single operation) = (None, operation) ∷ []
 operations_of (multiple operations) = map (λ operation. (Some operation.0, operation.1)) operations
 
--- A definition at this place, after the fragments that are left and stand before it. `others` gives the JSON of the definitions after it.
+-- A definition at this place, after the fragments that are left and whose places are smaller. `others` gives the JSON of
+-- the definitions after it.
 abbrev pub after_fragments : Place → Pos → Json → (List Fragment → Items) → List Fragment → Items
 after_fragments place pos definition others [] = item definition (others [])
 after_fragments place pos definition others (fragment ∷ fragments) =
     if stands_before fragment.1.pos pos then item (fragment_json place fragment) (after_fragments place pos definition others fragments)
     else item definition (others (fragment ∷ fragments))
 
--- the definitions in the order of their places: operations and fragments each stand in theirs
+-- The operations in their order and the fragments in theirs: the next operation before the next fragment, unless the
+-- fragment's place is smaller. A document has no order between the two, and their places give that of the text, unless a
+-- carriage return without a line feed stands between them.
 abbrev pub definitions_json : Place → List Operation → List Fragment → Items
 definitions_json place [] fragments = items_of (fragment_json place) fragments
 definitions_json place (operation ∷ operations) fragments = after_fragments place operation.1.pos (operation_json place operation) (definitions_json place operations) fragments

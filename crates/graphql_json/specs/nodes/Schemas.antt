@@ -5,10 +5,10 @@ use Rattle.graphql_parser.specs.calls.Locations.{location_word}
 use Rattle.graphql_parser.specs.calls.Words.{operation_word}
 use Rattle.graphql_parser.specs.trees.Parts.{Name}
 use Rattle.graphql_parser.specs.trees.Schema.{Names, InputValueDefinition, InputValues, FieldDefinition, EnumValueDefinition, TypeKind, scalar, object, interface, union, enumeration, input_object, SchemaDefinition, TypeDefinition, DirectiveDefinition, Definition, schema, type_def, directive, Document}
+use Rattle.graphql_parser.specs.types.DirectiveLocation.{DirectiveLocation}
 use Rattle.graphql_parser.specs.types.OperationType.{OperationType}
 use Rattle.graphql_parser.specs.types.OperationType.TheVariants.{Query, Mutation, Subscription}
 use Rattle.graphql_parser.specs.types.Positioned.{Positioned}
-use Rattle.graphql_schema_trees.specs.declared.service.DirectiveLocation.{DirectiveLocation}
 use Rattle.graphql_json.specs.declared.place.Place.{Place}
 use Rattle.graphql_json.specs.declared.place.Places.{Places}
 use Rattle.graphql_json.specs.nodes.Nodes.{nowhere, node, optional, items_of, placed_json, placed_list, stands_before}
@@ -105,7 +105,7 @@ root_json place root =
     (member (codes "operation") (json.string (operation_word root.0))
     (member (codes "type") (placed_json named_type_json place root.1) no_members))
 
--- a root, before the first that stands later
+-- a root, before the first whose place is larger
 abbrev pub put_root : Root → List Root → List Root
 put_root root [] = root ∷ []
 put_root root (first ∷ others) = if stands_before root.1.pos first.1.pos then root ∷ first ∷ others else first ∷ put_root root others
@@ -115,7 +115,8 @@ abbrev pub with_root : OperationType → Option (Positioned Name) → List Root 
 with_root kind None roots = roots
 with_root kind (Some name) roots = put_root (kind, name) roots
 
--- the roots in the order of their places
+-- The roots in the order of their names' places: that of the text, unless a carriage return without a line feed stands
+-- between them.
 abbrev pub roots_of : SchemaDefinition → List Root
 roots_of definition = with_root Subscription definition.subscription (with_root Mutation definition.mutation (with_root Query definition.query []))
 
