@@ -1,44 +1,48 @@
 #!/bin/sh
 # Builds the library for callers in C, Rust and Python, into the folder `out` beside this file:
 #
-#   libgraphql_parser.a     the static library, with the kit's functions of the heap in it
-#   libgraphql_parser.so    the shared object, made from it, which exports what the header declares, and
-#                           `graphql_parser_free`: the `free` that it is bound to, for languages that don't know it
+#   libgraphql_parser.a                 the static library, with the kit's functions of the heap in it
+#   libgraphql_parser.so.MAJOR.x.y      the shared object, made from it; `libgraphql_parser.so.MAJOR`, its soname, and
+#                                       `libgraphql_parser.so` are links to it
+#
+# Both show what the header declares, and nothing else.
 #
 # The first call proves and compiles the crate and all below it, which takes some minutes; later calls do nothing until a
-# source changes. Needs the kit (`rt`) and a C compiler (`cc`, with `ar`). The callers need neither the kit nor this
-# repository.
+# source changes. Needs the kit (`rt`) and a C compiler (`cc`, with `ar` and `objcopy`). The callers need neither the kit
+# nor this repository.
 set -eu
 here=$(dirname -- "$(readlink -f -- "$0")")
 root=$here/..
 out=$here/out
 archive=$out/libgraphql_parser.a
-shared=$out/libgraphql_parser.so
+version=$(sed -n 's/^#define GRAPHQL_PARSER_VERSION "\([0-9.]*\)"$/\1/p' "$here/graphql_parser.h")
+soname=libgraphql_parser.so.${version%%.*}
+shared=$out/libgraphql_parser.so.$version
 
-# The shared object is made last.
+# The shared object's last link is made last.
 is_built() {
-    [ -f "$archive" ] && [ -f "$shared" ] &&
-        [ -z "$(find "$here/build.sh" "$root/crates.txt" "$root"/crates/graphql_*/src -newer "$shared" | head -n 1)" ]
+    [ -f "$archive" ] && [ -f "$shared" ] && [ -h "$out/libgraphql_parser.so" ] &&
+        [ -z "$(find "$here/build.sh" "$here/graphql_parser.h" "$here/c/library.c" "$root/crates.txt" \
+            "$root"/crates/graphql_*/src -newer "$shared" | head -n 1)" ]
 }
 
 if is_built; then
     exit 0
 fi
 mkdir -p "$out"
-rm -f "$archive" "$shared"
+rm -f "$archive" "$out"/libgraphql_parser.so*
 if ! (cd "$root/crates/graphql_parser_c" && rt lib >"$out/build.log" 2>&1); then
     cat "$out/build.log" >&2
     exit 1
 fi
-ar -M <<MERGED
-create $archive
-addlib $root/crates/graphql_parser_c/out/libgraphql_parser_c.a
-addlib $(dirname -- "$(rt doc)")/c/liblibc_c.a
-save
-end
-MERGED
-cat >"$out/exports.map" <<'MAP'
-{ global: graphql_parser_*; local: *; };
-MAP
-cc -shared -o "$shared" -Wl,-soname,libgraphql_parser.so -Wl,-z,defs -Wl,--version-script="$out/exports.map" \
-    -Wl,--defsym=graphql_parser_free=rattle_dealloc -Wl,--whole-archive "$archive" -Wl,--no-whole-archive
+
+# One object with all that the calls need, whose other names are its own.
+cc -std=c11 -O2 -fPIC -Wall -Wextra -Werror -I "$here" -c -o "$out/library.o" "$here/c/library.c"
+cc -r -nostdlib -o "$out/graphql_parser.o" "$out/library.o" "$root/crates/graphql_parser_c/out/libgraphql_parser_c.a" \
+    "$(dirname -- "$(rt doc)")/c/liblibc_c.a"
+sed -n 's/^[a-z].*[ *]\(graphql_parser_[a-z_]*\)(.*/\1/p' "$here/graphql_parser.h" >"$out/names"
+objcopy --keep-global-symbols="$out/names" "$out/graphql_parser.o"
+ar rcs "$archive" "$out/graphql_parser.o"
+cc -shared -o "$shared" -Wl,-soname,"$soname" -Wl,-z,defs,-z,relro,-z,now "$out/graphql_parser.o"
+ln -s "libgraphql_parser.so.$version" "$out/$soname"
+ln -s "$soname" "$out/libgraphql_parser.so"

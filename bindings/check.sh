@@ -2,7 +2,8 @@
 # Builds the library and runs callers of it in C, Rust and Python.
 #
 # In each language the example reads a good, a refused and a too deep text of both languages of GraphQL, and the tests of
-# its binding run. In C, each request for memory of each call is refused in turn too. A language whose tool (cc, cargo,
+# its binding run. In C, each request for memory of each call is refused in turn too, and all runs again under the
+# sanitizers of addresses, leaks and undefined behaviour, where the compiler has them. A language whose tool (cc, cargo,
 # python3) is missing is skipped. The last line says what passed and what was skipped; the status is 1 if anything failed.
 #
 # It isn't part of `rt ci`. Once the library is built it takes some seconds.
@@ -24,16 +25,16 @@ language() {
     for step; do
         if ! "$step"; then
             echo "$name: $step failed"
-            failed="$failed $name"
+            failed="$failed${failed:+,} $name"
             return
         fi
     done
-    passed="$passed $name"
+    passed="$passed${passed:+,} $name"
 }
 
 skip() {
     echo "$1: skipped, since $2"
-    skipped="$skipped $1"
+    skipped="$skipped${skipped:+,} $1"
 }
 
 # So many times a text.
@@ -80,20 +81,77 @@ compiled() {
     cc -std=c11 -O2 -Wall -Wextra -Werror -pthread -I "$here" -o "$program" "$source" "$@"
 }
 
-c_example() {
-    compiled example example.c "$out/libgraphql_parser.a" && reads_all "$out/example"
+# The callers in C, linked with the static library: a suffix of their names, and what else the compiler is given.
+c_callers() {
+    suffix=$1
+    shift
+    compiled "example$suffix" example.c "$out/libgraphql_parser.a" "$@" && reads_all "$out/example$suffix" &&
+        compiled "calls$suffix" calls.c "$out/libgraphql_parser.a" "$@" && "$out/calls$suffix" &&
+        compiled "refused$suffix" refused.c -Wl,--wrap=malloc,--wrap=realloc,--wrap=free "$out/libgraphql_parser.a" "$@" &&
+        "$out/refused$suffix"
 }
 
-c_example_by_the_shared_object() {
-    compiled example_shared example.c "$out/libgraphql_parser.so" -Wl,-rpath,"$out" && reads_all "$out/example_shared"
+c_static() {
+    c_callers ""
 }
 
-c_calls() {
-    compiled calls calls.c "$out/libgraphql_parser.a" && "$out/calls"
+sanitizers="-g -fsanitize=address,undefined -fno-sanitize-recover=all"
+
+# Whether the compiler has the sanitizers, and they see a block that is never given back.
+has_sanitizers() {
+    printf '#include <stdlib.h>\nint main(void) { return 0; }\n' >"$out/whole.c"
+    printf '#include <stdlib.h>\nvoid *volatile block;\nint main(void) { block = malloc(1); block = 0; return 0; }\n' >"$out/leak.c"
+    cc $sanitizers -o "$out/whole" "$out/whole.c" 2>/dev/null && "$out/whole" 2>/dev/null &&
+        cc $sanitizers -o "$out/leak" "$out/leak.c" && ! "$out/leak" 2>/dev/null
 }
 
-c_refused_memory() {
-    compiled refused refused.c -Wl,--wrap=malloc,--wrap=realloc,--wrap=free "$out/libgraphql_parser.a" && "$out/refused"
+c_sanitized() {
+    c_callers _sanitized $sanitizers
+}
+
+c_shared() {
+    compiled example_shared example.c "$out/libgraphql_parser.so" -Wl,-rpath,"$out" && reads_all "$out/example_shared" &&
+        compiled calls_shared calls.c "$out/libgraphql_parser.so" -Wl,-rpath,"$out" && "$out/calls_shared"
+}
+
+# Names, one a line, each once.
+sorted() {
+    sort -u | tr '\n' ' '
+}
+
+is_same() {
+    [ "$2" = "$3" ] || {
+        printf '%s: %s, and not %s\n' "$1" "$2" "$3"
+        return 1
+    }
+}
+
+# The libraries show what the header declares, and call of the C library what it names; the shared object has its soname, is
+# found by its links, and can't be written to once it is loaded.
+c_names() {
+    shared=$out/libgraphql_parser.so
+    declared=$(sed -n 's/^[a-z].*[ *]\(graphql_parser_[a-z_]*\)(.*/\1/p' "$here/graphql_parser.h" | sorted)
+    called=$(printf '%s\n' free malloc memcpy memmove memset realloc | sorted)
+    shown=$(readelf -dlW "$shared")
+    is_same "names of the static library" "$(nm -g --defined-only "$out/libgraphql_parser.a" | awk 'NF == 3 { print $3 }' | sorted)" "$declared" &&
+        is_same "names of the shared object" "$(nm -D --defined-only "$shared" | awk '{ print $3 }' | sorted)" "$declared" &&
+        is_same "what it calls" "$(nm -u "$out/libgraphql_parser.a" | awk 'NF == 2 { print $2 }' | grep -v '^_GLOBAL_OFFSET_TABLE_$' | sorted)" "$called" &&
+        is_same "the soname" "$(printf '%s\n' "$shown" | sed -n 's/.*soname: \[\(.*\)\]/\1/p')" "libgraphql_parser.so.${version%%.*}" &&
+        is_same "the links" "$(readlink "$shared") $(readlink "$out/$(readlink "$shared")")" "libgraphql_parser.so.${version%%.*} libgraphql_parser.so.$version" &&
+        case $shown in
+        *GNU_RELRO*BIND_NOW* | *BIND_NOW*GNU_RELRO*) ;;
+        *)
+            echo "the shared object isn't bound and made read-only at its load"
+            return 1
+            ;;
+        esac
+}
+
+# All that has a version has the header's. (The library's own is held against the header's by the callers.)
+c_version() {
+    is_same "gql --version" "$(sed -n 's/.*"gql \([0-9.]*\)\\n".*/\1/p' "$here"/../crates/gql/src/*.rt)" "$version" &&
+        is_same "Cargo.toml" "$(sed -n 's/^version = "\(.*\)"$/\1/p' "$here/rust/Cargo.toml")" "$version" &&
+        is_same "graphql_parser.py" "$(sed -n 's/^__version__ = "\(.*\)"$/\1/p' "$here/python/graphql_parser.py")" "$version"
 }
 
 rust_tests() {
@@ -118,6 +176,7 @@ python_example() {
     reads_all python3 "$here/python/example.py"
 }
 
+version=$(sed -n 's/^#define GRAPHQL_PARSER_VERSION "\(.*\)"$/\1/p' "$here/graphql_parser.h")
 export CARGO_TARGET_DIR="$out/cargo" PYTHONDONTWRITEBYTECODE=1 GRAPHQL_PARSER_LIB="$out"
 
 if ! has cc; then
@@ -129,7 +188,17 @@ elif ! "$here/build.sh"; then
     echo "the library isn't built"
     failed="$failed build"
 else
-    language C c_example c_example_by_the_shared_object c_calls c_refused_memory
+    language C c_version c_static c_shared
+    if has readelf && has nm; then
+        language "C's names" c_names
+    else
+        skip "C's names" "there is no readelf or no nm"
+    fi
+    if has_sanitizers; then
+        language "C sanitized" c_sanitized
+    else
+        skip "C sanitized" "the compiler has no sanitizers, or they see no leak here"
+    fi
     if has cargo; then
         language Rust rust_tests rust_example
     else

@@ -3,6 +3,8 @@
  * Two calls for each language. A check tells by a status, and by up to two places, whether a text is a request or a
  * schema file. A parse tells the same, and hands over the tree, or the error, as JSON.
  *
+ * After every call of a parse, whatever it tells and whatever stood in its `json` before, `free(json.start)` is right.
+ *
  * Needs Linux on x86-64-v2 (Intel from Nehalem on, AMD from Bulldozer on). Of the C library it calls `malloc`, `realloc`,
  * `free`, `memcpy`, `memmove` and `memset`, and nothing else. README.md, beside this file, says how to link it.
  *
@@ -19,6 +21,11 @@
 #ifdef __cplusplus
 extern "C" {
 #endif
+
+/* The version of this header, and that of the library that the program runs with, a text such as "1.0.0". What a program
+ * is compiled with may be used with any later library of the same first number, the one in the shared object's name. */
+#define GRAPHQL_PARSER_VERSION "1.0.0"
+const char *graphql_parser_version(void);
 
 /* What a call tells. The numbers never change; a later version may add others. */
 enum {
@@ -76,20 +83,27 @@ typedef struct {
     graphql_parser_place second;
 } graphql_parser_places;
 
-/* A text of JSON, in UTF-8. It does not end with a zero byte: `length` is its length in bytes.
+/* A text of JSON, in UTF-8, or nothing: null, and the length 0. It does not end with a zero byte: `length` is its length in
+ * bytes.
  *
- * Begin with GRAPHQL_PARSER_NO_JSON. A parse that sets it makes the block at `start` yours: give it back, once, by
- * `free((void *)json.start)`, of the same C library (or of what took its place) whose `malloc` the program has. */
+ * A parse writes it on every call and doesn't look at what stood there, so it needs no first value. The block at `start`
+ * is yours then: give it back, once and before the next call into the same `json`, by `free(json.start)`, of the same C
+ * library (or of what took its place) whose `malloc` the program has. */
 typedef struct {
-    const uint8_t *start;
+    uint8_t *start;
     size_t length;
 } graphql_parser_json;
 
-#define GRAPHQL_PARSER_NO_JSON { (const uint8_t *)"", 0 }
+/* Nothing. */
+#define GRAPHQL_PARSER_NO_JSON { NULL, 0 }
+
+/* Gives back the block of a parse; null is allowed. It is the `free` that goes with the library's `malloc`, for languages
+ * that can't name the program's own. */
+void graphql_parser_free(void *block);
 
 /* Tells whether a text is a request, or a schema file.
  *
- * text, length             the text, in UTF-8. `text` is not null, even where `length` is 0.
+ * text, length             the text, in UTF-8. Where `length` is 0, `text` may be null: that is the empty text.
  * selections, values,      how deep each of these may nest, 0 to 256: the selection sets inside an operation's or a
  * types                    fragment's own set, the lists and objects of one value, the lists of one type. A schema file
  *                          has no selection sets, so there the first number is looked at and makes no difference.
@@ -104,12 +118,20 @@ uint32_t graphql_parser_check_schema(
 
 /* The same, and hands over JSON.
  *
- * with_places              whether each node of the tree is written with its `line` and `column`.
- * json                     GRAPHQL_PARSER_NO_JSON before the call. After GRAPHQL_PARSER_ACCEPTED it is the tree, in the
- *                          form of GraphQL.js. After GRAPHQL_PARSER_OUT_OF_MEMORY, GRAPHQL_PARSER_NOT_UTF8 and
- *                          GRAPHQL_PARSER_LIMIT_TOO_LARGE it is as it was, and there is nothing to give back. After any
- *                          other status it is the error, as an entry of `errors` in a response: its `message`, and its
- *                          `locations` where it has places.
+ * with_places              whether the nodes of the tree are written with their `line` and `column`. These have none: the
+ *                          `Document`, the `Name` of an `OperationDefinition` or a `FragmentDefinition`, the `Name` in
+ *                          a `Variable` that is a value, each `OperationTypeDefinition` of a schema, and all that stands
+ *                          inside a `ListValue`, an `ObjectValue` or a `ListType`.
+ * json                     is written on every call; what stood there isn't read. After GRAPHQL_PARSER_ACCEPTED it is the
+ *                          tree, in the form of GraphQL.js. After GRAPHQL_PARSER_OUT_OF_MEMORY, GRAPHQL_PARSER_NOT_UTF8
+ *                          and GRAPHQL_PARSER_LIMIT_TOO_LARGE it is null, and its length 0. After any other status it is
+ *                          the error, as an entry of `errors` in a response: its `message`, and its `locations` where it
+ *                          has places.
+ *
+ * Operations stand in the order of the text, and so do fragments; the next operation stands before the next fragment
+ * unless the fragment's place is smaller, by line and then by column, and the roots of a schema stand by their places.
+ * That is the order of the text, except after a lone carriage return: there the columns begin again at 1 on the same line,
+ * so a definition, or a root, that stands later can have a smaller place.
  *
  * `text`, `places` and `json` don't overlap. */
 uint32_t graphql_parser_parse_query(

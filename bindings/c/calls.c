@@ -4,33 +4,62 @@
 
 #include <pthread.h>
 
-enum { THREADS = 8, ROUNDS = 20, STACK = 256 * 1024 };
+#ifdef __SANITIZE_ADDRESS__
+#define OF_THE_SANITIZER (1024 * 1024)
+#else
+#define OF_THE_SANITIZER 0
+#endif
+
+enum { THREADS = 8, ROUNDS = 20, STACK = 256 * 1024 + OF_THE_SANITIZER };
 
 static const graphql_parser_places unwritten = {{700, 700}, {700, 700}};
-static const graphql_parser_json no_json = GRAPHQL_PARSER_NO_JSON;
 
-/* What is wrong with what the calls tell of a row; null where nothing is. */
+/* What is wrong with what a parse told of a row, and handed over; null where nothing is. */
+static const char *fault_of_parse(
+    const row *row, uint32_t status, bool with_places, const graphql_parser_places *places, const graphql_parser_json *json) {
+    if (status != row->status) return "status of parse";
+    if (!are_same(places, &row->places)) return "places of parse";
+    if (!is_of_the_text(status)) return is_nothing(json) ? NULL : "something is handed over";
+    if (!json->start || json->length < 2) return "nothing is handed over";
+    if (memchr(json->start, 0, json->length)) return "a zero byte in the JSON";
+    if (json->start[0] != '{' || json->start[json->length - 1] != '}') return "the ends of the JSON";
+    if (row->json && !with_places && (json->length != strlen(row->json) || memcmp(json->start, row->json, json->length)))
+        return "the JSON";
+    return NULL;
+}
+
+/* What is wrong with what the calls tell of a row; null where nothing is. Before a parse there is in `json` garbage, then
+ * zeros, and then what the call before handed over, given back. */
 static const char *fault(const row *row, const uint8_t *text, size_t length) {
     size_t limit = row->limit;
     graphql_parser_places places = unwritten;
     if (row->language->check(text, length, limit, limit, limit, &places) != row->status) return "status of check";
     if (!are_same(&places, &row->places)) return "places of check";
-    for (int with_places = 0; with_places < 2; with_places++) {
-        graphql_parser_json json = no_json;
+    graphql_parser_json json = garbage;
+    for (int round = 0; round < 6; round++) {
+        bool with_places = round % 2;
+        if (round == 1) memset(&json, 0, sizeof json);
         places = unwritten;
         uint32_t status = row->language->parse(text, length, limit, limit, limit, with_places, &places, &json);
-        bool is_handed = json.start != no_json.start;
-        const char *wrong = NULL;
-        if (status != row->status) wrong = "status of parse";
-        else if (!are_same(&places, &row->places)) wrong = "places of parse";
-        else if (is_handed != is_of_the_text(status)) wrong = "whether JSON is handed over";
-        else if (is_handed && memchr(json.start, 0, json.length)) wrong = "a zero byte in the JSON";
-        else if (is_handed && (json.length < 2 || json.start[0] != '{' || json.start[json.length - 1] != '}'))
-            wrong = "the ends of the JSON";
-        else if (row->json && !with_places &&
-                 (json.length != strlen(row->json) || memcmp(json.start, row->json, json.length)))
-            wrong = "the JSON";
-        if (is_handed) free((void *)json.start);
+        const char *wrong = fault_of_parse(row, status, with_places, &places, &json);
+        if (round < 3) free(json.start);
+        else graphql_parser_free(json.start);
+        if (wrong) return wrong;
+    }
+    return NULL;
+}
+
+/* What is wrong with one `json` used for a call of each status, one after the other; null where nothing is. */
+static const char *fault_of_reuse(void) {
+    graphql_parser_json json = GRAPHQL_PARSER_NO_JSON;
+    for (size_t i = 0; i < ROW_COUNT; i++) {
+        size_t length, limit = rows[i].limit;
+        uint8_t *text = text_of(&rows[i], &length);
+        graphql_parser_places places;
+        uint32_t status = rows[i].language->parse(text, length, limit, limit, limit, true, &places, &json);
+        free(text);
+        const char *wrong = fault_of_parse(&rows[i], status, true, &places, &json);
+        free(json.start);
         if (wrong) return wrong;
     }
     return NULL;
@@ -44,7 +73,7 @@ static size_t failures(void) {
         uint8_t *text = text_of(&rows[i], &length);
         const char *wrong = fault(&rows[i], text, length);
         if (wrong) {
-            printf("wrong at %.60s: %s\n", rows[i].text, wrong);
+            printf("wrong at %.60s: %s\n", shown(&rows[i]), wrong);
             count++;
         }
         free(text);
@@ -59,6 +88,13 @@ static void *rounds(void *count) {
 
 int main(void) {
     size_t counts[THREADS] = {0}, all = failures();
+    const char *wrong = fault_of_reuse();
+    if (!wrong && strcmp(graphql_parser_version(), GRAPHQL_PARSER_VERSION)) wrong = "the version";
+    if (wrong) {
+        printf("wrong: %s\n", wrong);
+        all++;
+    }
+    graphql_parser_free(NULL);
     pthread_t threads[THREADS];
     pthread_attr_t attributes;
     if (pthread_attr_init(&attributes) || pthread_attr_setstacksize(&attributes, STACK)) return 2;

@@ -32,7 +32,7 @@ int main(int argc, char **argv) {
     size_t length;
     uint8_t *text = read_all(&length);
     graphql_parser_places places;
-    graphql_parser_json json = GRAPHQL_PARSER_NO_JSON;
+    graphql_parser_json json;
     uint32_t status = !strcmp(argv[1], "query")
         ? graphql_parser_parse_query(text, length, GRAPHQL_PARSER_DEFAULT_LIMITS, false, &places, &json)
         : graphql_parser_parse_schema(text, length, GRAPHQL_PARSER_DEFAULT_LIMITS, false, &places, &json);
@@ -41,9 +41,11 @@ int main(int argc, char **argv) {
     if (places.first.line) printf(" %zu:%zu", places.first.line, places.first.column);
     if (places.second.line) printf(" %zu:%zu", places.second.line, places.second.column);
     printf("\n");
+    if (json.start) {
+        fwrite(json.start, 1, json.length, stdout);
+        printf("\n");
+    }
+    free(json.start);
     if (status == GRAPHQL_PARSER_OUT_OF_MEMORY || status == GRAPHQL_PARSER_NOT_UTF8) return 2;
-    fwrite(json.start, 1, json.length, stdout);
-    printf("\n");
-    free((void *)json.start);
     return status == GRAPHQL_PARSER_ACCEPTED ? 0 : 1;
 }

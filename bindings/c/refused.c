@@ -53,8 +53,6 @@ void __wrap_free(void *block) {
     __real_free(head_of(block));
 }
 
-static const graphql_parser_json no_json = GRAPHQL_PARSER_NO_JSON;
-
 /* A call on the text of a row, in which the request of this number is refused, or none where it is 0. */
 typedef struct {
     uint32_t status;
@@ -68,7 +66,8 @@ typedef struct {
 static outcome called(const row *row, const uint8_t *text, size_t length, bool is_parse, long refused) {
     size_t limit = row->limit;
     long before = live_blocks;
-    outcome outcome = {.places = {{700, 700}, {700, 700}}, .json = no_json};
+    outcome outcome = {.places = {{700, 700}, {700, 700}}};
+    if (is_parse) outcome.json = garbage;
     requests_made = 0;
     refused_request = refused;
     was_to_shrink = false;
@@ -86,13 +85,13 @@ static outcome called(const row *row, const uint8_t *text, size_t length, bool i
 static bool is_whole(const row *row, const outcome *outcome, bool is_parse) {
     bool is_handed = is_parse && is_of_the_text(row->status);
     return outcome->status == row->status && are_same(&outcome->places, &row->places) &&
-        (outcome->json.start != no_json.start) == is_handed && outcome->kept_blocks == (is_handed ? 1 : 0);
+        is_nothing(&outcome->json) == !is_handed && outcome->kept_blocks == (is_handed ? 1 : 0);
 }
 
 static bool tells_refusal(const outcome *outcome) {
     static const graphql_parser_places nowhere = NOWHERE;
     return outcome->status == GRAPHQL_PARSER_OUT_OF_MEMORY && are_same(&outcome->places, &nowhere) &&
-        outcome->json.start == no_json.start && outcome->json.length == 0 && outcome->kept_blocks == 0;
+        is_nothing(&outcome->json) && outcome->kept_blocks == 0;
 }
 
 int main(void) {
@@ -107,9 +106,9 @@ int main(void) {
                 goes_on = outcome.is_refused;
                 bool is_right = outcome.lacks_memory ? tells_refusal(&outcome) : is_whole(&rows[i], &outcome, is_parse);
                 if (!is_right && wrong++ < 5)
-                    printf("wrong at %.60s, request %ld refused: status %u, %ld blocks kept\n", rows[i].text, number,
+                    printf("wrong at %.60s, request %ld refused: status %u, %ld blocks kept\n", shown(&rows[i]), number,
                            (unsigned)outcome.status, outcome.kept_blocks);
-                if (outcome.json.start != no_json.start) free((void *)outcome.json.start);
+                free(outcome.json.start);
                 calls++;
                 refusals += goes_on;
                 shrinks += goes_on && !outcome.lacks_memory;

@@ -23,8 +23,8 @@ static const language schema_files = {graphql_parser_check_schema, graphql_parse
 /* A text of a language, and what it gives. */
 typedef struct {
     const language *language;
-    const char *text;
-    size_t limit; /* of each of the three */
+    const char *text; /* null is the empty text */
+    size_t limit;     /* of each of the three */
     uint32_t status;
     graphql_parser_places places;
     const char *json; /* without places of nodes; null where it isn't compared */
@@ -73,6 +73,9 @@ static const row rows[] = {
     {&requests, "{a}", 257, GRAPHQL_PARSER_LIMIT_TOO_LARGE, NOWHERE, 0},
     {&requests, "{a}#\xC3", 64, GRAPHQL_PARSER_NOT_UTF8, NOWHERE, 0},
     {&requests, "", 64, GRAPHQL_PARSER_SYNTAX, {{1, 1}, {0, 0}}, 0},
+    {&requests, NULL, 64, GRAPHQL_PARSER_SYNTAX, {{1, 1}, {0, 0}},
+     "{\"message\":\"syntax error at 1:1\",\"locations\":[{\"line\":1,\"column\":1}]}"},
+    {&requests, NULL, 257, GRAPHQL_PARSER_LIMIT_TOO_LARGE, NOWHERE, 0},
     {&schema_files, "scalar A", 64, GRAPHQL_PARSER_ACCEPTED, NOWHERE,
      "{\"kind\":\"Document\",\"definitions\":[{\"kind\":\"ScalarTypeDefinition\",\"name\":{\"kind\":\"Name\","
      "\"value\":\"A\"},\"directives\":[]}]}"},
@@ -88,12 +91,27 @@ static const row rows[] = {
      {{1, 10}, {0, 0}}, 0},
     {&schema_files, "scalar A", 257, GRAPHQL_PARSER_LIMIT_TOO_LARGE, NOWHERE, 0},
     {&schema_files, "\"\xFF\" scalar A", 64, GRAPHQL_PARSER_NOT_UTF8, NOWHERE, 0},
+    {&schema_files, NULL, 64, GRAPHQL_PARSER_SYNTAX, {{1, 1}, {0, 0}},
+     "{\"message\":\"syntax error at 1:1\",\"locations\":[{\"line\":1,\"column\":1}]}"},
 };
 
 #define ROW_COUNT (sizeof rows / sizeof *rows)
 
-/* The text of a row, in a block of exactly its length, so that a tool that looks for reads past a block sees one. */
+static const char *shown(const row *row) {
+    return row->text ? row->text : "null";
+}
+
+/* What a caller may have in a `json` before a call: no block, and no length of one. */
+static const graphql_parser_json garbage = {(uint8_t *)1, 700};
+
+static bool is_nothing(const graphql_parser_json *json) {
+    return !json->start && !json->length;
+}
+
+/* The text of a row, in a block of exactly its length, so that a tool that looks for reads past a block sees one; or null. */
 static uint8_t *text_of(const row *row, size_t *length) {
+    *length = 0;
+    if (!row->text) return NULL;
     *length = strlen(row->text);
     uint8_t *text = malloc(*length ? *length : 1);
     if (!text) abort();

@@ -1,6 +1,11 @@
 """The calls on good, refused and too deep texts of both languages, from one thread and from several."""
 
+import concurrent.futures
+import copy
 import doctest
+import json
+import multiprocessing
+import pickle
 import threading
 import unittest
 
@@ -72,6 +77,50 @@ class Calls(unittest.TestCase):
         self.assertEqual(caught.exception.json, error)
         self.assertEqual(str(caught.exception), "syntax error at 1:3")
 
+    def test_an_error_has_the_message_of_its_json(self):
+        twice = "query A{a}\nquery A{a}"
+        for (check, parse), text, kind, places in REFUSED + [(REQUEST, twice, Kind.OPERATION_DUPLICATED, [(2, 1), (1, 1)])]:
+            with self.subTest(text=text), self.assertRaises(GraphQLError) as caught:
+                parse(text)
+            error = caught.exception
+            self.assertEqual(error.message, json.loads(error.json)["message"])
+            self.assertTrue(str(error).startswith(error.message))
+        self.assertEqual(str(error), "operation A is defined twice at 2:1 and 1:1")
+        with self.assertRaises(GraphQLError) as caught:
+            graphql_parser.check_query(twice)
+        self.assertEqual(str(caught.exception), "an operation is defined twice at 2:1 and 1:1")
+
+    def test_an_error_goes_through_pickle(self):
+        for call in (graphql_parser.check_query, graphql_parser.query_json):
+            with self.assertRaises(GraphQLError) as caught:
+                call("query A{a}\nquery A{a}")
+            error = caught.exception
+            for other in (pickle.loads(pickle.dumps(error)), copy.copy(error)):
+                self.assertIs(type(other), GraphQLError)
+                self.assertEqual(
+                    (str(other), other.kind, other.message, other.places, other.json),
+                    (str(error), error.kind, error.message, error.places, error.json),
+                )
+
+    def test_an_error_comes_out_of_another_process(self):
+        context = multiprocessing.get_context("spawn")
+        with concurrent.futures.ProcessPoolExecutor(1, mp_context=context) as pool:
+            with self.assertRaises(GraphQLError) as caught:
+                pool.submit(graphql_parser.check_query, "{a").result()
+            self.assertEqual((caught.exception.kind, caught.exception.places), (Kind.SYNTAX, [(1, 3)]))
+            self.assertIsNone(pool.submit(graphql_parser.check_query, "{a}").result())
+
+    def test_a_status_of_a_later_library_keeps_its_number(self):
+        self.assertEqual((int(Kind(12)), Kind(12).name), (12, "OTHER_12"))
+        self.assertIs(Kind(12), Kind(12))
+        self.assertIs(pickle.loads(pickle.dumps(Kind(12))), Kind(12))
+        places = graphql_parser._Places(graphql_parser._Place(2, 3))
+        for written in (None, '{"message":"too long"}'):
+            with self.assertRaises(GraphQLError) as caught:
+                graphql_parser._raise(12, places, written)
+            self.assertEqual((caught.exception.kind, caught.exception.places), (12, [(2, 3)]))
+        self.assertEqual(str(caught.exception), "too long at 2:3")
+
     def test_a_character_of_number_0_goes_through(self):
         tree = graphql_parser.parse_query('{a(b:"\\u0000c")}')
         argument = tree["definitions"][0]["selectionSet"]["selections"][0]["arguments"][0]
@@ -89,14 +138,51 @@ class Calls(unittest.TestCase):
                 with self.assertRaisesRegex(ValueError, "limit"):
                     graphql_parser.check_query("{a}", **{name: limit})
 
-    def test_the_deepest_tree_of_the_default_limits_is_read(self):
-        deep = "{a" * 64 + "{a(b:" + "{c:" * 64 + "1" + "}" * 64 + ")}" + "}" * 64
-        self.assertEqual(graphql_parser.parse_query(deep, places=True)["kind"], "Document")
+    def test_the_deepest_trees_are_read(self):
+        def deep(limit):
+            values = "{c:" * limit + "1" + "}" * limit
+            return "{a" * limit + "{a(b:" + values + ")}" + "}" * limit
 
-    def test_bytes_that_are_not_utf8_are_refused(self):
-        for call in (*REQUEST, *SCHEMA_FILE):
-            with self.assertRaises(UnicodeDecodeError):
-                call(b"{a}\xff")
+        def from_below(frames, text, **options):
+            if frames:
+                return from_below(frames - 1, text, **options)
+            return graphql_parser.parse_query(text, **options)
+
+        shallow = graphql_parser.parse_query('{a(b:"{\\\\\\"[",c:[1,true]){d}}', places=True)
+        for frames, limit in ((0, 64), (700, 64), (0, 256), (700, 256)):
+            with self.subTest(frames=frames, limit=limit):
+                options = {"selections": limit, "values": limit, "places": True}
+                tree = from_below(frames, deep(limit), **options)
+                node = tree["definitions"][0]["selectionSet"]
+                for _ in range(limit):
+                    node = node["selections"][0]["selectionSet"]
+                node = node["selections"][0]["arguments"][0]["value"]
+                for _ in range(limit):
+                    self.assertEqual(node["fields"][0]["name"]["value"], "c")
+                    node = node["fields"][0]["value"]
+                self.assertEqual(node, {"kind": "IntValue", "value": "1"})
+        written = graphql_parser.query_json('{a(b:"{\\\\\\"[",c:[1,true]){d}}', places=True)
+        self.assertEqual(graphql_parser._decoded_in_a_loop(written), shallow)
+
+    def test_texts_are_str_and_bytes(self):
+        for text in (b"{a}", bytearray(b"{a}"), memoryview(b"{a}"), memoryview(b"}xax{")[::-2]):
+            self.assertIsNone(graphql_parser.check_query(text))
+        for text in ([123, 97, 125], 2_000_000_000, None, 1.5, object(), ("{a}",), iter(b"{a}")):
+            for call in (*REQUEST, *SCHEMA_FILE):
+                with self.assertRaises(TypeError):
+                    call(text)
+
+    def test_texts_that_are_not_utf8_are_refused(self):
+        for text in (b"{a}\xff", bytearray(b"#\xed\xa0\x80"), "{a}#\ud800"):
+            for call in (*REQUEST, *SCHEMA_FILE):
+                with self.assertRaises(GraphQLError) as caught:
+                    call(text)
+                error = caught.exception
+                self.assertEqual((error.kind, error.places, error.json), (Kind.NOT_UTF8, [], None))
+                self.assertEqual(str(error), "the text isn't UTF-8")
+
+    def test_the_library_has_the_version_of_the_module(self):
+        self.assertEqual(graphql_parser._lib.graphql_parser_version().decode(), graphql_parser.__version__)
 
     def test_several_threads_may_call_at_once(self):
         wrong = []

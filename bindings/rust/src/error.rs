@@ -40,6 +40,8 @@ pub enum Kind {
     MultipleRoots,
     /// The schema at the place has no type for queries.
     MissingQueryRoot,
+    /// What a later version of the library tells by a status that this crate doesn't know, with its number.
+    Other(u32),
 }
 
 impl Kind {
@@ -58,24 +60,33 @@ impl Kind {
             10 => Kind::MultipleRoots,
             11 => Kind::MissingQueryRoot,
             // 2 says that the text isn't UTF-8, which a `str` is.
-            other => unreachable!("status {other}"),
+            other => Kind::Other(other),
         })
     }
 
+    // What is said where the library gives no message: its message, without the names and places in it.
     fn text(self) -> &'static str {
         match self {
             Kind::OutOfMemory => "out of memory",
             Kind::LimitTooLarge => "a limit is over 256",
             Kind::Syntax => "syntax error",
-            Kind::RecursionLimitExceeded => "recursion limit exceeded",
-            Kind::MultipleOperations => "an operation without a name isn't the only one",
-            Kind::OperationDuplicated => "two operations have one name",
-            Kind::FragmentDuplicated => "two fragments have one name",
-            Kind::MissingOperation => "no operation",
-            Kind::MultipleRoots => "a schema names a root twice",
-            Kind::MissingQueryRoot => "a schema has no query root",
+            Kind::RecursionLimitExceeded => "recursion limit exceeded.",
+            Kind::MultipleOperations => "document contains multiple operations",
+            Kind::OperationDuplicated => "an operation is defined twice",
+            Kind::FragmentDuplicated => "a fragment is defined twice",
+            Kind::MissingOperation => "document does not contain an operation",
+            Kind::MultipleRoots => "multiple roots of one kind in schema definition",
+            Kind::MissingQueryRoot => "schema definition is missing query root",
+            Kind::Other(_) => "refused as only a later version of this crate can tell",
         }
     }
+}
+
+// The message of an error in JSON, which is its first member. A message with an escape in it is left out; none has one.
+fn message_of(json: &str) -> Option<&str> {
+    let rest = json.strip_prefix(r#"{"message":""#)?;
+    let end = rest.find(['"', '\\'])?;
+    rest[end..].starts_with('"').then(|| &rest[..end])
 }
 
 /// Why a text is refused, or couldn't be read.
@@ -96,6 +107,14 @@ impl Error {
         self.kind
     }
 
+    /// What is wrong, in words: the message of the JSON, as `operation A is defined twice`. Where there is no JSON, as after
+    /// a check, what the kind says, as `an operation is defined twice`.
+    pub fn message(&self) -> &str {
+        self.json()
+            .and_then(message_of)
+            .unwrap_or_else(|| self.kind.text())
+    }
+
     /// Where it is wrong: none, one or two places, the most important first.
     pub fn places(&self) -> impl Iterator<Item = Place> + '_ {
         self.places.iter().flatten().copied()
@@ -108,10 +127,17 @@ impl Error {
     }
 }
 
-/// What is wrong, and where: `syntax error at 1:4`.
+/// The message, and the places where it doesn't name them itself: `syntax error at 1:4`, `operation A is defined twice at 2:1
+/// and 1:1`.
 impl fmt::Display for Error {
     fn fmt(&self, f: &mut fmt::Formatter<'_>) -> fmt::Result {
-        f.write_str(self.kind.text())?;
+        let message = self.message();
+        f.write_str(message)?;
+        if let Some(first) = self.places[0] {
+            if message.ends_with(&format!(" at {first}")) {
+                return Ok(());
+            }
+        }
         let mut before = " at ";
         for place in self.places() {
             write!(f, "{before}{place}")?;
@@ -122,3 +148,28 @@ impl fmt::Display for Error {
 }
 
 impl std::error::Error for Error {}
+
+#[cfg(test)]
+mod tests {
+    use super::{message_of, Error, Kind, Place};
+
+    #[test]
+    fn a_status_of_a_later_library_keeps_its_number() {
+        assert_eq!(Kind::of_status(0), None);
+        assert_eq!(Kind::of_status(11), Some(Kind::MissingQueryRoot));
+        let kind = Kind::of_status(12).unwrap();
+        assert_eq!(kind, Kind::Other(12));
+        assert_eq!(Kind::of_status(u32::MAX), Some(Kind::Other(u32::MAX)));
+        let place = Place { line: 2, column: 3 };
+        let error = Error::new(kind, [Some(place), None], None);
+        assert!(error.to_string().ends_with(" at 2:3"));
+    }
+
+    #[test]
+    fn a_message_is_that_of_the_json() {
+        assert_eq!(message_of(r#"{"message":"a b"}"#), Some("a b"));
+        assert_eq!(message_of(r#"{"message":"a","locations":[]}"#), Some("a"));
+        assert_eq!(message_of(r#"{"message":"a\"b"}"#), None);
+        assert_eq!(message_of(r#"{"kind":"Document"}"#), None);
+    }
+}

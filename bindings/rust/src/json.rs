@@ -7,7 +7,7 @@ use std::slice;
 use std::str;
 
 extern "C" {
-    fn free(block: *mut c_void);
+    fn graphql_parser_free(block: *mut c_void);
 }
 
 /// A text of JSON. It is a `str` wherever one is wanted, and lies where the parser wrote it: nothing is copied.
@@ -22,15 +22,14 @@ unsafe impl Send for Json {}
 unsafe impl Sync for Json {}
 
 impl Json {
-    /// Takes over a block.
+    /// Takes over a block; none where it is null.
     ///
     /// # Safety
     ///
-    /// `start` is a block of `malloc` that nobody else gives back or writes to, and its first `length` bytes are UTF-8.
-    pub(crate) unsafe fn from_block(start: *const u8, length: usize) -> Json {
-        // SAFETY: a block of `malloc` isn't null.
-        let start = unsafe { NonNull::new_unchecked(start.cast_mut()) };
-        Json { start, length }
+    /// `start` is null, or a block of the library that nobody else gives back or writes to, whose first `length` bytes are
+    /// UTF-8.
+    pub(crate) unsafe fn from_block(start: *mut u8, length: usize) -> Option<Json> {
+        NonNull::new(start).map(|start| Json { start, length })
     }
 
     /// The text.
@@ -42,9 +41,8 @@ impl Json {
 
 impl Drop for Json {
     fn drop(&mut self) {
-        // SAFETY: the block is owned, and this is the one time that it is given back. The library's `malloc` and this
-        // `free` are names of the same program, so they are of one allocator.
-        unsafe { free(self.start.as_ptr().cast()) }
+        // SAFETY: the block is the library's and owned, and this is the one time that it is given back.
+        unsafe { graphql_parser_free(self.start.as_ptr().cast()) }
     }
 }
 

@@ -51,7 +51,9 @@ impl Default for Limits {
     }
 }
 
-/// Whether the nodes of a tree are written with their places, as the members `line` and `column`.
+/// Whether the nodes of a tree are written with their places, as the members `line` and `column`. The document, the names of
+/// operations and fragments, the name in a variable that is a value, the roots of a schema, and what is inside a list, an
+/// object or a list type have none.
 #[derive(Clone, Copy, Debug, PartialEq, Eq)]
 pub enum Places {
     LeftOut,
@@ -94,6 +96,11 @@ pub fn parse_query(text: &str, limits: Limits, places: Places) -> Result<Json, E
 /// `LimitTooLarge`.
 pub fn parse_schema(text: &str, limits: Limits, places: Places) -> Result<Json, Error> {
     parse(raw::graphql_parser_parse_schema, text, limits, places)
+}
+
+/// The version of the library that is linked, a text such as `1.0.0`. The version of this crate is `CARGO_PKG_VERSION`.
+pub fn version() -> &'static str {
+    raw::version().unwrap_or_default()
 }
 
 fn check(call: CheckCall, text: &str, limits: Limits) -> Result<(), Error> {

@@ -1,6 +1,8 @@
 //! The functions of C, as `graphql_parser.h` declares them. All that is unsafe stands here and in `json`.
 use crate::json::Json;
 use crate::{Limits, Place, Places};
+use std::ffi::{c_char, CStr};
+use std::ptr;
 
 #[repr(C)]
 #[derive(Clone, Copy, Default)]
@@ -18,7 +20,7 @@ pub struct RawPlaces {
 
 #[repr(C)]
 pub struct RawJson {
-    start: *const u8,
+    start: *mut u8,
     length: usize,
 }
 
@@ -61,6 +63,18 @@ functions! {
     graphql_parser_parse_schema
 }
 
+extern "C" {
+    fn graphql_parser_version() -> *const c_char;
+}
+
+/// The version of the library that is linked; none where it isn't UTF-8, which no version is.
+pub fn version() -> Option<&'static str> {
+    // SAFETY: the function needs nothing, and gives a text that ends with a zero byte and never changes.
+    unsafe { CStr::from_ptr(graphql_parser_version()) }
+        .to_str()
+        .ok()
+}
+
 /// What a call tells and hands over.
 pub struct Outcome {
     pub status: u32,
@@ -90,7 +104,7 @@ fn told(
 pub fn check(call: CheckCall, text: &str, limits: Limits) -> Outcome {
     let (start, length) = (text.as_ptr(), text.len());
     let (status, places) = told(limits, |[selections, values, types], places| {
-        // SAFETY: `start` and `length` are those of one `str`, whose pointer is never null, and `places` is ours.
+        // SAFETY: `start` and `length` are those of one `str`, and `places` is ours.
         unsafe { call(start, length, selections, values, types, places) }
     });
     Outcome {
@@ -103,13 +117,12 @@ pub fn check(call: CheckCall, text: &str, limits: Limits) -> Outcome {
 pub fn parse(call: ParseCall, text: &str, limits: Limits, places_of_nodes: Places) -> Outcome {
     let (start, length) = (text.as_ptr(), text.len());
     let with_places = places_of_nodes == Places::Written;
-    let nothing = b"".as_ptr();
     let mut json = RawJson {
-        start: nothing,
+        start: ptr::null_mut(),
         length: 0,
     };
     let (status, places) = told(limits, |[selections, values, types], places| {
-        // SAFETY: as at `check`; `json` is ours, begins with no bytes as the header asks, and overlaps nothing.
+        // SAFETY: as at `check`; `json` is ours, and overlaps nothing.
         unsafe {
             call(
                 start,
@@ -123,9 +136,8 @@ pub fn parse(call: ParseCall, text: &str, limits: Limits, places_of_nodes: Place
             )
         }
     });
-    // SAFETY: a call that handed something over has set `json` to a block of `malloc` that is now ours, whose first
-    // `length` bytes are UTF-8. No such text is empty, and a call that handed nothing over has left the length 0.
-    let json = (json.length > 0).then(|| unsafe { Json::from_block(json.start, json.length) });
+    // SAFETY: a call sets `json` to null, or to a block of `malloc` that is now ours, whose first `length` bytes are UTF-8.
+    let json = unsafe { Json::from_block(json.start, json.length) };
     Outcome {
         status,
         places,

@@ -148,24 +148,58 @@ fn a_character_of_number_0_has_its_escape() {
     assert!(tree.ends_with('}'));
 }
 
+// A refused text, what a check shows of it, and what a parse shows of it: its message, as the JSON has it, and its places.
+const SHOWN: [(&str, &str, &str); 5] = [
+    ("{a", "syntax error at 1:3", "syntax error at 1:3"),
+    (
+        "{a}query B{b}",
+        "document contains multiple operations at 1:1 and 1:4",
+        "document contains multiple operations at 1:1 and 1:4",
+    ),
+    (
+        "query A{a}\nquery A{a}",
+        "an operation is defined twice at 2:1 and 1:1",
+        "operation A is defined twice at 2:1 and 1:1",
+    ),
+    (
+        "fragment F on T{a}{b}fragment F on T{c}",
+        "a fragment is defined twice at 1:22 and 1:1",
+        "fragment F is defined twice at 1:22 and 1:1",
+    ),
+    (
+        "fragment F on T{a}",
+        "document does not contain an operation",
+        "document does not contain an operation",
+    ),
+];
+
 #[test]
-fn an_error_is_shown_with_its_places() {
-    let shown = |text| {
-        check_query(text, Limits::default())
-            .unwrap_err()
-            .to_string()
-    };
-    assert_eq!(shown("{a"), "syntax error at 1:3");
+fn an_error_is_shown_with_its_message_and_its_places() {
+    let limits = Limits::default();
+    for (text, checked, parsed) in SHOWN {
+        assert_eq!(check_query(text, limits).unwrap_err().to_string(), checked);
+        let error = parse_query(text, limits, Places::LeftOut).unwrap_err();
+        assert_eq!(error.to_string(), parsed);
+        let json = error.json().unwrap();
+        assert!(json.starts_with(&format!("{{\"message\":\"{}\"", error.message())));
+    }
+    let error = check_schema("schema{query:A query:B}", limits).unwrap_err();
     assert_eq!(
-        shown("{a}query B{b}"),
-        "an operation without a name isn't the only one at 1:1 and 1:4"
+        error.message(),
+        "multiple roots of one kind in schema definition"
     );
-    assert_eq!(shown("fragment F on T{a}"), "no operation");
-    let error = parse_query("{a", Limits::default(), Places::LeftOut).unwrap_err();
+    let error = parse_schema("schema{query:A query:B}", limits, Places::LeftOut).unwrap_err();
+    assert_eq!(error.message(), "multiple query roots in schema definition");
+    let error = parse_query("{a", limits, Places::LeftOut).unwrap_err();
     assert_eq!(
         error.json(),
         Some(r#"{"message":"syntax error at 1:3","locations":[{"line":1,"column":3}]}"#)
     );
+}
+
+#[test]
+fn the_library_has_the_version_of_the_crate() {
+    assert_eq!(graphql_parser::version(), env!("CARGO_PKG_VERSION"));
 }
 
 #[test]

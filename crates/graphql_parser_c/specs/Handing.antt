@@ -1,6 +1,7 @@
 -- What a call in C hands over: the JSON of the parser's one answer.
 -- Source: this project's choice.
-use Rattle.std.specs.Prelude.{◌≡◌, ◌⊎◌, ℕ, List, Bool, true, false, Result, Ok, Err}
+use Rattle.std.specs.Prelude.{◌≡◌, ◌⊎◌, ℕ, List, Bool, true, false, Some, Result, Ok, Err}
+use Rattle.std.specs.Ptr.{null_ptr}
 use Rattle.graphql_grammar.specs.declared.error.Error.{Error}
 use Rattle.graphql_json.specs.declared.place.Places.{Places}
 use Rattle.graphql_json.specs.declared.place.Places.TheVariants as places
@@ -13,7 +14,7 @@ use Rattle.graphql_parser.specs.notation.Limits.{Limits}
 use Rattle.graphql_parser.specs.tokens.Cuts.{IsCutInto}
 use Rattle.graphql_parser.specs.tokens.Token.{Token}
 use Rattle.graphql_parser_c.specs.Statuses.{number_of, status_of}
-use Rattle.graphql_parser_c.specs.declared.handing.Json.{Json}
+use Rattle.graphql_parser_c.specs.declared.block.Json.{Json}
 use Rattle.graphql_parser_c.specs.declared.status.Status.TheVariants.{OutOfMemory, NotUtf8, LimitTooLarge}
 use Rattle.json.specs.Json as json
 
@@ -31,13 +32,18 @@ abbrev pub answer_value : {Document : Type 0} → (Document → json.Json) → R
 answer_value value (Ok document) = value document
 answer_value value (Err error) = error_value (error_text error) (error_places error)
 
--- where the status says something of the text, this JSON is handed over; else what was there stays
-abbrev pub IsHanded : List ℕ → ℕ → Json → Json → Type 0
-IsHanded text number before after = (SaysNothing number → after ≡ before) × (¬ SaysNothing number → after.bytes.now ≡ text)
+-- nothing to give back: null, and no bytes
+abbrev pub IsNothing : Json → Type 0
+IsNothing json = (json.start ≡ null_ptr) × (json.length ≡ 0)
+
+-- where the status says something of the text, this JSON is handed over; else nothing is
+abbrev pub IsHanded : List ℕ → ℕ → Json → Type 0
+IsHanded text number json = (SaysNothing number → IsNothing json) × (¬ SaysNothing number → json.text ≡ Some text)
 
 -- What a call hands over of a text, in a language and within limits, where `value` gives the JSON of a document: nothing, where
--- the status says nothing of the text, and else the JSON of the parser's answer for the tokens of the text.
-pub record IsAnswered {D Document : Type 0} (language : Language D Document) (value : Document → json.Json) (limits : Limits) (text : List ℕ) (number : ℕ) (before after : Json) : Type 0 where
-  pub nothing : SaysNothing number → after ≡ before
+-- the status says nothing of the text, and else the JSON of the parser's answer for the tokens of the text. What was there
+-- before the call makes no difference.
+pub record IsAnswered {D Document : Type 0} (language : Language D Document) (value : Document → json.Json) (limits : Limits) (text : List ℕ) (number : ℕ) (handed : Json) : Type 0 where
+  pub nothing : SaysNothing number → IsNothing handed
   pub answer : ¬ SaysNothing number → (tokens : List Token) → IsCutInto text tokens
-      → (answer : Result Document Error) × Answers language limits tokens answer × (number ≡ number_of (status_of answer)) × (after.bytes.now ≡ json_text (answer_value value answer))
+      → (answer : Result Document Error) × Answers language limits tokens answer × (number ≡ number_of (status_of answer)) × (handed.text ≡ Some (json_text (answer_value value answer)))

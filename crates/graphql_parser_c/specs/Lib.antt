@@ -1,4 +1,5 @@
 -- Public: what a reader of the contracts of the calls in C has to believe.
+pub mod Blocks
 pub mod Handing
 pub mod Statuses
 pub mod Telling

@@ -7,20 +7,13 @@ ghost use Rattle.graphql_parser_c.specs.Handing.{IsHanded, IsAnswered, answer_va
 ghost use Rattle.graphql_parser_c.specs.Statuses.{number_of, status_of};
 ghost use Rattle.graphql_parser_c.specs.Telling.{IsTold, limits_of, places_of};
 
+use crate::block::Json;
 use crate::documents::Document;
 use crate::status::Status;
 use crate::telling::{Places, Question, ReadableText, tell};
 use graphql_json::error_json;
 use graphql_parser::{Error, Result};
 use std::alloc::{AllocError, Global};
-
-/// JSON, in a block of the program's `malloc`, which whoever is handed it gives back by `free`.
-#[repr(C)]
-#[derive(Clone, Copy)]
-pub struct Json {
-    /// The text, in UTF-8.
-    pub bytes: &'static [u8],
-}
 
 // The JSON of an answer; an error says that memory was refused, to the parser or to the writer.
 fn written<D: Document>(
@@ -39,7 +32,7 @@ fn written<D: Document>(
     }
 }
 
-// Tells an answer and hands over its JSON; or, where memory was refused to the JSON, tells that alone.
+// Tells an answer and hands over its JSON; or, where memory was refused to the JSON, tells that alone and hands over nothing.
 fn hand_over<D: Document>(
     alloc: Global,
     answer: &Result<D>,
@@ -48,19 +41,18 @@ fn hand_over<D: Document>(
     json: &mut Json,
 ) -> Status
     ensures told { (told : SpecResult D SpecError) × ((told ≡ answer.now) ⊎ (told ≡ Err OutOfMemory)) × (result ≡ status_of told) × (places.new ≡ places_of told) }
-    ensures handed { IsHanded (json_text (answer_value (D.value (places_asked with_places)) answer.now)) (number_of result) json.old json.new }
+    ensures handed { IsHanded (json_text (answer_value (D.value (places_asked with_places)) answer.now)) (number_of result) json.new }
 {
     let Ok(bytes) = written(alloc, answer, with_places) else {
         *places = Places::none();
+        *json = Json::nothing();
         return Status::OutOfMemory;
     };
-    *json = Json {
-        bytes: bytes.leak(),
-    };
+    *json = Json::of(bytes.leak());
     tell(answer, places)
 }
 
-/// Reads a text, tells the answer, and hands over its JSON.
+/// Reads a text, tells the answer, and hands over its JSON; or tells why the text can't be read, and hands over nothing.
 pub fn parse<D: Document>(
     alloc: Global,
     question: &Question<'_>,
@@ -69,12 +61,13 @@ pub fn parse<D: Document>(
     json: &mut Json,
 ) -> u32
     ensures told { IsTold D.language (limits_of question.now.selections question.now.values question.now.types) question.now.text.now result places.new }
-    ensures handed { IsAnswered D.language (D.value (places_asked with_places)) (limits_of question.now.selections question.now.values question.now.types) question.now.text.now result json.old json.new }
+    ensures handed { IsAnswered D.language (D.value (places_asked with_places)) (limits_of question.now.selections question.now.values question.now.types) question.now.text.now result json.new }
 {
     let ReadableText { text, limits } = match question.readable() {
         Ok(readable) => readable,
         Err(status) => {
             *places = Places::none();
+            *json = Json::nothing();
             return status.number();
         }
     };

@@ -2,13 +2,15 @@
 //!
 //! A check tells whether a text is a request or a schema file, by a status and up to two places, and keeps no tree. A
 //! parse tells the same, and hands over the tree, or the error, as JSON. `bindings/graphql_parser.h` declares the four
-//! functions and says what a caller owes; `bindings/README.md` says how to link them.
+//! functions, without the `_c` in their names, and says what a caller owes; `bindings/c/library.c` passes each call on,
+//! and an empty text for one that is null; `bindings/README.md` says how to link them.
 //!
 //! Proved of each call, for every text and all limits: its status and its places are those of the parser's one answer
 //! for that text, as `graphql_parser` promises it, or the status says that a limit is too large or that the text isn't
 //! UTF-8, exactly where that is so. Where the status says something of the text, what a parse hands over is the JSON of
-//! that answer's tree or error, as `graphql_json` defines it; else what the caller had stays. That it lies in a block
-//! that `free` takes is tested, by `bindings/check.sh`.
+//! that answer's tree or error, as `graphql_json` defines it, and these bytes lie where the pointer says; else null is
+//! handed over, with no bytes. What was there before makes no difference. That the JSON lies in a block that `free` takes
+//! is tested, by `bindings/check.sh`.
 #![tactic(auto)]
 
 ghost use Rattle.graphql_parser.specs.requests.Requests.{requests};
@@ -20,6 +22,7 @@ ghost use Rattle.graphql_parser.specs.trees.SchemaViews.{schema_document_tree};
 ghost use Rattle.graphql_parser_c.specs.Handing.{IsAnswered, places_asked};
 ghost use Rattle.graphql_parser_c.specs.Telling.{IsTold, limits_of};
 
+mod block;
 mod documents;
 mod handing;
 mod status;
@@ -27,8 +30,8 @@ mod telling;
 #[cfg(test)]
 mod tests;
 
+pub use block::Json;
 use graphql_parser::types::{ExecutableDocument, ServiceDocument};
-pub use handing::Json;
 use handing::parse;
 use std::alloc::Global;
 pub use telling::{Place, Places};
@@ -40,7 +43,7 @@ use telling::{Question, check};
 /// most 256. `places` is written on every call: 0:0 stands where there is no place. It takes memory for the tree, and
 /// gives it back.
 #[unsafe(no_mangle)]
-pub extern "C" fn graphql_parser_check_query(
+pub extern "C" fn graphql_parser_c_check_query(
     alloc: Global,
     text: &[u8],
     selections: usize,
@@ -59,11 +62,11 @@ pub extern "C" fn graphql_parser_check_query(
     check::<ExecutableDocument>(alloc, &question, places)
 }
 
-/// Tells whether a text is a schema file, as [`graphql_parser_check_query`] does of a request.
+/// Tells whether a text is a schema file, as [`graphql_parser_c_check_query`] does of a request.
 ///
 /// A schema file has no selection sets: `selections` makes no difference, but it may not be over 256 either.
 #[unsafe(no_mangle)]
-pub extern "C" fn graphql_parser_check_schema(
+pub extern "C" fn graphql_parser_c_check_schema(
     alloc: Global,
     text: &[u8],
     selections: usize,
@@ -82,14 +85,14 @@ pub extern "C" fn graphql_parser_check_schema(
     check::<ServiceDocument>(alloc, &question, places)
 }
 
-/// Reads a request as [`graphql_parser_check_query`] does, and hands over its tree as JSON, or its error.
+/// Reads a request as [`graphql_parser_c_check_query`] does, and hands over its tree as JSON, or its error.
 ///
 /// The JSON is that of `graphql_json`: for an accepted text `request_json`, in which each node has its place where
 /// `with_places` is true; for a refused one `error_json`. It is handed over in a block of the program's `malloc`, which
-/// the caller gives back by `free`. Where memory was refused, a limit is too large or the text isn't UTF-8, `json` is
-/// left as it was.
+/// the caller gives back by `free`. Where memory was refused, a limit is too large or the text isn't UTF-8, it is null
+/// and has no bytes. `json` is written on every call, and what stood there isn't looked at.
 #[unsafe(no_mangle)]
-pub extern "C" fn graphql_parser_parse_query(
+pub extern "C" fn graphql_parser_c_parse_query(
     alloc: Global,
     text: &[u8],
     selections: usize,
@@ -100,7 +103,7 @@ pub extern "C" fn graphql_parser_parse_query(
     json: &mut Json,
 ) -> u32
     ensures told { IsTold requests (limits_of selections values types) text.now result places.new }
-    ensures handed { IsAnswered requests (λ document. request_value (places_asked with_places) (document_tree document)) (limits_of selections values types) text.now result json.old json.new }
+    ensures handed { IsAnswered requests (λ document. request_value (places_asked with_places) (document_tree document)) (limits_of selections values types) text.now result json.new }
 {
     let question = Question {
         text,
@@ -111,10 +114,10 @@ pub extern "C" fn graphql_parser_parse_query(
     parse::<ExecutableDocument>(alloc, &question, with_places, places, json)
 }
 
-/// Reads a schema file as [`graphql_parser_check_schema`] does, and hands over its tree as JSON, or its error, as
-/// [`graphql_parser_parse_query`] does of a request.
+/// Reads a schema file as [`graphql_parser_c_check_schema`] does, and hands over its tree as JSON, or its error, as
+/// [`graphql_parser_c_parse_query`] does of a request.
 #[unsafe(no_mangle)]
-pub extern "C" fn graphql_parser_parse_schema(
+pub extern "C" fn graphql_parser_c_parse_schema(
     alloc: Global,
     text: &[u8],
     selections: usize,
@@ -125,7 +128,7 @@ pub extern "C" fn graphql_parser_parse_schema(
     json: &mut Json,
 ) -> u32
     ensures told { IsTold schemas (limits_of selections values types) text.now result places.new }
-    ensures handed { IsAnswered schemas (λ document. schema_value (places_asked with_places) (schema_document_tree document)) (limits_of selections values types) text.now result json.old json.new }
+    ensures handed { IsAnswered schemas (λ document. schema_value (places_asked with_places) (schema_document_tree document)) (limits_of selections values types) text.now result json.new }
 {
     let question = Question {
         text,

@@ -1,16 +1,11 @@
 //! The calls, made as a caller in C makes them.
 use crate::{
-    Json, Place, Places, graphql_parser_check_query, graphql_parser_check_schema,
-    graphql_parser_parse_query, graphql_parser_parse_schema,
+    Json, Place, Places, graphql_parser_c_check_query, graphql_parser_c_check_schema,
+    graphql_parser_c_parse_query, graphql_parser_c_parse_schema,
 };
-use graphql_json::{error_json, request_json, schema_json};
-use graphql_parser::{parse_query, parse_schema};
 use rows::{Subject, failures};
 use std::alloc::Global;
 use std::test::Fail;
-
-// What a caller had there before the call.
-const EARLIER: &[u8] = b"earlier";
 
 #[derive(Clone, Copy)]
 enum Language {
@@ -25,12 +20,11 @@ struct Calls {
     limits: (usize, usize, usize),
 }
 
-// What a call tells, and what is handed over.
-#[derive(Clone, Copy)]
+// What a call tells. What a parse hands over is read by the tests in C.
+#[derive(Clone, Copy, PartialEq, Eq)]
 struct Told {
     status: u32,
     places: Places,
-    json: &'static [u8],
 }
 
 impl Calls {
@@ -39,25 +33,21 @@ impl Calls {
         let (selections, values, types) = self.limits;
         let status = match self.language {
             Language::Request => {
-                graphql_parser_check_query(alloc, text, selections, values, types, &mut places)
+                graphql_parser_c_check_query(alloc, text, selections, values, types, &mut places)
             }
             Language::SchemaFile => {
-                graphql_parser_check_schema(alloc, text, selections, values, types, &mut places)
+                graphql_parser_c_check_schema(alloc, text, selections, values, types, &mut places)
             }
         };
-        Told {
-            status,
-            places,
-            json: EARLIER,
-        }
+        Told { status, places }
     }
 
     fn parse(&self, alloc: Global, text: &[u8], with_places: bool) -> Told {
         let mut places = elsewhere();
-        let mut json = Json { bytes: EARLIER };
+        let mut json = Json::of(b"earlier");
         let (selections, values, types) = self.limits;
         let status = match self.language {
-            Language::Request => graphql_parser_parse_query(
+            Language::Request => graphql_parser_c_parse_query(
                 alloc,
                 text,
                 selections,
@@ -67,7 +57,7 @@ impl Calls {
                 &mut places,
                 &mut json,
             ),
-            Language::SchemaFile => graphql_parser_parse_schema(
+            Language::SchemaFile => graphql_parser_c_parse_schema(
                 alloc,
                 text,
                 selections,
@@ -78,11 +68,7 @@ impl Calls {
                 &mut json,
             ),
         };
-        Told {
-            status,
-            places,
-            json: json.bytes,
-        }
+        Told { status, places }
     }
 }
 
@@ -98,22 +84,18 @@ fn elsewhere() -> Places {
     }
 }
 
-// The status, the places, and whether something was handed over.
+// The status and the places, by each of the two calls.
 impl Subject for Calls {
     fn answer(&self, alloc: Global, text: &str) -> Result<String, Fail> {
         let told = self.check(alloc, text.as_bytes());
-        let parsed = self.parse(alloc, text.as_bytes(), true);
-        if told.status != parsed.status || told.places != parsed.places {
-            return Ok(String::from_str(alloc, "not what a check tells")?);
+        for with_places in [false, true] {
+            if self.parse(alloc, text.as_bytes(), with_places) != told {
+                return Ok(String::from_str(alloc, "not what a check tells")?);
+            }
         }
         let Places { first, second } = told.places;
-        let handed = if parsed.json == EARLIER {
-            "no JSON"
-        } else {
-            "JSON"
-        };
         Ok(format!(in alloc;
-            "{} {}:{} {}:{} {handed}",
+            "{} {}:{} {}:{}",
             told.status, first.line, first.column, second.line, second.column,
         )?)
     }
@@ -134,45 +116,45 @@ const fn schema_files(selections: usize, values: usize, types: usize) -> Calls {
 }
 
 const REQUESTS: &str = r#"
-{a} ⇒ 0 0:0 0:0 JSON
-{a ⇒ 4 1:3 0:0 JSON
-{a␊␠␠?} ⇒ 4 2:3 0:0 JSON
- ⇒ 4 1:1 0:0 JSON
-⟨65×{a⟩⟨65×}⟩ ⇒ 0 0:0 0:0 JSON
-⟨66×{a⟩ ⇒ 5 0:0 0:0 JSON
-{a}query B{b} ⇒ 6 1:1 1:4 JSON
-query A{a}query B{b}query A{c} ⇒ 7 1:21 1:1 JSON
-fragment F on T{a}{b}fragment F on T{c} ⇒ 8 1:22 1:1 JSON
-fragment F on T{a} ⇒ 9 0:0 0:0 JSON
+{a} ⇒ 0 0:0 0:0
+{a ⇒ 4 1:3 0:0
+{a␊␠␠?} ⇒ 4 2:3 0:0
+ ⇒ 4 1:1 0:0
+⟨65×{a⟩⟨65×}⟩ ⇒ 0 0:0 0:0
+⟨66×{a⟩ ⇒ 5 0:0 0:0
+{a}query B{b} ⇒ 6 1:1 1:4
+query A{a}query B{b}query A{c} ⇒ 7 1:21 1:1
+fragment F on T{a}{b}fragment F on T{c} ⇒ 8 1:22 1:1
+fragment F on T{a} ⇒ 9 0:0 0:0
 "#;
 
 const SCHEMA_FILES: &str = r#"
-scalar A ⇒ 0 0:0 0:0 JSON
-type ⇒ 4 1:5 0:0 JSON
-{a} ⇒ 4 1:1 0:0 JSON
-input A{f:⟨64×[⟩B⟨64×]⟩} ⇒ 0 0:0 0:0 JSON
-input A{f:⟨65×[⟩ ⇒ 5 0:0 0:0 JSON
-schema{query:A query:B} ⇒ 10 1:16 1:1 JSON
-scalar A schema{mutation:M} ⇒ 11 1:10 0:0 JSON
+scalar A ⇒ 0 0:0 0:0
+type ⇒ 4 1:5 0:0
+{a} ⇒ 4 1:1 0:0
+input A{f:⟨64×[⟩B⟨64×]⟩} ⇒ 0 0:0 0:0
+input A{f:⟨65×[⟩ ⇒ 5 0:0 0:0
+schema{query:A query:B} ⇒ 10 1:16 1:1
+scalar A schema{mutation:M} ⇒ 11 1:10 0:0
 "#;
 
 const FLAT_REQUESTS: &str = r#"
-{a} ⇒ 0 0:0 0:0 JSON
-{a{b}} ⇒ 5 0:0 0:0 JSON
-{a(b:[1])} ⇒ 5 0:0 0:0 JSON
-query($a:[A]){a} ⇒ 5 0:0 0:0 JSON
+{a} ⇒ 0 0:0 0:0
+{a{b}} ⇒ 5 0:0 0:0
+{a(b:[1])} ⇒ 5 0:0 0:0
+query($a:[A]){a} ⇒ 5 0:0 0:0
 "#;
 
 const FLAT_SCHEMA_FILES: &str = r#"
-input A{f:B=1} ⇒ 0 0:0 0:0 JSON
-input A{f:B=[1]} ⇒ 5 0:0 0:0 JSON
-input A{f:[B]} ⇒ 5 0:0 0:0 JSON
+input A{f:B=1} ⇒ 0 0:0 0:0
+input A{f:B=[1]} ⇒ 5 0:0 0:0
+input A{f:[B]} ⇒ 5 0:0 0:0
 "#;
 
 const TOO_LARGE: &str = r#"
-{a} ⇒ 3 0:0 0:0 no JSON
-scalar A ⇒ 3 0:0 0:0 no JSON
-? ⇒ 3 0:0 0:0 no JSON
+{a} ⇒ 3 0:0 0:0
+scalar A ⇒ 3 0:0 0:0
+? ⇒ 3 0:0 0:0
 "#;
 
 #[test]
@@ -181,13 +163,13 @@ fn each_call_tells_the_status_and_the_places(rt: HostRuntime) -> Result<(), Fail
         rt.alloc(),
         &[
             (requests(64, 64, 64), REQUESTS),
-            (requests(256, 256, 256), "{a} ⇒ 0 0:0 0:0 JSON"),
+            (requests(256, 256, 256), "{a} ⇒ 0 0:0 0:0"),
             (requests(0, 0, 0), FLAT_REQUESTS),
             (requests(257, 0, 0), TOO_LARGE),
             (requests(0, 257, 0), TOO_LARGE),
             (requests(0, 0, 257), TOO_LARGE),
             (schema_files(64, 64, 64), SCHEMA_FILES),
-            (schema_files(256, 256, 256), "scalar A ⇒ 0 0:0 0:0 JSON"),
+            (schema_files(256, 256, 256), "scalar A ⇒ 0 0:0 0:0"),
             (schema_files(0, 0, 0), FLAT_SCHEMA_FILES),
             (schema_files(257, 0, 0), TOO_LARGE),
             (schema_files(0, 257, 0), TOO_LARGE),
@@ -211,75 +193,9 @@ fn a_text_that_is_not_utf8_is_told_as_that(rt: HostRuntime) {
             ] {
                 assert_eq!(rt; told.status, 2);
                 assert_eq!(rt; told.places, Places::none());
-                assert_eq!(rt; told.json, EARLIER);
             }
         }
         // The limits are looked at first.
         assert_eq!(rt; requests(257, 0, 0).check(rt.alloc(), text).status, 3);
     }
-}
-
-// A request and its tree, as GraphQL.js makes it.
-const REQUEST: &str = "{a(b:\"\\u0000c\")}";
-
-const REQUEST_JSON: &str =
-    r#"{"kind":"Document","definitions":[{"kind":"OperationDefinition","operation":"query","variableDefinitions":[],"directives":[],"selectionSet":{"kind":"SelectionSet","selections":[{"kind":"Field","name":{"kind":"Name","value":"a"},"arguments":[{"kind":"Argument","name":{"kind":"Name","value":"b"},"value":{"kind":"StringValue","value":"\u0000c"}}],"directives":[]}]}}]}"#;
-
-// A schema file and its tree, with places.
-const SCHEMA_FILE: &str = "scalar A";
-
-const SCHEMA_FILE_JSON: &str =
-    r#"{"kind":"Document","definitions":[{"kind":"ScalarTypeDefinition","line":1,"column":1,"name":{"kind":"Name","line":1,"column":8,"value":"A"},"directives":[]}]}"#;
-
-const REFUSED_JSON: &str =
-    r#"{"message":"syntax error at 1:3","locations":[{"line":1,"column":3}]}"#;
-
-#[test]
-fn a_parse_hands_over_its_tree_or_its_error(rt: HostRuntime) {
-    let alloc = rt.alloc();
-    let requests = requests(64, 64, 64);
-    let request = requests.parse(alloc, REQUEST.as_bytes(), false);
-    assert_eq!(rt; request.json, REQUEST_JSON.as_bytes());
-    let refused = requests.parse(alloc, b"{a", true);
-    assert_eq!(rt; refused.json, REFUSED_JSON.as_bytes());
-    let schema_files = schema_files(64, 64, 64);
-    let schema_file = schema_files.parse(alloc, SCHEMA_FILE.as_bytes(), true);
-    assert_eq!(rt; schema_file.json, SCHEMA_FILE_JSON.as_bytes());
-    let refused = schema_files.parse(alloc, b"? ", false);
-    assert_eq!(rt; refused.status, 4);
-}
-
-// Texts whose JSON is held against what `graphql_json` writes.
-const WRITTEN_REQUEST: &str =
-    "query A($v: [Int!]! = [1, 2]) @d { b: a(c: {d: $v}) { ...F ... on T { e } } } fragment F on T { f }";
-
-const WRITTEN_SCHEMA_FILE: &str =
-    "\"\"\"text\"\"\" type A implements B & C @d(e: 1) { f(g: H = \"i\"): [J!]! } extend schema { query: Q }";
-
-#[test]
-fn the_json_is_that_of_graphql_json(rt: HostRuntime) -> Result<(), Fail> {
-    let alloc = rt.alloc();
-    for (with_places, places) in [
-        (false, graphql_json::Places::LeftOut),
-        (true, graphql_json::Places::Written),
-    ] {
-        let document = parse_query(alloc, WRITTEN_REQUEST).ok().ok_or("refused")?;
-        let wanted = request_json(alloc, &document, places)?;
-        let told = requests(64, 64, 64).parse(alloc, WRITTEN_REQUEST.as_bytes(), with_places);
-        assert_eq!(rt; told.json, wanted.as_slice());
-        let document = parse_schema(alloc, WRITTEN_SCHEMA_FILE)
-            .ok()
-            .ok_or("refused")?;
-        let wanted = schema_json(alloc, &document, places)?;
-        let told = schema_files(64, 64, 64).parse(
-            alloc,
-            WRITTEN_SCHEMA_FILE.as_bytes(),
-            with_places,
-        );
-        assert_eq!(rt; told.json, wanted.as_slice());
-        let error = parse_schema(alloc, "?").err().ok_or("accepted")?;
-        let told = schema_files(64, 64, 64).parse(alloc, b"?", with_places);
-        assert_eq!(rt; told.json, error_json(alloc, &error)?.as_slice());
-    }
-    Ok(())
 }

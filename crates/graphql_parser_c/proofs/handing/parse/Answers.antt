@@ -17,7 +17,7 @@ number_told answer told number (inr e) of_told says = absurd (says (inl (of_told
 pub returns-clause-handed : goal.returns-clause-handed
 returns-clause-handed g c =
     let text : List ℕ = json_text (answer_value (g.D.Document.value (places_asked c.args.with_places)) c.read-answer.result) in
-    let Handed : ℕ → Type 0 = λ number. IsHanded text number c.args.json.now c.hand_over.new.json in
+    let Handed : ℕ → Type 0 = λ number. IsHanded text number c.hand_over.new.json in
     let handed = subst Handed (sym c.number-2.ensures) c.hand_over.ensures.handed in
     let told = c.hand_over.ensures.told in
     let read = λ (tokens : List Token) (cut : IsCutInto c.args.question.now.text.now tokens).
