@@ -1,19 +1,19 @@
-//! Checking texts: what they are read as, and whether each is good.
+//! Checking texts: whether each is good.
 ghost use Rattle.std.specs.Prelude.{◌≡◌, ◌≤◌, ◌↔◌, IfOk, map, Ok, None};
 ghost use Rattle.gql.specs.checked.Good.{IsGoodText, IsGood, GiveGoodTexts};
 ghost use Rattle.gql.specs.declared.check.Found.TheVariants.{Good};
 
 use crate::command::Call;
+use crate::language::read_as;
 use crate::output::{complain, complain_of_file, shown_name};
 use crate::texts::{Texts, Unread};
-use graphql_parser::lexer::Tokens;
 use graphql_parser::{Error, Limits, parse_query_limited, parse_schema_limited};
 use graphql_report::{Language, Style, explain_in};
 use std::alloc::{AllocError, Global};
 use std::io::Write;
 
 /// How many files were good, refused, and without a text.
-#[derive(Clone, Copy, Debug, PartialEq, Eq)]
+#[derive(Clone, Copy)]
 pub struct Tally {
     pub good: usize,
     pub refused: usize,
@@ -29,7 +29,7 @@ pub struct Told {
 }
 
 // What was found of a file.
-#[derive(Clone, Copy, Debug, PartialEq, Eq)]
+#[derive(Clone, Copy, PartialEq, Eq)]
 enum Found {
     Good,
     Refused,
@@ -50,55 +50,20 @@ impl Found {
     }
 }
 
-const REQUEST_WORDS: [&str; 4] = ["query", "mutation", "subscription", "fragment"];
-
-const SCHEMA_WORDS: [&str; 9] = [
-    "schema",
-    "extend",
-    "scalar",
-    "type",
-    "interface",
-    "union",
-    "enum",
-    "input",
-    "directive",
-];
-
-// What a text is: told by its first token that decides, which is a keyword of a definition, a string, with which
-// descriptions begin, or `{` as the very first token. Where none decides, it is a request.
-fn language_of(text: &str) -> Language {
-    let mut is_first = true;
-    for token in Tokens::new(text) {
-        let is_word = token.kind.is_name();
-        if is_word && SCHEMA_WORDS.contains(&token.text) {
-            return Language::Schemas;
-        }
-        if is_word && REQUEST_WORDS.contains(&token.text) {
-            return Language::Requests;
-        }
-        if is_first && token.text == "{" {
-            return Language::Requests;
-        }
-        is_first = false;
-        if token.kind.is_string() || token.kind.is_block() {
-            return Language::Schemas;
-        }
-    }
-    Language::Requests
-}
-
-// The error of a text within these limits; None where it has none.
+// The error of a text within these limits; None where it has none, or lacks an operation and may.
 fn error_of(
     alloc: Global,
     language: Language,
     text: &str,
     limits: Limits,
+    takes_fragments: bool,
 ) -> Result<Option<Error>, AllocError>
-    ensures { (result ≡ Ok None) → IsGoodText language limits text.now }
+    ensures { (result ≡ Ok None) → IsGoodText takes_fragments language limits text.now }
 {
     let error = match language {
         Language::Requests => match parse_query_limited(alloc, text, limits) {
             Ok(_) => return Ok(None),
+            Err(Error::MissingOperation) if takes_fragments => return Ok(None),
             Err(error) => error,
         },
         Language::Schemas => match parse_schema_limited(alloc, text, limits) {
@@ -112,14 +77,6 @@ fn error_of(
     }
 }
 
-/// What a text is read as: by the option, or as it tells itself.
-pub fn read_as(language: Option<Language>, text: &str) -> Language {
-    match language {
-        Some(language) => language,
-        None => language_of(text),
-    }
-}
-
 /// Reads each file and checks it, one after another, and reports on `err` what is wrong with it. No text is kept while the
 /// next one is read. The status is 0 only where each file has a text that is good. An error says that memory was refused.
 pub fn check_files<T: Texts, E: Write>(
@@ -130,7 +87,7 @@ pub fn check_files<T: Texts, E: Write>(
     err: &mut E,
 ) -> Result<Told, AllocError>
     ensures status { IfOk result (λ told. told.status ≤ 2) }
-    ensures good { IfOk result (λ told. told.status ≡ 0 → GiveGoodTexts T.gives call.now.limits texts.old (map (λ name. name.now) call.now.files.items) texts.new) }
+    ensures good { IfOk result (λ told. told.status ≡ 0 → GiveGoodTexts T.gives call.now.takes_fragments call.now.limits texts.old (map (λ name. name.now) call.now.files.items) texts.new) }
 {
     let mut lines = String::new(alloc);
     let mut tally = Tally {
@@ -141,12 +98,13 @@ pub fn check_files<T: Texts, E: Write>(
     let mut worst: u8 = 0;
     for name in &call.files {
         let text = texts.text(alloc, name);
-        let name = shown_name(name);
-        let found = check_text(alloc, call, style, name, &text, err)?;
+        let shown = shown_name(alloc, name)?;
+        let shown = shown.as_str();
+        let found = check_text(alloc, call, style, name, shown, &text, err)?;
         worst = worst.max(found.status());
         tally = counted(tally, found);
         if found == Found::Good {
-            writeln!(lines, "{name}: good")?;
+            writeln!(lines, "{shown}: good")?;
         }
     }
     Ok(Told {
@@ -167,43 +125,54 @@ fn counted(tally: Tally, found: Found) -> Tally {
     tally
 }
 
-// What is found of the text of a file, or of there being none.
+// What is found of the text of a file, or of there being none. The file is told by the name that is shown.
 fn check_text<E: Write>(
     alloc: Global,
     call: &Call<'_>,
     style: Style,
     name: &str,
+    shown: &str,
     text: &Result<String, Unread>,
     err: &mut E,
 ) -> Result<Found, AllocError>
-    ensures { (result ≡ Ok Good) → IsGood call.now.limits text.now }
+    ensures { (result ≡ Ok Good) → IsGood call.now.takes_fragments call.now.limits text.now }
 {
     match text {
         Err(why) => {
-            complain_of_file(alloc, name, *why, err)?;
+            complain_of_file(alloc, shown, *why, err)?;
             Ok(Found::Unread)
         }
         Ok(text) => {
             let text = text.as_str();
-            let language = read_as(call.language, text);
-            match error_of(alloc, language, text, call.limits)? {
+            let language = read_as(alloc, call.language, name, text)?;
+            match error_of(alloc, language, text, call.limits, call.takes_fragments)? {
                 None => Ok(Found::Good),
                 Some(error) => {
-                    let report = explain_in(
-                        style,
-                        alloc,
-                        language,
-                        name,
-                        text,
-                        call.limits,
-                        &error,
-                    )?;
+                    let report = report(alloc, call, style, language, shown, text, &error)?;
                     complain(err, report.as_str());
                     Ok(Found::Refused)
                 }
             }
         }
     }
+}
+
+// The report of an error. A file of fragments alone is told how it is checked.
+fn report(
+    alloc: Global,
+    call: &Call<'_>,
+    style: Style,
+    language: Language,
+    shown: &str,
+    text: &str,
+    error: &Error,
+) -> Result<String, AllocError> {
+    if matches!(error, Error::MissingOperation) {
+        return format!(in alloc;
+            "{shown}: {error} (use --fragments if this file holds fragments alone)\n"
+        );
+    }
+    explain_in(style, alloc, language, shown, text, call.limits, error)
 }
 
 /// How many files there were, as `3 files: 1 good, 1 refused, 1 not read`.

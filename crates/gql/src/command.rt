@@ -4,7 +4,7 @@ use graphql_report::Language;
 use std::alloc::{AllocError, Global};
 
 /// What is done with the texts.
-#[derive(Clone, Copy, Debug, PartialEq, Eq)]
+#[derive(Clone, Copy, PartialEq, Eq)]
 pub enum Command {
     /// `check`: what is wrong with each of them is reported.
     Check,
@@ -20,11 +20,13 @@ pub struct Call<'a> {
     pub command: Command,
     /// The names of the files; `-` is standard input.
     pub files: Vec<&'a str>,
-    /// What the texts are read as; None where each text tells it.
+    /// What the texts are read as; None where each file tells it.
     pub language: Option<Language>,
     pub limits: Limits,
     /// `-v`: a line for each good text.
     pub is_verbose: bool,
+    /// `--fragments`: a request that lacks nothing but an operation is good.
+    pub takes_fragments: bool,
     /// `--places`: the tree has the place of each node.
     pub has_places: bool,
 }
@@ -35,14 +37,29 @@ pub enum Asked<'a> {
     Call(Call<'a>),
     Help,
     Version,
-    /// The arguments are wrong.
-    Wrong,
+    Wrong(Wrong<'a>),
+}
+
+/// What is wrong with the arguments.
+#[derive(Clone, Copy)]
+pub enum Wrong<'a> {
+    NoCommand,
+    UnknownCommand(&'a str),
+    UnknownOption(&'a str),
+    /// `--limits` is the last word.
+    NoLimits,
+    /// What stands after `--limits` isn't three numbers of at most 256.
+    WrongLimits(&'a str),
+    /// A second file for a command that takes one.
+    SecondFile(&'a str),
+    /// An argument is no text.
+    NotText,
 }
 
 /// What these arguments ask for: those after the program's name.
 pub fn command_of<'a>(alloc: Global, words: &'a [String]) -> Result<Asked<'a>, AllocError> {
     let Some((first, words)) = words.split_first() else {
-        return Ok(Asked::Wrong);
+        return Ok(Asked::Wrong(Wrong::NoCommand));
     };
     let command = match first.as_str() {
         "check" => Command::Check,
@@ -50,7 +67,8 @@ pub fn command_of<'a>(alloc: Global, words: &'a [String]) -> Result<Asked<'a>, A
         "tokens" => Command::Tokens,
         "--help" | "-h" | "help" => return Ok(Asked::Help),
         "--version" | "-V" => return Ok(Asked::Version),
-        _ => return Ok(Asked::Wrong),
+        other if is_option(other) => return Ok(Asked::Wrong(Wrong::UnknownOption(other))),
+        other => return Ok(Asked::Wrong(Wrong::UnknownCommand(other))),
     };
     let mut call = Call {
         command,
@@ -58,18 +76,25 @@ pub fn command_of<'a>(alloc: Global, words: &'a [String]) -> Result<Asked<'a>, A
         language: None,
         limits: Limits::default(),
         is_verbose: false,
+        takes_fragments: false,
         has_places: false,
     };
-    if !read_words(&mut call, words)? {
-        return Ok(Asked::Wrong);
+    if let Some(other) = read_words(&mut call, words)? {
+        return Ok(other);
     }
     if call.files.is_empty() {
         call.files.push("-")?;
     }
-    if command != Command::Check && call.files.len() > 1 {
-        return Ok(Asked::Wrong);
+    if command != Command::Check
+        && let Some(second) = call.files.get(1)
+    {
+        return Ok(Asked::Wrong(Wrong::SecondFile(second)));
     }
     Ok(Asked::Call(call))
+}
+
+fn is_option(word: &str) -> bool {
+    word.starts_with('-') && word != "-"
 }
 
 // What the next word is.
@@ -82,32 +107,39 @@ enum Next {
     File,
 }
 
-// Whether all words could be read into the call.
-fn read_words<'a>(call: &mut Call<'a>, words: &'a [String]) -> Result<bool, AllocError> {
+// Reads the words into the call. What is asked for in its place, where a word is wrong or asks for help.
+fn read_words<'a>(
+    call: &mut Call<'a>,
+    words: &'a [String],
+) -> Result<Option<Asked<'a>>, AllocError> {
     let mut next = Next::Any;
     for word in words {
         let word = word.as_str();
         match next {
             Next::Limits => {
                 let Some(limits) = limits_of(word) else {
-                    return Ok(false);
+                    return Ok(Some(Asked::Wrong(Wrong::WrongLimits(word))));
                 };
                 call.limits = limits;
                 next = Next::Any;
             }
-            Next::Any if word.starts_with('-') && word != "-" => match word {
+            Next::Any if is_option(word) => match word {
                 "--" => next = Next::File,
                 "--limits" => next = Next::Limits,
+                "--help" | "-h" => return Ok(Some(Asked::Help)),
                 _ => {
                     if !read_option(call, word) {
-                        return Ok(false);
+                        return Ok(Some(Asked::Wrong(Wrong::UnknownOption(word))));
                     }
                 }
             },
             Next::Any | Next::File => call.files.push(word)?,
         }
     }
-    Ok(next != Next::Limits)
+    if next == Next::Limits {
+        return Ok(Some(Asked::Wrong(Wrong::NoLimits)));
+    }
+    Ok(None)
 }
 
 // Whether the option could be read into the call.
@@ -116,6 +148,7 @@ fn read_option(call: &mut Call<'_>, word: &str) -> bool {
         "--query" => call.language = Some(Language::Requests),
         "--schema" => call.language = Some(Language::Schemas),
         "-v" | "--verbose" => call.is_verbose = true,
+        "--fragments" => call.takes_fragments = true,
         "--places" => call.has_places = true,
         _ => return false,
     }

@@ -8,6 +8,7 @@
 
 mod check;
 mod command;
+mod language;
 mod listed;
 mod output;
 mod program;
@@ -48,13 +49,17 @@ fn words(rt: &HostRuntime) -> io::Result<Vec<String>> {
     Ok(words)
 }
 
-// Reports have colours on a terminal, unless the variable NO_COLOR is set to something.
+// Reports have colours on a terminal that can show them, unless the variable NO_COLOR is set to something.
 fn style_of(rt: &HostRuntime) -> Style {
     let allows_colours = match env::var(rt, "NO_COLOR") {
         Ok(value) => value.is_empty(),
         Err(error) => matches!(error, VarError::NotPresent),
     };
-    if allows_colours && rt.stderr().is_terminal() {
+    let is_dumb = match env::var(rt, "TERM") {
+        Ok(value) => value.as_str() == "dumb",
+        Err(_) => false,
+    };
+    if allows_colours && !is_dumb && rt.stderr().is_terminal() {
         Style::Coloured
     } else {
         Style::Plain

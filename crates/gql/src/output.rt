@@ -1,10 +1,12 @@
 //! Writing: whole texts, and complaints.
+use crate::command::Wrong;
 use crate::texts::Unread;
 use std::alloc::{AllocError, Global};
-use std::io::Write;
+use std::io;
+use std::io::{ErrorKind, Write};
 
 /// Why the work stops, with status 2.
-#[derive(Clone, Copy, Debug, PartialEq, Eq)]
+#[derive(Clone, Copy)]
 pub enum Stop {
     Unwritable,
     NoMemory,
@@ -16,21 +18,26 @@ impl From<AllocError> for Stop {
     }
 }
 
-/// Writes the whole text.
-pub fn put<W: Write>(to: &mut W, text: &str) -> Result<(), Stop> {
-    if to.write_all(text.as_bytes()).is_ok() && to.flush().is_ok() {
-        Ok(())
-    } else {
-        Err(Stop::Unwritable)
+/// Writes all of the bytes. That nobody reads them any more, as where `head` has its lines, is no failure: what is left is
+/// then written to nobody.
+pub fn put<W: Write>(to: &mut W, bytes: &[u8]) -> Result<(), Stop> {
+    match write_whole(to, bytes) {
+        Err(error) if error.kind() != ErrorKind::BrokenPipe => Err(Stop::Unwritable),
+        _ => Ok(()),
     }
+}
+
+fn write_whole<W: Write>(to: &mut W, bytes: &[u8]) -> io::Result<()> {
+    to.write_all(bytes)?;
+    to.flush()
 }
 
 /// Writes a text to standard error. A failure there changes no status.
 pub fn complain<W: Write>(to: &mut W, text: &str) {
-    let _ = put(to, text);
+    let _ = put(to, text.as_bytes());
 }
 
-/// Tells on standard error why there is no text.
+/// Tells on standard error why there is no text in the file that is shown so.
 pub fn complain_of_file<E: Write>(
     alloc: Global,
     name: &str,
@@ -38,6 +45,9 @@ pub fn complain_of_file<E: Write>(
     err: &mut E,
 ) -> Result<(), AllocError> {
     let why = match why {
+        Unread::Missing => "cannot be read: no such file",
+        Unread::Forbidden => "cannot be read: permission denied",
+        Unread::Folder => "cannot be read: is a directory",
         Unread::Unreadable => "cannot be read",
         Unread::NotText => "is not UTF-8",
         Unread::NoMemory => return Err(AllocError),
@@ -47,11 +57,67 @@ pub fn complain_of_file<E: Write>(
     Ok(())
 }
 
-/// The name by which a file is told.
-pub fn shown_name(name: &str) -> &str {
-    if name == "-" {
-        "(standard input)"
-    } else {
-        name
+/// Tells on standard error what is wrong with the arguments, and then how the program is called.
+pub fn complain_of_call<E: Write>(
+    alloc: Global,
+    wrong: Wrong<'_>,
+    usage: &str,
+    err: &mut E,
+) -> Result<(), AllocError> {
+    let (what, word) = match wrong {
+        Wrong::NoCommand => ("a command is missing", None),
+        Wrong::UnknownCommand(word) => ("unknown command", Some(word)),
+        Wrong::UnknownOption(word) => ("unknown option", Some(word)),
+        Wrong::NoLimits => ("--limits needs three numbers", None),
+        Wrong::WrongLimits(word) => (
+            "--limits needs three numbers of at most 256, as 64,64,64, and not",
+            Some(word),
+        ),
+        Wrong::SecondFile(word) => (
+            "this command takes one file, and there is a second",
+            Some(word),
+        ),
+        Wrong::NotText => ("an argument is not UTF-8", None),
+    };
+    let mut lines = format!(in alloc; "gql: {what}")?;
+    if let Some(word) = word {
+        lines.push(' ')?;
+        push_shown(&mut lines, word)?;
     }
+    lines.push('\n')?;
+    lines.push_str(usage)?;
+    complain(err, lines.as_str());
+    Ok(())
+}
+
+/// The name by which a file is told.
+pub fn shown_name(alloc: Global, name: &str) -> Result<String, AllocError> {
+    if name == "-" {
+        return String::from_str(alloc, "(standard input)");
+    }
+    let mut shown = String::with_capacity(alloc, name.len())?;
+    push_shown(&mut shown, name)?;
+    Ok(shown)
+}
+
+// Adds a word from the command line. A character that a terminal obeys instead of showing it is told by its number.
+fn push_shown(out: &mut String, word: &str) -> Result<(), AllocError> {
+    for c in word.chars() {
+        if is_shown(c) {
+            out.push(c)?;
+        } else {
+            let number = c as u32;
+            write!(out, "\\u{{{number:x}}}")?;
+        }
+    }
+    Ok(())
+}
+
+// Whether a terminal shows the character: it is no control character, ends no line, and turns no direction of writing.
+fn is_shown(c: char) -> bool {
+    !c.is_control()
+        && !matches!(
+            c,
+            '\u{61c}' | '\u{200e}' | '\u{200f}' | '\u{2028}'..='\u{202e}' | '\u{2066}'..='\u{2069}'
+        )
 }

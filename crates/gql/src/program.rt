@@ -1,10 +1,11 @@
 //! The program's work, over any source of texts and any writers.
 ghost use Rattle.std.specs.Prelude.{◌≤◌, IfOk};
 
-use crate::check::{check_files, read_as, summary};
-use crate::command::{Asked, Call, Command, command_of};
+use crate::check::{check_files, summary};
+use crate::command::{Asked, Call, Command, Wrong, command_of};
+use crate::language::read_as;
 use crate::listed::token_lines;
-use crate::output::{Stop, complain, complain_of_file, put, shown_name};
+use crate::output::{Stop, complain, complain_of_call, complain_of_file, put, shown_name};
 use crate::texts::Texts;
 use graphql_json::{Places, request_json, schema_json};
 use graphql_parser::{Error, parse_query_limited, parse_schema_limited};
@@ -27,21 +28,25 @@ Without a file, and for the file -, standard input is read.
 
 Options:
   --query          the texts are requests
-  --schema         the texts are schema files; without either each text's first keyword tells
+  --schema         the texts are schema files. Without either a file named *.graphqls, *.gqls or *.sdl is a schema
+                   file, and another one is what its first word tells
   --limits S,V,T   how deep selection sets, values and list types may nest; 64,64,64 without it, 256 at most
+  --fragments      check: a request may hold fragments alone
   -v, --verbose    check: a line for each good file
   --places         tree: with the line and the column of each node
   --               each word after it is a file
   -h, --help       prints this
   -V, --version    prints the version
 
-Reports go to standard error, in colours if that is a terminal and NO_COLOR is not set or empty. The status is 0
-where all files are good, 1 where one is refused, and 2 where one can't be read, where the output can't be written,
-and for a wrong call.
+Reports go to standard error, in colours if that is a terminal, NO_COLOR is not set or empty, and TERM is not dumb. The
+status is 0 where all files are good, 1 where one is refused, and 2 where one can't be read, where the output can't be
+written, and for a wrong call. Where the reader of standard output has gone away, as head does, the status is the same
+as if it had stayed.
 ";
 
 /// Does the work of the program, and gives the exit status: 0, or 1 where a text is refused, or 2 for wrong arguments, a
-/// file that can't be read or is no UTF-8, output that can't be written, and memory that is refused.
+/// file that can't be read or is no UTF-8, output that can't be written, and memory that is refused. That the reader of
+/// `out` has gone away changes no status.
 ///
 /// `words` are the arguments without the program's name; None where they are no text. Texts are read from `texts`, lists
 /// and trees go to `out`, reports and complaints to `err`, the reports in this style.
@@ -80,19 +85,19 @@ fn served<T: Texts, O: Write, E: Write>(
 {
     let asked = match words {
         Some(words) => command_of(alloc, words)?,
-        None => Asked::Wrong,
+        None => Asked::Wrong(Wrong::NotText),
     };
     match asked {
         Asked::Help => {
-            put(out, HELP)?;
+            put(out, HELP.as_bytes())?;
             Ok(0)
         }
         Asked::Version => {
-            put(out, VERSION)?;
+            put(out, VERSION.as_bytes())?;
             Ok(0)
         }
-        Asked::Wrong => {
-            complain(err, USAGE);
+        Asked::Wrong(wrong) => {
+            complain_of_call(alloc, wrong, USAGE, err)?;
             Ok(2)
         }
         Asked::Call(call) => match call.command {
@@ -115,9 +120,9 @@ fn check<T: Texts, O: Write, E: Write>(
 {
     let told = check_files(alloc, call, style, texts, err)?;
     if call.is_verbose {
-        put(out, told.lines.as_str())?;
+        put(out, told.lines.as_str().as_bytes())?;
     }
-    put(out, summary(alloc, told.tally)?.as_str())?;
+    put(out, summary(alloc, told.tally)?.as_str().as_bytes())?;
     Ok(told.status)
 }
 
@@ -133,29 +138,28 @@ fn print_one<T: Texts, O: Write, E: Write>(
     ensures { IfOk result (λ status. status ≤ 2) }
 {
     let name = call.files.first().copied().unwrap_or("-");
+    let shown = shown_name(alloc, name)?;
     let text = match texts.text(alloc, name) {
         Ok(text) => text,
         Err(why) => {
-            complain_of_file(alloc, shown_name(name), why, err)?;
+            complain_of_file(alloc, shown.as_str(), why, err)?;
             return Ok(2);
         }
     };
     let text = text.as_str();
     if call.command == Command::Tokens {
         let (lines, is_whole) = token_lines(alloc, text)?;
-        put(out, lines.as_str())?;
+        put(out, lines.as_str().as_bytes())?;
         return Ok(if is_whole { 0 } else { 1 });
     }
-    let language = read_as(call.language, text);
+    let language = read_as(alloc, call.language, name, text)?;
     match tree_json(alloc, call, language, text)? {
         Ok(json) => {
-            if out.write_all(json.as_slice()).is_err() || out.flush().is_err() {
-                return Err(Stop::Unwritable);
-            }
+            put(out, json.as_slice())?;
             Ok(0)
         }
         Err(error) => {
-            let name = shown_name(name);
+            let name = shown.as_str();
             let report = explain_in(style, alloc, language, name, text, call.limits, &error)?;
             complain(err, report.as_str());
             Ok(1)

@@ -9,9 +9,15 @@ use std::fs;
 use std::io::{ErrorKind, Read};
 
 /// Why there is no text.
-#[derive(Clone, Copy, Debug, PartialEq, Eq)]
+#[derive(Clone, Copy)]
 pub enum Unread {
-    /// It can't be read.
+    /// There is no such file.
+    Missing,
+    /// It may not be read.
+    Forbidden,
+    /// It is a directory.
+    Folder,
+    /// It can't be read for another reason.
     Unreadable,
     /// It isn't UTF-8.
     NotText,
@@ -40,6 +46,16 @@ pub fn text_of(bytes: Vec<u8>) -> Result<String, Unread> {
     String::from_utf8(bytes).map_err(|_| Unread::NotText)
 }
 
+fn reason(kind: ErrorKind) -> Unread {
+    match kind {
+        ErrorKind::NotFound => Unread::Missing,
+        ErrorKind::PermissionDenied => Unread::Forbidden,
+        ErrorKind::IsADirectory => Unread::Folder,
+        ErrorKind::OutOfMemory => Unread::NoMemory,
+        _ => Unread::Unreadable,
+    }
+}
+
 /// The files of the machine.
 #[derive(Drop)]
 pub struct Disk<'a> {
@@ -62,8 +78,7 @@ impl Texts for Disk<'_> {
         };
         match read {
             Ok(bytes) => text_of(bytes),
-            Err(error) if error.kind() == ErrorKind::OutOfMemory => Err(Unread::NoMemory),
-            Err(_) => Err(Unread::Unreadable),
+            Err(error) => Err(reason(error.kind())),
         }
     }
 }

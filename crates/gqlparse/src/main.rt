@@ -2,15 +2,14 @@
 //! lists what the text defines, a line for each definition, with status 0. A refused text is told on standard
 //! error by the error and the list of its places, with status 1; wrong arguments, input that can't be read or
 //! isn't UTF-8, output that can't be written and memory refused outside the parser by one line there, with
-//! status 2.
+//! status 2. `gqlparse --help` prints how the program is called.
 //!
 //! Proved of it: it is safe and ends on every input; the status is 0, 1 or 2; wrong arguments leave input and
-//! output untouched; an accepted text leaves standard error as it was, and a refused one standard output. The
-//! lines themselves are tested.
+//! output untouched, and `--help` the input; an accepted text leaves standard error as it was, and a refused one
+//! standard output. The lines themselves are tested.
 #![tactic(auto)]
 
-#[cfg(test)]
-mod fakes;
+mod listing;
 mod program;
 #[cfg(test)]
 mod tests;

@@ -1,10 +1,11 @@
 //! The program's work, over any reader and writers.
-ghost use Rattle.std.specs.Prelude.{◌≡◌, ◌≢◌, ◌≤◌, ◌↔◌, ◌⊎◌, Err, IsSome, IfErr, IfOk, IfSome, codes, map, string_bytes};
-ghost use Rattle.gqlparse.specs.Words.{IsServed};
+ghost use Rattle.std.specs.Prelude.{◌≡◌, ◌≢◌, ◌≤◌, ◌↔◌, ◌⊎◌, Ok, Err, IsSome, IsTrue, IfErr, IfOk, IfSome, codes, map, string_bytes};
+ghost use Rattle.gqlparse.specs.Words.{IsServed, AsksForHelp};
+ghost use Rattle.gqlparse.specs.declared.program.Answer.TheVariants.{Help};
 ghost use Rattle.gqlparse.specs.declared.program.Stop.TheVariants.{NoMemory, Usage};
 
+use crate::listing::{request_lines, schema_lines};
 use graphql_parser::{Error, parse_query, parse_schema};
-use listing::{request_lines, schema_lines};
 use std::alloc::{AllocError, Global};
 use std::io::{ErrorKind, Read, Write};
 
@@ -15,9 +16,17 @@ enum Command {
     Schema,
 }
 
-// A text's answer: the lines for standard output, or those for standard error.
+const HELP: &str = "usage: gqlparse query|schema
+Reads a text from standard input, a request or a schema file, and lists what it defines, a line for each definition, with
+its line and its column. A refused text is told on standard error, by the error and the list of its places. The status is
+0 for an accepted text, 1 for a refused one, and 2 for wrong arguments, input that can't be read or isn't UTF-8, output
+that can't be written, and memory that is refused outside the parser.
+";
+
+// What is answered: help, the lines of an accepted text for standard output, or those of a refused one for standard error.
 #[derive(Drop)]
 enum Answer {
+    Help,
     Accepted(String),
     Refused(String),
     // The parser found no memory. These two lines are fixed, so that they need none.
@@ -58,10 +67,11 @@ impl Stop {
 /// `out`, or why it is refused to `err`.
 ///
 /// `words` are the arguments without the program's name; one word is served, `query` for a request and
-/// `schema` for a schema file. The answer is the exit status: 0 for an accepted text, 1 for a refused one, and
-/// 2 for wrong arguments, input that cannot be read or is no UTF-8, output that cannot be written, and memory
-/// that is refused outside the parser. Everything that goes to `out` is built before the first write. A write
-/// to `err` that fails changes no status.
+/// `schema` for a schema file. With `--help` or `-h` alone nothing is read, and `out` is told how the program is
+/// called. The answer is the exit status: 0 for an accepted text and for help, 1 for a refused text, and 2 for
+/// wrong arguments, input that cannot be read or is no UTF-8, output that cannot be written, and memory that is
+/// refused outside the parser. Everything that goes to `out` is built before the first write. A write to `err`
+/// that fails changes no status.
 pub fn run<R: Read, O: Write, E: Write>(
     alloc: Global,
     words: &[String],
@@ -71,20 +81,17 @@ pub fn run<R: Read, O: Write, E: Write>(
 ) -> u8
     ensures status { result ≤ 2 }
     // Wrong arguments are told before anything is read,
-    ensures usage { (IsServed (map string_bytes words.now) → ⊥) → (result ≡ 2) × (input.new ≡ input.old) × (out.new ≡ out.old) }
+    ensures usage { (IsServed (map string_bytes words.now) → ⊥) → (AsksForHelp (map string_bytes words.now) → ⊥) → (result ≡ 2) × (input.new ≡ input.old) × (out.new ≡ out.old) }
+    // help is given without reading,
+    ensures help { AsksForHelp (map string_bytes words.now) → (result ≢ 1) × (input.new ≡ input.old) }
     // an accepted text says nothing on standard error,
     ensures accepted { result ≡ 0 → err.new ≡ err.old }
     // and a refused one nothing on standard output.
     ensures refused { result ≡ 1 → out.new ≡ out.old }
 {
     match answer_to(alloc, words, input) {
-        Ok(Answer::Accepted(lines)) => {
-            if write_whole(out, lines.as_str()) {
-                return 0;
-            }
-            write_whole(err, Stop::Unwritable.line());
-            2
-        }
+        Ok(Answer::Help) => print_text(HELP, out, err),
+        Ok(Answer::Accepted(lines)) => print_text(lines.as_str(), out, err),
         Ok(Answer::Refused(lines)) => {
             write_whole(err, lines.as_str());
             1
@@ -98,6 +105,19 @@ pub fn run<R: Read, O: Write, E: Write>(
             2
         }
     }
+}
+
+// Writes a text to `out`, and says on `err` where it can't be written. The answer is the exit status.
+fn print_text<O: Write, E: Write>(text: &str, out: &mut O, err: &mut E) -> u8
+    ensures status { result ≤ 2 }
+    ensures answered { result ≢ 1 }
+    ensures quiet { result ≡ 0 → err.new ≡ err.old }
+{
+    if write_whole(out, text) {
+        return 0;
+    }
+    write_whole(err, Stop::Unwritable.line());
+    2
 }
 
 /// Says on `err` that memory was refused outside the parser, and gives the exit status for that.
@@ -114,9 +134,13 @@ fn write_whole<W: Write>(to: &mut W, text: &str) -> bool {
 }
 
 fn answer_to<R: Read>(alloc: Global, words: &[String], input: &mut R) -> Result<Answer, Stop>
-    ensures usage { (IsServed (map string_bytes words.now) → ⊥) → (result ≡ Err Usage) × (input.new ≡ input.old) }
+    ensures usage { (IsServed (map string_bytes words.now) → ⊥) → (AsksForHelp (map string_bytes words.now) → ⊥) → (result ≡ Err Usage) × (input.new ≡ input.old) }
     ensures served { IsServed (map string_bytes words.now) → result ≢ Err Usage }
+    ensures help { AsksForHelp (map string_bytes words.now) → (result ≡ Ok Help) × (input.new ≡ input.old) }
 {
+    if asks_for_help(words) {
+        return Ok(Answer::Help);
+    }
     let Some(command) = command_of(words) else {
         return Err(Stop::Usage);
     };
@@ -136,6 +160,21 @@ fn answer_to<R: Read>(alloc: Global, words: &[String], input: &mut R) -> Result<
         Err(Error::OutOfMemory) => Answer::OutOfMemory,
         Err(error) => Answer::Refused(refusal(alloc, &error)?),
     })
+}
+
+fn asks_for_help(words: &[String]) -> bool
+    ensures { IsTrue result ↔ AsksForHelp (map string_bytes words.now) }
+{
+    match words {
+        [word] => is_help(word.as_str()),
+        _ => false,
+    }
+}
+
+fn is_help(word: &str) -> bool
+    ensures { IsTrue result ↔ ((word.now ≡ codes "--help") ⊎ (word.now ≡ codes "-h")) }
+{
+    if word == "--help" { true } else { word == "-h" }
 }
 
 fn command_of(words: &[String]) -> Option<Command>

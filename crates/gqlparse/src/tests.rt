@@ -1,4 +1,6 @@
-//! Tests of the program's work, and of the README's example.
+//! Tests of the program's work, and of the README's examples.
+mod fakes;
 mod memory;
 mod readme;
+mod rows;
 mod runs;

@@ -1,6 +1,7 @@
--- When a text is good: its tokens have their one tree within the limits, which breaks no rule and lacks nothing.
+-- When a text is good: its tokens have their one tree within the limits, which breaks no rule and lacks nothing, but for an
+-- operation where requests may hold fragments alone.
 -- Source: this project's choice.
-use Rattle.std.specs.Prelude.{◌≡◌, ℕ, List, [], ◌∷◌, None, Result, IsOkAnd, string_bytes}
+use Rattle.std.specs.Prelude.{◌≡◌, ◌⊎◌, ℕ, Bool, true, List, [], ◌∷◌, None, Some, Result, IsOkAnd, string_bytes}
 use Rattle.std.specs.declared.alloc.Global.{Global}
 use Rattle.std.specs.declared.string.String.{String}
 use Rattle.graphql_parser.specs.tokens.Cuts.{IsCutInto}
@@ -10,31 +11,33 @@ use Rattle.graphql_parser.specs.answers.Answers.{AreTheDefinitions, AreUnbroken}
 use Rattle.graphql_parser.specs.answers.Language.{Language as Described}
 use Rattle.graphql_parser.specs.requests.Requests.{requests}
 use Rattle.graphql_parser.specs.schemas.Schemas.{schemas}
+use Rattle.graphql_parser.specs.types.Error.TheVariants.{MissingOperation}
 use Rattle.graphql_report.specs.declared.fronts.Language.{Language}
 use Rattle.graphql_report.specs.declared.fronts.Language.TheVariants.{Requests, Schemas}
 use Rattle.gql.specs.declared.texts.Unread.{Unread}
 
--- these tokens have one tree, and it is a document
-pub record HasDocument {D Document : Type 0} (language : Described D Document) (limits : Limits) (tokens : List Token) : Type 0 where
+-- These tokens have one tree, and it is a document: it breaks no rule and lacks nothing, or an operation alone where
+-- `fragments` says that it may.
+pub record HasDocument {D Document : Type 0} (fragments : Bool) (language : Described D Document) (limits : Limits) (tokens : List Token) : Type 0 where
   pub definitions : List D
   pub tree : AreTheDefinitions language limits tokens definitions
   pub unbroken : AreUnbroken language definitions
-  pub complete : language.lack definitions ≡ None
+  pub complete : (language.lack definitions ≡ None) ⊎ ((fragments ≡ true) × (language.lack definitions ≡ Some MissingOperation))
 
-abbrev pub HasDocumentOf : Language → Limits → List Token → Type 0
-HasDocumentOf Requests limits tokens = HasDocument requests limits tokens
-HasDocumentOf Schemas limits tokens = HasDocument schemas limits tokens
+abbrev pub HasDocumentOf : Bool → Language → Limits → List Token → Type 0
+HasDocumentOf fragments Requests limits tokens = HasDocument fragments requests limits tokens
+HasDocumentOf fragments Schemas limits tokens = HasDocument fragments schemas limits tokens
 
 -- the text, read as this, is good
-abbrev pub IsGoodText : Language → Limits → List ℕ → Type 0
-IsGoodText language limits text = (tokens : List Token) → IsCutInto text tokens → HasDocumentOf language limits tokens
+abbrev pub IsGoodText : Bool → Language → Limits → List ℕ → Type 0
+IsGoodText fragments language limits text = (tokens : List Token) → IsCutInto text tokens → HasDocumentOf fragments language limits tokens
 
 -- there is a text, and it is good when it is read as one of the two
-abbrev pub IsGood : Limits → Result (String Global) Unread → Type 0
-IsGood limits read = IsOkAnd read (λ text. (language : Language) × IsGoodText language limits (string_bytes text))
+abbrev pub IsGood : Bool → Limits → Result (String Global) Unread → Type 0
+IsGood fragments limits read = IsOkAnd read (λ text. (language : Language) × IsGoodText fragments language limits (string_bytes text))
 
 -- Read under these names one after another, from one state of what texts are read from to another, there is a text each
 -- time, and it is good. `gives` says what may be read under a name at a state, and the state after that.
-abbrev pub GiveGoodTexts : {T : Type 0} → (T → List ℕ → Result (String Global) Unread → T → Type 0) → Limits → T → List (List ℕ) → T → Type 0
-GiveGoodTexts gives limits here [] there = here ≡ there
-GiveGoodTexts {T} gives limits here (name ∷ names) there = (read : Result (String Global) Unread) × (next : T) × gives here name read next × IsGood limits read × GiveGoodTexts gives limits next names there
+abbrev pub GiveGoodTexts : {T : Type 0} → (T → List ℕ → Result (String Global) Unread → T → Type 0) → Bool → Limits → T → List (List ℕ) → T → Type 0
+GiveGoodTexts gives fragments limits here [] there = here ≡ there
+GiveGoodTexts {T} gives fragments limits here (name ∷ names) there = (read : Result (String Global) Unread) × (next : T) × gives here name read next × IsGood fragments limits read × GiveGoodTexts gives fragments limits next names there

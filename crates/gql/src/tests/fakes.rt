@@ -3,36 +3,71 @@ use crate::texts::{Texts, Unread, text_of};
 use std::alloc::Global;
 use std::io::{Error, ErrorKind, Result as IoResult, Write};
 
-/// Files of these names with these contents; there is no other.
-#[derive(Drop)]
-pub struct Files<'a> {
-    pub files: &'a [(&'a str, &'a [u8])],
-}
+// What is read under these names; under another there is no file.
+const FILES: &[(&str, &[u8])] = &[
+    ("-", b"{a}"),
+    ("good.graphql", b"query Q{a}"),
+    ("bad.graphql", b"{a()}"),
+    ("good.graphqls", b"type A{b:C}"),
+    ("described.graphqls", b"\"d\" scalar A"),
+    ("described.graphql", b"\"d\" scalar A"),
+    ("bad.graphqls", b"type A{}"),
+    ("short.graphql", b"{a{b}}"),
+    ("bytes.graphql", b"{\xff}"),
+    ("tokens.graphql", b"{a(b:\"\"\"c\nd\"\"\")}"),
+    ("fault.graphql", b"{?"),
+    ("none.graphql", b"# none"),
+    ("fragment.graphql", b"fragment F on T{a}"),
+    (
+        "fragments.graphql",
+        b"fragment F on T{a} fragment F on T{a}",
+    ),
+    ("\u{1b}[1m\u{202e}.graphql", b"{a}"),
+];
 
-impl Texts for Files<'_> {
+/// These files.
+#[derive(Drop)]
+pub struct Files;
+
+impl Texts for Files {
     ghost gives = { λ _ _ _ _. Unit {0} };
 
     fn text(&mut self, alloc: Global, name: &str) -> Result<String, Unread> {
-        for (known, contents) in self.files {
+        for (known, contents) in FILES {
             if *known == name {
                 return text_of(Vec::from_slice(alloc, contents)?);
             }
         }
-        Err(Unread::Unreadable)
+        Err(match name {
+            "secret.graphql" => Unread::Forbidden,
+            "folder" => Unread::Folder,
+            "disk.graphql" => Unread::Unreadable,
+            _ => Unread::Missing,
+        })
     }
 }
 
-/// Keeps what it is given, and fails once no call is left. A flush is a call too.
+/// Keeps what it is given, and fails in this way once no call is left. A flush is a call too.
 #[derive(Drop)]
 pub struct Sheet {
     pub held: Vec<u8>,
-    pub calls_left: usize,
+    calls_left: usize,
+    kind: ErrorKind,
 }
 
 impl Sheet {
+    /// An empty one.
+    pub fn new(alloc: Global, calls_left: usize, kind: ErrorKind) -> Sheet {
+        Sheet {
+            held: Vec::new(alloc),
+            calls_left,
+            kind,
+        }
+    }
+
     fn call(&mut self) -> IoResult<()> {
         if self.calls_left == 0 {
-            return Err(Error::from(ErrorKind::Other));
+            return Err(Error::from(self.kind));
         }
         self.calls_left -= 1;
         Ok(())

@@ -1,21 +1,12 @@
 //! A run that meets the end of memory.
-use crate::fakes::{FailingReader, FailingWriter};
+use super::fakes::{FailingReader, FailingWriter};
 use crate::run;
 use little_memory::{Attempt, attempts};
 use std::alloc::{AllocError, Global};
 use std::process::Abort;
-use std::str;
 use std::test::Fail;
 
 const MANY: usize = 1_000_000;
-
-fn writer(alloc: Global) -> Result<FailingWriter, AllocError> {
-    Ok(FailingWriter {
-        held: Vec::with_capacity(alloc, 256)?,
-        step: 64,
-        calls_left: MANY,
-    })
-}
 
 // A status, and what goes to standard output and to standard error.
 type Outcome = (u8, &'static str, &'static str);
@@ -63,9 +54,7 @@ impl Attempt for Runs {
 
 // Whether a run that ended with this status has this outcome.
 fn has_ended(outcome: Outcome, status: u8, out: &FailingWriter, err: &FailingWriter) -> bool {
-    outcome.0 == status
-        && str::from_utf8(out.held.as_slice()) == Ok(outcome.1)
-        && str::from_utf8(err.held.as_slice()) == Ok(outcome.2)
+    outcome.0 == status && out.holds(outcome.1) && err.holds(outcome.2)
 }
 
 // Runs a command on a text again and again, with a piece of memory more each time. Each run must end as
@@ -79,11 +68,16 @@ fn run_with_more_and_more(
 ) -> Result<(), AllocError> {
     let mut words = Vec::new(alloc);
     words.push(String::from_str(alloc, command)?)?;
+    // They have room for what is written, before memory is taken.
+    let mut out = FailingWriter::new(alloc, MANY);
+    let mut err = FailingWriter::new(alloc, MANY);
+    out.held.reserve(256)?;
+    err.held.reserve(256)?;
     let mut runs = Runs {
         words,
         text,
-        out: writer(alloc)?,
-        err: writer(alloc)?,
+        out,
+        err,
         told,
         was_told: false,
         was_inside: false,
@@ -99,42 +93,44 @@ fn run_with_more_and_more(
     Ok(())
 }
 
-#[test]
-fn an_accepted_text(rt: HostRuntime) -> Result<(), Fail> {
-    run_with_more_and_more(&rt, rt.alloc(), "query", b"{a}", (0, "query 1:1\n", ""))?;
-    Ok(())
-}
+// The lines of an accepted text are written only when all of them are there: where memory runs out between them, none is.
+// Of the last text, with three definitions, the parser asks for more memory than the text is read into.
+const ROWS: &[(&str, &[u8], Outcome)] = &[
+    ("query", b"{a}", (0, "query 1:1\n", "")),
+    (
+        "query",
+        b"{a ?}",
+        (
+            1,
+            "",
+            "error: syntax error at 1:4\nat [{\"line\":1,\"column\":4}]\n",
+        ),
+    ),
+    (
+        "query",
+        b"query A{a}fragment F on T{b}fragment G on T{c}",
+        (0, "query A 1:1\nfragment F 1:11\nfragment G 1:29\n", ""),
+    ),
+    (
+        "schema",
+        b"scalar A extend enum E{V}schema{query:Q}",
+        (0, "scalar A 1:1\nextend enum E 1:10\nschema 1:26\n", ""),
+    ),
+    (
+        "schema",
+        b"scalar A scalar B schema{query:A query:B}",
+        (
+            1,
+            "",
+            "error: multiple query roots in schema definition\nat [{\"line\":1,\"column\":34},{\"line\":1,\"column\":19}]\n",
+        ),
+    ),
+];
 
 #[test]
-fn a_refused_text(rt: HostRuntime) -> Result<(), Fail> {
-    let told = "error: syntax error at 1:4\nat [{\"line\":1,\"column\":4}]\n";
-    run_with_more_and_more(&rt, rt.alloc(), "query", b"{a ?}", (1, "", told))?;
-    Ok(())
-}
-
-// The lines are written only when all of them are there: where memory runs out between them, none is.
-#[test]
-fn a_text_of_several_lines(rt: HostRuntime) -> Result<(), Fail> {
-    let text = b"query A{a}fragment F on T{b}fragment G on T{c}";
-    let lines = "query A 1:1\nfragment F 1:11\nfragment G 1:29\n";
-    run_with_more_and_more(&rt, rt.alloc(), "query", text, (0, lines, ""))?;
-    Ok(())
-}
-
-#[test]
-fn an_accepted_schema_file(rt: HostRuntime) -> Result<(), Fail> {
-    let text = b"scalar A extend enum E{V}schema{query:Q}";
-    let lines = "scalar A 1:1\nextend enum E 1:10\nschema 1:26\n";
-    run_with_more_and_more(&rt, rt.alloc(), "schema", text, (0, lines, ""))?;
-    Ok(())
-}
-
-// With three definitions the parser asks for more memory than the text is read into.
-#[test]
-fn a_refused_schema_file(rt: HostRuntime) -> Result<(), Fail> {
-    let text = b"scalar A scalar B schema{query:A query:B}";
-    let told =
-        "error: multiple query roots in schema definition\nat [{\"line\":1,\"column\":34},{\"line\":1,\"column\":19}]\n";
-    run_with_more_and_more(&rt, rt.alloc(), "schema", text, (1, "", told))?;
+fn runs_meet_the_end_of_memory(rt: HostRuntime) -> Result<(), Fail> {
+    for (command, text, told) in ROWS {
+        run_with_more_and_more(&rt, rt.alloc(), command, text, *told)?;
+    }
     Ok(())
 }

@@ -29,16 +29,6 @@ fn outline(alloc: Global, text: &str) -> Result<String, Error> {
     Ok(lines)
 }
 
-#[test]
-fn the_outline_of_a_request(rt: HostRuntime) -> Result<(), Fail> {
-    let lines = outline(rt.alloc(), REQUEST).ok().ok_or("refused")?;
-    assert_eq!(rt;
-        lines.as_str(),
-        "2:3 field hero\n3:3 fragment Extra, defined: true\n"
-    );
-    Ok(())
-}
-
 const REQUEST: &str = r"query Hero($id: ID!) {
   hero: character(id: $id) { name }
   ...Extra @include(if: true)
@@ -71,7 +61,12 @@ fn implementors(alloc: Global, text: &str, interface: &str) -> Result<String, Er
 }
 
 #[test]
-fn the_implementors_of_an_interface(rt: HostRuntime) -> Result<(), Fail> {
+fn the_examples_print_what_the_readme_says(rt: HostRuntime) -> Result<(), Fail> {
+    let lines = outline(rt.alloc(), REQUEST).ok().ok_or("refused")?;
+    assert_eq!(rt;
+        lines.as_str(),
+        "2:3 field hero\n3:3 fragment Extra, defined: true\n"
+    );
     let lines = implementors(rt.alloc(), SCHEMA, "Node")
         .ok()
         .ok_or("refused")?;

@@ -1,0 +1,258 @@
+//! The rows of runs.
+
+/// A run each, with an empty line between two of them. The first line has its arguments, with blanks between them, after `$`,
+/// or after `%` where reports have colours. Then come the lines that it writes to standard output, after `> `, those that it
+/// writes to standard error, after `! `, and after `= ` its status. `␛` stands for the escape character, and in arguments `⟲` for
+/// U+202E, after which a terminal writes from right to left.
+pub const RUNS: &str = r#"
+$ check
+> 1 file: 1 good
+= 0
+
+$ check -v -
+> (standard input): good
+> 1 file: 1 good
+= 0
+
+$ check good.graphql good.graphqls described.graphqls described.graphql
+> 4 files: 4 good
+= 0
+
+$ check bad.graphql
+> 1 file: 0 good, 1 refused
+! bad.graphql:1:4: syntax error: found ")", expected a name
+!  1 | {a()}
+!    |    ^
+= 1
+
+$ check bad.graphqls
+> 1 file: 0 good, 1 refused
+! bad.graphqls:1:8: syntax error: found "}", expected a name or a string
+!  1 | type A{}
+!    |        ^
+= 1
+
+$ check -v bad.graphql good.graphql
+> good.graphql: good
+> 2 files: 1 good, 1 refused
+! bad.graphql:1:4: syntax error: found ")", expected a name
+!  1 | {a()}
+!    |    ^
+= 1
+
+$ check none bytes.graphql good.graphql
+> 3 files: 1 good, 2 not read
+! gql: none cannot be read: no such file
+! gql: bytes.graphql is not UTF-8
+= 2
+
+$ check bad.graphql none
+> 2 files: 0 good, 1 refused, 1 not read
+! bad.graphql:1:4: syntax error: found ")", expected a name
+!  1 | {a()}
+!    |    ^
+! gql: none cannot be read: no such file
+= 2
+
+$ check secret.graphql folder disk.graphql
+> 3 files: 0 good, 3 not read
+! gql: secret.graphql cannot be read: permission denied
+! gql: folder cannot be read: is a directory
+! gql: disk.graphql cannot be read
+= 2
+
+$ check -v ␛[1m⟲.graphql none␛
+> \u{1b}[1m\u{202e}.graphql: good
+> 2 files: 1 good, 1 not read
+! gql: none\u{1b} cannot be read: no such file
+= 2
+
+$ check --limits 0,0,0 short.graphql
+> 1 file: 0 good, 1 refused
+! short.graphql:1:3: recursion limit exceeded: selection sets may nest 0 deep
+!  1 | {a{b}}
+!    |   ^
+= 1
+
+$ check short.graphql --limits 1,0,0
+> 1 file: 1 good
+= 0
+
+$ check --schema -- good.graphqls
+> 1 file: 1 good
+= 0
+
+$ check --schema none.graphql
+> 1 file: 0 good, 1 refused
+! none.graphql:1:7: syntax error: found the end of the text, expected a string, "directive", "enum", "extend", "input", "interface", "scalar", "schema", "type" or "union"
+!  1 | # none
+!    |       ^
+= 1
+
+$ check --query good.graphqls
+> 1 file: 0 good, 1 refused
+! good.graphqls:1:1: syntax error: found "type", expected "{", "fragment", "mutation", "query" or "subscription"
+!  1 | type A{b:C}
+!    | ^
+= 1
+
+$ check fragment.graphql
+> 1 file: 0 good, 1 refused
+! fragment.graphql: document does not contain an operation (use --fragments if this file holds fragments alone)
+= 1
+
+$ check --fragments fragment.graphql good.graphql good.graphqls
+> 3 files: 3 good
+= 0
+
+$ check --fragments fragments.graphql
+> 1 file: 0 good, 1 refused
+! fragments.graphql:1:20: fragment F is defined twice
+!  1 | fragment F on T{a} fragment F on T{a}
+!    |                    ^
+! fragments.graphql:1:1: it is first defined here
+!  1 | fragment F on T{a} fragment F on T{a}
+!    | ^
+= 1
+
+$ tree --fragments fragment.graphql
+! fragment.graphql: document does not contain an operation
+= 1
+
+$ tree described.graphqls
+> {"kind":"Document","definitions":[{"kind":"ScalarTypeDefinition","description":{"kind":"StringValue","value":"d"},"name":{"kind":"Name","value":"A"},"directives":[]}]}
+= 0
+
+$ tree bad.graphql
+! bad.graphql:1:4: syntax error: found ")", expected a name
+!  1 | {a()}
+!    |    ^
+= 1
+
+$ tokens tokens.graphql
+> 1:1 punctuator {
+> 1:2 name a
+> 1:3 punctuator (
+> 1:4 name b
+> 1:5 punctuator :
+> 1:6 block string """c\nd"""
+> 2:5 punctuator )
+> 2:6 punctuator }
+> 2:7 end
+= 0
+
+$ tokens fault.graphql
+> 1:1 punctuator {
+> 1:2 fault
+= 1
+
+$ tokens none
+! gql: none cannot be read: no such file
+= 2
+
+$
+! gql: a command is missing
+! usage: gql check|tree|tokens [OPTION].. [FILE].. (gql --help tells more)
+= 2
+
+$ chek
+! gql: unknown command chek
+! usage: gql check|tree|tokens [OPTION].. [FILE].. (gql --help tells more)
+= 2
+
+$ --colour
+! gql: unknown option --colour
+! usage: gql check|tree|tokens [OPTION].. [FILE].. (gql --help tells more)
+= 2
+
+$ check --limits
+! gql: --limits needs three numbers
+! usage: gql check|tree|tokens [OPTION].. [FILE].. (gql --help tells more)
+= 2
+
+$ check --limits 1,2
+! gql: --limits needs three numbers of at most 256, as 64,64,64, and not 1,2
+! usage: gql check|tree|tokens [OPTION].. [FILE].. (gql --help tells more)
+= 2
+
+$ check --limits 1,2,257
+! gql: --limits needs three numbers of at most 256, as 64,64,64, and not 1,2,257
+! usage: gql check|tree|tokens [OPTION].. [FILE].. (gql --help tells more)
+= 2
+
+$ check --limits a,b,c
+! gql: --limits needs three numbers of at most 256, as 64,64,64, and not a,b,c
+! usage: gql check|tree|tokens [OPTION].. [FILE].. (gql --help tells more)
+= 2
+
+$ check --colour⟲
+! gql: unknown option --colour\u{202e}
+! usage: gql check|tree|tokens [OPTION].. [FILE].. (gql --help tells more)
+= 2
+
+$ tree good.graphql good.graphqls
+! gql: this command takes one file, and there is a second good.graphqls
+! usage: gql check|tree|tokens [OPTION].. [FILE].. (gql --help tells more)
+= 2
+
+$ tokens - -
+! gql: this command takes one file, and there is a second -
+! usage: gql check|tree|tokens [OPTION].. [FILE].. (gql --help tells more)
+= 2
+
+$ --version
+> gql 1.0.0
+= 0
+
+% check bad.graphql good.graphql
+> 2 files: 1 good, 1 refused
+! ␛[1mbad.graphql:1:4:␛[0m syntax ␛[1;31merror␛[0m: found ")", expected a name
+!  1 | {a()}
+!    |    ␛[31m^␛[0m
+= 1
+
+% tree --limits 0,0,0 short.graphql
+! ␛[1mshort.graphql:1:3:␛[0m recursion limit exceeded: selection sets may nest 0 deep
+!  1 | {a{b}}
+!    |   ␛[31m^␛[0m
+= 1
+
+% check none
+> 1 file: 0 good, 1 not read
+! gql: none cannot be read: no such file
+= 2
+"#;
+
+/// A text of a file of this name, and what it is read as.
+pub const LANGUAGES: &str = r#"
+a.graphql | {a} ⇒ request
+a.graphql | query Q {a ⇒ request
+a.graphql | mutation {a()} ⇒ request
+a.graphql | subscription { type } ⇒ request
+a.graphql | fragment type on T {a} ⇒ request
+a.graphql | extend type Query {a: B ⇒ schema
+a.graphql | schema {} ⇒ schema
+a.graphql | directive @a on QUERY ⇒ schema
+a.graphql | "Of A." scalar A ⇒ schema
+a.graphql | """Of A.""" query Q {a} ⇒ schema
+a.graphql | """Of A. scalar A ⇒ schema
+a.graphql | "Of A. {a} ⇒ schema
+a.graphql | typ User {id: ID!} ⇒ schema
+a.graphql | Type User {query: ID!} ⇒ schema
+a.graphql | TYPE User {id: ID!} ⇒ schema
+a.graphql | interfaec Node {id: ID!} ⇒ schema
+a.graphql | qurey Hero { hero { type } } ⇒ request
+a.graphql | Query Hero { hero { type } } ⇒ request
+a.graphql | fragmnt F on T {a} type ⇒ request
+a.graphql | hero { type } ⇒ request
+a.graphql | User {type: ID!} enum E {A} ⇒ schema
+a.graphql | } type A {b: C} ⇒ schema
+a.graphql | } query {a} type ⇒ request
+a.graphql | ? scalar A ⇒ request
+a.graphql | # none ⇒ request
+a.graphqls | {a} ⇒ schema
+a.b.gqls | {a} ⇒ schema
+a.sdl | # none ⇒ schema
+a.gql | type A {b: C} ⇒ schema
+graphqls | {a} ⇒ request
+"#;
