@@ -69,6 +69,7 @@ fn requests_are_explained(rt: HostRuntime) -> Result<(), Fail> {
             (requests_at(64, 64, 64), messages::MESSAGES),
             (requests_at(64, 64, 64), requests::REFUSED),
             (requests_at(64, 64, 64), requests::FAULTS),
+            (requests_at(64, 64, 64), requests::SLIPS),
             (requests_at(64, 64, 64), requests::BREACHES),
             (requests_at(64, 64, 64), places::PLACES),
         ],
@@ -83,7 +84,9 @@ fn schema_files_are_explained(rt: HostRuntime) -> Result<(), Fail> {
         rt.alloc(),
         &[
             (schemas_at(64, 64, 64), schemas::REFUSED),
+            (schemas_at(64, 64, 64), schemas::SLIPS),
             (schemas_at(64, 64, 64), schemas::BREACHES),
+            (schemas_at(64, 64, 64), places::OF_SCHEMAS),
         ],
     )?;
     assert_eq!(rt; found.as_str(), "");

@@ -16,6 +16,12 @@ pub const NOTHING: &str = r#"
 {a{b}} ⇒ f:1:3: recursion limit exceeded: selection sets may nest 0 deep
   ·1·|·{a{b}}
   ···|···^
+{a}␍{b{c}} ⇒ f:1:3: recursion limit exceeded: selection sets may nest 0 deep
+  ·1·|·{b{c}}
+  ···|···^
+{a}␍{} ⇒ f:1:2: syntax error: found "}", expected a name or "..."
+  ·1·|·{}
+  ···|··^
 {...on T{b}} ⇒ f:1:5: recursion limit exceeded: selection sets may nest 0 deep
   ·1·|·{...on·T{b}}
   ···|·····^

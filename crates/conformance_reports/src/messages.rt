@@ -63,6 +63,7 @@ subscription ⇒ f:1:13: syntax error: found the end of the text, expected a nam
   ···|·············^
 -- A type definition in a request
 type A{b:C} ⇒ f:1:1: syntax error: found "type", expected "{", "fragment", "mutation", "query" or "subscription"
+  ("type" begins a definition of a schema file, and this text is read as a request)
   ·1·|·type·A{b:C}
   ···|·^
 -- A fragment that is called on
@@ -91,9 +92,9 @@ fragment F{a} ⇒ f:1:11: syntax error: found "{", expected "on"
   ·1·|·{a(b:"x)}
   ···|······^
 -- A bad escape
-{a(b:"\n\q")} ⇒ f:1:6: syntax error: the escape \q in this string stands for no character, expected a value or "$"
+{a(b:"\n\q")} ⇒ f:1:9: syntax error: the escape \q in this string stands for no character, expected a value or "$"
   ·1·|·{a(b:"\n\q")}
-  ···|······^
+  ···|·········^
 -- A number that begins with 0
 {a(b:01)} ⇒ f:1:6: syntax error: no digit may follow a 0 that begins a number, expected a value or "$"
   ·1·|·{a(b:01)}

@@ -5,3 +5,4 @@ mod ToldFronts
 mod TakenSamples
 mod ExpectedNames
 mod Trees
+mod ReportParts

@@ -1,8 +1,6 @@
 //! The line of a place, with a caret under it.
 use crate::refused::{after, before};
 use crate::style::{Part, Style};
-use graphql_parser::Pos;
-use graphql_parser::lexer::Tokens;
 use std::alloc::{AllocError, Global};
 use unicode_width::UnicodeWidthChar;
 
@@ -18,9 +16,17 @@ fn is_line_end(c: char) -> bool {
     c == '\n' || c == '\r'
 }
 
-/// What is shown for a character: a control character other than a tab would upset a terminal.
+// Whether a terminal takes the character as an order to write the other way round.
+fn turns_text(c: char) -> bool {
+    matches!(c, '\u{61c}' | '\u{200e}' | '\u{200f}')
+        || ('\u{202a}'..='\u{202e}').contains(&c)
+        || ('\u{2066}'..='\u{2069}').contains(&c)
+}
+
+/// What is shown for a character: a control character other than a tab would upset a terminal, as would one that turns
+/// the direction of the text.
 pub fn shown(c: char) -> char {
-    if c.is_control() && c != '\t' {
+    if c.is_control() && c != '\t' || turns_text(c) {
         char::REPLACEMENT_CHARACTER
     } else {
         c
@@ -58,25 +64,15 @@ fn first_part(text: &str, most: usize) -> usize {
     text.len()
 }
 
-/// The byte offset of the first token that stands at this place; the end of the text where none does.
-pub fn offset_of(text: &str, place: Pos) -> usize {
-    for token in Tokens::new(text) {
-        if token.pos == place {
-            return token.start;
-        }
-    }
-    text.len()
-}
-
-/// Adds the line in which this offset lies, after its number, and below it a caret under the offset.
-pub fn push_excerpt(
+/// The line in which this offset lies, after its number, and below it a caret under the offset.
+pub fn excerpt_of(
     alloc: Global,
     style: Style,
-    out: &mut String,
     text: &str,
     line: usize,
     offset: usize,
-) -> Result<(), AllocError> {
+) -> Result<String, AllocError> {
+    let mut out = String::new(alloc);
     let front = before(text, offset);
     let back = after(text, offset);
     let front = front.rsplit(is_line_end).next().unwrap_or(front);
@@ -90,8 +86,8 @@ pub fn push_excerpt(
     if start > 0 {
         out.push_str(CUT)?;
     }
-    push_shown(out, left)?;
-    push_shown(out, right)?;
+    push_shown(&mut out, left)?;
+    push_shown(&mut out, right)?;
     if end < back.len() {
         out.push_str(CUT)?;
     }
@@ -103,10 +99,10 @@ pub fn push_excerpt(
     if start > 0 {
         out.push_str("   ")?;
     }
-    push_padding(out, left)?;
-    style.push(out, Part::Caret, "^")?;
+    push_padding(&mut out, left)?;
+    style.push(&mut out, Part::Caret, "^")?;
     out.push('\n')?;
-    Ok(())
+    Ok(out)
 }
 
 /// Adds a text as it is shown.

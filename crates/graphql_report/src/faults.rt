@@ -1,19 +1,40 @@
 //! What is wrong where no token begins, in a person's words.
-use crate::excerpt::push_shown;
+use crate::excerpt::{push_shown, shown};
 use crate::refused::before;
 use graphql_parser::text::string_value;
 use std::alloc::{AllocError, Global};
 
-/// Says why no token begins with this text, which is not empty.
+/// Why no token begins at a place.
+#[derive(Drop)]
+pub struct Fault {
+    /// What is wrong, in words.
+    pub message: String,
+    /// How many bytes after the place that shows: more than none only at a bad escape in a string.
+    pub offset: usize,
+}
+
+/// Says why no token begins with this text, which is not empty, where a value could stand or could not.
 ///
 /// What is told first is told: of a string the first bad escape, or else that it is not closed.
-pub fn fault(alloc: Global, text: &str) -> Result<String, AllocError> {
-    match text.chars().next() {
-        Some('"') => string_fault(alloc, text),
-        Some('.') => String::from_str(alloc, "a spread is written with three dots"),
-        Some(c) if c == '-' || c.is_ascii_digit() => number_fault(alloc, text),
-        Some(c) => character_fault(alloc, c),
-        None => String::from_str(alloc, "no token begins here"),
+pub fn fault_of(alloc: Global, text: &str, is_value: bool) -> Result<Fault, AllocError> {
+    let message = match text.chars().next() {
+        Some('"') => return string_fault(alloc, text),
+        Some('.') => String::from_str(alloc, dots_fault(text, is_value))?,
+        Some('-') if !is_value => String::from_str(alloc, "no name contains a minus sign")?,
+        Some('+') if is_value => String::from_str(alloc, "a number has no plus sign")?,
+        Some(c) if c == '-' || c.is_ascii_digit() => number_fault(alloc, text)?,
+        Some(c) => character_fault(alloc, c)?,
+        None => String::from_str(alloc, "no token begins here")?,
+    };
+    Ok(Fault { message, offset: 0 })
+}
+
+fn dots_fault(text: &str, is_value: bool) -> &'static str {
+    let rest = text.trim_start_matches('.');
+    if is_value && begins_with_digit(rest) {
+        "a digit has to stand before the point of a number"
+    } else {
+        "a spread is written with three dots"
     }
 }
 
@@ -22,6 +43,10 @@ fn character_fault(alloc: Global, c: char) -> Result<String, AllocError> {
         '\'' | '`' | '\u{2018}' | '\u{2019}' | '\u{201c}' | '\u{201d}' => {
             format!(in alloc; "{c} begins no token (a string stands between double quotes)")
         }
+        '/' => String::from_str(
+            alloc,
+            "the character / begins no token (a comment begins with #)",
+        ),
         _ if is_invisible(c) => {
             let code = u32::from(c);
             format!(in alloc; "the character U+{code:04X} begins no token")
@@ -32,7 +57,7 @@ fn character_fault(alloc: Global, c: char) -> Result<String, AllocError> {
 
 // Whether a person can't see the character, or may take it for a blank.
 fn is_invisible(c: char) -> bool {
-    c.is_control() || c.is_whitespace() || ('\u{200b}'..='\u{200f}').contains(&c)
+    shown(c) != c || c.is_whitespace() || ('\u{200b}'..='\u{200d}').contains(&c)
 }
 
 // ---- numbers
@@ -143,29 +168,39 @@ fn escape_fault(alloc: Global, escape: &str) -> Result<String, AllocError> {
     Ok(message)
 }
 
-fn string_fault(alloc: Global, text: &str) -> Result<String, AllocError> {
+fn string_fault(alloc: Global, text: &str) -> Result<Fault, AllocError> {
     if text.starts_with("\"\"\"") {
-        return String::from_str(alloc, "this block string is not closed by \"\"\"");
+        let message = String::from_str(alloc, "this block string is not closed by \"\"\"")?;
+        return Ok(Fault { message, offset: 0 });
     }
+    if let Some(bad) = bad_escape(alloc, text)? {
+        let message = escape_fault(alloc, shown_escape(bad))?;
+        let offset = text.len().saturating_sub(bad.len());
+        return Ok(Fault { message, offset });
+    }
+    let message = String::from_str(
+        alloc,
+        "this string is not closed before the end of its line",
+    )?;
+    Ok(Fault { message, offset: 0 })
+}
+
+// The text from the first bad escape of a string on, if the string has one before it or its line ends.
+fn bad_escape<'a>(alloc: Global, text: &'a str) -> Result<Option<&'a str>, AllocError> {
     let mut rest = without(text, "\"");
     for _ in 0..text.len() {
         let unit = first_chars(rest, 1);
         match unit {
-            "" | "\n" | "\r" | "\"" => break,
+            "" | "\n" | "\r" | "\"" => return Ok(None),
             "\\" => match first_chars(without(rest, "\\"), 1) {
-                "" | "\n" | "\r" => break,
+                "" | "\n" | "\r" => return Ok(None),
                 _ => match good_escape(alloc, rest)? {
                     Some(escape) => rest = without(rest, escape),
-                    None => {
-                        return escape_fault(alloc, shown_escape(rest));
-                    }
+                    None => return Ok(Some(rest)),
                 },
             },
             _ => rest = without(rest, unit),
         }
     }
-    String::from_str(
-        alloc,
-        "this string is not closed before the end of its line",
-    )
+    Ok(None)
 }

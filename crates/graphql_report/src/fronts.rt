@@ -121,8 +121,8 @@ fn goes_on(error: &Error, end: Pos) -> Result<bool, AllocError>
     }
 }
 
-// The place after the last character.
-fn end_of(text: &str) -> Pos
+/// The place after the last character.
+pub fn end_of(text: &str) -> Pos
     ensures { result ≡ place_behind (chars text.now) }
 {
     let mut places = PositionCalculator::new(text);

@@ -6,20 +6,24 @@
 //! the parser takes there. Of a limit it tells which one, and how great it is.
 //!
 //! The parsers give all of this themselves. A sample is expected where the text before the refused token, with the sample
-//! after it, is a viable front, and one parse of these tells that ([`is_front`]). So a report costs some thirty parses of
-//! the text before the refused token, and some twenty more to find that token; each is linear, and one copy of the text
-//! is kept at a time.
+//! after it, is a viable front, and one parse of these tells that ([`is_front`]). So a report of a refused text costs some
+//! twenty parses of the text before the refused token, or some forty where no name can stand there; each is linear, and one
+//! copy of the text is kept at a time. Of an error that names a place the refused token is found by that; at a limit it
+//! takes one parse more, or some twenty where the limits aren't the default ones.
 //!
 //! Proved of it, unless memory runs out: `is_front` answers true exactly where the tokens of a text are a viable front, in
 //! both languages and at all limits; what is expected is exactly those of the samples, in their order, that can stand
 //! after the text before the refused token, a keyword only where a name can't, and the end of the text where that text is a
-//! whole document; and every call is safe and ends. What a report says in words is tested, in `conformance_reports`.
+//! whole document; a report begins with the place of the error and its message; and every call is safe and ends. What a
+//! report says in words besides is tested, in `conformance_reports`.
 #![tactic(auto)]
 
+mod definitions;
 mod excerpt;
 mod expected;
 mod faults;
 mod fronts;
+mod hints;
 mod probes;
 mod refused;
 mod report;

@@ -1,47 +1,89 @@
 //! Where a text is refused, and by which limit.
+ghost use Rattle.std.specs.Prelude.{◌≡◌, ℕ, List, ◌++◌};
+
 use crate::fronts::{Language, is_front};
 use crate::probes::{line_of, takes};
 use crate::samples::NUMBER_TEXT;
-use graphql_parser::Limits;
 use graphql_parser::lexer::{Token, Tokens};
+use graphql_parser::{Error, Limits, Pos, parse_query_from, parse_schema_from};
 use std::alloc::{AllocError, Global};
 
-/// The part of `text` before this offset; the whole text where the offset is none of its.
-pub fn before(text: &str, offset: usize) -> &str {
+/// The parts of `text` before this offset and from it on; the whole text and nothing where the offset is none of its.
+pub fn split(text: &str, offset: usize) -> (&str, &str)
+    ensures { text.now ≡ result.0.now ++ result.1.now }
+{
     match text.split_at_checked(offset) {
-        Some((front, _)) => front,
-        None => text,
+        Some(parts) => parts,
+        None => (text, ""),
     }
+}
+
+/// The part of `text` before this offset; the whole text where the offset is none of its.
+pub fn before(text: &str, offset: usize) -> &str
+    ensures { (rest : List ℕ) × (text.now ≡ result.now ++ rest) }
+{
+    split(text, offset).0
 }
 
 /// The part of `text` from this offset on; nothing where the offset is none of its.
 pub fn after(text: &str, offset: usize) -> &str {
-    match text.split_at_checked(offset) {
-        Some((_, back)) => back,
-        None => "",
+    split(text, offset).1
+}
+
+/// The refused token of a text that `error` refuses: the first token such that no document within the limits begins with
+/// the tokens up to it, itself included.
+///
+/// Where the error names a place at which one token stands, it is that one, and nothing is parsed. At the default limits
+/// one parse counts the tokens up to it. Else it is found by halving.
+pub fn refused_token<'a>(
+    alloc: Global,
+    language: Language,
+    text: &'a str,
+    limits: Limits,
+    error: &Error,
+) -> Result<Option<Token<'a>>, AllocError> {
+    if let Error::Syntax { start, .. } = error
+        && let Some(token) = only_token_at(text, *start)
+    {
+        return Ok(Some(token));
+    }
+    if limits == Limits::default() {
+        let taken = tokens_taken(alloc, language, text)?;
+        return Ok(Tokens::new(text).nth(taken.saturating_sub(1)));
+    }
+    refused_by_halving(alloc, language, text, limits)
+}
+
+// The token at this place, where it is the only one there: after a lone carriage return a second one may have the place of
+// the first.
+fn only_token_at(text: &str, place: Pos) -> Option<Token<'_>> {
+    let mut found = None;
+    for token in Tokens::new(text) {
+        if token.pos == place {
+            if found.is_some() {
+                return None;
+            }
+            found = Some(token);
+        }
+    }
+    found
+}
+
+// How many tokens of a refused text a parser takes at the default limits: those up to the refused one, and that one.
+fn tokens_taken(alloc: Global, language: Language, text: &str) -> Result<usize, AllocError> {
+    let mut tokens = Tokens::new(text);
+    let error = match language {
+        Language::Requests => parse_query_from(alloc, &mut tokens).err(),
+        Language::Schemas => parse_schema_from(alloc, &mut tokens).err(),
+    };
+    match error {
+        Some(Error::OutOfMemory) => Err(AllocError),
+        _ => Ok(tokens.taken()),
     }
 }
 
-// Whether some document within these limits begins with the tokens before the end of this token. The buffer is there to
-// be used again.
-fn is_front_up_to(
-    alloc: Global,
-    language: Language,
-    text: &str,
-    limits: Limits,
-    last: &Token<'_>,
-    buffer: &mut String,
-) -> Result<bool, AllocError> {
-    buffer.clear();
-    buffer.push_str(before(text, last.start))?;
-    buffer.push_str(last.text)?;
-    buffer.push('\n')?;
-    is_front(alloc, language, buffer.as_str(), limits)
-}
-
-/// The refused token of a text that has one: the first token such that no document within the limits begins with the
-/// tokens up to it, itself included. It is found by halving, as a longer front is viable only where a shorter one is.
-pub fn refused_token<'a>(
+// A longer front is viable only where a shorter one is.
+fn refused_by_halving<'a>(
     alloc: Global,
     language: Language,
     text: &'a str,
@@ -64,6 +106,23 @@ pub fn refused_token<'a>(
         }
     }
     Ok(tokens.get(low).copied())
+}
+
+// Whether some document within these limits begins with the tokens before the end of this token. The buffer is there to
+// be used again.
+fn is_front_up_to(
+    alloc: Global,
+    language: Language,
+    text: &str,
+    limits: Limits,
+    last: &Token<'_>,
+    buffer: &mut String,
+) -> Result<bool, AllocError> {
+    buffer.clear();
+    buffer.push_str(before(text, last.start))?;
+    buffer.push_str(last.text)?;
+    buffer.push('\n')?;
+    is_front(alloc, language, buffer.as_str(), limits)
 }
 
 /// One of the three things that nest, and how deep it may.

@@ -1,32 +1,53 @@
 //! The report of an error.
-use crate::excerpt::{offset_of, push_excerpt, shown};
+ghost use Rattle.std.specs.Prelude.{◌≡◌, ◌∷◌, ◌++◌, [], IfOk, string_bytes};
+ghost use Rattle.graphql_grammar.specs.errors.Errors.{error_text};
+ghost use Rattle.graphql_report.specs.declared.style.Style.TheVariants.{Plain};
+ghost use Rattle.graphql_report.specs.reports.Reports.{IsReport, IsToldAt, TellsSyntax, TellsLimit, Tells, TellsPlaces};
+
+use crate::definitions::offsets_of;
+use crate::excerpt::{excerpt_of, shown};
 use crate::expected::expected_after;
-use crate::faults::fault;
-use crate::fronts::Language;
-use crate::refused::{after, before, reached_limit, refused_token};
-use crate::samples::{END, NAME, VALUE};
+use crate::faults::fault_of;
+use crate::fronts::{Language, end_of};
+use crate::hints::{is_no_enum_value, push_hint};
+use crate::refused::{after, before, reached_limit, refused_token, split};
+use crate::samples::{END, NAME, NUMBER, VALUE};
 use crate::style::{Part, Style};
 use graphql_parser::lexer::{Token, TokenKind};
 use graphql_parser::{Error, Limits, Pos};
 use std::alloc::{AllocError, Global};
-use strsim::damerau_levenshtein;
 
 // So many characters of a token are shown.
 const SHOWN_TOKEN: usize = 30;
 
-// A name with more characters is no misspelled keyword.
-const LONGEST_KEYWORD: usize = 15;
+const TOO_DEEP: &str = "recursion limit exceeded";
+
+const OF_ROOTS: Remarks = Remarks {
+    first: "",
+    second: "the schema begins here",
+};
+
+const OF_OPERATIONS: Remarks = Remarks {
+    first: ", and this one has no name",
+    second: "another operation is here",
+};
+
+const OF_NAMESAKES: Remarks = Remarks {
+    first: "",
+    second: "it is first defined here",
+};
 
 /// A report of `error` for people, which a parser gave for `text` at these limits; each line ends in a line feed.
 ///
 /// It begins with `FILE:LINE:COL: ` and the message, where `FILE` is `file_name` as it is; then the line of the place
 /// follows, with a caret under it; and where the error has two places, the second follows in the same way. For a `Syntax`
-/// error the message tells what was found, or what is wrong where no token begins, and what was expected. An error
-/// without a place has the one line `FILE: ` and the message. (This project's own call.)
+/// error the message tells what was found, or what is wrong where no token begins, and what was expected; its place is the
+/// error's, but for a bad escape in a string, where it is that of the escape. An error without a place has the one line
+/// `FILE: ` and the message. (This project's own call.)
 ///
-/// `limits` are those that the parser was given, `Limits::default()` for the calls without limits. The place of
-/// `RecursionLimitExceeded` and what was expected are found by some fifty parses of the text, or of a part of it. An error
-/// says that memory was refused.
+/// `limits` are those that the parser was given, `Limits::default()` for the calls without limits. What was expected is
+/// found by some twenty to forty parses of the text before the refused token, and the place of `RecursionLimitExceeded` by
+/// one of the text, or by some twenty where the limits aren't the default ones. An error says that memory was refused.
 pub fn explain(
     alloc: Global,
     language: Language,
@@ -34,7 +55,9 @@ pub fn explain(
     text: &str,
     limits: Limits,
     error: &Error,
-) -> Result<String, AllocError> {
+) -> Result<String, AllocError>
+    ensures { IfOk result (λ report. IsReport Plain file_name.now text.now error.now (string_bytes report)) }
+{
     explain_in(
         Style::Plain,
         alloc,
@@ -55,138 +78,232 @@ pub fn explain_in(
     text: &str,
     limits: Limits,
     error: &Error,
-) -> Result<String, AllocError> {
-    let mut out = Report {
+) -> Result<String, AllocError>
+    ensures { IfOk result (λ report. IsReport style file_name.now text.now error.now (string_bytes report)) }
+{
+    let source = &Source {
         style,
         file_name,
         text,
-        out: String::new(alloc),
     };
     match error {
-        Error::Syntax { .. } | Error::RecursionLimitExceeded => {
-            out.push_refusal(alloc, language, limits, error)?
+        Error::Syntax { start, .. } => {
+            explain_syntax(alloc, source, language, limits, error, *start)
         }
-        _ => out.push_breach(alloc, error)?,
+        Error::RecursionLimitExceeded => explain_limit(alloc, source, language, limits, error),
+        Error::MissingOperation | Error::OutOfMemory => explain_plain(alloc, file_name, error),
+        Error::MissingQueryRoot { pos } => explain_place(alloc, source, error, *pos),
+        Error::MultipleRoots { schema, pos, .. } => {
+            explain_places(alloc, source, error, *pos, *schema, OF_ROOTS)
+        }
+        Error::MultipleOperations {
+            anonymous,
+            operation,
+        } => explain_places(alloc, source, error, *anonymous, *operation, OF_OPERATIONS),
+        Error::OperationDuplicated { first, second, .. }
+        | Error::FragmentDuplicated { first, second, .. } => {
+            explain_places(alloc, source, error, *second, *first, OF_NAMESAKES)
+        }
     }
-    Ok(out.out)
 }
 
-// A report that is being written.
-#[derive(Drop)]
-struct Report<'a> {
+// A text, and how a report of it is written.
+#[derive(Clone, Copy)]
+struct Source<'a> {
     style: Style,
     file_name: &'a str,
     text: &'a str,
-    out: String,
 }
 
-impl Report<'_> {
-    // A message, its place, and the line of it.
-    fn push_part(
-        &mut self,
-        alloc: Global,
-        place: Pos,
-        offset: usize,
-        message: &str,
-    ) -> Result<(), AllocError> {
-        let file_name = self.file_name;
-        let shown_place = format!(in alloc; "{file_name}:{place}:")?;
-        self.style
-            .push(&mut self.out, Part::Place, shown_place.as_str())?;
-        writeln!(self.out, " {message}")?;
-        push_excerpt(
-            alloc,
-            self.style,
-            &mut self.out,
-            self.text,
-            place.line,
-            offset,
-        )
-    }
-
-    fn push_part_at(&mut self, alloc: Global, place: Pos, message: &str) -> Result<(), AllocError> {
-        let offset = offset_of(self.text, place);
-        self.push_part(alloc, place, offset, message)
-    }
-
-    // A refused text: its refused token, and why it is refused.
-    fn push_refusal(
-        &mut self,
-        alloc: Global,
-        language: Language,
-        limits: Limits,
-        error: &Error,
-    ) -> Result<(), AllocError> {
-        let text = self.text;
-        let Some(token) = refused_token(alloc, language, text, limits)? else {
-            return self.push_plain(error);
-        };
-        let message = match error {
-            Error::RecursionLimitExceeded => {
-                let depth = reached_limit(alloc, language, text, limits, &token)?;
-                let (what, most) = (depth.what, depth.most);
-                format!(in alloc; "recursion limit exceeded: {what} may nest {most} deep")?
-            }
-            _ => syntax_message(self.style, alloc, language, text, limits, &token)?,
-        };
-        self.push_part(alloc, token.pos, token.start, message.as_str())
-    }
-
-    // A text that breaks a rule.
-    fn push_breach(&mut self, alloc: Global, error: &Error) -> Result<(), AllocError> {
-        let message = format!(in alloc; "{error}")?;
-        let message = message.as_str();
-        match error {
-            Error::OperationDuplicated { first, second, .. }
-            | Error::FragmentDuplicated { first, second, .. } => {
-                self.push_part_at(alloc, *second, message)?;
-                self.push_part_at(alloc, *first, "it is first defined here")
-            }
-            Error::MultipleOperations {
-                anonymous,
-                operation,
-            } => {
-                let message = format!(in alloc; "{message}, and this one has no name")?;
-                self.push_part_at(alloc, *anonymous, message.as_str())?;
-                self.push_part_at(alloc, *operation, "another operation is here")
-            }
-            Error::MultipleRoots { schema, pos, .. } => {
-                self.push_part_at(alloc, *pos, message)?;
-                self.push_part_at(alloc, *schema, "the schema begins here")
-            }
-            Error::MissingQueryRoot { pos } => self.push_part_at(alloc, *pos, message),
-            _ => self.push_plain(error),
-        }
-    }
-
-    // An error without a place.
-    fn push_plain(&mut self, error: &Error) -> Result<(), AllocError> {
-        let file_name = self.file_name;
-        writeln!(self.out, "{file_name}: {error}")
-    }
+// A message with its place, which goes on so, and the line of the place.
+fn told_at(
+    alloc: Global,
+    source: &Source<'_>,
+    place: Pos,
+    offset: usize,
+    message: &str,
+    more: &str,
+) -> Result<String, AllocError>
+    ensures { IfOk result (λ part. Tells source.now.style source.now.file_name.now place message.now (string_bytes part)) }
+{
+    let file_name = source.file_name;
+    let shown_place = format!(in alloc; "{file_name}:{place}:")?;
+    let excerpt = excerpt_of(alloc, source.style, source.text, place.line, offset)?;
+    let rest = format!(in alloc; "{more}\n{excerpt}")?;
+    let mut out = String::new(alloc);
+    source
+        .style
+        .push(&mut out, Part::Place, shown_place.as_str())?;
+    out.push_str(" ")?;
+    out.push_str(message)?;
+    out.push_str(rest.as_str())?;
+    Ok(out)
 }
 
-fn syntax_message(
-    style: Style,
+// An error without a place.
+fn explain_plain(alloc: Global, file_name: &str, error: &Error) -> Result<String, AllocError>
+    ensures { IfOk result (λ report. TellsPlaces Plain file_name.now (error_text error.now) [] (string_bytes report)) }
+{
+    let message = format!(in alloc; "{error}")?;
+    let mut out = format!(in alloc; "{file_name}: ")?;
+    out.push_str(message.as_str())?;
+    out.push_str("\n")?;
+    Ok(out)
+}
+
+// ---- refused texts
+
+// A text that is refused at this place.
+fn explain_syntax(
+    alloc: Global,
+    source: &Source<'_>,
+    language: Language,
+    limits: Limits,
+    error: &Error,
+    start: Pos,
+) -> Result<String, AllocError>
+    ensures { IfOk result (λ report. TellsSyntax source.now.style source.now.file_name.now source.now.text.now start (string_bytes report)) }
+{
+    let text = source.text;
+    let token = refused_token(alloc, language, text, limits, error)?;
+    let details = details_of(alloc, language, text, limits, token)?;
+    let (front, back) = split(text, details.offset);
+    let place = place_told(front, back, start, details.is_inside);
+    let mut message = String::from_str(alloc, "syntax ")?;
+    source.style.push(&mut message, Part::Error, "error")?;
+    message.push_str(": ")?;
+    told_at(
+        alloc,
+        source,
+        place,
+        details.offset,
+        message.as_str(),
+        details.message.as_str(),
+    )
+}
+
+// What is told of a refused token.
+#[derive(Drop)]
+struct Details {
+    // What was found, or what is wrong there, and what was expected.
+    message: String,
+    // Where the caret stands, and whether that is inside the token, where an escape begins.
+    offset: usize,
+    is_inside: bool,
+}
+
+// The place where the caret stands, in a text that is cut there: that of the refused token, or of the escape in it.
+fn place_told(front: &str, back: &str, start: Pos, is_inside: bool) -> Pos
+    ensures { IsToldAt (front.now ++ back.now) start result }
+{
+    if is_inside
+        && let Some(byte) = back.as_bytes().first()
+        && *byte == b'\\'
+    {
+        return end_of(front);
+    }
+    start
+}
+
+fn details_of(
     alloc: Global,
     language: Language,
     text: &str,
     limits: Limits,
-    token: &Token<'_>,
-) -> Result<String, AllocError> {
+    token: Option<Token<'_>>,
+) -> Result<Details, AllocError> {
+    let Some(token) = token else {
+        return Ok(Details {
+            message: String::from_str(alloc, "the text is refused")?,
+            offset: text.len(),
+            is_inside: false,
+        });
+    };
     let expected = expected_after(alloc, language, before(text, token.start), limits)?;
-    let mut message = String::from_str(alloc, "syntax ")?;
-    style.push(&mut message, Part::Error, "error")?;
-    message.push_str(": ")?;
+    let expected = expected.as_slice();
+    let mut message = String::new(alloc);
+    let mut offset = 0usize;
     if matches!(token.kind, TokenKind::Fault) {
-        message.push_str(fault(alloc, after(text, token.start))?.as_str())?;
+        let is_value = expected.contains(&VALUE) || expected.contains(&NUMBER);
+        let fault = fault_of(alloc, after(text, token.start), is_value)?;
+        message.push_str(fault.message.as_str())?;
+        offset = fault.offset;
     } else {
         message.push_str("found ")?;
-        push_found(&mut message, token)?;
+        push_found(&mut message, &token)?;
     }
-    push_expected(&mut message, token, expected.as_slice())?;
-    push_guess(alloc, &mut message, token, expected.as_slice())?;
-    Ok(message)
+    push_expected(&mut message, language, &token, expected)?;
+    push_hint(alloc, &mut message, language, text, &token, expected)?;
+    Ok(Details {
+        message,
+        offset: token.start.saturating_add(offset),
+        is_inside: offset > 0,
+    })
+}
+
+// A text that nests too deep.
+fn explain_limit(
+    alloc: Global,
+    source: &Source<'_>,
+    language: Language,
+    limits: Limits,
+    error: &Error,
+) -> Result<String, AllocError>
+    ensures { IfOk result (λ report. TellsLimit source.now.style source.now.file_name.now source.now.text.now (string_bytes report)) }
+{
+    let text = source.text;
+    let Some(token) = refused_token(alloc, language, text, limits, error)? else {
+        let more = " at the end of the text";
+        return told_at(alloc, source, end_of(text), text.len(), TOO_DEEP, more);
+    };
+    let depth = reached_limit(alloc, language, text, limits, &token)?;
+    let (what, most) = (depth.what, depth.most);
+    let more = format!(in alloc; ": {what} may nest {most} deep")?;
+    let place = end_of(before(text, token.start));
+    told_at(alloc, source, place, token.start, TOO_DEEP, more.as_str())
+}
+
+// ---- trees that break a rule
+
+// An error with one place.
+fn explain_place(
+    alloc: Global,
+    source: &Source<'_>,
+    error: &Error,
+    place: Pos,
+) -> Result<String, AllocError>
+    ensures { IfOk result (λ report. Tells source.now.style source.now.file_name.now place (error_text error.now) (string_bytes report)) }
+{
+    let offsets = offsets_of(alloc, source.text, error)?;
+    let message = format!(in alloc; "{error}")?;
+    told_at(alloc, source, place, offsets.first, message.as_str(), "")
+}
+
+// What an error with two places says after its message, and of the second place.
+#[derive(Clone, Copy)]
+struct Remarks {
+    first: &'static str,
+    second: &'static str,
+}
+
+// An error with two places.
+fn explain_places(
+    alloc: Global,
+    source: &Source<'_>,
+    error: &Error,
+    first: Pos,
+    second: Pos,
+    remarks: Remarks,
+) -> Result<String, AllocError>
+    ensures { IfOk result (λ report. TellsPlaces source.now.style source.now.file_name.now (error_text error.now) (first ∷ second ∷ []) (string_bytes report)) }
+{
+    let offsets = offsets_of(alloc, source.text, error)?;
+    let message = format!(in alloc; "{error}")?;
+    let message = message.as_str();
+    let mut report = told_at(alloc, source, first, offsets.first, message, remarks.first)?;
+    let other = told_at(alloc, source, second, offsets.second, remarks.second, "")?;
+    report.push_str(other.as_str())?;
+    Ok(report)
 }
 
 // What stands at the refused place.
@@ -225,6 +342,7 @@ fn push_cut(out: &mut String, text: &str) -> Result<(), AllocError> {
 // What is expected, as `, expected a name, "..." or "}"`.
 fn push_expected(
     out: &mut String,
+    language: Language,
     token: &Token<'_>,
     expected: &[&'static str],
 ) -> Result<(), AllocError> {
@@ -238,7 +356,9 @@ fn push_expected(
             ", "
         })?;
         out.push_str(name)?;
-        push_exception(out, token, name)?;
+        if !is_no_enum_value(language, token, expected) {
+            push_exception(out, token, name)?;
+        }
     }
     Ok(())
 }
@@ -253,38 +373,4 @@ fn push_exception(out: &mut String, token: &Token<'_>, name: &str) -> Result<(),
         return out.push_str(" without variables");
     }
     Ok(())
-}
-
-// The expected keyword that is most like the name that was found, if it has two thirds of it.
-fn push_guess(
-    alloc: Global,
-    out: &mut String,
-    token: &Token<'_>,
-    expected: &[&'static str],
-) -> Result<(), AllocError> {
-    if !token.kind.is_name() || token.text.len() > LONGEST_KEYWORD {
-        return Ok(());
-    }
-    let mut best: Option<&'static str> = None;
-    let mut fewest = usize::MAX;
-    for name in expected {
-        let word = name.trim_matches('"');
-        let edits = damerau_levenshtein(alloc, word, token.text)?;
-        if is_keyword(name) && edits < fewest && edits <= word.len().div_ceil(3) {
-            fewest = edits;
-            best = Some(*name);
-        }
-    }
-    match best {
-        Some(name) => write!(out, " (did you mean {name}?)"),
-        None => Ok(()),
-    }
-}
-
-// Whether what is expected is a keyword, which stands in quotes.
-fn is_keyword(name: &str) -> bool {
-    match name.strip_prefix('"') {
-        Some(word) => word.starts_with(|c: char| c.is_ascii_alphabetic()),
-        None => false,
-    }
 }

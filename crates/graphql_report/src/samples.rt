@@ -9,6 +9,12 @@ pub const NAME_TEXT: &str = "a";
 /// What a name is called.
 pub const NAME: &str = "a name";
 
+/// What a number is called.
+pub const NUMBER: &str = "a number";
+
+/// What a location of a directive is called.
+pub const LOCATION: &str = "a location such as \"FIELD\" or \"OBJECT\"";
+
 /// What a name and all literals are called together.
 pub const VALUE: &str = "a value";
 
@@ -20,7 +26,7 @@ pub const NUMBER_TEXT: &str = "0";
 
 /// What a value may begin with that is neither a variable nor a name. A block string stands wherever a string does.
 pub const LITERALS: [Sample; 4] = [
-    (NUMBER_TEXT, "a number"),
+    (NUMBER_TEXT, NUMBER),
     ("\"\"", "a string"),
     ("[", "\"[\""),
     ("{", "\"{\""),
@@ -61,5 +67,5 @@ pub const KEYWORDS: [Sample; 17] = [
     ("subscription", "\"subscription\""),
     ("type", "\"type\""),
     ("union", "\"union\""),
-    ("FIELD", "a location such as \"FIELD\" or \"OBJECT\""),
+    ("FIELD", LOCATION),
 ];

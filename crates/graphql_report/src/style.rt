@@ -1,4 +1,7 @@
 //! How the parts of a report stand out.
+ghost use Rattle.std.specs.Prelude.{◌≡◌, ◌++◌, OnOk, string_bytes};
+ghost use Rattle.graphql_report.specs.reports.Reports.{code_of, styled};
+
 use std::alloc::AllocError;
 
 /// How a report is written.
@@ -20,7 +23,9 @@ pub enum Part {
 
 impl Part {
     // The code after which a terminal shows it as it is to be shown.
-    fn code(self) -> &'static str {
+    fn code(self) -> &'static str
+        ensures { result.now ≡ code_of self }
+    {
         match self {
             Part::Place => "\u{1b}[1m",
             Part::Error => "\u{1b}[1;31m",
@@ -34,7 +39,9 @@ const USUAL: &str = "\u{1b}[0m";
 
 impl Style {
     /// Adds the text of a part.
-    pub fn push(self, out: &mut String, part: Part, text: &str) -> Result<(), AllocError> {
+    pub fn push(self, out: &mut String, part: Part, text: &str) -> Result<(), AllocError>
+        ensures { OnOk result (string_bytes out.new ≡ string_bytes out.old ++ styled self part text.now) }
+    {
         match self {
             Style::Plain => out.push_str(text),
             Style::Coloured => {

@@ -1,5 +1,5 @@
 use Rattle.std.proofs.Common.{◌-◌, ◌≤◌}
-use Rattle.graphql_report.proofs.refused.refused_token.Given as goal
+use Rattle.graphql_report.proofs.refused.refused_by_halving.Given as goal
 
 abbrev pub invariant-loop-low : goal.invariant-loop-low
 invariant-loop-low l = l.low ≤ l.high

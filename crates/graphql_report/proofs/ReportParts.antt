@@ -1,0 +1,46 @@
+-- How a part of a report is put together, and where the places in it stand.
+use Rattle.std.proofs.Common.{◌≡◌, ℕ, List, [], ◌∷◌, ◌++◌, Some, Result, Ok, Err, sym, ap, ◌∙◌, append_assoc, inr}
+use Rattle.std.specs.Prelude.{slice_get, IfOk, codes}
+use Rattle.std.specs.Fmt.{decimal}
+use Rattle.std.specs.Str.{chars, IsUtf8}
+use Rattle.std.proofs.Common.{rules}
+use Rattle.std.proofs.lemmas.Str.{chars-append, chars-IsAscii, IsUtf8-from_ascii}
+use Rattle.graphql_tokens.specs.declared.pos.Pos.{Pos}
+use Rattle.graphql_report.specs.declared.style.Style.{Style}
+use Rattle.graphql_report.specs.declared.style.Part.TheVariants.{Place}
+use Rattle.graphql_tokens.specs.tokens.Place.{place_behind}
+use Rattle.graphql_report.specs.reports.Reports.{styled, place_text, Tells, TellsLimit, TellsPlaces, IsPlaceIn, IsToldAt}
+
+pub place-shown : (file : List ℕ) (place : Pos) (shown : List ℕ) → shown ≡ file ++ 58 ∷ (decimal place.line ++ (58 ∷ []) ++ decimal place.column ++ (58 ∷ [])) → shown ≡ place_text file place
+place-shown file place shown e = e ∙ sym (
+    ap (λ (l : List ℕ). l ++ decimal place.column ++ (58 ∷ [])) (append_assoc (file ++ 58 ∷ []) (decimal place.line) (58 ∷ []))
+    ∙ ap (λ (l : List ℕ). l ++ (58 ∷ [])) (append_assoc (file ++ 58 ∷ []) (decimal place.line ++ (58 ∷ [])) (decimal place.column))
+    ∙ append_assoc (file ++ 58 ∷ []) (decimal place.line ++ (58 ∷ []) ++ decimal place.column) (58 ∷ [])
+    ∙ append_assoc file (58 ∷ []) (decimal place.line ++ (58 ∷ []) ++ decimal place.column ++ (58 ∷ [])))
+
+-- two parts, one after the other
+pub two-parts : (style : Style) (file message : List ℕ) (place second : Pos) (first other remark report : List ℕ) → Tells style file place message first → Tells style file second remark other → report ≡ first ++ other → TellsPlaces style file message (place ∷ second ∷ []) report
+two-parts style file message place second first other remark report (middle, is) (rest, also) e =
+    let shown : List ℕ = styled style Place (place_text file second) in
+    let front : List ℕ = styled style Place (place_text file place) ++ (32 ∷ []) ++ message ++ middle in
+    let joined : other ≡ shown ++ 32 ∷ (remark ++ rest) = also ∙ ap (λ (l : List ℕ). l ++ rest) (append_assoc shown (32 ∷ []) remark) ∙ append_assoc shown (32 ∷ remark) rest in
+    (middle, 32 ∷ (remark ++ rest), e ∙ ap (λ (l : List ℕ). l ++ other) is ∙ ap (λ (l : List ℕ). front ++ l) joined ∙ sym (append_assoc front shown (32 ∷ (remark ++ rest))))
+
+pub place-in : (text front rest : List ℕ) (place : Pos) → IsUtf8 front → text ≡ front ++ rest → place ≡ place_behind (chars front) → IsPlaceIn text place
+place-in text front rest place utf8 e is = (chars front, chars rest, ap chars e ∙ chars-append front rest utf8, is)
+
+-- what is told at a place in the text
+pub limit-told : {A E : Type 0} (bytes : A → List ℕ) (result : Result A E) (style : Style) (file text : List ℕ) (place : Pos) → IsPlaceIn text place → IfOk result (λ report. Tells style file place (codes "recursion limit exceeded") (bytes report)) → IfOk result (λ report. TellsLimit style file text (bytes report))
+limit-told bytes (Ok report) style file text place is told = (place, is, told)
+limit-told bytes (Err refused) style file text place is told = tt
+
+-- what begins with a backslash
+begun : (back : List ℕ) (c : ℕ) → Some c ≡ slice_get back 0 → c ≡ 92 → (rest : List ℕ) × (back ≡ 92 ∷ rest)
+begun [] c e is = absurd cc
+begun (b ∷ back) c e is = (back, ap (λ (x : ℕ). x ∷ back) (let same : c ≡ b = cc in sym same ∙ is))
+
+pub escape-in : (front back : List ℕ) (c : ℕ) (start place : Pos) → IsUtf8 front → Some c ≡ slice_get back 0 → c ≡ 92 → place ≡ place_behind (chars front) → IsToldAt (front ++ back) start place
+escape-in front back c start place utf8 first is at =
+    let b = begun back c first is in
+    let after : chars back ≡ 92 ∷ chars b.0 = ap chars b.1 ∙ chars-append (92 ∷ []) b.0 (IsUtf8-from_ascii (92 ∷ []) (search rules)) ∙ ap (λ (l : List ℕ). l ++ chars b.0) (chars-IsAscii (92 ∷ []) (search rules)) in
+    inr (chars front, chars b.0, chars-append front back utf8 ∙ ap (λ (l : List ℕ). chars front ++ l) after, at)

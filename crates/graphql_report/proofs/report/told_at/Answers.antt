@@ -1,0 +1,15 @@
+use Rattle.std.proofs.Common.{◌≡◌, ℕ, List, [], ◌∷◌, ◌++◌, ap, ◌∙◌}
+use Rattle.std.specs.String.{string_bytes}
+use Rattle.graphql_report.specs.reports.Reports.{styled, place_text}
+use Rattle.graphql_report.specs.declared.style.Part.TheVariants.{Place}
+use Rattle.graphql_report.proofs.ReportParts.{place-shown}
+use Rattle.graphql_report.proofs.report.told_at.Goals as goal
+
+pub returns : goal.returns
+returns c =
+    let shown : c.as_str.result.now ≡ place_text c.args.source.now.file_name.now c.args.place = c.as_str.ensures.value ∙ place-shown _ _ _ c.in_ok-shown_place.ensures.ok in
+    let place : string_bytes c.push.new.out ≡ styled c.args.source.now.style Place (place_text c.args.source.now.file_name.now c.args.place) =
+    c.in_ok-push.ensures ∙ ap (λ (l : List ℕ). l ++ styled c.args.source.now.style Place c.as_str.result.now) c.new-out.ensures.bytes ∙ ap (styled c.args.source.now.style Place) shown in
+    let blank = c.in_ok-push_str.ensures.bytes ∙ ap (λ (l : List ℕ). l ++ 32 ∷ []) place in
+    let message = c.in_ok-push_str-2.ensures.bytes ∙ ap (λ (l : List ℕ). l ++ c.args.message.now) blank in
+    (c.as_str-2.result.now, c.in_ok-push_str-3.ensures.bytes ∙ ap (λ (l : List ℕ). l ++ c.as_str-2.result.now) message)

@@ -1,0 +1,76 @@
+-- How the report of an error begins, and which places it tells.
+-- Source: this project's choice.
+use Rattle.std.specs.Prelude.{◌≡◌, ◌⊎◌, ℕ, List, [], ◌∷◌, ◌++◌, codes}
+use Rattle.std.specs.Fmt.{decimal}
+use Rattle.std.specs.Str.{chars}
+use Rattle.graphql_tokens.specs.declared.pos.Pos.{Pos}
+use Rattle.graphql_tokens.specs.tokens.Place.{place_behind}
+use Rattle.graphql_grammar.specs.declared.error.Error.{Error}
+use Rattle.graphql_grammar.specs.declared.error.Error.TheVariants.{Syntax, RecursionLimitExceeded}
+use Rattle.graphql_grammar.specs.errors.Errors.{error_text, error_places}
+use Rattle.graphql_report.specs.declared.style.Style.{Style}
+use Rattle.graphql_report.specs.declared.style.Style.TheVariants.{Plain, Coloured}
+use Rattle.graphql_report.specs.declared.style.Part.{Part}
+use Rattle.graphql_report.specs.declared.style.Part.TheVariants.{Place, Error as Word, Caret}
+
+-- ---- how a part stands out
+
+-- the code after which a terminal shows a part as it is to be shown: a place in bold, the word in bold red, a caret in red
+abbrev pub code_of : Part → List ℕ
+code_of Place = 27 ∷ codes "[1m"
+code_of Word = 27 ∷ codes "[1;31m"
+code_of Caret = 27 ∷ codes "[31m"
+
+-- a part in colours stands between its code and the one after which a terminal shows all as usual
+abbrev pub styled : Style → Part → List ℕ → List ℕ
+styled Plain part text = text
+styled Coloured part text = code_of part ++ text ++ (27 ∷ codes "[0m")
+
+-- ---- what is told
+
+-- a place in a file, `FILE:LINE:COL:`
+abbrev pub place_text : List ℕ → Pos → List ℕ
+place_text file place = file ++ codes ":" ++ decimal place.line ++ codes ":" ++ decimal place.column ++ codes ":"
+
+-- the report begins with the place, a blank and the message
+abbrev pub Tells : Style → List ℕ → Pos → List ℕ → List ℕ → Type 0
+Tells style file place message report = (rest : List ℕ) × (report ≡ styled style Place (place_text file place) ++ codes " " ++ message ++ rest)
+
+-- The report begins with the first place and the message, and tells the second place further on; where there is no place,
+-- it is one line of the file and the message.
+abbrev pub TellsPlaces : Style → List ℕ → List ℕ → List Pos → List ℕ → Type 0
+TellsPlaces style file message [] report = report ≡ file ++ codes ": " ++ message ++ 10 ∷ []
+TellsPlaces style file message (place ∷ []) report = Tells style file place message report
+TellsPlaces style file message (place ∷ second ∷ more) report =
+    (middle rest : List ℕ)
+    × (report ≡ (styled style Place (place_text file place) ++ codes " " ++ message ++ middle) ++ styled style Place (place_text file second) ++ rest)
+
+-- the place of this text is that of the end of a part with which it begins
+abbrev pub IsPlaceIn : List ℕ → Pos → Type 0
+IsPlaceIn text place = (before after : List ℕ) × (chars text ≡ before ++ after) × (place ≡ place_behind before)
+
+-- the place is that of a backslash, with which an escape begins
+abbrev pub IsEscapeIn : List ℕ → Pos → Type 0
+IsEscapeIn text place = (before after : List ℕ) × (chars text ≡ before ++ 92 ∷ after) × (place ≡ place_behind before)
+
+-- a syntax error is told at its place, or at an escape
+abbrev pub IsToldAt : List ℕ → Pos → Pos → Type 0
+IsToldAt text start place = (place ≡ start) ⊎ IsEscapeIn text place
+
+abbrev pub TellsSyntax : Style → List ℕ → List ℕ → Pos → List ℕ → Type 0
+TellsSyntax style file text start report =
+    (place : Pos)
+    × IsToldAt text start place
+    × Tells style file place (codes "syntax " ++ styled style Word (codes "error") ++ codes ": ") report
+
+abbrev pub TellsLimit : Style → List ℕ → List ℕ → List ℕ → Type 0
+TellsLimit style file text report =
+    (place : Pos)
+    × IsPlaceIn text place
+    × Tells style file place (codes "recursion limit exceeded") report
+
+-- The report of an error: of one that names places, or of one without a place, the error's own text and its places.
+abbrev pub IsReport : Style → List ℕ → List ℕ → Error → List ℕ → Type 0
+IsReport style file text (Syntax message start stop) report = TellsSyntax style file text start report
+IsReport style file text RecursionLimitExceeded report = TellsLimit style file text report
+IsReport style file text error report = TellsPlaces style file (error_text error) (error_places error) report

@@ -1,0 +1,205 @@
+//! What was meant, as far as that can be guessed from the refused token and from what was expected.
+use crate::fronts::Language;
+use crate::refused::after;
+use crate::samples::{END, LOCATION, NAME};
+use graphql_parser::lexer::{Token, TokenKind, Tokens};
+use std::alloc::{AllocError, Global};
+use strsim::damerau_levenshtein;
+
+// A name with more characters is no misspelled keyword or location.
+const LONGEST_WORD: usize = 25;
+
+// The locations of directives (GraphQL October 2021, section 3.13).
+const LOCATIONS: [&str; 19] = [
+    "QUERY",
+    "MUTATION",
+    "SUBSCRIPTION",
+    "FIELD",
+    "FRAGMENT_DEFINITION",
+    "FRAGMENT_SPREAD",
+    "INLINE_FRAGMENT",
+    "VARIABLE_DEFINITION",
+    "SCHEMA",
+    "SCALAR",
+    "OBJECT",
+    "FIELD_DEFINITION",
+    "ARGUMENT_DEFINITION",
+    "INTERFACE",
+    "UNION",
+    "ENUM",
+    "ENUM_VALUE",
+    "INPUT_OBJECT",
+    "INPUT_FIELD_DEFINITION",
+];
+
+// The keywords of types and of schemas, which `extend` may stand before.
+const EXTENDED: [&str; 7] = [
+    "enum",
+    "input",
+    "interface",
+    "scalar",
+    "schema",
+    "type",
+    "union",
+];
+
+// What a definition of a request begins with.
+const OF_REQUESTS: [&str; 5] = ["{", "fragment", "mutation", "query", "subscription"];
+
+/// Adds what may have been meant in place of the refused token, or why it can't stand there; nothing where neither is known.
+pub fn push_hint(
+    alloc: Global,
+    out: &mut String,
+    language: Language,
+    text: &str,
+    token: &Token<'_>,
+    expected: &[&'static str],
+) -> Result<(), AllocError> {
+    if is_of_other_language(language, token, expected) {
+        return push_other_language(out, language, token);
+    }
+    if is_no_enum_value(language, token, expected) {
+        return out.push_str(" (\"true\", \"false\" and \"null\" can't be enum values)");
+    }
+    if !token.kind.is_name() {
+        return Ok(());
+    }
+    // After a description any definition may stand, but no extension.
+    if token.text == "extend" && expects(expected, "\"directive\"") {
+        return out.push_str(" (an extension has no description)");
+    }
+    if means_implements(text, token) && expects(expected, "\"implements\"") {
+        return out.push_str(" (did you mean \"implements\"?)");
+    }
+    push_guess(alloc, out, token, expected)
+}
+
+fn push_other_language(
+    out: &mut String,
+    language: Language,
+    token: &Token<'_>,
+) -> Result<(), AllocError> {
+    let word = token.text;
+    match language {
+        Language::Requests if !token.kind.is_name() => out.push_str(
+            " (only a definition of a schema file has a description, and this text is read as a request)",
+        ),
+        Language::Requests => write!(
+            out,
+            " (\"{word}\" begins a definition of a schema file, and this text is read as a request)"
+        ),
+        Language::Schemas => write!(
+            out,
+            " (\"{word}\" begins a definition of a request, and this text is read as a schema file)"
+        ),
+    }
+}
+
+fn expects(expected: &[&'static str], name: &str) -> bool {
+    expected.contains(&name)
+}
+
+// Whether a definition of the other language begins where one of this language could.
+fn is_of_other_language(language: Language, token: &Token<'_>, expected: &[&'static str]) -> bool {
+    let word = token.text;
+    match language {
+        Language::Requests => {
+            let is_description = matches!(token.kind, TokenKind::String | TokenKind::Block);
+            let is_keyword = EXTENDED.contains(&word) || word == "extend" || word == "directive";
+            expects(expected, "\"fragment\"") && (is_description || is_keyword)
+        }
+        // A brace may be meant for the definition before it, where there is one.
+        Language::Schemas => {
+            let is_first = !expects(expected, END);
+            expects(expected, "\"extend\"")
+                && OF_REQUESTS.contains(&word)
+                && (is_first || token.kind.is_name())
+        }
+    }
+}
+
+/// Whether one of the three names that are no enum values stands where a value of an enum could: they stand wherever else a
+/// name of a schema file may.
+pub fn is_no_enum_value(language: Language, token: &Token<'_>, expected: &[&'static str]) -> bool {
+    language == Language::Schemas
+        && matches!(token.text, "true" | "false" | "null")
+        && expects(expected, NAME)
+}
+
+// Whether this is the `extends` of other languages, and no misspelled `extend`, after which a keyword stands.
+fn means_implements(text: &str, token: &Token<'_>) -> bool {
+    let end = token.start.saturating_add(token.text.len());
+    let next = Tokens::new(after(text, end)).next();
+    let is_extension = next.is_some_and(|next| EXTENDED.contains(&next.text));
+    token.text == "extends" && !is_extension
+}
+
+// The expected keyword, or the location of a directive, that is most like the name that was found, if it has two thirds of
+// it. Small and capital letters make no difference.
+fn push_guess(
+    alloc: Global,
+    out: &mut String,
+    token: &Token<'_>,
+    expected: &[&'static str],
+) -> Result<(), AllocError> {
+    if token.text.len() > LONGEST_WORD {
+        return Ok(());
+    }
+    let mut best = Guess {
+        word: "",
+        edits: usize::MAX,
+    };
+    let found = token.text.to_ascii_lowercase(alloc)?;
+    for name in expected {
+        if *name == LOCATION {
+            for location in LOCATIONS {
+                best = better(alloc, best, location, found.as_str())?;
+            }
+        } else if let Some(keyword) = keyword(name) {
+            best = better(alloc, best, keyword, found.as_str())?;
+        }
+    }
+    push_meant(out, best.word)
+}
+
+// A guess, if there is one.
+fn push_meant(out: &mut String, word: &str) -> Result<(), AllocError> {
+    if word.is_empty() {
+        return Ok(());
+    }
+    write!(out, " (did you mean \"{word}\"?)")
+}
+
+// The best guess so far, and by how many edits it differs from what was found.
+#[derive(Clone, Copy)]
+struct Guess {
+    word: &'static str,
+    edits: usize,
+}
+
+// The better of a guess and this word; `found` is in small letters.
+fn better(
+    alloc: Global,
+    best: Guess,
+    word: &'static str,
+    found: &str,
+) -> Result<Guess, AllocError> {
+    let small = word.to_ascii_lowercase(alloc)?;
+    let edits = damerau_levenshtein(alloc, small.as_str(), found)?;
+    let is_like = edits <= word.len().div_ceil(3);
+    Ok(if is_like && edits < best.edits {
+        Guess { word, edits }
+    } else {
+        best
+    })
+}
+
+// What is expected without its quotes, if it is a keyword.
+fn keyword(name: &'static str) -> Option<&'static str> {
+    let word = name.trim_matches('"');
+    if word.starts_with(|c: char| c.is_ascii_lowercase()) && name.starts_with('"') {
+        Some(word)
+    } else {
+        None
+    }
+}
