@@ -1,20 +1,17 @@
-//! Tables of cases with expected answers: requests, and what the calls of their trees and of their errors give. The
-//! answers were worked out by hand from the rules of `docs/GRAMMAR.md`, and never taken from what the crates print.
+//! Tables of cases with expected answers: requests and schema files, what the calls of their trees and of their errors give,
+//! and their JSON. The answers were worked out by hand from the rules of `docs/GRAMMAR.md`, and never taken from what the
+//! crates print.
 #![tactic(auto)]
 
 #[cfg(test)]
 mod calls;
 #[cfg(test)]
-mod chosen;
+mod files;
 #[cfg(test)]
-mod errors;
+mod json;
 #[cfg(test)]
-mod hostile;
+mod parser;
 #[cfg(test)]
 mod requests;
 #[cfg(test)]
-mod sent;
-#[cfg(test)]
-mod taken;
-#[cfg(test)]
-mod views;
+mod schemas;

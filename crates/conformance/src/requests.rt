@@ -1,8 +1,14 @@
 //! Requests: the tree of an accepted text, every place included, and the answer to a refused one.
+pub mod chosen;
 pub mod definitions;
+pub mod errors;
+pub mod hostile;
 pub mod limits;
 pub mod selections;
+pub mod sent;
+pub mod taken;
 pub mod values;
+pub mod views;
 
 /// Plain requests, and texts that are refused.
 pub const REQUESTS: &str = r#"

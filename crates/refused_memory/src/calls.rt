@@ -1,8 +1,9 @@
 //! The calls, and how their answers show. Showing takes no memory.
+use crate::free;
 use crate::inputs::{Input, first_field};
 use graphql_parser::lexer::Tokens;
 use graphql_parser::text::{block_string_value, string_value};
-use graphql_parser::types::{ExecutableDocument, ServiceDocument, Type};
+use graphql_parser::types::{ExecutableDocument, Field, Selection, ServiceDocument, Type};
 use graphql_parser::value::{Name, Number};
 use graphql_parser::{
     Error, Limits, Result as Answer, parse_query, parse_query_from, parse_query_limited,
@@ -17,10 +18,14 @@ use tree_text::{Written, write_file, write_request};
 #[derive(Clone, Copy, PartialEq)]
 pub enum Call {
     Query,
+    /// How deep the sets of a request nest.
+    QueryDepth,
     QueryLimited,
+    /// Before the text may stand how many tokens are passed first, with ` in ` between them.
     QueryFrom,
     Schema,
     SchemaLimited,
+    /// As `QueryFrom`.
     SchemaFrom,
     StringValue,
     BlockStringValue,
@@ -43,8 +48,22 @@ pub enum Call {
     WriteType,
     /// The tokens of a text.
     Tokens,
-    /// What is found in a request without memory.
+    /// Places, nodes, limits and a set.
+    Places,
+    /// The places of an error.
+    ErrorPlaces,
+    /// What is found in a request by its names.
     LookUp,
+    /// The operations of a request.
+    Operations,
+    /// The directives of a selection, to be changed.
+    DirectivesMut,
+    /// Equality, order and hash.
+    Compare,
+    /// The constructors of values.
+    Construct,
+    /// Those of values without variables.
+    ConstructConstant,
 }
 
 // Whether the call answered; else memory was refused.
@@ -63,10 +82,18 @@ impl Call {
             }
             Input::Values(values) => {
                 let value = values.pop().ok_or(AllocError)?;
+                if self == Call::Construct {
+                    free::show_made(shown, value);
+                    return Ok(());
+                }
                 show_constant(shown, value.into_const(alloc)?);
             }
             Input::Constants(values) => {
                 let value = values.pop().ok_or(AllocError)?;
+                if self == Call::ConstructConstant {
+                    free::show_made_constants(shown, value);
+                    return Ok(());
+                }
                 value.into_value(alloc)?.write(shown);
             }
             Input::Directives(directives) => {
@@ -77,8 +104,14 @@ impl Call {
                 let directive = directives.pop().ok_or(AllocError)?;
                 directive.into_directive(alloc)?.write(shown);
             }
-            Input::Request(document) if self == Call::LookUp => look_up(document, shown),
-            Input::Request(document) => show_copied_request(document, shown)?,
+            Input::Request(document) => match self {
+                Call::LookUp => free::show_found(shown, document),
+                Call::Operations => free::show_operations(shown, document),
+                Call::DirectivesMut => free::show_changed(shown, document),
+                Call::Compare => free::show_compared(shown, document),
+                _ => show_copied_request(document, shown)?,
+            },
+            Input::Error(error) => free::show_error_places(shown, error),
             Input::File(document) => show_copied_file(document, shown)?,
         }
         Ok(())
@@ -88,6 +121,7 @@ impl Call {
     fn of_text(self, alloc: Global, text: &str, shown: &mut Shown) -> Answered {
         match self {
             Call::Query => show_request(shown, parse_query(alloc, text)),
+            Call::QueryDepth => show_depth(shown, parse_query(alloc, text)),
             Call::QueryLimited => {
                 show_request(shown, parse_query_limited(alloc, text, narrow()))
             }
@@ -100,27 +134,33 @@ impl Call {
                 Ok(())
             }
             Call::NewType => show_option(shown, Type::new(alloc, text)?),
-            Call::NewNumber => show_option(shown, Number::new(alloc, text)?),
+            Call::NewNumber => show_number(shown, Number::new(alloc, text)?),
             Call::NewName => {
                 shown.item("", &Name::new(alloc, text)?);
                 Ok(())
             }
             Call::WritePlaces => show_json_places(alloc, text, shown),
             Call::WriteType => show_json_type(alloc, text, shown),
+            Call::Places => {
+                free::show_places(alloc, shown, text);
+                Ok(())
+            }
             _ => {
-                for token in Tokens::new(text) {
-                    shown.item("", &token.pos);
-                    shown.word(" ");
-                }
+                free::show_tokens(shown, text);
                 Ok(())
             }
         }
     }
 
-    // The answer over fresh tokens, and how many are taken; and where memory is refused, whether no more are
-    // taken than there are, and the rest is still to come.
+    // The answer over the tokens that are left, and how many are taken; and where memory is refused, whether no more
+    // are taken than there are, and the rest is still to come.
     fn of_tokens(self, alloc: Global, text: &str, shown: &mut Shown) -> Answered {
+        let (passed, text) = text.split_once(" in ").unwrap_or(("0", text));
+        let passed: usize = passed.parse().ok().ok_or(AllocError)?;
         let mut tokens = Tokens::new(text);
+        for _ in 0..passed {
+            tokens.next();
+        }
         if tokens.is_ended() {
             return Ok(());
         }
@@ -160,6 +200,31 @@ fn show_request(shown: &mut Shown, answer: Answer<ExecutableDocument>) -> Answer
     Ok(())
 }
 
+// How many fields with a set nest, each alone in its set, and the name of the field in the last.
+fn show_depth(shown: &mut Shown, answer: Answer<ExecutableDocument>) -> Answered {
+    match answer {
+        Ok(document) => {
+            if let Some(field) = first_field(&document) {
+                show_innermost(shown, field, 0);
+            }
+        }
+        Err(error) => show_error(shown, &error)?,
+    }
+    Ok(())
+}
+
+fn show_innermost(shown: &mut Shown, field: &Field, depth: usize) {
+    if field.selection_set.node.items.is_empty() {
+        shown.item("", &depth);
+        shown.item(" ", &field.name);
+    }
+    for selection in &field.selection_set.node.items {
+        if let Selection::Field(inner) = &selection.node {
+            show_innermost(shown, &inner.node, depth.wrapping_add(1));
+        }
+    }
+}
+
 fn show_file(shown: &mut Shown, answer: Answer<ServiceDocument>) -> Answered {
     match answer {
         Ok(document) => write_file(shown, &document),
@@ -184,6 +249,24 @@ fn show_option<T: fmt::Display + Drop>(shown: &mut Shown, answer: Option<T>) -> 
     match answer {
         Some(answer) => shown.item("", &answer),
         None => shown.word("none"),
+    }
+    Ok(())
+}
+
+// A number, and its values as integers.
+fn show_number(shown: &mut Shown, answer: Option<Number>) -> Answered {
+    let Some(number) = answer else {
+        shown.word("none");
+        return Ok(());
+    };
+    shown.item("", &number);
+    match number.as_i64() {
+        Some(value) => shown.item(" ", &value),
+        None => shown.word(" none"),
+    }
+    match number.as_u64() {
+        Some(value) => shown.item(" ", &value),
+        None => shown.word(" none"),
     }
     Ok(())
 }
@@ -248,19 +331,4 @@ fn show_json_type(alloc: Global, text: &str, shown: &mut Shown) -> Answered {
         }
         Err(_) => Err(AllocError),
     }
-}
-
-// The key of the first field, its argument `b`, the fragment `F`, and how many operations there are.
-fn look_up(document: &ExecutableDocument, shown: &mut Shown) {
-    if let Some(field) = first_field(document) {
-        shown.item("", &field.response_key().node);
-        if let Some(value) = field.get_argument("b") {
-            shown.word(" ");
-            value.node.write(shown);
-        }
-    }
-    if let Some(fragment) = document.fragment("F") {
-        shown.item(" ", &fragment.pos);
-    }
-    shown.item(" ", &document.operations.iter().len());
 }

@@ -4,7 +4,7 @@ use graphql_parser::types::{
     ConstDirective, Directive, ExecutableDocument, Field, Selection, ServiceDocument, Type,
 };
 use graphql_parser::value::{ConstValue, Name, Number, Value};
-use graphql_parser::{parse_query, parse_schema};
+use graphql_parser::{Error, parse_query, parse_schema};
 use std::alloc::{AllocError, Global};
 
 /// What a call is given. A conversion lets its value go, so there is one for each time that the call is made.
@@ -20,6 +20,7 @@ pub enum Input {
     Directives(Vec<Directive>),
     ConstDirectives(Vec<ConstDirective>),
     Request(ExecutableDocument),
+    Error(Error),
     File(ServiceDocument),
 }
 
@@ -30,11 +31,23 @@ impl Call {
             Call::CloneName => Input::Name(Name::new(alloc, text)?),
             Call::CloneNumber => Input::Number(Number::new(alloc, text)?.ok_or(AllocError)?),
             Call::CloneType => Input::Type(Type::new(alloc, text)?.ok_or(AllocError)?),
-            Call::CloneValue | Call::IntoConst => Input::Values(values(alloc, text, times)?),
-            Call::IntoValue => Input::Constants(constants(alloc, text, times)?),
+            Call::CloneValue | Call::IntoConst | Call::Construct => {
+                Input::Values(values(alloc, text, times)?)
+            }
+            Call::IntoValue | Call::ConstructConstant => {
+                Input::Constants(constants(alloc, text, times)?)
+            }
             Call::DirectiveIntoConst => Input::Directives(directives(alloc, text, times)?),
             Call::IntoDirective => Input::ConstDirectives(const_directives(alloc, text, times)?),
-            Call::CloneRequest | Call::LookUp => Input::Request(request(alloc, text)?),
+            Call::CloneRequest
+            | Call::LookUp
+            | Call::Operations
+            | Call::DirectivesMut
+            | Call::Compare => Input::Request(request(alloc, text)?),
+            Call::ErrorPlaces => match parse_query(alloc, text) {
+                Ok(_) => return Err(AllocError),
+                Err(error) => Input::Error(error),
+            },
             Call::CloneFile => match parse_schema(alloc, text) {
                 Ok(document) => Input::File(document),
                 Err(_) => return Err(AllocError),

@@ -1,6 +1,5 @@
 //! The two languages: their grammars, and what their calls answer.
 use crate::grammars;
-use answer_text::shown;
 use example_printer::{print_request, print_schema};
 use graphql_parser::lexer::Tokens;
 use graphql_parser::types::{ExecutableDocument, ServiceDocument};
@@ -29,7 +28,7 @@ pub enum Form {
 #[derive(Drop)]
 pub struct Seen {
     pub kind: Kind,
-    /// The tree with its places, or the error.
+    /// The tree with its places, or the error with all of its fields.
     pub placed: String,
     /// The tree or the error, without places.
     pub placeless: String,
@@ -144,8 +143,11 @@ fn refused(alloc: Global, error: &Error) -> Result<Seen, AllocError> {
     };
     Ok(Seen {
         kind,
-        placed: shown(alloc, true, error)?,
-        placeless: shown(alloc, false, error)?,
+        placed: format!(in alloc; "{error:?}")?,
+        placeless: match kind {
+            Kind::Syntax => String::from_str(alloc, "syntax")?,
+            _ => format!(in alloc; "{error}")?,
+        },
         printed: String::new(alloc),
     })
 }

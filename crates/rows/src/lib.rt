@@ -22,7 +22,8 @@
 mod notation;
 mod shown;
 
-use notation::{in_one_line, meant};
+use notation::in_one_line;
+pub use notation::meant;
 pub use shown::Shown;
 use std::alloc::{AllocError, Global};
 use std::test::Fail;

@@ -1,6 +1,5 @@
 //! The notation of the rows: what stands for characters that are not seen, and for many of them.
 use std::alloc::{AllocError, Global};
-use std::test::Fail;
 
 // The words of a text, with one blank between them.
 pub fn in_one_line(alloc: Global, text: &str) -> Result<String, AllocError> {
@@ -14,17 +13,20 @@ pub fn in_one_line(alloc: Global, text: &str) -> Result<String, AllocError> {
     Ok(out)
 }
 
-// What a text in the notation of the rows stands for.
-pub fn meant(alloc: Global, text: &str) -> Result<String, Fail> {
+/// What a text in the notation of the rows stands for. A bracket that is not closed stands for itself.
+pub fn meant(alloc: Global, text: &str) -> Result<String, AllocError> {
     let mut out = String::new(alloc);
     for (index, part) in text.split('⟨').enumerate() {
-        let (inside, plain) = if index == 0 {
-            ("0×", part)
-        } else {
-            part.split_once('⟩').ok_or("⟨ without ⟩")?
-        };
-        push_inside(&mut out, inside)?;
-        push_plain(&mut out, plain)?;
+        match part.split_once('⟩') {
+            Some((inside, plain)) if index > 0 => {
+                push_inside(&mut out, inside)?;
+                push_plain(&mut out, plain)?;
+            }
+            _ => {
+                push_plain(&mut out, if index > 0 { "⟨" } else { "" })?;
+                push_plain(&mut out, part)?;
+            }
+        }
     }
     Ok(out)
 }
@@ -53,19 +55,20 @@ fn push_numbered(out: &mut String, text: &str, index: usize) -> Result<(), Alloc
     Ok(())
 }
 
-// What stands for the text between ⟨ and ⟩.
-fn push_inside(out: &mut String, inside: &str) -> Result<(), Fail> {
-    match inside.split_once('×') {
-        Some((count, text)) => {
-            let count: usize = count.parse()?;
-            for index in 0..count {
-                push_numbered(out, text, index)?;
-            }
+// What stands for the text between ⟨ and ⟩; the text itself where it is in no notation.
+fn push_inside(out: &mut String, inside: &str) -> Result<(), AllocError> {
+    if let Some((count, text)) = inside.split_once('×')
+        && let Ok(count) = count.parse::<usize>()
+    {
+        for index in 0..count {
+            push_numbered(out, text, index)?;
         }
-        None => {
-            let code = u32::from_str_radix(inside, 16)?;
-            out.push(char::from_u32(code).ok_or("no character")?)?;
-        }
+        return Ok(());
     }
-    Ok(())
+    if let Ok(code) = u32::from_str_radix(inside, 16)
+        && let Some(c) = char::from_u32(code)
+    {
+        return out.push(c);
+    }
+    push_plain(out, inside)
 }

@@ -11,11 +11,9 @@ mod parts;
 pub mod plain;
 mod request;
 mod schema;
-mod sizes;
 mod values;
-mod views;
 
+pub use parts::{write_directives, write_value};
 pub use request::write_request;
-pub use schema::write_file;
+pub use schema::{keyword, write_file};
 pub use values::Written;
-pub use views::View;

@@ -23,8 +23,8 @@ pub fn write_file(shown: &mut Shown, document: &ServiceDocument) {
     }
 }
 
-// The keyword of a definition of a type of this kind.
-fn keyword(kind: &TypeKind) -> &'static str {
+/// The keyword of a definition of a type of this kind.
+pub fn keyword(kind: &TypeKind) -> &'static str {
     match kind {
         TypeKind::Scalar => "scalar",
         TypeKind::Object(_) => "type",

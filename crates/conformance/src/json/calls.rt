@@ -1,0 +1,120 @@
+//! The calls that the tables are about.
+use super::{errors, requests, schemas, values};
+use graphql_json::{Places, error_json, request_json, schema_json};
+use graphql_parser::{parse_query, parse_schema};
+use rows::{Subject, failures};
+use std::alloc::{AllocError, Global};
+use std::test::Fail;
+
+/// What the rows of a table are, and the JSON that they show.
+#[derive(Clone, Copy)]
+pub enum Part {
+    /// Requests: the definitions of the `Document`.
+    Request(Places),
+    /// Schema files: the definitions of the `Document`.
+    Schema(Places),
+    /// Parts of a request: what stands around them in its text, and in its definitions without places.
+    Inside(&'static str, &'static str, &'static str, &'static str),
+    /// Requests that are refused: the error.
+    RefusedRequest,
+    /// Schema files that are refused: the error.
+    RefusedSchema,
+}
+
+impl Subject for Part {
+    fn answer(&self, alloc: Global, text: &str) -> Result<String, Fail> {
+        let json = match self {
+            Part::Request(places) => request(alloc, text, *places)?,
+            Part::Schema(places) => {
+                let document = parse_schema(alloc, text).ok().ok_or("refused")?;
+                text_of(schema_json(alloc, &document, *places)?)?
+            }
+            Part::Inside(before, after, _, _) => {
+                let text = format!(in alloc; "{before}{text}{after}")?;
+                request(alloc, text.as_str(), Places::LeftOut)?
+            }
+            Part::RefusedRequest => {
+                let error = parse_query(alloc, text).err().ok_or("accepted")?;
+                text_of(error_json(alloc, &error)?)?
+            }
+            Part::RefusedSchema => {
+                let error = parse_schema(alloc, text).err().ok_or("accepted")?;
+                text_of(error_json(alloc, &error)?)?
+            }
+        };
+        Ok(spaced(alloc, self.part_of(json.as_str()))?)
+    }
+}
+
+impl Part {
+    // What the table shows of the JSON.
+    fn part_of<'a>(&self, json: &'a str) -> &'a str {
+        match self {
+            Part::Request(_) | Part::Schema(_) => definitions(json),
+            Part::Inside(_, _, before, after) => between(definitions(json), before, after),
+            Part::RefusedRequest | Part::RefusedSchema => json,
+        }
+    }
+}
+
+fn request(alloc: Global, text: &str, places: Places) -> Result<String, Fail> {
+    let document = parse_query(alloc, text).ok().ok_or("refused")?;
+    text_of(request_json(alloc, &document, places)?)
+}
+
+/// The JSON as text.
+pub fn text_of(json: Vec<u8>) -> Result<String, Fail> {
+    Ok(String::from_utf8(json).ok().ok_or("no UTF-8")?)
+}
+
+fn definitions(json: &str) -> &str {
+    between(json, "{\"kind\":\"Document\",\"definitions\":[", "]}")
+}
+
+// What stands between these two; all of the text where they don't stand at its ends.
+fn between<'a>(text: &'a str, before: &str, after: &str) -> &'a str {
+    let inside = text
+        .strip_prefix(before)
+        .and_then(|rest| rest.strip_suffix(after));
+    inside.unwrap_or(text)
+}
+
+// The JSON with a blank after each comma and each colon that stands in no string.
+fn spaced(alloc: Global, json: &str) -> Result<String, AllocError> {
+    let mut out = String::new(alloc);
+    let mut is_in_string = false;
+    let mut is_escaped = false;
+    for c in json.chars() {
+        out.push(c)?;
+        if c == '"' && !is_escaped {
+            is_in_string = !is_in_string;
+        }
+        is_escaped = c == '\\' && !is_escaped;
+        if !is_in_string && (c == ',' || c == ':') {
+            out.push(' ')?;
+        }
+    }
+    Ok(out)
+}
+
+#[test]
+fn trees_and_errors_are_written(rt: HostRuntime) -> Result<(), Fail> {
+    let tables = [
+        (Part::Request(Places::LeftOut), requests::REQUESTS),
+        (Part::Request(Places::Written), requests::PLACES),
+        (requests::SELECTION, requests::SELECTIONS),
+        (requests::VARIABLE, requests::VARIABLES),
+        (values::VALUE, values::VALUES),
+        (values::CONSTANT, values::CONSTANTS),
+        (values::TYPE, values::TYPES),
+        (Part::Schema(Places::LeftOut), schemas::DEFINITIONS),
+        (Part::Schema(Places::LeftOut), schemas::EXTENSIONS),
+        (Part::Schema(Places::LeftOut), schemas::PARTS),
+        (Part::Schema(Places::Written), schemas::PLACES),
+        (Part::RefusedRequest, errors::REQUESTS),
+        (Part::RefusedSchema, errors::SCHEMAS),
+    ];
+    let failures = failures(rt.alloc(), &tables)?;
+    assert_eq!(rt; failures.as_str(), "");
+    Ok(())
+}

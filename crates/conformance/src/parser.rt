@@ -1,0 +1,15 @@
+//! The answers of the parsers, and their errors, as text; and what the rows of a table ask of a parser.
+mod answers;
+mod asked;
+mod chosen;
+mod errors;
+mod hostile;
+mod sizes;
+mod taken;
+mod views;
+
+pub use answers::Parser;
+pub use asked::{Asked, Call};
+pub use chosen::limits;
+pub use errors::shown;
+pub use views::View;

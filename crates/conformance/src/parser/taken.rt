@@ -1,0 +1,49 @@
+//! How many tokens a parser takes of those that it is handed, and what is left of them.
+use super::answers::Parser;
+use super::views::View;
+use graphql_parser::lexer::Tokens;
+use rows::Shown;
+use std::alloc::{AllocError, Global};
+
+/// What a parser gives over fresh tokens of a text, and how many it takes.
+pub fn counted(
+    alloc: Global,
+    parser: Parser,
+    view: View,
+    text: &str,
+) -> Result<String, AllocError> {
+    told(alloc, parser, view, &mut Tokens::new(text))
+}
+
+fn told(
+    alloc: Global,
+    parser: Parser,
+    view: View,
+    tokens: &mut Tokens<'_>,
+) -> Result<String, AllocError> {
+    let answer = parser.of_tokens(alloc, view, tokens)?;
+    let taken = tokens.taken();
+    format!(in alloc; "{answer}, taken {taken}")
+}
+
+/// What is given in turn until the tokens have ended, when so many were passed first.
+pub fn in_turn(
+    alloc: Global,
+    parser: Parser,
+    passed: usize,
+    text: &str,
+) -> Result<String, AllocError> {
+    let mut tokens = Tokens::new(text);
+    for _ in 0..passed {
+        tokens.next();
+    }
+    let mut shown = Shown::new(alloc, true);
+    for _ in 0..=text.len() {
+        if !tokens.is_ended() {
+            let answer = told(alloc, parser, View::Whole, &mut tokens)?;
+            shown.item("", &answer);
+            shown.word("; ");
+        }
+    }
+    shown.finish()
+}
