@@ -91,7 +91,7 @@ $ check --schema none.graphql
 
 $ check --query good.graphqls
 > 1 file: 0 good, 1 refused
-! good.graphqls:1:1: syntax error: found "type", expected "{", "fragment", "mutation", "query" or "subscription"
+! good.graphqls:1:1: syntax error: found "type", expected "{", "fragment", "mutation", "query" or "subscription" ("type" begins a definition of a schema file, and this text is read as a request)
 !  1 | type A{b:C}
 !    | ^
 = 1
