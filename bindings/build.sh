@@ -36,11 +36,14 @@ if ! (cd "$root/crates/graphql_parser_c" && rt lib >"$out/build.log" 2>&1); then
     exit 1
 fi
 
-# One object with all that the calls need, whose other names are its own.
+# One object with all that the calls need, whose other names are its own. `graphql_parser_free` is another name of the
+# kit's function that passes a block on to `free`.
 cc -std=c11 -O2 -fPIC -Wall -Wextra -Werror -I "$here" -c -o "$out/library.o" "$here/c/library.c"
-cc -r -nostdlib -o "$out/graphql_parser.o" "$out/library.o" "$root/crates/graphql_parser_c/out/libgraphql_parser_c.a" \
-    "$(dirname -- "$(rt doc)")/c/liblibc_c.a"
 sed -n 's/^[a-z].*[ *]\(graphql_parser_[a-z_]*\)(.*/\1/p' "$here/graphql_parser.h" >"$out/names"
+cc -r -nostdlib -o "$out/graphql_parser.o" -Wl,--defsym=graphql_parser_free=rattle_dealloc \
+    -Wl,--undefined=graphql_parser_version "$out/library.o" \
+    "$root/crates/graphql_parser_c/out/libgraphql_parser_c.a" \
+    "$(dirname -- "$(rt doc)")/c/liblibc_c.a"
 objcopy --keep-global-symbols="$out/names" "$out/graphql_parser.o"
 ar rcs "$archive" "$out/graphql_parser.o"
 cc -shared -o "$shared" -Wl,-soname,"$soname" -Wl,-z,defs,-z,relro,-z,now "$out/graphql_parser.o"

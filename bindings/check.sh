@@ -149,7 +149,9 @@ c_names() {
 
 # All that has a version has the header's. (The library's own is held against the header's by the callers.)
 c_version() {
-    is_same "gql --version" "$(sed -n 's/.*"gql \([0-9.]*\)\\n".*/\1/p' "$here"/../crates/gql/src/*.rt)" "$version" &&
+    number=$(printf '%s\n' "$version" | awk -F . '{ print $1 * 10000 + $2 * 100 + $3 }')
+    is_same "GRAPHQL_PARSER_VERSION_NUMBER" "$(sed -n 's/^#define GRAPHQL_PARSER_VERSION_NUMBER //p' "$here/graphql_parser.h")" "$number" &&
+        is_same "gql --version" "$(sed -n 's/.*"gql \([0-9.]*\)\\n".*/\1/p' "$here"/../crates/gql/src/*.rt)" "$version" &&
         is_same "Cargo.toml" "$(sed -n 's/^version = "\(.*\)"$/\1/p' "$here/rust/Cargo.toml")" "$version" &&
         is_same "graphql_parser.py" "$(sed -n 's/^__version__ = "\(.*\)"$/\1/p' "$here/python/graphql_parser.py")" "$version"
 }

@@ -22,10 +22,14 @@
 extern "C" {
 #endif
 
-/* The version of this header, and that of the library that the program runs with, a text such as "1.0.0". What a program
- * is compiled with may be used with any later library of the same first number, the one in the shared object's name. */
+/* The version of this header, as a text and as a number: its first number times 10000, its second times 100, and its third,
+ * together. */
 #define GRAPHQL_PARSER_VERSION "1.0.0"
-const char *graphql_parser_version(void);
+#define GRAPHQL_PARSER_VERSION_NUMBER 10000
+
+/* The version, as such a number, of the library that the program runs with. What a program is compiled with may be used with
+ * any later library of the same first number, the one in the shared object's name. */
+uint32_t graphql_parser_version(void);
 
 /* What a call tells. The numbers never change; a later version may add others. */
 enum {

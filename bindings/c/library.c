@@ -1,8 +1,6 @@
-/* What the library adds in C to the proved calls of `crates/graphql_parser_c`: a text may be null where its length is 0, which
- * a slice may not, and the program's `free` and the version have names in the library. `build.sh` compiles it. */
+/* What stands in C before the proved calls of `crates/graphql_parser_c`: a text may be null where its length is 0, which a
+ * slice may not, so these pass on an empty one in its place. `build.sh` compiles it. */
 #include "graphql_parser.h"
-
-#include <stdlib.h>
 
 /* The four calls of the crate. Their `text` isn't null. */
 uint32_t graphql_parser_c_check_query(const uint8_t *, size_t, size_t, size_t, size_t, graphql_parser_places *);
@@ -36,12 +34,4 @@ uint32_t graphql_parser_parse_schema(
     const uint8_t *text, size_t length, size_t selections, size_t values, size_t types, bool with_places,
     graphql_parser_places *places, graphql_parser_json *json) {
     return graphql_parser_c_parse_schema(not_null(text), length, selections, values, types, with_places, places, json);
-}
-
-void graphql_parser_free(void *block) {
-    free(block);
-}
-
-const char *graphql_parser_version(void) {
-    return GRAPHQL_PARSER_VERSION;
 }

@@ -150,7 +150,7 @@ for _call in (_lib.graphql_parser_parse_query, _lib.graphql_parser_parse_schema)
 _lib.graphql_parser_free.argtypes = [ctypes.c_void_p]
 _lib.graphql_parser_free.restype = None
 _lib.graphql_parser_version.argtypes = []
-_lib.graphql_parser_version.restype = ctypes.c_char_p
+_lib.graphql_parser_version.restype = ctypes.c_uint32
 
 
 def _bytes(text):

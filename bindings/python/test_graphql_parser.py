@@ -182,7 +182,8 @@ class Calls(unittest.TestCase):
                 self.assertEqual(str(error), "the text isn't UTF-8")
 
     def test_the_library_has_the_version_of_the_module(self):
-        self.assertEqual(graphql_parser._lib.graphql_parser_version().decode(), graphql_parser.__version__)
+        major, minor, patch = map(int, graphql_parser.__version__.split("."))
+        self.assertEqual(graphql_parser._lib.graphql_parser_version(), major * 10000 + minor * 100 + patch)
 
     def test_several_threads_may_call_at_once(self):
         wrong = []

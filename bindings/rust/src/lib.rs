@@ -98,9 +98,10 @@ pub fn parse_schema(text: &str, limits: Limits, places: Places) -> Result<Json, 
     parse(raw::graphql_parser_parse_schema, text, limits, places)
 }
 
-/// The version of the library that is linked, a text such as `1.0.0`. The version of this crate is `CARGO_PKG_VERSION`.
-pub fn version() -> &'static str {
-    raw::version().unwrap_or_default()
+/// The three numbers of the version of the library that is linked, such as 1, 0 and 0.
+pub fn version() -> (u32, u32, u32) {
+    let number = raw::version();
+    (number / 10000, number / 100 % 100, number % 100)
 }
 
 fn check(call: CheckCall, text: &str, limits: Limits) -> Result<(), Error> {

@@ -1,7 +1,6 @@
 //! The functions of C, as `graphql_parser.h` declares them. All that is unsafe stands here and in `json`.
 use crate::json::Json;
 use crate::{Limits, Place, Places};
-use std::ffi::{c_char, CStr};
 use std::ptr;
 
 #[repr(C)]
@@ -64,15 +63,13 @@ functions! {
 }
 
 extern "C" {
-    fn graphql_parser_version() -> *const c_char;
+    fn graphql_parser_version() -> u32;
 }
 
-/// The version of the library that is linked; none where it isn't UTF-8, which no version is.
-pub fn version() -> Option<&'static str> {
-    // SAFETY: the function needs nothing, and gives a text that ends with a zero byte and never changes.
-    unsafe { CStr::from_ptr(graphql_parser_version()) }
-        .to_str()
-        .ok()
+/// The version of the library that is linked: its first number times 10000, its second times 100, and its third, together.
+pub fn version() -> u32 {
+    // SAFETY: the function needs nothing.
+    unsafe { graphql_parser_version() }
 }
 
 /// What a call tells and hands over.

@@ -199,7 +199,11 @@ fn an_error_is_shown_with_its_message_and_its_places() {
 
 #[test]
 fn the_library_has_the_version_of_the_crate() {
-    assert_eq!(graphql_parser::version(), env!("CARGO_PKG_VERSION"));
+    let (major, minor, patch) = graphql_parser::version();
+    assert_eq!(
+        format!("{major}.{minor}.{patch}"),
+        env!("CARGO_PKG_VERSION")
+    );
 }
 
 #[test]

@@ -13,6 +13,7 @@
 //! is tested, by `bindings/check.sh`.
 #![tactic(auto)]
 
+ghost use Rattle.std.specs.Prelude.{◌≡◌};
 ghost use Rattle.graphql_parser.specs.requests.Requests.{requests};
 ghost use Rattle.graphql_parser.specs.schemas.Schemas.{schemas};
 ghost use Rattle.graphql_json.specs.nodes.Requests.{request_value};
@@ -36,6 +37,14 @@ use handing::parse;
 use std::alloc::Global;
 pub use telling::{Place, Places};
 use telling::{Question, check};
+
+/// The version of the library: its first number times 10000, its second times 100, and its third, together.
+#[unsafe(no_mangle)]
+pub extern "C" fn graphql_parser_version() -> u32
+    ensures { result ≡ 10000 }
+{
+    10000
+}
 
 /// Tells whether a text is a request: gives the number of a `Status`, and writes the places that it is about.
 ///
