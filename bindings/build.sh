@@ -22,8 +22,7 @@ shared=$out/libgraphql_parser.so.$version
 # The shared object's last link is made last.
 is_built() {
     [ -f "$archive" ] && [ -f "$shared" ] && [ -h "$out/libgraphql_parser.so" ] &&
-        [ -z "$(find "$here/build.sh" "$here/graphql_parser.h" "$here/c/library.c" "$root/crates.txt" \
-            "$root"/crates/graphql_*/src -newer "$shared" | head -n 1)" ]
+        [ -z "$(find "$here/build.sh" "$here/graphql_parser.h" "$root/crates.txt" "$root"/crates/graphql_*/src -newer "$shared" | head -n 1)" ]
 }
 
 if is_built; then
@@ -38,11 +37,9 @@ fi
 
 # One object with all that the calls need, whose other names are its own. `graphql_parser_free` is another name of the
 # kit's function that passes a block on to `free`.
-cc -std=c11 -O2 -fPIC -Wall -Wextra -Werror -I "$here" -c -o "$out/library.o" "$here/c/library.c"
 sed -n 's/^[a-z].*[ *]\(graphql_parser_[a-z_]*\)(.*/\1/p' "$here/graphql_parser.h" >"$out/names"
-cc -r -nostdlib -o "$out/graphql_parser.o" -Wl,--defsym=graphql_parser_free=rattle_dealloc \
-    -Wl,--undefined=graphql_parser_version "$out/library.o" \
-    "$root/crates/graphql_parser_c/out/libgraphql_parser_c.a" \
+cc -r -nostdlib -o "$out/graphql_parser.o" -Wl,--defsym=graphql_parser_free=rattle_dealloc -Wl,--whole-archive \
+    "$root/crates/graphql_parser_c/out/libgraphql_parser_c.a" -Wl,--no-whole-archive \
     "$(dirname -- "$(rt doc)")/c/liblibc_c.a"
 objcopy --keep-global-symbols="$out/names" "$out/graphql_parser.o"
 ar rcs "$archive" "$out/graphql_parser.o"

@@ -145,6 +145,17 @@ uint32_t graphql_parser_parse_schema(
     const uint8_t *text, size_t length, size_t selections, size_t values, size_t types, bool with_places,
     graphql_parser_places *places, graphql_parser_json *json);
 
+/* The functions themselves take no null: these macros pass on the empty text in its place. Whoever calls by the address of a
+ * function, or from another language, does the same. */
+static inline const uint8_t *
+graphql_parser_text(const uint8_t *text) {
+    return text ? text : (const uint8_t *)"";
+}
+#define graphql_parser_check_query(text, ...) (graphql_parser_check_query)(graphql_parser_text(text), __VA_ARGS__)
+#define graphql_parser_check_schema(text, ...) (graphql_parser_check_schema)(graphql_parser_text(text), __VA_ARGS__)
+#define graphql_parser_parse_query(text, ...) (graphql_parser_parse_query)(graphql_parser_text(text), __VA_ARGS__)
+#define graphql_parser_parse_schema(text, ...) (graphql_parser_parse_schema)(graphql_parser_text(text), __VA_ARGS__)
+
 #ifdef __cplusplus
 }
 #endif

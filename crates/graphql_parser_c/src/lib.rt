@@ -2,8 +2,8 @@
 //!
 //! A check tells whether a text is a request or a schema file, by a status and up to two places, and keeps no tree. A
 //! parse tells the same, and hands over the tree, or the error, as JSON. `bindings/graphql_parser.h` declares the four
-//! functions, without the `_c` in their names, and says what a caller owes; `bindings/c/library.c` passes each call on,
-//! and an empty text for one that is null; `bindings/README.md` says how to link them.
+//! functions and says what a caller owes, and its macros pass on an empty text in place of null; `bindings/README.md` says
+//! how to link them.
 //!
 //! Proved of each call, for every text and all limits: its status and its places are those of the parser's one answer
 //! for that text, as `graphql_parser` promises it, or the status says that a limit is too large or that the text isn't
@@ -52,7 +52,7 @@ pub extern "C" fn graphql_parser_version() -> u32
 /// most 256. `places` is written on every call: 0:0 stands where there is no place. It takes memory for the tree, and
 /// gives it back.
 #[unsafe(no_mangle)]
-pub extern "C" fn graphql_parser_c_check_query(
+pub extern "C" fn graphql_parser_check_query(
     alloc: Global,
     text: &[u8],
     selections: usize,
@@ -71,11 +71,11 @@ pub extern "C" fn graphql_parser_c_check_query(
     check::<ExecutableDocument>(alloc, &question, places)
 }
 
-/// Tells whether a text is a schema file, as [`graphql_parser_c_check_query`] does of a request.
+/// Tells whether a text is a schema file, as [`graphql_parser_check_query`] does of a request.
 ///
 /// A schema file has no selection sets: `selections` makes no difference, but it may not be over 256 either.
 #[unsafe(no_mangle)]
-pub extern "C" fn graphql_parser_c_check_schema(
+pub extern "C" fn graphql_parser_check_schema(
     alloc: Global,
     text: &[u8],
     selections: usize,
@@ -94,14 +94,14 @@ pub extern "C" fn graphql_parser_c_check_schema(
     check::<ServiceDocument>(alloc, &question, places)
 }
 
-/// Reads a request as [`graphql_parser_c_check_query`] does, and hands over its tree as JSON, or its error.
+/// Reads a request as [`graphql_parser_check_query`] does, and hands over its tree as JSON, or its error.
 ///
 /// The JSON is that of `graphql_json`: for an accepted text `request_json`, in which each node has its place where
 /// `with_places` is true; for a refused one `error_json`. It is handed over in a block of the program's `malloc`, which
 /// the caller gives back by `free`. Where memory was refused, a limit is too large or the text isn't UTF-8, it is null
 /// and has no bytes. `json` is written on every call, and what stood there isn't looked at.
 #[unsafe(no_mangle)]
-pub extern "C" fn graphql_parser_c_parse_query(
+pub extern "C" fn graphql_parser_parse_query(
     alloc: Global,
     text: &[u8],
     selections: usize,
@@ -123,10 +123,10 @@ pub extern "C" fn graphql_parser_c_parse_query(
     parse::<ExecutableDocument>(alloc, &question, with_places, places, json)
 }
 
-/// Reads a schema file as [`graphql_parser_c_check_schema`] does, and hands over its tree as JSON, or its error, as
-/// [`graphql_parser_c_parse_query`] does of a request.
+/// Reads a schema file as [`graphql_parser_check_schema`] does, and hands over its tree as JSON, or its error, as
+/// [`graphql_parser_parse_query`] does of a request.
 #[unsafe(no_mangle)]
-pub extern "C" fn graphql_parser_c_parse_schema(
+pub extern "C" fn graphql_parser_parse_schema(
     alloc: Global,
     text: &[u8],
     selections: usize,

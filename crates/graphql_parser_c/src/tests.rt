@@ -1,7 +1,7 @@
 //! The calls, made as a caller in C makes them.
 use crate::{
-    Json, Place, Places, graphql_parser_c_check_query, graphql_parser_c_check_schema,
-    graphql_parser_c_parse_query, graphql_parser_c_parse_schema,
+    Json, Place, Places, graphql_parser_check_query, graphql_parser_check_schema,
+    graphql_parser_parse_query, graphql_parser_parse_schema,
 };
 use rows::{Subject, failures};
 use std::alloc::Global;
@@ -33,10 +33,10 @@ impl Calls {
         let (selections, values, types) = self.limits;
         let status = match self.language {
             Language::Request => {
-                graphql_parser_c_check_query(alloc, text, selections, values, types, &mut places)
+                graphql_parser_check_query(alloc, text, selections, values, types, &mut places)
             }
             Language::SchemaFile => {
-                graphql_parser_c_check_schema(alloc, text, selections, values, types, &mut places)
+                graphql_parser_check_schema(alloc, text, selections, values, types, &mut places)
             }
         };
         Told { status, places }
@@ -47,7 +47,7 @@ impl Calls {
         let mut json = Json::of(b"earlier");
         let (selections, values, types) = self.limits;
         let status = match self.language {
-            Language::Request => graphql_parser_c_parse_query(
+            Language::Request => graphql_parser_parse_query(
                 alloc,
                 text,
                 selections,
@@ -57,7 +57,7 @@ impl Calls {
                 &mut places,
                 &mut json,
             ),
-            Language::SchemaFile => graphql_parser_c_parse_schema(
+            Language::SchemaFile => graphql_parser_parse_schema(
                 alloc,
                 text,
                 selections,
