@@ -10,8 +10,8 @@ const PIECES: usize = 400;
 /// How often an attempt is made: before any memory is given back, and after each piece.
 pub const ATTEMPTS: usize = PIECES + 1;
 
-// Blocks of memory, which no one uses.
-type Blocks = Vec<Vec<u8>>;
+/// Blocks of memory, which no one uses.
+pub type Blocks = Vec<Vec<u8>>;
 
 /// What is done again and again, with a piece of memory more each time.
 pub trait Attempt {
@@ -33,6 +33,18 @@ pub fn attempts<A: Attempt>(alloc: Global, attempted: &mut A) -> Result<bool, Al
         attempted.attempt(alloc);
     }
     Ok(true)
+}
+
+/// Takes all memory but so many bytes, and holds it until the answer is let go; None where memory has no end. Attempts that
+/// are made meanwhile have little left to take.
+pub fn all_but(alloc: Global, bytes: usize) -> Result<Option<Blocks>, AllocError> {
+    let mut blocks = Vec::with_capacity(alloc, BLOCKS)?;
+    let room: Vec<u8> = Vec::with_capacity(alloc, bytes)?;
+    if !take_all(alloc, &mut blocks)? {
+        return Ok(None);
+    }
+    drop(room);
+    Ok(Some(blocks))
 }
 
 // Takes all memory that is left, in blocks whose bytes are never touched. False where more blocks would

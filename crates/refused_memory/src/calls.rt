@@ -161,6 +161,17 @@ impl Call {
         for _ in 0..passed {
             tokens.next();
         }
+        self.of_rest(alloc, tokens, count(Tokens::new(text)), shown)
+    }
+
+    // The same over these tokens, the last of so many.
+    fn of_rest(
+        self,
+        alloc: Global,
+        mut tokens: Tokens<'_>,
+        all: usize,
+        shown: &mut Shown,
+    ) -> Answered {
         if tokens.is_ended() {
             return Ok(());
         }
@@ -171,7 +182,7 @@ impl Call {
         let taken = tokens.taken();
         if answered.is_ok() {
             shown.item(", taken ", &taken);
-        } else if taken.checked_add(count(tokens)) == Some(count(Tokens::new(text))) {
+        } else if taken.checked_add(count(tokens)) == Some(all) {
             shown.word("taken within");
         }
         answered

@@ -11,11 +11,15 @@ mod inputs;
 mod table;
 mod trying;
 
+use little_memory::all_but;
 use std::alloc::{AllocError, Global};
 use std::io;
 use std::process::ExitCode;
 use table::{Outcome, Row, TABLES, is_row};
 use trying::{failure, once};
+
+/// How many bytes are left for the rows, their texts and their trees.
+const ROOM_FOR_ROWS: usize = 1 << 25;
 
 fn main(rt: HostRuntime) -> io::Result<ExitCode> {
     let Ok(text) = io::read_to_string(rt.alloc(), rt.stdin()) else {
@@ -64,9 +68,13 @@ fn told(
     Ok(ExitCode::from(status))
 }
 
-// Makes the call of each row, again and again.
+// Makes the call of each row, again and again. Most of the memory is taken once, for all of them.
 fn each_row(rt: &HostRuntime) -> io::Result<ExitCode> {
     let alloc = rt.alloc();
+    let Some(_held) = all_but(alloc, ROOM_FOR_ROWS)? else {
+        println!(rt; "memory has no end here")?;
+        return Ok(ExitCode::from(1));
+    };
     let mut count = 0usize;
     let mut status = 0;
     for table in TABLES {

@@ -39,25 +39,37 @@ pub fn once(alloc: Global, row: &Row) -> Result<Outcome, AllocError> {
 /// What is wrong with a row at the end of memory; None where nothing is. Its call has to answer there, and, unless it
 /// takes no memory, to be refused some as well.
 pub fn failure(alloc: Global, row: Row) -> Result<Option<String>, AllocError> {
-    let is_free = row.is_free;
-    let mut tried = Tried {
-        input: row.call.input(alloc, row.text.as_str(), ATTEMPTS)?,
+    let mut tried = untried(alloc, row)?;
+    if attempts(alloc, &mut tried)? {
+        return what_is_wrong(alloc, &tried);
+    }
+    let message = String::from_str(alloc, "memory has no end here")?;
+    Ok(Some(message))
+}
+
+fn untried(alloc: Global, row: Row) -> Result<Tried, AllocError> {
+    let input = row.call.input(alloc, row.text.as_str(), ATTEMPTS)?;
+    let shown = Shown::with_room(alloc, true, ROOM)?;
+    Ok(Tried {
         row,
-        shown: Shown::with_room(alloc, true, ROOM)?,
+        input,
+        shown,
         answered: 0,
         refused: 0,
         has_other: false,
-    };
-    if !attempts(alloc, &mut tried)? {
-        return Ok(Some(String::from_str(alloc, "memory has no end here")?));
-    }
+    })
+}
+
+fn what_is_wrong(alloc: Global, tried: &Tried) -> Result<Option<String>, AllocError> {
     let (answered, refused) = (tried.answered, tried.refused);
     if tried.has_other {
         let other = tried.shown.whole().unwrap_or("what has no room");
-        return Ok(Some(format!(in alloc; "another answer: {other}")?));
+        let message = format!(in alloc; "another answer: {other}")?;
+        return Ok(Some(message));
     }
-    if answered > 0 && (refused > 0) != is_free {
+    if answered > 0 && (refused > 0) != tried.row.is_free {
         return Ok(None);
     }
-    Ok(Some(format!(in alloc; "{answered} answers, {refused} times no memory")?))
+    let message = format!(in alloc; "{answered} answers, {refused} times no memory")?;
+    Ok(Some(message))
 }
