@@ -12,7 +12,7 @@ use std::alloc::{AllocError, Global};
 use tree_text::{write_file, write_request};
 
 /// A form of a call.
-#[derive(Clone, Copy)]
+#[derive(Clone, Copy, PartialEq)]
 pub enum Form {
     /// Over a text.
     Plain,

@@ -4,24 +4,27 @@
 //! `example_printer`; the printed text has the same tree, and is printed the same again. Each text has the same answer by
 //! each form of its call, and when each of its tokens stands on a line of its own; within narrow limits it has that answer,
 //! or nests too deep. Half of the texts are made by the grammar and are accepted, or break a rule for documents; the others
-//! have one edit. The tests do the same with random values: each is printed, and read as an argument or a default again.
+//! have one edit. Of as many random values each is printed, and read as an argument or a default again. Printers and calls with
+//! a mistake are tried last: each mistake has to be found, so that COUNT has to be some hundreds at least.
 #![tactic(auto)]
 
 mod checking;
 mod grammars;
 mod languages;
+mod mistakes;
+mod printed;
 mod random;
 mod rules;
-#[cfg(test)]
-mod tests;
 mod texts;
-#[cfg(test)]
 mod values;
 
 use checking::run;
 use languages::{Language, Requests, Schemas};
+use mistakes::overlooked;
+use printed::printed_otherwise;
 use std::process::ExitCode;
 use std::{env, io};
+use values::run_values;
 
 const USAGE: &str = "usage: roundtrip SEED COUNT";
 
@@ -34,6 +37,7 @@ fn main(rt: HostRuntime) -> io::Result<ExitCode> {
     };
     if is_whole(&rt, "requests", &Requests, seed, count)?
         && is_whole(&rt, "schema files", &Schemas, seed, count)?
+        && are_values_whole(&rt, seed, count)?
     {
         return Ok(ExitCode::from(0));
     }
@@ -59,4 +63,19 @@ fn is_whole<L: Language>(
         return Ok(false);
     }
     Ok(true)
+}
+
+// Whether values are read as they are printed, each mistake is found, and texts are printed as it was worked out.
+fn are_values_whole(rt: &HostRuntime, seed: u64, count: u64) -> io::Result<bool> {
+    let tally = run_values(rt.alloc(), seed, count, None)?;
+    println!(rt; "values: {count}, {} without variables", tally.constants)?;
+    if let Some(failure) = &tally.failure {
+        println!(rt; "read as another: {failure}")?;
+        return Ok(false);
+    }
+    let overlooked = overlooked(rt.alloc(), seed, count)?;
+    println!(rt; "mistakes: {overlooked} were not found")?;
+    let otherwise = printed_otherwise(rt.alloc())?;
+    println!(rt; "worked out by hand: {otherwise} are printed otherwise")?;
+    Ok(overlooked == 0 && otherwise == 0)
 }

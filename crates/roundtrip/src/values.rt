@@ -4,7 +4,6 @@ use graphql_parser::parse_query;
 use graphql_parser::types::{DocumentOperations, Selection};
 use graphql_parser::value::{ConstValue, Name, Number, Value};
 use std::alloc::{AllocError, Global};
-use std::test::Fail;
 
 // A value is made in so many steps at most, each of which makes one that can hold earlier ones.
 const STEPS: usize = 24;
@@ -92,7 +91,7 @@ impl ValueSource {
     }
 
     /// The next value. In half of them variables may stand.
-    pub fn next_value(&mut self, alloc: Global) -> Result<Value, Fail> {
+    pub fn next_value(&mut self, alloc: Global) -> Result<Value, AllocError> {
         let kinds = if self.random.one_in(2) {
             KINDS
         } else {
@@ -140,7 +139,7 @@ impl ValueSource {
     }
 
     // A value of this kind that holds no other.
-    fn simple(&mut self, alloc: Global, kind: usize) -> Result<Value, Fail> {
+    fn simple(&mut self, alloc: Global, kind: usize) -> Result<Value, AllocError> {
         Ok(match kind {
             4 => Value::Null,
             5 => Value::Boolean(self.random.one_in(2)),
@@ -150,7 +149,10 @@ impl ValueSource {
             }
             7 => {
                 let literal = NUMBERS[self.random.below(NUMBERS.len())];
-                Value::Number(Number::new(alloc, literal)?.ok_or("no number")?)
+                match Number::new(alloc, literal)? {
+                    Some(number) => Value::Number(number),
+                    None => Value::Null,
+                }
             }
             8 | 9 => Value::String(self.string(alloc)?),
             _ => {
@@ -167,6 +169,59 @@ impl ValueSource {
         }
         Ok(text)
     }
+}
+
+/// How many values were printed and read again.
+#[derive(Drop)]
+pub struct ValueTally {
+    /// Those without variables.
+    pub constants: u64,
+    /// Those that are read as another where they stand for an argument.
+    pub wrong_arguments: u64,
+    /// Those that are read as another where they stand for a default.
+    pub wrong_defaults: u64,
+    /// The text of the last of them.
+    pub failure: Option<String>,
+}
+
+/// Prints so many values from a seed on, and reads each text as an argument, and where the value has no variables as a
+/// default. Some characters may be left out of the texts.
+pub fn run_values(
+    alloc: Global,
+    seed: u64,
+    count: u64,
+    forgotten: Option<&str>,
+) -> Result<ValueTally, AllocError> {
+    let mut source = ValueSource::new(seed);
+    let mut tally = ValueTally {
+        constants: 0,
+        wrong_arguments: 0,
+        wrong_defaults: 0,
+        failure: None,
+    };
+    for _ in 0..count {
+        let value = source.next_value(alloc)?;
+        let mut text = format!(in alloc; "{value}")?;
+        if let Some(forgotten) = forgotten {
+            text = text.replace(alloc, forgotten, "")?;
+        }
+        let mut is_wrong = false;
+        if !is_argument(alloc, text.as_str(), &value)? {
+            tally.wrong_arguments = tally.wrong_arguments.wrapping_add(1);
+            is_wrong = true;
+        }
+        if let Some(constant) = value.into_const(alloc)? {
+            tally.constants = tally.constants.wrapping_add(1);
+            if !is_default(alloc, text.as_str(), &constant)? {
+                tally.wrong_defaults = tally.wrong_defaults.wrapping_add(1);
+                is_wrong = true;
+            }
+        }
+        if is_wrong {
+            tally.failure = Some(text);
+        }
+    }
+    Ok(tally)
 }
 
 /// Whether a text is read as this value where it stands for an argument.
