@@ -22,7 +22,8 @@ shared=$out/libgraphql_parser.so.$version
 # The shared object's last link is made last.
 is_built() {
     [ -f "$archive" ] && [ -f "$shared" ] && [ -h "$out/libgraphql_parser.so" ] &&
-        [ -z "$(find "$here/build.sh" "$here/graphql_parser.h" "$root/crates.txt" "$root"/crates/graphql_*/src -newer "$shared" | head -n 1)" ]
+        [ -z "$(find "$here/build.sh" "$here/graphql_parser.h" "$root/crates.txt" "$root"/crates/graphql_*/src \
+            -newer "$shared" | head -n 1)" ]
 }
 
 if is_built; then
@@ -36,7 +37,7 @@ if ! (cd "$root/crates/graphql_parser_c" && rt lib >"$out/build.log" 2>&1); then
 fi
 
 # One object with all that the calls need, whose other names are its own. `graphql_parser_free` is another name of the
-# kit's function that passes a block on to `free`.
+# kit's function that passes a block on to `free`. The file `names` has what the header declares.
 sed -n 's/^[a-z].*[ *]\(graphql_parser_[a-z_]*\)(.*/\1/p' "$here/graphql_parser.h" >"$out/names"
 cc -r -nostdlib -o "$out/graphql_parser.o" -Wl,--defsym=graphql_parser_free=rattle_dealloc -Wl,--whole-archive \
     "$root/crates/graphql_parser_c/out/libgraphql_parser_c.a" -Wl,--no-whole-archive \

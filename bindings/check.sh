@@ -130,7 +130,7 @@ is_same() {
 # found by its links, and can't be written to once it is loaded.
 c_names() {
     shared=$out/libgraphql_parser.so
-    declared=$(sed -n 's/^[a-z].*[ *]\(graphql_parser_[a-z_]*\)(.*/\1/p' "$here/graphql_parser.h" | sorted)
+    declared=$(sorted <"$out/names")
     called=$(printf '%s\n' free malloc memcpy memmove memset realloc | sorted)
     shown=$(readelf -dlW "$shared")
     is_same "names of the static library" "$(nm -g --defined-only "$out/libgraphql_parser.a" | awk 'NF == 3 { print $3 }' | sorted)" "$declared" &&

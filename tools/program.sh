@@ -10,8 +10,8 @@ crates_of() {
     awk -v crate="$1" -f "$root/tools/crates.awk" "$root/crates.txt"
 }
 
+# Whether the file of this program is newer than crates.txt and each source of its crates.
 is_built() {
-    program=$root/crates/$1/out/$1
     [ -x "$program" ] || return 1
     for crate in $(crates_of "$1"); do
         set -- "$@" "$root/crates/$crate/src"
@@ -51,6 +51,7 @@ build_program() {
 run_program() {
     name=$1
     sample=$2
+    program=$root/crates/$name/out/$name
     shift 2
     if ! is_built "$name"; then
         echo "$name: for an answer in half a minute, without proofs: cd crates/$name && rt try -- $sample" >&2
@@ -58,7 +59,7 @@ run_program() {
             echo "$name: cannot build the program" >&2
             exit 2
         fi
-        touch "$root/crates/$name/out/$name"
+        touch "$program"
     fi
-    exec "$root/crates/$name/out/$name" "$@"
+    exec "$program" "$@"
 }
