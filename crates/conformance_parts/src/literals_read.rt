@@ -1,7 +1,8 @@
 //! The readers of values and arguments, at the third type.
 use graphql_grammar::arguments::read_arguments;
 use graphql_grammar::value::read_value;
-use graphql_reading::cursor::{Cursor, Reading, Refusal};
+use graphql_reading::limits::Limits;
+use graphql_reading::parser::{Parser, Reading, Refusal};
 use graphql_tokens::lexer::Tokens;
 use rows::{Shown, Subject, failures};
 use std::alloc::{AllocError, Global};
@@ -13,39 +14,41 @@ use tree_text::plain::Plain;
 /// the next token after it, or of the refused one.
 #[derive(Clone, Copy)]
 struct ReadPlain {
-    limit: usize,
+    values: usize,
 }
 
 impl Subject for ReadPlain {
     fn answer(&self, alloc: Global, text: &str) -> Result<String, Fail> {
+        let Some(limits) = Limits::new(0, self.values, 0) else {
+            return Err(Fail::new("a limit over 256"));
+        };
         let mut shown = Shown::new(alloc, true);
-        let mut cursor = Cursor::new(Tokens::new(text));
-        match write_read(alloc, &mut shown, &mut cursor, self.limit) {
+        let mut parser = Parser::new(alloc, Tokens::new(text));
+        match write_read(&mut shown, &mut parser, limits) {
             Ok(()) => shown.word("up to"),
             Err(Refusal::Syntax) => shown.word("syntax at"),
             Err(Refusal::Limit) => shown.word("limit at"),
             Err(Refusal::Memory) => return Err(Fail::from(AllocError)),
         }
-        shown.place(" ", &cursor.hand().pos);
+        shown.place(" ", &parser.hand().pos);
         Ok(shown.finish()?)
     }
 }
 
 fn write_read(
-    alloc: Global,
     shown: &mut Shown,
-    cursor: &mut Cursor<'_>,
-    limit: usize,
+    parser: &mut Parser<'_>,
+    limits: Limits,
 ) -> Reading<()> {
-    if cursor.is_at_punct("(") {
-        for argument in &read_arguments::<Plain>(alloc, cursor, limit)? {
+    if parser.is_at_punct("(") {
+        for argument in &read_arguments::<Plain>(parser, limits)? {
             shown.item("", &argument.0.node);
             shown.word("=");
             argument.1.node.write(shown);
             shown.word(" ");
         }
     } else {
-        let value = read_value::<Plain>(alloc, cursor, limit)?;
+        let value = read_value::<Plain>(parser, limits)?;
         value.node.write(shown);
         shown.word(" ");
     }
@@ -55,10 +58,10 @@ fn write_read(
 #[test]
 fn a_third_type_is_read_by_the_same_readers(rt: HostRuntime) -> Result<(), Fail> {
     let tables = [
-        (ReadPlain { limit: 64 }, AT_64),
-        (ReadPlain { limit: 0 }, AT_0),
-        (ReadPlain { limit: 1 }, AT_1),
-        (ReadPlain { limit: 2 }, AT_2),
+        (ReadPlain { values: 64 }, AT_64),
+        (ReadPlain { values: 0 }, AT_0),
+        (ReadPlain { values: 1 }, AT_1),
+        (ReadPlain { values: 2 }, AT_2),
     ];
     let failures = failures(rt.alloc(), &tables)?;
     assert_eq!(rt; failures.as_str(), "");

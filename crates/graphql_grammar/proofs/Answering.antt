@@ -12,7 +12,7 @@ use Rattle.graphql_grammar.specs.declared.error.Error.TheVariants as errors
 use Rattle.graphql_grammar.specs.reading.DocumentOf.{IsDocumentOf, TellsBreach, TellsOf}
 use Rattle.graphql_grammar.specs.reading.Errors.{IsErrorOf}
 use Rattle.graphql_grammar.specs.reading.ReadBy.{RefusedHere, IsReadBy}
-use Rattle.graphql_reading.specs.declared.cursor.Refusal.{Refusal}
+use Rattle.graphql_reading.specs.declared.parser.Refusal.{Refusal}
 use Rattle.graphql_reading.specs.grammar.Fronts.{IsRefused, Verdict, syntax, limit, whole}
 use Rattle.graphql_reading.specs.grammar.Limits.{Limits}
 use Rattle.graphql_reading.specs.reading.Ahead.{Ahead, tokens}

@@ -3,8 +3,8 @@ use Rattle.std.proofs.Common.{◌≡◌, ℕ, zero, suc, ◌≤◌, ◌+◌, ◌
 use Rattle.graphql_tokens.specs.declared.pos.Positioned.{Positioned}
 use Rattle.graphql_tokens.specs.tokens.Token.{Bare, Token}
 use Rattle.graphql_syntax.specs.trees.TypeTree.{TypeTree, named, list}
-use Rattle.graphql_reading.specs.declared.cursor.Refusal.{Refusal}
-use Rattle.graphql_reading.specs.declared.cursor.Refusal.TheVariants.{Memory, Syntax, Limit}
+use Rattle.graphql_reading.specs.declared.parser.Refusal.{Refusal}
+use Rattle.graphql_reading.specs.declared.parser.Refusal.TheVariants.{Memory, Syntax, Limit}
 use Rattle.graphql_reading.specs.grammar.Fronts.{Verdict, syntax, limit}
 use Rattle.graphql_reading.specs.grammar.Places.{at}
 use Rattle.graphql_reading.specs.grammar.Tests.{punct, any_name}
@@ -179,7 +179,7 @@ steps n (t ∷ ts) =
 
 -- ---- loops
 
--- The cursor has gone on, and what one reader gives at the first place another gives at the second.
+-- The parser has gone on, and what one reader gives at the first place another gives at the second.
 pub record Becomes {Y : Type 0} (r : Reader Y) (initial : Ahead) (s : Reader Y) (now : Ahead) : Type 0 where
   pub told : r (tokens initial) ≡ s (tokens now)
   pub on : GoesOn initial now

@@ -2,8 +2,8 @@
 use Rattle.std.proofs.Common.{◌≡◌, ℕ, ◌<◌, ◌≤◌, Bool, true, false, List, Option, Some, None, Ok, Err, length, refl, ap, ◌∙◌, arith}
 use Rattle.graphql_tokens.specs.tokens.Token.{Token}
 use Rattle.graphql_syntax.specs.trees.ValueTree.{Tree}
-use Rattle.graphql_reading.specs.declared.cursor.Refusal.{Refusal}
-use Rattle.graphql_reading.specs.declared.cursor.Refusal.TheVariants.{Memory, Syntax, Limit}
+use Rattle.graphql_reading.specs.declared.parser.Refusal.{Refusal}
+use Rattle.graphql_reading.specs.declared.parser.Refusal.TheVariants.{Memory, Syntax, Limit}
 use Rattle.graphql_reading.specs.grammar.Fronts.{Verdict, syntax, limit}
 use Rattle.graphql_reading.specs.grammar.Tests.{punct}
 use Rattle.graphql_reading.specs.reading.Ahead.{Ahead, tokens}
@@ -23,7 +23,7 @@ pub record HeldSoFar {A : Type 0} (r : List A → Reader Tree) (initial now : Ah
 pub begins : {A : Type 0} (r : List A → Reader Tree) (initial : Ahead) (before : List A) → HeldSoFar r initial initial before before
 begins r initial before = record { told = refl; within = omega arith; on = stays initial }
 
--- what is held waits for a value, and the cursor has come to it
+-- what is held waits for a value, and the parser has come to it
 pub record Wants {A : Type 0} (r : List A → Reader Tree) (vars : Bool) (b : ℕ) (w : Waiting) (now mid : Ahead) (held : List A) : Type 0 where
   pub told : r held (tokens now) ≡ filled vars b w (node_at (value_at vars b) (tokens mid))
   pub within : length (tokens mid) ≤ length (tokens now)

@@ -5,8 +5,8 @@ use Rattle.graphql_tokens.specs.declared.pos.Pos.{Pos}
 use Rattle.graphql_tokens.specs.declared.pos.Positioned.{Positioned}
 use Rattle.graphql_syntax.specs.trees.Parts.{placed}
 use Rattle.graphql_syntax.specs.trees.ValueTree.{Tree}
-use Rattle.graphql_reading.specs.declared.cursor.Refusal.{Refusal}
-use Rattle.graphql_reading.specs.declared.cursor.Refusal.TheVariants.{Memory, Syntax, Limit}
+use Rattle.graphql_reading.specs.declared.parser.Refusal.{Refusal}
+use Rattle.graphql_reading.specs.declared.parser.Refusal.TheVariants.{Memory, Syntax, Limit}
 use Rattle.graphql_grammar.specs.declared.value.frames.Open.{Open}
 use Rattle.graphql_grammar.specs.declared.value.frames.Frame.{Frame}
 use Rattle.graphql_reading.specs.grammar.Fronts.{Verdict, syntax, limit}
@@ -24,7 +24,7 @@ abbrev stack : {V : Type 0} → (V → Tree) → List (Frame V) → List Waiting
 stack tree fs = map (waiting tree) fs
 
 -- The frames, the outermost first, and the innermost list or object make of the tokens ahead what is
--- read in all; with the innermost they are at most so many; and the cursor has gone on.
+-- read in all; with the innermost they are at most so many; and the parser has gone on.
 pub record Kept {V : Type 0} (tree : V → Tree) (vars : Bool) (most : ℕ) (whole : Reader Tree) (initial now : Ahead) (fs : List (Frame V)) (o : Open V) : Type 0 where
   pub left : ℕ
   pub told : whole (tokens initial) ≡ resume vars (suc left) (stack tree fs) (open_rest vars left (opened tree o) (tokens now))

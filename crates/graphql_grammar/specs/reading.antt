@@ -1,7 +1,6 @@
 -- Inner: what clauses of readers cite.
 pub mod ArgumentViews
 pub mod Arguments
-pub mod Depths
 pub mod DocumentOf
 pub mod ErrorPlaces
 pub mod ReadBy

@@ -14,13 +14,13 @@ ghost use Rattle.graphql_reading.specs.reading.Given.{Gives, trees_in};
 ghost use Rattle.graphql_reading.specs.reading.Outcome.{mapped_at};
 
 use crate::value::read_value;
-use graphql_reading::cursor::{Cursor, Reading};
+use graphql_reading::limits::Limits;
 use graphql_reading::names::name_in;
+use graphql_reading::parser::{Parser, Reading};
 use graphql_reading::production::{Production, any_number, bracketed, optional};
 use graphql_syntax::pos::{Pos, Positioned};
 use graphql_syntax::types::{ConstDirective, Directive};
 use graphql_syntax::value::{ConstValue, Literal, Name, Value};
-use std::alloc::Global;
 use std::marker::PhantomData;
 
 type Arguments<V> = Vec<(Positioned<Name>, Positioned<V>)>;
@@ -38,48 +38,38 @@ struct ArgumentPhrase<V>(PhantomData<V>);
 impl<V: Literal> Production for ArgumentPhrase<V> {
     type Node = (Positioned<Name>, Positioned<V>);
 
-    type Budget = usize;
-
     ghost Tree = { trees.Argument };
 
     ghost tree = { in_argument V.tree };
 
     ghost first = { any_name };
 
-    ghost reader = { argument_at V.VARIABLES };
+    ghost reader = { λ limits. argument_at V.VARIABLES limits.values };
 
     const ROOM: usize = 2;
 
     #[inline(always)]
-    fn is_next(cursor: &Cursor) -> bool {
-        cursor.is_at_name()
+    fn is_next(parser: &Parser) -> bool {
+        parser.is_at_name()
     }
 
-    fn read(
-        alloc: Global,
-        cursor: &mut Cursor,
-        values: usize,
-    ) -> Reading<(Positioned<Name>, Positioned<V>)> {
-        let token = cursor.expect_name()?;
-        let name = name_in(alloc, token)?;
-        cursor.expect_punct(":")?;
-        let value = read_value(alloc, cursor, values)?;
+    fn read(parser: &mut Parser, limits: Limits) -> Reading<(Positioned<Name>, Positioned<V>)> {
+        let token = parser.expect_name()?;
+        let name = name_in(parser.alloc(), token)?;
+        parser.expect_punct(":")?;
+        let value = read_value(parser, limits)?;
         Ok((name, value))
     }
 }
 
-/// Reads arguments with their brackets, in source order. Lists and objects in them nest at most `values` deep.
+/// Reads arguments with their brackets, in source order.
 ///
 /// `Arguments : '(' (Name ':' Value)+ ')'` (GraphQL October 2021, section 2.6)
 #[inline(never)]
-pub fn read_arguments<V: Literal>(
-    alloc: Global,
-    cursor: &mut Cursor,
-    values: usize,
-) -> Reading<Arguments<V>>
-    ensures { Gives (trees_in (in_argument V.tree)) result cursor.old cursor.new (arguments_at V.VARIABLES values) }
+pub fn read_arguments<V: Literal>(parser: &mut Parser, limits: Limits) -> Reading<Arguments<V>>
+    ensures { Gives (trees_in (in_argument V.tree)) result parser.old parser.new (arguments_at V.VARIABLES limits.values) }
 {
-    bracketed::<ArgumentPhrase<V>>(alloc, cursor, "(", ")", values)
+    bracketed::<ArgumentPhrase<V>>(parser, "(", ")", limits)
 }
 
 /// Reads arguments with their brackets, where a `(` is in hand; else there are none.
@@ -88,30 +78,25 @@ pub fn read_arguments<V: Literal>(
 #[tactic(auto, unfolding(graphql_reading::specs::reading::Outcome::opt_at))]
 #[inline(always)]
 pub fn read_maybe_arguments<V: Literal>(
-    alloc: Global,
-    cursor: &mut Cursor,
-    values: usize,
+    parser: &mut Parser,
+    limits: Limits,
 ) -> Reading<Arguments<V>>
-    ensures { Gives (trees_in (in_argument V.tree)) result cursor.old cursor.new (mapped_at given (maybe_arguments_at V.VARIABLES values)) }
+    ensures { Gives (trees_in (in_argument V.tree)) result parser.old parser.new (mapped_at given (maybe_arguments_at V.VARIABLES limits.values)) }
 {
-    if !cursor.is_at_punct("(") {
-        return Ok(Vec::new(alloc));
+    if !parser.is_at_punct("(") {
+        return Ok(Vec::new(parser.alloc()));
     }
-    read_arguments(alloc, cursor, values)
+    read_arguments(parser, limits)
 }
 
 /// `'@' Name Arguments?`
-fn read_directive_of<V: Literal>(
-    alloc: Global,
-    cursor: &mut Cursor,
-    values: usize,
-) -> Reading<DirectiveOf<V>>
-    ensures { Gives (in_directive V.tree) result cursor.old cursor.new (directive_at V.VARIABLES values) }
+fn read_directive_of<V: Literal>(parser: &mut Parser, limits: Limits) -> Reading<DirectiveOf<V>>
+    ensures { Gives (in_directive V.tree) result parser.old parser.new (directive_at V.VARIABLES limits.values) }
 {
-    let sign = cursor.expect_punct("@")?;
-    let token = cursor.expect_name()?;
-    let name = name_in(alloc, token)?;
-    let arguments = read_maybe_arguments(alloc, cursor, values)?;
+    let sign = parser.expect_punct("@")?;
+    let token = parser.expect_name()?;
+    let name = name_in(parser.alloc(), token)?;
+    let arguments = read_maybe_arguments(parser, limits)?;
     Ok(DirectiveOf {
         pos: sign.pos,
         name,
@@ -125,47 +110,40 @@ struct DirectivePhrase;
 impl Production for DirectivePhrase {
     type Node = Positioned<Directive>;
 
-    type Budget = usize;
-
     ghost Tree = { Positioned trees.Directive };
 
     ghost tree = { placed directive_tree };
 
     ghost first = { punct "@" };
 
-    ghost reader = { directive_at true };
+    ghost reader = { λ limits. directive_at true limits.values };
 
     const ROOM: usize = 1;
 
     #[inline(always)]
-    fn is_next(cursor: &Cursor) -> bool {
-        cursor.is_at_punct("@")
+    fn is_next(parser: &Parser) -> bool {
+        parser.is_at_punct("@")
     }
 
     #[inline(never)]
-    fn read(alloc: Global, cursor: &mut Cursor, values: usize) -> Reading<Positioned<Directive>> {
+    fn read(parser: &mut Parser, limits: Limits) -> Reading<Positioned<Directive>> {
         let DirectiveOf {
             pos,
             name,
             arguments,
-        } = read_directive_of::<Value>(alloc, cursor, values)?;
+        } = read_directive_of::<Value>(parser, limits)?;
         Ok(Positioned::new(Directive { name, arguments }, pos))
     }
 }
 
-/// Reads directives, as long as an `@` is in hand, in source order. Lists and objects in their arguments nest at most
-/// `values` deep.
+/// Reads directives, as long as an `@` is in hand, in source order.
 ///
 /// `Directives? : ('@' Name Arguments?)*` (GraphQL October 2021, section 2.12)
 #[inline(always)]
-pub fn read_directives(
-    alloc: Global,
-    cursor: &mut Cursor,
-    values: usize,
-) -> Reading<Vec<Positioned<Directive>>>
-    ensures { Gives (trees_in (placed directive_tree)) result cursor.old cursor.new (directives_at true values) }
+pub fn read_directives(parser: &mut Parser, limits: Limits) -> Reading<Vec<Positioned<Directive>>>
+    ensures { Gives (trees_in (placed directive_tree)) result parser.old parser.new (directives_at true limits.values) }
 {
-    any_number::<DirectivePhrase>(alloc, cursor, values)
+    any_number::<DirectivePhrase>(parser, limits)
 }
 
 /// `'@' Name Arguments?`, without variables.
@@ -174,46 +152,39 @@ struct ConstDirectivePhrase;
 impl Production for ConstDirectivePhrase {
     type Node = Positioned<ConstDirective>;
 
-    type Budget = usize;
-
     ghost Tree = { Positioned trees.Directive };
 
     ghost tree = { placed const_directive_tree };
 
     ghost first = { punct "@" };
 
-    ghost reader = { directive_at false };
+    ghost reader = { λ limits. directive_at false limits.values };
 
     const ROOM: usize = 1;
 
     #[inline(always)]
-    fn is_next(cursor: &Cursor) -> bool {
-        cursor.is_at_punct("@")
+    fn is_next(parser: &Parser) -> bool {
+        parser.is_at_punct("@")
     }
 
-    fn read(
-        alloc: Global,
-        cursor: &mut Cursor,
-        values: usize,
-    ) -> Reading<Positioned<ConstDirective>> {
+    fn read(parser: &mut Parser, limits: Limits) -> Reading<Positioned<ConstDirective>> {
         let DirectiveOf {
             pos,
             name,
             arguments,
-        } = read_directive_of::<ConstValue>(alloc, cursor, values)?;
+        } = read_directive_of::<ConstValue>(parser, limits)?;
         Ok(Positioned::new(ConstDirective { name, arguments }, pos))
     }
 }
 
 /// As [`read_directives`], without variables.
 pub fn read_const_directives(
-    alloc: Global,
-    cursor: &mut Cursor,
-    values: usize,
+    parser: &mut Parser,
+    limits: Limits,
 ) -> Reading<Vec<Positioned<ConstDirective>>>
-    ensures { Gives (trees_in (placed const_directive_tree)) result cursor.old cursor.new (directives_at false values) }
+    ensures { Gives (trees_in (placed const_directive_tree)) result parser.old parser.new (directives_at false limits.values) }
 {
-    any_number::<ConstDirectivePhrase>(alloc, cursor, values)
+    any_number::<ConstDirectivePhrase>(parser, limits)
 }
 
 /// `'=' ConstValue`.
@@ -222,39 +193,36 @@ struct DefaultPhrase;
 impl Production for DefaultPhrase {
     type Node = Positioned<ConstValue>;
 
-    type Budget = usize;
-
     ghost Tree = { Positioned Tree };
 
     ghost tree = { placed const_tree };
 
     ghost first = { punct "=" };
 
-    ghost reader = { default_at };
+    ghost reader = { λ limits. default_at limits.values };
 
     const ROOM: usize = 1;
 
     #[inline(always)]
-    fn is_next(cursor: &Cursor) -> bool {
-        cursor.is_at_punct("=")
+    fn is_next(parser: &Parser) -> bool {
+        parser.is_at_punct("=")
     }
 
     #[inline(always)]
-    fn read(alloc: Global, cursor: &mut Cursor, values: usize) -> Reading<Positioned<ConstValue>> {
-        cursor.expect_punct("=")?;
-        read_value(alloc, cursor, values)
+    fn read(parser: &mut Parser, limits: Limits) -> Reading<Positioned<ConstValue>> {
+        parser.expect_punct("=")?;
+        read_value(parser, limits)
     }
 }
 
-/// Reads a default value after its `=`, where a `=` is in hand. Its lists and objects nest at most `values` deep.
+/// Reads a default value after its `=`, where a `=` is in hand.
 ///
 /// `Default? : ('=' ConstValue)?` (GraphQL October 2021, section 2.10)
 pub fn read_maybe_default(
-    alloc: Global,
-    cursor: &mut Cursor,
-    values: usize,
+    parser: &mut Parser,
+    limits: Limits,
 ) -> Reading<Option<Positioned<ConstValue>>>
-    ensures { Gives (option_map (placed const_tree)) result cursor.old cursor.new (maybe_default_at values) }
+    ensures { Gives (option_map (placed const_tree)) result parser.old parser.new (maybe_default_at limits.values) }
 {
-    optional::<DefaultPhrase>(alloc, cursor, values)
+    optional::<DefaultPhrase>(parser, limits)
 }

@@ -12,8 +12,8 @@ ghost use Rattle.graphql_reading.specs.reading.Outcome.{Reader, whole_at};
 
 use crate::error::Result;
 use crate::refusals::error_of;
-use graphql_reading::cursor::{Cursor, Reading};
 use graphql_reading::limits::Limits;
+use graphql_reading::parser::{Parser, Reading};
 use graphql_tokens::lexer::Tokens;
 use std::alloc::Global;
 use std::mem;
@@ -35,19 +35,19 @@ pub trait Definition: Drop {
     ghost reader: { SpecLimits → Reader (List Self.Tree) };
 
     /// Reads the definitions of a text, up to its end.
-    fn read_all(alloc: Global, cursor: &mut Cursor, limits: Limits) -> Reading<Vec<Self>>
-        ensures { Gives (trees_in Self.tree) result cursor.old cursor.new (Self.reader limits) };
+    fn read_all(parser: &mut Parser, limits: Limits) -> Reading<Vec<Self>>
+        ensures { Gives (trees_in Self.tree) result parser.old parser.new (Self.reader limits) };
 
     /// The document of the definitions, or the first of the rules that they break, in source order.
     fn document_of(alloc: Global, definitions: Vec<Self>) -> Result<Self::Document>
         ensures { IsDocumentOf Self.language (map Self.tree definitions.items) result };
 }
 
-fn read_whole<D: Definition>(alloc: Global, cursor: &mut Cursor, limits: Limits) -> Reading<Vec<D>>
-    ensures { GivesWhole (trees_in D.tree) result cursor.old cursor.new (whole_at (D.reader limits)) }
+fn read_whole<D: Definition>(parser: &mut Parser, limits: Limits) -> Reading<Vec<D>>
+    ensures { GivesWhole (trees_in D.tree) result parser.old parser.new (whole_at (D.reader limits)) }
 {
-    let definitions = D::read_all(alloc, cursor, limits)?;
-    cursor.expect_end()?;
+    let definitions = D::read_all(parser, limits)?;
+    parser.expect_end()?;
     Ok(definitions)
 }
 
@@ -67,11 +67,11 @@ pub fn read_document<D: Definition>(
     ensures taken { (count : ℕ) × (tokens.new.taken ≡ tokens.old.taken + count) × TakenFor D.language limits (left tokens.old) result count }
     ensures whole { tokens.new.whole ≡ tokens.old.whole }
 {
-    let mut cursor = Cursor::new(mem::replace(tokens, Tokens::new("")));
-    let answer = match read_whole::<D>(alloc, &mut cursor, limits) {
+    let mut parser = Parser::new(alloc, mem::replace(tokens, Tokens::new("")));
+    let answer = match read_whole::<D>(&mut parser, limits) {
         Ok(definitions) => D::document_of(alloc, definitions),
-        Err(refusal) => Err(error_of(alloc, &cursor, refusal)),
+        Err(refusal) => Err(error_of(&parser, refusal)),
     };
-    *tokens = cursor.into_tokens();
+    *tokens = parser.into_tokens();
     answer
 }

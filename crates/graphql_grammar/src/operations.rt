@@ -3,24 +3,24 @@ ghost use Rattle.graphql_tokens.specs.tokens.Seen.{seen};
 ghost use Rattle.graphql_grammar.specs.reading.Operations.{operation_type_at};
 ghost use Rattle.graphql_reading.specs.reading.Given.{Gives};
 
-use graphql_reading::cursor::{Cursor, Reading, Refusal};
+use graphql_reading::parser::{Parser, Reading, Refusal};
 use graphql_syntax::types::OperationType;
 use graphql_tokens::lexer::Token;
 
 /// Reads the keyword of an operation, and gives it with the kind that it tells.
 ///
 /// `OperationType : 'query' | 'mutation' | 'subscription'`
-pub fn read_operation_type<'a>(cursor: &mut Cursor<'a>) -> Reading<(Token<'a>, OperationType)>
-    ensures { Gives (λ x. (seen x.0, x.1)) result cursor.old cursor.new operation_type_at }
+pub fn read_operation_type<'a>(parser: &mut Parser<'a>) -> Reading<(Token<'a>, OperationType)>
+    ensures { Gives (λ x. (seen x.0, x.1)) result parser.old parser.new operation_type_at }
 {
-    let kind = if cursor.is_at_keyword("query") {
+    let kind = if parser.is_at_keyword("query") {
         OperationType::Query
-    } else if cursor.is_at_keyword("mutation") {
+    } else if parser.is_at_keyword("mutation") {
         OperationType::Mutation
-    } else if cursor.is_at_keyword("subscription") {
+    } else if parser.is_at_keyword("subscription") {
         OperationType::Subscription
     } else {
         return Err(Refusal::Syntax);
     };
-    Ok((cursor.take(), kind))
+    Ok((parser.take(), kind))
 }

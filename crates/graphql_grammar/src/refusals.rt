@@ -1,9 +1,9 @@
 //! The error that a refusal of the readers becomes.
-ghost use Rattle.graphql_reading.specs.declared.cursor.Refusal.TheVariants.{Syntax};
+ghost use Rattle.graphql_reading.specs.declared.parser.Refusal.TheVariants.{Syntax};
 ghost use Rattle.graphql_grammar.specs.reading.Errors.{IsErrorOf};
 
 use crate::error::Error;
-use graphql_reading::cursor::{Cursor, Refusal};
+use graphql_reading::parser::{Parser, Refusal};
 use graphql_syntax::pos::Pos;
 use std::alloc::Global;
 
@@ -23,12 +23,12 @@ pub fn syntax_error(alloc: Global, start: Pos) -> Error
 }
 
 /// The error of a refusal; the refused token is in hand.
-pub fn error_of(alloc: Global, cursor: &Cursor, refusal: Refusal) -> Error
-    ensures { IsErrorOf refusal cursor.now.hand.pos result }
+pub fn error_of(parser: &Parser, refusal: Refusal) -> Error
+    ensures { IsErrorOf refusal parser.now.hand.pos result }
 {
     match refusal {
         Refusal::Memory => Error::OutOfMemory,
         Refusal::Limit => Error::RecursionLimitExceeded,
-        Refusal::Syntax => syntax_error(alloc, cursor.hand().pos),
+        Refusal::Syntax => syntax_error(parser.alloc(), parser.hand().pos),
     }
 }

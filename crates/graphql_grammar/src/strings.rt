@@ -5,7 +5,7 @@ ghost use Rattle.graphql_grammar.specs.reading.Values.{string_value_at, block_va
 ghost use Rattle.graphql_reading.specs.reading.Given.{Gives};
 ghost use Rattle.graphql_reading.specs.reading.Spelled.{IsQuoted};
 
-use graphql_reading::cursor::{Cursor, Reading, Refusal};
+use graphql_reading::parser::{Parser, Reading, Refusal};
 use graphql_syntax::text::{block_string_value, string_value};
 use std::alloc::Global;
 
@@ -21,31 +21,31 @@ fn inside(text: &str, quotes: usize) -> &str
 /// Reads a string, and gives its value.
 ///
 /// `StringValue` between single quotes (GraphQL October 2021, section 2.9.4)
-pub fn read_string(alloc: Global, cursor: &mut Cursor) -> Reading<String>
-    ensures { Gives string_bytes result cursor.old cursor.new string_value_at }
+pub fn read_string(parser: &mut Parser) -> Reading<String>
+    ensures { Gives string_bytes result parser.old parser.new string_value_at }
 {
-    let token = cursor.hand();
+    let token = parser.hand();
     if !token.kind.is_string() {
         return Err(Refusal::Syntax);
     }
-    let Some(text) = string_value(alloc, inside(token.text, 1))? else {
+    let Some(text) = string_value(parser.alloc(), inside(token.text, 1))? else {
         return Err(Refusal::Syntax);
     };
-    cursor.advance();
+    parser.advance();
     Ok(text)
 }
 
 /// Reads a block string, and gives its value.
 ///
 /// `StringValue` between triple quotes (GraphQL October 2021, section 2.9.4)
-pub fn read_block(alloc: Global, cursor: &mut Cursor) -> Reading<String>
-    ensures { Gives string_bytes result cursor.old cursor.new block_value_at }
+pub fn read_block(parser: &mut Parser) -> Reading<String>
+    ensures { Gives string_bytes result parser.old parser.new block_value_at }
 {
-    let token = cursor.hand();
+    let token = parser.hand();
     if !token.kind.is_block() {
         return Err(Refusal::Syntax);
     }
-    let text = block_string_value(alloc, inside(token.text, 3))?;
-    cursor.advance();
+    let text = block_string_value(parser.alloc(), inside(token.text, 3))?;
+    parser.advance();
     Ok(text)
 }

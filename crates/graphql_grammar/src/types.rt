@@ -2,16 +2,16 @@
 ghost use Rattle.std.specs.Prelude.{◌≡◌, ◌≤◌, ◌+◌, MatchResult, Ok};
 ghost use Rattle.graphql_syntax.specs.trees.Parts.{placed};
 ghost use Rattle.graphql_syntax.specs.trees.TypeTree.{type_tree};
-ghost use Rattle.graphql_reading.specs.declared.cursor.Refusal.TheVariants.{Limit};
+ghost use Rattle.graphql_reading.specs.declared.parser.Refusal.TheVariants.{Limit};
 ghost use Rattle.graphql_reading.specs.reading.Given.{Gives};
 ghost use Rattle.graphql_grammar.specs.reading.TypeSteps.{opens_at, nullable_at, named_at, close_at, closes_at};
 ghost use Rattle.graphql_grammar.specs.reading.Types.{type_at};
 
-use graphql_reading::cursor::{Cursor, Reading, Refusal};
+use graphql_reading::limits::Limits;
+use graphql_reading::parser::{Parser, Reading, Refusal};
 use graphql_syntax::pos::Positioned;
 use graphql_syntax::types::{BaseType, Type};
 use graphql_syntax::value::Name;
-use std::alloc::Global;
 
 /// How many lists are open, and how many may be.
 #[derive(Clone, Copy)]
@@ -47,13 +47,13 @@ impl Depth {
 /// A list of the type opens at each `[`.
 ///
 /// `'['*`
-fn open_lists(cursor: &mut Cursor, limit: usize) -> Reading<Depth>
-    ensures { Gives (λ depth. depth.opened) result cursor.old cursor.new (opens_at 0 limit) }
+fn open_lists(parser: &mut Parser, limits: Limits) -> Reading<Depth>
+    ensures { Gives (λ depth. depth.opened) result parser.old parser.new (opens_at 0 limits.types) }
 {
-    let mut depth = Depth::new(limit);
-    while cursor.is_at_punct("[") {
+    let mut depth = Depth::new(limits.types());
+    while parser.is_at_punct("[") {
         depth.enter()?;
-        cursor.advance();
+        parser.advance();
     }
     Ok(depth)
 }
@@ -61,23 +61,23 @@ fn open_lists(cursor: &mut Cursor, limit: usize) -> Reading<Depth>
 /// Whether a type may be null: no `!` follows.
 ///
 /// `'!'?`
-fn read_nullable(cursor: &mut Cursor) -> bool
-    ensures { Gives (λ nullable. nullable) (Ok result) cursor.old cursor.new nullable_at }
+fn read_nullable(parser: &mut Parser) -> bool
+    ensures { Gives (λ nullable. nullable) (Ok result) parser.old parser.new nullable_at }
 {
-    if cursor.is_at_punct("!") {
-        cursor.advance();
+    if parser.is_at_punct("!") {
+        parser.advance();
         return false;
     }
     true
 }
 
 /// `Name '!'?`
-fn read_named(alloc: Global, cursor: &mut Cursor) -> Reading<Type>
-    ensures { Gives type_tree result cursor.old cursor.new named_at }
+fn read_named(parser: &mut Parser) -> Reading<Type>
+    ensures { Gives type_tree result parser.old parser.new named_at }
 {
-    let token = cursor.expect_name()?;
-    let name = Name::new(alloc, token.text)?;
-    let nullable = read_nullable(cursor);
+    let token = parser.expect_name()?;
+    let name = Name::new(parser.alloc(), token.text)?;
+    let nullable = read_nullable(parser);
     Ok(Type {
         base: BaseType::Named(name),
         nullable,
@@ -85,12 +85,12 @@ fn read_named(alloc: Global, cursor: &mut Cursor) -> Reading<Type>
 }
 
 /// `']' '!'?`
-fn close_list(alloc: Global, cursor: &mut Cursor, item: Type) -> Reading<Type>
-    ensures { Gives type_tree result cursor.old cursor.new (close_at (type_tree item)) }
+fn close_list(parser: &mut Parser, item: Type) -> Reading<Type>
+    ensures { Gives type_tree result parser.old parser.new (close_at (type_tree item)) }
 {
-    cursor.expect_punct("]")?;
-    let nullable = read_nullable(cursor);
-    let item = Box::new(alloc, item)?;
+    parser.expect_punct("]")?;
+    let nullable = read_nullable(parser);
+    let item = Box::new(parser.alloc(), item)?;
     Ok(Type {
         base: BaseType::List(item),
         nullable,
@@ -100,25 +100,25 @@ fn close_list(alloc: Global, cursor: &mut Cursor, item: Type) -> Reading<Type>
 /// So many lists close; the inmost is a list of this item.
 ///
 /// `(']' '!'?)*`
-fn close_lists(alloc: Global, cursor: &mut Cursor, item: Type, depth: Depth) -> Reading<Type>
-    ensures { Gives type_tree result cursor.old cursor.new (closes_at depth.opened (type_tree item)) }
+fn close_lists(parser: &mut Parser, item: Type, depth: Depth) -> Reading<Type>
+    ensures { Gives type_tree result parser.old parser.new (closes_at depth.opened (type_tree item)) }
 {
     let mut ty = item;
     for _ in 0..depth.opened {
-        ty = close_list(alloc, cursor, ty)?;
+        ty = close_list(parser, ty)?;
     }
     Ok(ty)
 }
 
-/// Reads a type reference (GraphQL October 2021, section 2.11) whose lists nest at most `limit` deep.
+/// Reads a type reference (GraphQL October 2021, section 2.11).
 ///
 /// `Type : Name '!'? | '[' Type ']' '!'?`
-pub fn read_type(alloc: Global, cursor: &mut Cursor, limit: usize) -> Reading<Positioned<Type>>
-    ensures { Gives (placed type_tree) result cursor.old cursor.new (type_at limit) }
+pub fn read_type(parser: &mut Parser, limits: Limits) -> Reading<Positioned<Type>>
+    ensures { Gives (placed type_tree) result parser.old parser.new (type_at limits.types) }
 {
-    let pos = cursor.hand().pos;
-    let depth = open_lists(cursor, limit)?;
-    let name = read_named(alloc, cursor)?;
-    let ty = close_lists(alloc, cursor, name, depth)?;
+    let pos = parser.hand().pos;
+    let depth = open_lists(parser, limits)?;
+    let name = read_named(parser)?;
+    let ty = close_lists(parser, name, depth)?;
     Ok(Positioned::new(ty, pos))
 }

@@ -13,11 +13,11 @@ mod simple;
 use contents::{enter, read_fields, read_items};
 use fields::merge;
 use frames::{Frame, Frames, Open};
-use graphql_reading::cursor::{Cursor, Reading};
+use graphql_reading::limits::Limits;
+use graphql_reading::parser::{Parser, Reading};
 use graphql_syntax::pos::Positioned;
 use graphql_syntax::value::Literal;
 use simple::read_simple;
-use std::alloc::Global;
 
 /// Where the reading of a list or an object stops: at its end, or after the first token of one inside it.
 #[derive(Drop)]
@@ -27,40 +27,30 @@ enum Stop<V> {
 }
 
 /// Reads on in a list or an object, inside which so many levels are left.
-fn go_on<V: Literal>(
-    alloc: Global,
-    cursor: &mut Cursor,
-    innermost: Open<V>,
-    left: usize,
-) -> Reading<Stop<V>>
-    ensures { Meets V.VARIABLES left (met V.tree) result cursor.old cursor.new (open_rest V.VARIABLES left (opened V.tree innermost)) }
+fn go_on<V: Literal>(parser: &mut Parser, innermost: Open<V>, left: usize) -> Reading<Stop<V>>
+    ensures { Meets V.VARIABLES left (met V.tree) result parser.old parser.new (open_rest V.VARIABLES left (opened V.tree innermost)) }
 {
     match innermost {
-        Open::List(mut items) => match read_items(alloc, cursor, &mut items, left)? {
+        Open::List(mut items) => match read_items(parser, &mut items, left)? {
             None => Ok(Stop::Closed(V::list(items))),
             Some(inner) => Ok(Stop::Entered(Frame::List(items), inner)),
         },
-        Open::Object(mut fields) => match read_fields(alloc, cursor, &mut fields, left)? {
-            None => Ok(Stop::Closed(V::object(merge(alloc, fields)?))),
+        Open::Object(mut fields) => match read_fields(parser, &mut fields, left)? {
+            None => Ok(Stop::Closed(V::object(merge(parser.alloc(), fields)?))),
             Some((name, inner)) => Ok(Stop::Entered(Frame::Object(fields, name), inner)),
         },
     }
 }
 
 /// The rest of a list or an object after its first token.
-fn read_open<V: Literal>(
-    alloc: Global,
-    cursor: &mut Cursor,
-    first: Open<V>,
-    limit: usize,
-) -> Reading<V>
+fn read_open<V: Literal>(parser: &mut Parser, first: Open<V>, limit: usize) -> Reading<V>
     requires { 0 < limit }
-    ensures { Gives V.tree result cursor.old cursor.new (open_rest V.VARIABLES (pred limit) (opened V.tree first)) }
+    ensures { Gives V.tree result parser.old parser.new (open_rest V.VARIABLES (pred limit) (opened V.tree first)) }
 {
-    let mut frames = Frames::new(alloc, limit);
+    let mut frames = Frames::new(parser.alloc(), limit);
     let mut innermost = first;
     loop {
-        innermost = match go_on(alloc, cursor, innermost, frames.left())? {
+        innermost = match go_on(parser, innermost, frames.left())? {
             Stop::Entered(frame, inner) => {
                 frames.push(frame)?;
                 inner
@@ -73,27 +63,22 @@ fn read_open<V: Literal>(
     }
 }
 
-fn read_node<V: Literal>(alloc: Global, cursor: &mut Cursor, limit: usize) -> Reading<V>
-    ensures { Gives V.tree result cursor.old cursor.new (node_at (value_at V.VARIABLES limit)) }
+fn read_node<V: Literal>(parser: &mut Parser, limit: usize) -> Reading<V>
+    ensures { Gives V.tree result parser.old parser.new (node_at (value_at V.VARIABLES limit)) }
 {
-    match enter(alloc, cursor, limit)? {
-        None => read_simple(alloc, cursor),
-        Some(first) => read_open(alloc, cursor, first, limit),
+    match enter(parser, limit)? {
+        None => read_simple(parser),
+        Some(first) => read_open(parser, first, limit),
     }
 }
 
-/// Reads a value (GraphQL October 2021, section 2.9) whose lists and objects nest at most `limit` deep, with
-/// variables where the type has them. It stands at its first token.
+/// Reads a value (GraphQL October 2021, section 2.9), with variables where the type has them. It stands at its first token.
 ///
 /// `Value : Variable | Number | String | Boolean | Null | Enum | List | Object`
-pub fn read_value<V: Literal>(
-    alloc: Global,
-    cursor: &mut Cursor,
-    limit: usize,
-) -> Reading<Positioned<V>>
-    ensures { Gives (placed V.tree) result cursor.old cursor.new (value_at V.VARIABLES limit) }
+pub fn read_value<V: Literal>(parser: &mut Parser, limits: Limits) -> Reading<Positioned<V>>
+    ensures { Gives (placed V.tree) result parser.old parser.new (value_at V.VARIABLES limits.values) }
 {
-    let pos = cursor.hand().pos;
-    let node = read_node(alloc, cursor, limit)?;
+    let pos = parser.hand().pos;
+    let node = read_node(parser, limits.values())?;
     Ok(Positioned::new(node, pos))
 }

@@ -1,7 +1,7 @@
 -- What a loop of the code that reads one or more keeps.
 use Rattle.std.proofs.Common.{◌≡◌, suc, ◌≤◌, true, false, List, [], ◌∷◌, ◌++◌, length, map, refl, sym, ap, ◌∙◌, Result, Ok, Err, arith}
-use Rattle.graphql_reading.specs.declared.cursor.Refusal.{Refusal}
-use Rattle.graphql_reading.specs.declared.cursor.Refusal.TheVariants.{Memory, Syntax, Limit}
+use Rattle.graphql_reading.specs.declared.parser.Refusal.{Refusal}
+use Rattle.graphql_reading.specs.declared.parser.Refusal.TheVariants.{Memory, Syntax, Limit}
 use Rattle.graphql_reading.specs.grammar.Tests.{Test}
 use Rattle.graphql_reading.specs.grammar.Fronts.{syntax, limit}
 use Rattle.graphql_reading.specs.reading.Ahead.{Ahead, tokens}
@@ -10,7 +10,7 @@ use Rattle.graphql_reading.specs.reading.Outcome.{Read, Reader, many_at, plus_at
 use Rattle.graphql_reading.proofs.Loop.{Takes, loop-goes, loop-ends, loop-stops, loop-starts, many-plus, many-stops}
 
 -- From the first token on, all that is read is these items, and what the tokens ahead give; and the
--- cursor has gone on.
+-- parser has gone on.
 pub record Kept {Y : Type 0} (first : Test) (r : Reader Y) (initial now : Ahead) (items : List Y) : Type 0 where
   pub told : plus_at first r (tokens initial) ≡ with_front items (plus_at first r (tokens now))
   pub on : GoesOn initial now

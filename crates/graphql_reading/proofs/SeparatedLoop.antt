@@ -1,8 +1,8 @@
 -- What the loop of the code keeps that reads a list with a mark between each two of its members.
 use Rattle.std.proofs.Common.{◌≡◌, suc, ◌<◌, ◌≤◌, Bool, true, false, cond, Option, Some, None, List, [], ◌∷◌, ◌++◌, length, map, refl, sym, ap, ◌∙◌, Ok, Err, arith}
 use Rattle.graphql_tokens.specs.tokens.Token.{Token}
-use Rattle.graphql_reading.specs.declared.cursor.Refusal.{Refusal}
-use Rattle.graphql_reading.specs.declared.cursor.Refusal.TheVariants.{Memory, Syntax, Limit}
+use Rattle.graphql_reading.specs.declared.parser.Refusal.{Refusal}
+use Rattle.graphql_reading.specs.declared.parser.Refusal.TheVariants.{Memory, Syntax, Limit}
 use Rattle.graphql_reading.specs.grammar.Tests.{Test}
 use Rattle.graphql_reading.specs.grammar.Fronts.{Verdict, syntax, limit}
 use Rattle.graphql_reading.specs.grammar.Relations.{cons, after_of, separated_of}
@@ -101,7 +101,7 @@ members-not {A} mark r ts v rest e = ap (λ (o : Outcome A). followed o (many_at
 
 -- ---- the loop
 
--- From the first token on, all that is read is these items, and the members ahead; and the cursor has gone on.
+-- From the first token on, all that is read is these items, and the members ahead; and the parser has gone on.
 pub record KeptMembers {Y : Type 0} (mark : Test) (r : Reader Y) (initial now : Ahead) (items : List Y) : Type 0 where
   pub told : separated_at mark r (tokens initial) ≡ with_front items (members_at mark r (tokens now))
   pub on : GoesOn initial now

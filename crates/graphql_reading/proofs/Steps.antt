@@ -1,7 +1,7 @@
 -- What a reader of the code gives, from what it gives after a step.
 use Rattle.std.proofs.Common.{◌≡◌, Result, Ok, Err, ◌∙◌}
-use Rattle.graphql_reading.specs.declared.cursor.Refusal.{Refusal}
-use Rattle.graphql_reading.specs.declared.cursor.Refusal.TheVariants.{Memory, Syntax, Limit}
+use Rattle.graphql_reading.specs.declared.parser.Refusal.{Refusal}
+use Rattle.graphql_reading.specs.declared.parser.Refusal.TheVariants.{Memory, Syntax, Limit}
 use Rattle.graphql_reading.specs.reading.Ahead.{Ahead, tokens}
 use Rattle.graphql_reading.specs.reading.Given.{Gives, Told, GoesOn}
 use Rattle.graphql_reading.specs.reading.Outcome.{Reader}

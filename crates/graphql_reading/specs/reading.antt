@@ -1,6 +1,6 @@
 -- Inner: what clauses of readers cite.
 pub mod Ahead
-pub mod Cursor
+pub mod Parser
 pub mod Given
 pub mod Outcome
 pub mod Spelled

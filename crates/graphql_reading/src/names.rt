@@ -7,7 +7,8 @@ ghost use Rattle.graphql_reading.specs.grammar.Tests.{any_name};
 ghost use Rattle.graphql_reading.specs.reading.Given.{Gives};
 ghost use Rattle.graphql_reading.specs.reading.Outcome.{one_at, mapped_at};
 
-use crate::cursor::{Cursor, Reading};
+use crate::limits::Limits;
+use crate::parser::{Parser, Reading};
 use crate::production::Production;
 use graphql_tokens::lexer::Token;
 use graphql_tokens::name::Name;
@@ -26,11 +27,11 @@ pub fn name_in(alloc: Global, token: Token) -> Result<Positioned<Name>, AllocErr
 ///
 /// `Name`
 #[inline(always)]
-pub fn read_name(alloc: Global, cursor: &mut Cursor) -> Reading<Positioned<Name>>
-    ensures { Gives (λ name. name) result cursor.old cursor.new (mapped_at name_of (one_at any_name)) }
+pub fn read_name(parser: &mut Parser) -> Reading<Positioned<Name>>
+    ensures { Gives (λ name. name) result parser.old parser.new (mapped_at name_of (one_at any_name)) }
 {
-    let token = cursor.expect_name()?;
-    let name = name_in(alloc, token)?;
+    let token = parser.expect_name()?;
+    let name = name_in(parser.alloc(), token)?;
     Ok(name)
 }
 
@@ -39,8 +40,6 @@ pub struct NamePhrase;
 
 impl Production for NamePhrase {
     type Node = Positioned<Name>;
-
-    type Budget = ();
 
     ghost Tree = { model.Positioned (List ℕ) };
 
@@ -53,12 +52,12 @@ impl Production for NamePhrase {
     const ROOM: usize = 2;
 
     #[inline(always)]
-    fn is_next(cursor: &Cursor) -> bool {
-        cursor.is_at_name()
+    fn is_next(parser: &Parser) -> bool {
+        parser.is_at_name()
     }
 
     #[inline(always)]
-    fn read(alloc: Global, cursor: &mut Cursor, _budget: ()) -> Reading<Positioned<Name>> {
-        read_name(alloc, cursor)
+    fn read(parser: &mut Parser, _limits: Limits) -> Reading<Positioned<Name>> {
+        read_name(parser)
     }
 }

@@ -2,24 +2,22 @@
 //!
 //! The caller of a reader that repeats owes that each phrase takes a token at least: the loop ends by that.
 ghost use Rattle.std.specs.Prelude.{◌≡◌, option_map};
+ghost use Rattle.graphql_reading.specs.grammar.Limits.{Limits as Budgets};
 ghost use Rattle.graphql_reading.specs.grammar.Relations.{given};
 ghost use Rattle.graphql_reading.specs.grammar.Tests.{Test};
 ghost use Rattle.graphql_reading.specs.reading.Given.{Gives, trees_in};
 ghost use Rattle.graphql_reading.specs.reading.Outcome.{Reader, Takes, mapped_at, many_at, plus_at, opt_at, between_at, separated_at};
 ghost use Rattle.graphql_reading.specs.reading.Spelled.{punct_of};
 
-use crate::cursor::{Cursor, Reading};
+use crate::limits::Limits;
 use crate::nodes::add_node;
-use std::alloc::Global;
+use crate::parser::{Parser, Reading};
 
 /// A production of the grammar: the tokens that its phrases begin with, and how one of them is read.
 /// The type that implements it only names the production; there needn't be a value of it.
 pub trait Production {
     /// What is made of a phrase.
     type Node: Drop;
-
-    /// How deep a phrase may nest.
-    type Budget: Copy;
 
     // The tree that a node stands for.
     ghost Tree: { Type 0 };
@@ -29,36 +27,32 @@ pub trait Production {
     // What a phrase begins with.
     ghost first: { Test };
 
-    // How a phrase is read from a list of tokens.
-    ghost reader: { Self.Budget → Reader Self.Tree };
+    // How a phrase is read from a list of tokens, within limits.
+    ghost reader: { Budgets → Reader Self.Tree };
 
     /// How many phrases a list of them begins with room for: as many as mostly stand in one. A longer list grows.
     const ROOM: usize;
 
     /// Whether the token in hand begins a phrase.
-    fn is_next(cursor: &Cursor) -> bool
-        ensures { result ≡ Self.first cursor.now.hand.bare };
+    fn is_next(parser: &Parser) -> bool
+        ensures { result ≡ Self.first parser.now.hand.bare };
 
     /// Reads a phrase.
-    fn read(alloc: Global, cursor: &mut Cursor, budget: Self::Budget) -> Reading<Self::Node>
-        ensures { Gives Self.tree result cursor.old cursor.new (Self.reader budget) };
+    fn read(parser: &mut Parser, limits: Limits) -> Reading<Self::Node>
+        ensures { Gives Self.tree result parser.old parser.new (Self.reader limits) };
 }
 
 /// Reads one phrase or more: another as long as the token in hand begins one.
 #[inline(always)]
-pub fn one_or_more<P: Production>(
-    alloc: Global,
-    cursor: &mut Cursor,
-    budget: P::Budget,
-) -> Reading<Vec<P::Node>>
-    requires { Takes (P.reader budget) }
-    ensures { Gives (trees_in P.tree) result cursor.old cursor.new (plus_at P.first (P.reader budget)) }
+pub fn one_or_more<P: Production>(parser: &mut Parser, limits: Limits) -> Reading<Vec<P::Node>>
+    requires { Takes (P.reader limits) }
+    ensures { Gives (trees_in P.tree) result parser.old parser.new (plus_at P.first (P.reader limits)) }
 {
-    let mut nodes = Vec::with_capacity(alloc, P::ROOM)?;
+    let mut nodes = Vec::with_capacity(parser.alloc(), P::ROOM)?;
     loop {
-        let node = P::read(alloc, cursor, budget)?;
+        let node = P::read(parser, limits)?;
         add_node(&mut nodes, node)?;
-        if !P::is_next(cursor) {
+        if !P::is_next(parser) {
             return Ok(nodes);
         }
     }
@@ -69,20 +63,19 @@ pub fn one_or_more<P: Production>(
 /// `Mark? Phrase (Mark Phrase)*`
 #[inline(always)]
 pub fn separated<P: Production>(
-    alloc: Global,
-    cursor: &mut Cursor,
+    parser: &mut Parser,
     mark: &str,
-    budget: P::Budget,
+    limits: Limits,
 ) -> Reading<Vec<P::Node>>
-    requires { Takes (P.reader budget) }
-    ensures { Gives (trees_in P.tree) result cursor.old cursor.new (separated_at (punct_of mark.now) (P.reader budget)) }
+    requires { Takes (P.reader limits) }
+    ensures { Gives (trees_in P.tree) result parser.old parser.new (separated_at (punct_of mark.now) (P.reader limits)) }
 {
-    cursor.take_punct(mark);
-    let mut nodes = Vec::with_capacity(alloc, P::ROOM)?;
+    parser.take_punct(mark);
+    let mut nodes = Vec::with_capacity(parser.alloc(), P::ROOM)?;
     loop {
-        let node = P::read(alloc, cursor, budget)?;
+        let node = P::read(parser, limits)?;
         add_node(&mut nodes, node)?;
-        if !cursor.take_punct(mark) {
+        if !parser.take_punct(mark) {
             return Ok(nodes);
         }
     }
@@ -90,51 +83,42 @@ pub fn separated<P: Production>(
 
 /// Reads any number of phrases: another as long as the token in hand begins one.
 #[inline(always)]
-pub fn any_number<P: Production>(
-    alloc: Global,
-    cursor: &mut Cursor,
-    budget: P::Budget,
-) -> Reading<Vec<P::Node>>
-    requires { Takes (P.reader budget) }
-    ensures { Gives (trees_in P.tree) result cursor.old cursor.new (many_at P.first (P.reader budget)) }
+pub fn any_number<P: Production>(parser: &mut Parser, limits: Limits) -> Reading<Vec<P::Node>>
+    requires { Takes (P.reader limits) }
+    ensures { Gives (trees_in P.tree) result parser.old parser.new (many_at P.first (P.reader limits)) }
 {
-    if !P::is_next(cursor) {
-        return Ok(Vec::new(alloc));
+    if !P::is_next(parser) {
+        return Ok(Vec::new(parser.alloc()));
     }
-    one_or_more::<P>(alloc, cursor, budget)
+    one_or_more::<P>(parser, limits)
 }
 
 /// Reads a phrase where the token in hand begins one; else there is none.
 #[tactic(auto, unfolding(crate::specs::reading::Outcome::opt_at))]
 #[inline(always)]
-pub fn optional<P: Production>(
-    alloc: Global,
-    cursor: &mut Cursor,
-    budget: P::Budget,
-) -> Reading<Option<P::Node>>
-    ensures { Gives (option_map P.tree) result cursor.old cursor.new (opt_at P.first (P.reader budget)) }
+pub fn optional<P: Production>(parser: &mut Parser, limits: Limits) -> Reading<Option<P::Node>>
+    ensures { Gives (option_map P.tree) result parser.old parser.new (opt_at P.first (P.reader limits)) }
 {
-    if !P::is_next(cursor) {
+    if !P::is_next(parser) {
         return Ok(None);
     }
-    Ok(Some(P::read(alloc, cursor, budget)?))
+    Ok(Some(P::read(parser, limits)?))
 }
 
 /// Reads one phrase or more between two brackets.
 #[inline(always)]
 pub fn bracketed<P: Production>(
-    alloc: Global,
-    cursor: &mut Cursor,
+    parser: &mut Parser,
     opening: &str,
     closing: &str,
-    budget: P::Budget,
+    limits: Limits,
 ) -> Reading<Vec<P::Node>>
-    requires { Takes (P.reader budget) }
-    ensures { Gives (trees_in P.tree) result cursor.old cursor.new (between_at (punct_of opening.now) (plus_at P.first (P.reader budget)) (punct_of closing.now)) }
+    requires { Takes (P.reader limits) }
+    ensures { Gives (trees_in P.tree) result parser.old parser.new (between_at (punct_of opening.now) (plus_at P.first (P.reader limits)) (punct_of closing.now)) }
 {
-    cursor.expect_punct(opening)?;
-    let nodes = one_or_more::<P>(alloc, cursor, budget)?;
-    cursor.expect_punct(closing)?;
+    parser.expect_punct(opening)?;
+    let nodes = one_or_more::<P>(parser, limits)?;
+    parser.expect_punct(closing)?;
     Ok(nodes)
 }
 
@@ -142,17 +126,16 @@ pub fn bracketed<P: Production>(
 #[tactic(auto, unfolding(crate::specs::reading::Outcome::opt_at))]
 #[inline(always)]
 pub fn maybe_bracketed<P: Production>(
-    alloc: Global,
-    cursor: &mut Cursor,
+    parser: &mut Parser,
     opening: &str,
     closing: &str,
-    budget: P::Budget,
+    limits: Limits,
 ) -> Reading<Vec<P::Node>>
-    requires { Takes (P.reader budget) }
-    ensures { Gives (trees_in P.tree) result cursor.old cursor.new (mapped_at given (opt_at (punct_of opening.now) (between_at (punct_of opening.now) (plus_at P.first (P.reader budget)) (punct_of closing.now)))) }
+    requires { Takes (P.reader limits) }
+    ensures { Gives (trees_in P.tree) result parser.old parser.new (mapped_at given (opt_at (punct_of opening.now) (between_at (punct_of opening.now) (plus_at P.first (P.reader limits)) (punct_of closing.now)))) }
 {
-    if !cursor.is_at_punct(opening) {
-        return Ok(Vec::new(alloc));
+    if !parser.is_at_punct(opening) {
+        return Ok(Vec::new(parser.alloc()));
     }
-    bracketed::<P>(alloc, cursor, opening, closing, budget)
+    bracketed::<P>(parser, opening, closing, limits)
 }

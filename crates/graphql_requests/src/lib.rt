@@ -37,8 +37,8 @@ mod variables;
 use definitions::{Definition, read_definitions};
 use graphql_grammar::document::read_document;
 use graphql_grammar::error::Result;
-use graphql_reading::cursor::{Cursor, Reading};
 use graphql_reading::limits::Limits;
+use graphql_reading::parser::{Parser, Reading};
 use graphql_request_trees::ExecutableDocument;
 use graphql_tokens::lexer::Tokens;
 use rules::document_of;
@@ -56,8 +56,8 @@ impl graphql_grammar::document::Definition for Definition {
 
     ghost reader = { definitions_at };
 
-    fn read_all(alloc: Global, cursor: &mut Cursor, limits: Limits) -> Reading<Vec<Definition>> {
-        read_definitions(alloc, cursor, limits)
+    fn read_all(parser: &mut Parser, limits: Limits) -> Reading<Vec<Definition>> {
+        read_definitions(parser, limits)
     }
 
     fn document_of(alloc: Global, definitions: Vec<Definition>) -> Result<ExecutableDocument>

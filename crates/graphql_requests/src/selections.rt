@@ -2,41 +2,35 @@
 ghost use Rattle.graphql_syntax.specs.trees.Parts.{placed};
 ghost use Rattle.graphql_request_trees.specs.trees.RequestViews.{selection_set_tree};
 ghost use Rattle.graphql_reading.specs.reading.Given.{Gives};
-ghost use Rattle.graphql_requests.specs.reading.Selections.{selection_set_at};
+ghost use Rattle.graphql_requests.specs.reading.Request.{own_set_at};
 
 mod frames;
 mod heads;
 
 use frames::{Frames, OpenSet, fill_last};
-use graphql_reading::cursor::{Cursor, Reading};
+use graphql_reading::limits::Limits;
+use graphql_reading::parser::{Parser, Reading};
 use graphql_request_trees::SelectionSet;
 use graphql_syntax::pos::Positioned;
 pub use heads::{is_at_fragment_name, read_type_condition};
-use std::alloc::Global;
 
-/// A selection set in which sets nest at most `selections` deep, and whose values nest at most
-/// `values` deep.
+/// The selection set of a definition, whose own nesting isn't counted.
 ///
 /// `SelectionSet : '{' Selection+ '}'` (GraphQL October 2021, section 2.4)
-pub fn read_selection_set(
-    alloc: Global,
-    cursor: &mut Cursor,
-    values: usize,
-    selections: usize,
-) -> Reading<Positioned<SelectionSet>>
-    ensures { Gives (placed selection_set_tree) result cursor.old cursor.new (selection_set_at values selections) }
+pub fn read_selection_set(parser: &mut Parser, limits: Limits) -> Reading<Positioned<SelectionSet>>
+    ensures { Gives (placed selection_set_tree) result parser.old parser.new (own_set_at limits) }
 {
-    let brace = cursor.expect_punct("{")?;
+    let brace = parser.expect_punct("{")?;
     // The selections of all sets that are open, the innermost set's last.
-    let mut items = Vec::new(alloc);
-    let mut frames = Frames::new(alloc, selections);
+    let mut items = Vec::new(parser.alloc());
+    let mut frames = Frames::new(parser.alloc(), limits.selections());
     let mut own = OpenSet {
         place: brace.pos,
         first: 0,
     };
     loop {
         let nests = frames.may_nest();
-        if let Some(place) = heads::read_head(alloc, cursor, values, nests, &mut items)? {
+        if let Some(place) = heads::read_head(parser, limits, nests, &mut items)? {
             // Its set is read before what stands after it.
             frames.enter(own)?;
             own = OpenSet {
@@ -46,8 +40,8 @@ pub fn read_selection_set(
             continue;
         }
         // Each set that ends here is given to the selection that waits for it.
-        while !heads::is_at_selection(cursor) {
-            cursor.expect_punct("}")?;
+        while !heads::is_at_selection(parser) {
+            parser.expect_punct("}")?;
             let set = own.close(&mut items)?;
             match frames.leave() {
                 None => return Ok(set),

@@ -1,7 +1,6 @@
 //! Readers of definitions and of schema files, by GraphQL October 2021, section 3.1.
 ghost use Rattle.std.specs.Prelude.{◌≡◌};
 ghost use Rattle.graphql_reading.specs.reading.Given.{Gives};
-ghost use Rattle.graphql_grammar.specs.reading.Depths.{limits_of};
 ghost use Rattle.graphql_schemas.specs.grammar.SchemaFile.{Definition as SpecDefinition};
 ghost use Rattle.graphql_schemas.specs.reading.SchemaFile.{described_at, extension_at, definition_first, definition_at, definitions_at};
 ghost use Rattle.graphql_schemas.specs.reading.Types.{body_first};
@@ -11,12 +10,11 @@ use crate::descriptions::{is_at_description, read_maybe_description};
 use crate::directives::read_directive_definition;
 use crate::schema::{Schema, read_schema, read_schema_extension};
 use crate::types::{read_type_definition, read_type_extension};
-use graphql_grammar::depths::Depths;
-use graphql_reading::cursor::{Cursor, Reading};
+use graphql_reading::limits::Limits;
+use graphql_reading::parser::{Parser, Reading};
 use graphql_reading::production::{Production, one_or_more};
 use graphql_schema_trees::{DirectiveDefinition, TypeDefinition};
 use graphql_syntax::pos::Positioned;
-use std::alloc::Global;
 
 /// A definition or an extension, before the rules of schema files are looked at.
 #[derive(Drop)]
@@ -29,61 +27,59 @@ pub enum Definition {
     Directive(Positioned<DirectiveDefinition>),
 }
 
-fn is_at_body(cursor: &Cursor) -> bool
-    ensures { result ≡ body_first cursor.now.hand.bare }
+fn is_at_body(parser: &Parser) -> bool
+    ensures { result ≡ body_first parser.now.hand.bare }
 {
-    cursor.is_at_keyword("scalar")
-        || cursor.is_at_keyword("type")
-        || cursor.is_at_keyword("interface")
-        || cursor.is_at_keyword("union")
-        || cursor.is_at_keyword("enum")
-        || cursor.is_at_keyword("input")
+    parser.is_at_keyword("scalar")
+        || parser.is_at_keyword("type")
+        || parser.is_at_keyword("interface")
+        || parser.is_at_keyword("union")
+        || parser.is_at_keyword("enum")
+        || parser.is_at_keyword("input")
 }
 
-fn is_at_definition(cursor: &Cursor) -> bool
-    ensures { result ≡ definition_first cursor.now.hand.bare }
+fn is_at_definition(parser: &Parser) -> bool
+    ensures { result ≡ definition_first parser.now.hand.bare }
 {
-    is_at_description(cursor)
-        || cursor.is_at_keyword("extend")
-        || cursor.is_at_keyword("schema")
-        || cursor.is_at_keyword("directive")
-        || is_at_body(cursor)
+    is_at_description(parser)
+        || parser.is_at_keyword("extend")
+        || parser.is_at_keyword("schema")
+        || parser.is_at_keyword("directive")
+        || is_at_body(parser)
 }
 
 /// `SchemaExt | TypeExt`
-fn read_extension(alloc: Global, cursor: &mut Cursor, depths: Depths) -> Reading<Definition>
-    ensures { Gives definition_tree result cursor.old cursor.new (extension_at (limits_of depths)) }
+fn read_extension(parser: &mut Parser, limits: Limits) -> Reading<Definition>
+    ensures { Gives definition_tree result parser.old parser.new (extension_at limits) }
 {
-    let extend = cursor.expect_keyword("extend")?;
-    if cursor.is_at_keyword("schema") {
-        let schema = read_schema_extension(alloc, cursor, depths, extend)?;
+    let extend = parser.expect_keyword("extend")?;
+    if parser.is_at_keyword("schema") {
+        let schema = read_schema_extension(parser, limits, extend)?;
         return Ok(Definition::Schema(schema));
     }
-    let extension = read_type_extension(alloc, cursor, depths, extend)?;
+    let extension = read_type_extension(parser, limits, extend)?;
     Ok(Definition::TypeDef(extension))
 }
 
 /// `Schema | TypeDef | DirectiveDef`: each may have a description.
-fn read_described(alloc: Global, cursor: &mut Cursor, depths: Depths) -> Reading<Definition>
-    ensures { Gives definition_tree result cursor.old cursor.new (described_at (limits_of depths)) }
+fn read_described(parser: &mut Parser, limits: Limits) -> Reading<Definition>
+    ensures { Gives definition_tree result parser.old parser.new (described_at limits) }
 {
-    let description = read_maybe_description(alloc, cursor)?;
-    if cursor.is_at_keyword("schema") {
-        let schema = read_schema(alloc, cursor, depths, description)?;
+    let description = read_maybe_description(parser)?;
+    if parser.is_at_keyword("schema") {
+        let schema = read_schema(parser, limits, description)?;
         return Ok(Definition::Schema(schema));
     }
-    if cursor.is_at_keyword("directive") {
-        let directive = read_directive_definition(alloc, cursor, depths, description)?;
+    if parser.is_at_keyword("directive") {
+        let directive = read_directive_definition(parser, limits, description)?;
         return Ok(Definition::Directive(directive));
     }
-    let definition = read_type_definition(alloc, cursor, depths, description)?;
+    let definition = read_type_definition(parser, limits, description)?;
     Ok(Definition::TypeDef(definition))
 }
 
 impl Production for Definition {
     type Node = Definition;
-
-    type Budget = Depths;
 
     ghost Tree = { SpecDefinition };
 
@@ -91,32 +87,28 @@ impl Production for Definition {
 
     ghost first = { definition_first };
 
-    ghost reader = { λ depths. definition_at (limits_of depths) };
+    ghost reader = { definition_at };
 
     const ROOM: usize = 1;
 
-    fn is_next(cursor: &Cursor) -> bool {
-        is_at_definition(cursor)
+    fn is_next(parser: &Parser) -> bool {
+        is_at_definition(parser)
     }
 
     /// `Definition : Schema | SchemaExt | TypeDef | TypeExt | DirectiveDef`
-    fn read(alloc: Global, cursor: &mut Cursor, depths: Depths) -> Reading<Definition> {
-        if cursor.is_at_keyword("extend") {
-            return read_extension(alloc, cursor, depths);
+    fn read(parser: &mut Parser, limits: Limits) -> Reading<Definition> {
+        if parser.is_at_keyword("extend") {
+            return read_extension(parser, limits);
         }
-        read_described(alloc, cursor, depths)
+        read_described(parser, limits)
     }
 }
 
 /// The definitions of a schema file, up to its end.
 ///
 /// `Definition+` (GraphQL October 2021, section 3.1)
-pub fn read_definitions(
-    alloc: Global,
-    cursor: &mut Cursor,
-    depths: Depths,
-) -> Reading<Vec<Definition>>
-    ensures { Gives in_definitions result cursor.old cursor.new (definitions_at (limits_of depths)) }
+pub fn read_definitions(parser: &mut Parser, limits: Limits) -> Reading<Vec<Definition>>
+    ensures { Gives in_definitions result parser.old parser.new (definitions_at limits) }
 {
-    one_or_more::<Definition>(alloc, cursor, depths)
+    one_or_more::<Definition>(parser, limits)
 }

@@ -8,29 +8,28 @@ ghost use Rattle.graphql_schemas.specs.grammar.Descriptions as grammar;
 ghost use Rattle.graphql_schemas.specs.reading.Descriptions.{is_text, description_at, maybe_description_at};
 
 use graphql_grammar::strings::{read_block, read_string};
-use graphql_reading::cursor::{Cursor, Reading};
+use graphql_reading::parser::{Parser, Reading};
 use graphql_syntax::lexer::Token;
 use graphql_syntax::pos::{Pos, Positioned};
-use std::alloc::Global;
 
 /// Whether a description is in hand.
 #[inline(always)]
-pub fn is_at_description(cursor: &Cursor) -> bool
-    ensures { result ≡ is_text cursor.now.hand.bare }
+pub fn is_at_description(parser: &Parser) -> bool
+    ensures { result ≡ is_text parser.now.hand.bare }
 {
-    let kind = cursor.hand().kind;
+    let kind = parser.hand().kind;
     kind.is_string() || kind.is_block()
 }
 
 /// `Description : String | Block`
-fn read_description(alloc: Global, cursor: &mut Cursor) -> Reading<Positioned<String>>
-    ensures { Gives (placed string_bytes) result cursor.old cursor.new description_at }
+fn read_description(parser: &mut Parser) -> Reading<Positioned<String>>
+    ensures { Gives (placed string_bytes) result parser.old parser.new description_at }
 {
-    let quote = cursor.hand();
+    let quote = parser.hand();
     let text = if quote.kind.is_string() {
-        read_string(alloc, cursor)?
+        read_string(parser)?
     } else {
-        read_block(alloc, cursor)?
+        read_block(parser)?
     };
     Ok(Positioned::new(text, quote.pos))
 }
@@ -40,16 +39,13 @@ fn read_description(alloc: Global, cursor: &mut Cursor) -> Reading<Positioned<St
 /// `Description?` (GraphQL October 2021, section 3.2)
 #[tactic(auto, unfolding(graphql_reading::specs::reading::Outcome::opt_at))]
 #[inline(always)]
-pub fn read_maybe_description(
-    alloc: Global,
-    cursor: &mut Cursor,
-) -> Reading<Option<Positioned<String>>>
-    ensures { Gives description_tree result cursor.old cursor.new maybe_description_at }
+pub fn read_maybe_description(parser: &mut Parser) -> Reading<Option<Positioned<String>>>
+    ensures { Gives description_tree result parser.old parser.new maybe_description_at }
 {
-    if !is_at_description(cursor) {
+    if !is_at_description(parser) {
         return Ok(None);
     }
-    Ok(Some(read_description(alloc, cursor)?))
+    Ok(Some(read_description(parser)?))
 }
 
 /// Where a definition stands: at its description, or else at this first token of its own.

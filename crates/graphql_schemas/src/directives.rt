@@ -7,19 +7,17 @@ ghost use Rattle.graphql_schema_trees.specs.trees.SchemaViews.{description_tree,
 ghost use Rattle.graphql_reading.specs.grammar.Tests.{any_name};
 ghost use Rattle.graphql_reading.specs.reading.Given.{Gives};
 ghost use Rattle.graphql_reading.specs.reading.Outcome.{mapped_at};
-ghost use Rattle.graphql_grammar.specs.reading.Depths.{limits_of};
 ghost use Rattle.graphql_schemas.specs.grammar.Directives as grammar;
 ghost use Rattle.graphql_schemas.specs.reading.Directives.{location_named, location_at, locations_at, repeatable_at, directive_rest_at};
 
 use crate::descriptions::place_of;
 use crate::input_values::read_maybe_arguments_definition;
-use graphql_grammar::depths::Depths;
-use graphql_reading::cursor::{Cursor, Reading, Refusal};
+use graphql_reading::limits::Limits;
 use graphql_reading::names::name_in;
+use graphql_reading::parser::{Parser, Reading, Refusal};
 use graphql_reading::production::{Production, separated};
 use graphql_schema_trees::{DirectiveDefinition, DirectiveLocation};
 use graphql_syntax::pos::Positioned;
-use std::alloc::Global;
 
 /// The location that a word names, if it names one.
 fn location_of(word: &str) -> Option<DirectiveLocation>
@@ -55,8 +53,6 @@ struct LocationPhrase;
 impl Production for LocationPhrase {
     type Node = Positioned<DirectiveLocation>;
 
-    type Budget = ();
-
     ghost Tree = { Positioned DirectiveLocation };
 
     ghost tree = { λ location. location };
@@ -68,45 +64,44 @@ impl Production for LocationPhrase {
     const ROOM: usize = 4;
 
     #[inline(always)]
-    fn is_next(cursor: &Cursor) -> bool {
-        cursor.is_at_name()
+    fn is_next(parser: &Parser) -> bool {
+        parser.is_at_name()
     }
 
-    fn read(
-        _alloc: Global,
-        cursor: &mut Cursor,
-        _budget: (),
-    ) -> Reading<Positioned<DirectiveLocation>> {
-        let token = cursor.hand();
+    fn read(parser: &mut Parser, _limits: Limits) -> Reading<Positioned<DirectiveLocation>> {
+        let token = parser.hand();
         if !token.kind.is_name() {
             return Err(Refusal::Syntax);
         }
         let Some(location) = location_of(token.text) else {
             return Err(Refusal::Syntax);
         };
-        cursor.advance();
+        parser.advance();
         Ok(Positioned::new(location, token.pos))
     }
 }
 
 /// `'on' '|'? Location ('|' Location)*`
-fn read_locations(alloc: Global, cursor: &mut Cursor) -> Reading<Vec<Positioned<DirectiveLocation>>>
-    ensures { Gives (λ locations. locations.items) result cursor.old cursor.new locations_at }
+fn read_locations(
+    parser: &mut Parser,
+    limits: Limits,
+) -> Reading<Vec<Positioned<DirectiveLocation>>>
+    ensures { Gives (λ locations. locations.items) result parser.old parser.new locations_at }
 {
-    cursor.expect_keyword("on")?;
-    separated::<LocationPhrase>(alloc, cursor, "|", ())
+    parser.expect_keyword("on")?;
+    separated::<LocationPhrase>(parser, "|", limits)
 }
 
 /// Whether the directive may stand more than once at one place.
 ///
 /// `'repeatable'?`
 #[tactic(auto, unfolding(graphql_reading::specs::reading::Outcome::opt_at))]
-fn read_is_repeatable(cursor: &mut Cursor) -> bool
-    ensures { Gives (λ is_repeatable. is_repeatable) (Ok result) cursor.old cursor.new repeatable_at }
+fn read_is_repeatable(parser: &mut Parser) -> bool
+    ensures { Gives (λ is_repeatable. is_repeatable) (Ok result) parser.old parser.new repeatable_at }
 {
-    let is_repeatable = cursor.is_at_keyword("repeatable");
+    let is_repeatable = parser.is_at_keyword("repeatable");
     if is_repeatable {
-        cursor.advance();
+        parser.advance();
     }
     is_repeatable
 }
@@ -116,21 +111,20 @@ fn read_is_repeatable(cursor: &mut Cursor) -> bool
 /// `DirectiveDef : Description? 'directive' '@' Name ArgumentsDef? 'repeatable'? 'on' '|'? Location ('|' Location)*`
 /// (GraphQL October 2021, section 3.13)
 pub fn read_directive_definition(
-    alloc: Global,
-    cursor: &mut Cursor,
-    depths: Depths,
+    parser: &mut Parser,
+    limits: Limits,
     description: Option<Positioned<String>>,
 ) -> Reading<Positioned<DirectiveDefinition>>
-    ensures { Gives (placed directive_definition_tree) result cursor.old cursor.new (mapped_at (λ rest. grammar.directive_definition_of (description_tree description, rest)) (directive_rest_at (limits_of depths))) }
+    ensures { Gives (placed directive_definition_tree) result parser.old parser.new (mapped_at (λ rest. grammar.directive_definition_of (description_tree description, rest)) (directive_rest_at limits)) }
 {
-    let word = cursor.expect_keyword("directive")?;
+    let word = parser.expect_keyword("directive")?;
     let pos = place_of(&description, word);
-    cursor.expect_punct("@")?;
-    let token = cursor.expect_name()?;
-    let name = name_in(alloc, token)?;
-    let arguments = read_maybe_arguments_definition(alloc, cursor, depths)?;
-    let is_repeatable = read_is_repeatable(cursor);
-    let locations = read_locations(alloc, cursor)?;
+    parser.expect_punct("@")?;
+    let token = parser.expect_name()?;
+    let name = name_in(parser.alloc(), token)?;
+    let arguments = read_maybe_arguments_definition(parser, limits)?;
+    let is_repeatable = read_is_repeatable(parser);
+    let locations = read_locations(parser, limits)?;
     let definition = DirectiveDefinition {
         description,
         name,

@@ -39,11 +39,10 @@ mod schema;
 mod types;
 
 use definitions::{Definition, read_definitions};
-use graphql_grammar::depths::Depths;
 use graphql_grammar::document::read_document;
 use graphql_grammar::error::Result;
-use graphql_reading::cursor::{Cursor, Reading};
 use graphql_reading::limits::Limits;
+use graphql_reading::parser::{Parser, Reading};
 use graphql_schema_trees::ServiceDocument;
 use graphql_tokens::lexer::Tokens;
 use rules::document_of;
@@ -60,12 +59,8 @@ impl graphql_grammar::document::Definition for Definition {
 
     ghost reader = { definitions_at };
 
-    fn read_all(alloc: Global, cursor: &mut Cursor, limits: Limits) -> Reading<Vec<Definition>> {
-        let depths = Depths {
-            values: limits.values(),
-            types: limits.types(),
-        };
-        read_definitions(alloc, cursor, depths)
+    fn read_all(parser: &mut Parser, limits: Limits) -> Reading<Vec<Definition>> {
+        read_definitions(parser, limits)
     }
 
     fn document_of(alloc: Global, definitions: Vec<Definition>) -> Result<ServiceDocument>

@@ -8,82 +8,80 @@ ghost use Rattle.graphql_schema_trees.specs.trees.Schema as trees;
 ghost use Rattle.graphql_schema_trees.specs.trees.SchemaViews.{enum_value_tree};
 ghost use Rattle.graphql_reading.specs.reading.Given.{Gives, trees_in};
 ghost use Rattle.graphql_reading.specs.reading.Outcome.{one_at};
-ghost use Rattle.graphql_grammar.specs.reading.Depths.{limits_of};
 ghost use Rattle.graphql_schemas.specs.grammar.Members.{enum_name};
 ghost use Rattle.graphql_schemas.specs.reading.Members.{implements_at, given_implements_at, members_at, given_members_at, enum_value_first, enum_value_at, given_enum_values_at};
 
 use crate::descriptions::{is_at_description, place_of, read_maybe_description};
 use graphql_grammar::arguments::read_const_directives;
-use graphql_grammar::depths::Depths;
-use graphql_reading::cursor::{Cursor, Reading, Refusal};
+use graphql_reading::limits::Limits;
 use graphql_reading::names::{NamePhrase, name_in};
+use graphql_reading::parser::{Parser, Reading, Refusal};
 use graphql_reading::production::{Production, maybe_bracketed, separated};
 use graphql_schema_trees::EnumValueDefinition;
 use graphql_syntax::lexer::Token;
 use graphql_syntax::pos::Positioned;
 use graphql_syntax::value::Name;
-use std::alloc::Global;
 
 /// `Implements : 'implements' '&'? Name ('&' Name)*`
-fn read_implements(alloc: Global, cursor: &mut Cursor) -> Reading<Vec<Positioned<Name>>>
-    ensures { Gives (λ names. names.items) result cursor.old cursor.new implements_at }
+fn read_implements(parser: &mut Parser, limits: Limits) -> Reading<Vec<Positioned<Name>>>
+    ensures { Gives (λ names. names.items) result parser.old parser.new implements_at }
 {
-    cursor.expect_keyword("implements")?;
-    separated::<NamePhrase>(alloc, cursor, "&", ())
+    parser.expect_keyword("implements")?;
+    separated::<NamePhrase>(parser, "&", limits)
 }
 
 /// Reads the interfaces that a type implements, where `implements` is in hand; else there are none.
 ///
 /// `Implements?` (GraphQL October 2021, section 3.6)
 #[tactic(auto, unfolding(graphql_reading::specs::reading::Outcome::opt_at))]
-pub fn read_maybe_implements(alloc: Global, cursor: &mut Cursor) -> Reading<Vec<Positioned<Name>>>
-    ensures { Gives (λ names. names.items) result cursor.old cursor.new given_implements_at }
+pub fn read_maybe_implements(parser: &mut Parser, limits: Limits) -> Reading<Vec<Positioned<Name>>>
+    ensures { Gives (λ names. names.items) result parser.old parser.new given_implements_at }
 {
-    if !cursor.is_at_keyword("implements") {
-        return Ok(Vec::new(alloc));
+    if !parser.is_at_keyword("implements") {
+        return Ok(Vec::new(parser.alloc()));
     }
-    read_implements(alloc, cursor)
+    read_implements(parser, limits)
 }
 
 /// `Members : '=' '|'? Name ('|' Name)*`
-fn read_members(alloc: Global, cursor: &mut Cursor) -> Reading<Vec<Positioned<Name>>>
-    ensures { Gives (λ names. names.items) result cursor.old cursor.new members_at }
+fn read_members(parser: &mut Parser, limits: Limits) -> Reading<Vec<Positioned<Name>>>
+    ensures { Gives (λ names. names.items) result parser.old parser.new members_at }
 {
-    cursor.expect_punct("=")?;
-    separated::<NamePhrase>(alloc, cursor, "|", ())
+    parser.expect_punct("=")?;
+    separated::<NamePhrase>(parser, "|", limits)
 }
 
 /// Reads the types of a union, where a `=` is in hand; else there are none.
 ///
 /// `Members?` (GraphQL October 2021, section 3.8)
 #[tactic(auto, unfolding(graphql_reading::specs::reading::Outcome::opt_at))]
-pub fn read_maybe_members(alloc: Global, cursor: &mut Cursor) -> Reading<Vec<Positioned<Name>>>
-    ensures { Gives (λ names. names.items) result cursor.old cursor.new given_members_at }
+pub fn read_maybe_members(parser: &mut Parser, limits: Limits) -> Reading<Vec<Positioned<Name>>>
+    ensures { Gives (λ names. names.items) result parser.old parser.new given_members_at }
 {
-    if !cursor.is_at_punct("=") {
-        return Ok(Vec::new(alloc));
+    if !parser.is_at_punct("=") {
+        return Ok(Vec::new(parser.alloc()));
     }
-    read_members(alloc, cursor)
+    read_members(parser, limits)
 }
 
 /// Whether a name is in hand that an enum's value may have.
-fn is_at_enum_name(cursor: &Cursor) -> bool
-    ensures { result ≡ enum_name cursor.now.hand.bare }
+fn is_at_enum_name(parser: &Parser) -> bool
+    ensures { result ≡ enum_name parser.now.hand.bare }
 {
-    cursor.is_at_name()
-        && !(cursor.is_at_keyword("true")
-            || cursor.is_at_keyword("false")
-            || cursor.is_at_keyword("null"))
+    parser.is_at_name()
+        && !(parser.is_at_keyword("true")
+            || parser.is_at_keyword("false")
+            || parser.is_at_keyword("null"))
 }
 
 /// `EnumName : a Name other than 'true', 'false', 'null'`
-fn expect_enum_name<'a>(cursor: &mut Cursor<'a>) -> Reading<Token<'a>>
-    ensures { Gives seen result cursor.old cursor.new (one_at enum_name) }
+fn expect_enum_name<'a>(parser: &mut Parser<'a>) -> Reading<Token<'a>>
+    ensures { Gives seen result parser.old parser.new (one_at enum_name) }
 {
-    if !is_at_enum_name(cursor) {
+    if !is_at_enum_name(parser) {
         return Err(Refusal::Syntax);
     }
-    Ok(cursor.take())
+    Ok(parser.take())
 }
 
 /// `Description? EnumName ConstDirectives?`
@@ -92,33 +90,27 @@ struct EnumValuePhrase;
 impl Production for EnumValuePhrase {
     type Node = Positioned<EnumValueDefinition>;
 
-    type Budget = Depths;
-
     ghost Tree = { Positioned trees.EnumValueDefinition };
 
     ghost tree = { placed enum_value_tree };
 
     ghost first = { enum_value_first };
 
-    ghost reader = { λ depths. enum_value_at (limits_of depths) };
+    ghost reader = { enum_value_at };
 
     const ROOM: usize = 4;
 
     #[inline(always)]
-    fn is_next(cursor: &Cursor) -> bool {
-        is_at_description(cursor) || is_at_enum_name(cursor)
+    fn is_next(parser: &Parser) -> bool {
+        is_at_description(parser) || is_at_enum_name(parser)
     }
 
-    fn read(
-        alloc: Global,
-        cursor: &mut Cursor,
-        depths: Depths,
-    ) -> Reading<Positioned<EnumValueDefinition>> {
-        let description = read_maybe_description(alloc, cursor)?;
-        let token = expect_enum_name(cursor)?;
+    fn read(parser: &mut Parser, limits: Limits) -> Reading<Positioned<EnumValueDefinition>> {
+        let description = read_maybe_description(parser)?;
+        let token = expect_enum_name(parser)?;
         let pos = place_of(&description, token);
-        let value = name_in(alloc, token)?;
-        let directives = read_const_directives(alloc, cursor, depths.values)?;
+        let value = name_in(parser.alloc(), token)?;
+        let directives = read_const_directives(parser, limits)?;
         let definition = EnumValueDefinition {
             description,
             value,
@@ -132,11 +124,10 @@ impl Production for EnumValuePhrase {
 ///
 /// `EnumValues? : ('{' (Description? EnumName ConstDirectives?)+ '}')?` (GraphQL October 2021, section 3.9)
 pub fn read_maybe_enum_values(
-    alloc: Global,
-    cursor: &mut Cursor,
-    depths: Depths,
+    parser: &mut Parser,
+    limits: Limits,
 ) -> Reading<Vec<Positioned<EnumValueDefinition>>>
-    ensures { Gives (trees_in (placed enum_value_tree)) result cursor.old cursor.new (given_enum_values_at (limits_of depths)) }
+    ensures { Gives (trees_in (placed enum_value_tree)) result parser.old parser.new (given_enum_values_at limits) }
 {
-    maybe_bracketed::<EnumValuePhrase>(alloc, cursor, "{", "}", depths)
+    maybe_bracketed::<EnumValuePhrase>(parser, "{", "}", limits)
 }

@@ -5,23 +5,21 @@ ghost use Rattle.graphql_syntax.specs.trees.Parts.{placed};
 ghost use Rattle.graphql_schema_trees.specs.trees.SchemaViews.{description_tree};
 ghost use Rattle.graphql_reading.specs.reading.Given.{Gives, trees_in};
 ghost use Rattle.graphql_reading.specs.reading.Outcome.{mapped_at};
-ghost use Rattle.graphql_grammar.specs.reading.Depths.{limits_of};
 ghost use Rattle.graphql_schemas.specs.grammar.Schema as grammar;
 ghost use Rattle.graphql_schemas.specs.reading.Schema.{root_first, root_at, roots_at, schema_rest_at, extended_schema_at};
 ghost use Rattle.graphql_schemas.specs.reading.Views.{root_tree, schema_tree};
 
 use crate::descriptions::place_of;
 use graphql_grammar::arguments::read_const_directives;
-use graphql_grammar::depths::Depths;
 use graphql_grammar::operations::read_operation_type;
-use graphql_reading::cursor::{Cursor, Reading, Refusal};
+use graphql_reading::limits::Limits;
 use graphql_reading::names::name_in;
+use graphql_reading::parser::{Parser, Reading, Refusal};
 use graphql_reading::production::{Production, bracketed, maybe_bracketed};
 use graphql_syntax::lexer::Token;
 use graphql_syntax::pos::{Pos, Positioned};
 use graphql_syntax::types::{ConstDirective, OperationType};
 use graphql_syntax::value::Name;
-use std::alloc::Global;
 
 /// The type at which operations of a kind begin.
 #[derive(Drop)]
@@ -53,8 +51,6 @@ struct RootPhrase;
 impl Production for RootPhrase {
     type Node = Root;
 
-    type Budget = ();
-
     ghost Tree = { grammar.Root };
 
     ghost tree = { root_tree };
@@ -65,17 +61,17 @@ impl Production for RootPhrase {
 
     const ROOM: usize = 2;
 
-    fn is_next(cursor: &Cursor) -> bool {
-        cursor.is_at_keyword("query")
-            || cursor.is_at_keyword("mutation")
-            || cursor.is_at_keyword("subscription")
+    fn is_next(parser: &Parser) -> bool {
+        parser.is_at_keyword("query")
+            || parser.is_at_keyword("mutation")
+            || parser.is_at_keyword("subscription")
     }
 
-    fn read(alloc: Global, cursor: &mut Cursor, _budget: ()) -> Reading<Root> {
-        let (word, kind) = read_operation_type(cursor)?;
-        cursor.expect_punct(":")?;
-        let token = cursor.expect_name()?;
-        let name = name_in(alloc, token)?;
+    fn read(parser: &mut Parser, _limits: Limits) -> Reading<Root> {
+        let (word, kind) = read_operation_type(parser)?;
+        parser.expect_punct(":")?;
+        let token = parser.expect_name()?;
+        let name = name_in(parser.alloc(), token)?;
         Ok(Root {
             kind,
             pos: word.pos,
@@ -85,27 +81,26 @@ impl Production for RootPhrase {
 }
 
 /// `Roots : '{' (OperationType ':' Name)+ '}'`
-fn read_roots(alloc: Global, cursor: &mut Cursor) -> Reading<Vec<Root>>
-    ensures { Gives (trees_in root_tree) result cursor.old cursor.new roots_at }
+fn read_roots(parser: &mut Parser, limits: Limits) -> Reading<Vec<Root>>
+    ensures { Gives (trees_in root_tree) result parser.old parser.new roots_at }
 {
-    bracketed::<RootPhrase>(alloc, cursor, "{", "}", ())
+    bracketed::<RootPhrase>(parser, "{", "}", limits)
 }
 
 /// Reads the definition of a schema after its description.
 ///
 /// `Schema : Description? 'schema' ConstDirectives? Roots` (GraphQL October 2021, section 3.3)
 pub fn read_schema(
-    alloc: Global,
-    cursor: &mut Cursor,
-    depths: Depths,
+    parser: &mut Parser,
+    limits: Limits,
     description: Option<Positioned<String>>,
 ) -> Reading<Positioned<Schema>>
-    ensures { Gives (placed schema_tree) result cursor.old cursor.new (mapped_at (λ rest. grammar.schema_of (description_tree description, rest)) (schema_rest_at (limits_of depths))) }
+    ensures { Gives (placed schema_tree) result parser.old parser.new (mapped_at (λ rest. grammar.schema_of (description_tree description, rest)) (schema_rest_at limits)) }
 {
-    let word = cursor.expect_keyword("schema")?;
+    let word = parser.expect_keyword("schema")?;
     let pos = place_of(&description, word);
-    let directives = read_const_directives(alloc, cursor, depths.values)?;
-    let roots = read_roots(alloc, cursor)?;
+    let directives = read_const_directives(parser, limits)?;
+    let roots = read_roots(parser, limits)?;
     let schema = Schema {
         description,
         extend: false,
@@ -120,19 +115,18 @@ pub fn read_schema(
 /// `SchemaExt : 'extend' 'schema' ConstDirectives Roots? | 'extend' 'schema' Roots` (GraphQL October 2021, section
 /// 3.3.2)
 pub fn read_schema_extension(
-    alloc: Global,
-    cursor: &mut Cursor,
-    depths: Depths,
+    parser: &mut Parser,
+    limits: Limits,
     extend: Token,
 ) -> Reading<Positioned<Schema>>
-    ensures { Gives (placed schema_tree) result cursor.old cursor.new (mapped_at (λ rest. grammar.schema_extension_of (seen extend.entry, rest)) (extended_schema_at (limits_of depths))) }
+    ensures { Gives (placed schema_tree) result parser.old parser.new (mapped_at (λ rest. grammar.schema_extension_of (seen extend.entry, rest)) (extended_schema_at limits)) }
 {
-    cursor.expect_keyword("schema")?;
-    if !(cursor.is_at_punct("@") || cursor.is_at_punct("{")) {
+    parser.expect_keyword("schema")?;
+    if !(parser.is_at_punct("@") || parser.is_at_punct("{")) {
         return Err(Refusal::Syntax);
     }
-    let directives = read_const_directives(alloc, cursor, depths.values)?;
-    let roots = maybe_bracketed::<RootPhrase>(alloc, cursor, "{", "}", ())?;
+    let directives = read_const_directives(parser, limits)?;
+    let roots = maybe_bracketed::<RootPhrase>(parser, "{", "}", limits)?;
     let schema = Schema {
         description: None,
         extend: true,

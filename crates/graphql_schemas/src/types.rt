@@ -1,13 +1,12 @@
 //! Readers of definitions and extensions of types, by GraphQL October 2021, sections 3.4 to 3.10.
 ghost use Rattle.std.specs.Prelude.{◌≡◌, false, true, not, ◌&&◌, MatchResult};
-ghost use Rattle.graphql_reading.specs.declared.cursor.Refusal.TheVariants.{Syntax};
+ghost use Rattle.graphql_reading.specs.declared.parser.Refusal.TheVariants.{Syntax};
 ghost use Rattle.graphql_tokens.specs.tokens.Seen.{seen};
 ghost use Rattle.graphql_syntax.specs.trees.Parts.{placed};
 ghost use Rattle.graphql_schema_trees.specs.trees.Schema.{object, interface};
 ghost use Rattle.graphql_schema_trees.specs.trees.SchemaViews.{description_tree, type_definition_tree};
 ghost use Rattle.graphql_reading.specs.reading.Given.{Gives};
 ghost use Rattle.graphql_reading.specs.reading.Outcome.{mapped_at};
-ghost use Rattle.graphql_grammar.specs.reading.Depths.{limits_of};
 ghost use Rattle.graphql_schemas.specs.grammar.Types as grammar;
 ghost use Rattle.graphql_schemas.specs.reading.Bodies.{in_members, in_rest, in_body, word_at, rest_at, body_by_word_at, members_by_part_at};
 ghost use Rattle.graphql_schemas.specs.reading.Types.{some_field_parts_at, scalar_rest_at, fields_rest_at, union_rest_at, enum_rest_at, input_rest_at, body_at};
@@ -17,9 +16,9 @@ use crate::fields::read_maybe_fields;
 use crate::input_values::read_maybe_input_fields;
 use crate::members::{read_maybe_enum_values, read_maybe_implements, read_maybe_members};
 use graphql_grammar::arguments::read_const_directives;
-use graphql_grammar::depths::Depths;
-use graphql_reading::cursor::{Cursor, Reading, Refusal};
+use graphql_reading::limits::Limits;
 use graphql_reading::names::name_in;
+use graphql_reading::parser::{Parser, Reading, Refusal};
 use graphql_schema_trees::{
     EnumType, FieldDefinition, InputObjectType, InterfaceType, ObjectType, TypeDefinition,
     TypeKind, UnionType,
@@ -28,7 +27,6 @@ use graphql_syntax::lexer::Token;
 use graphql_syntax::pos::Positioned;
 use graphql_syntax::types::ConstDirective;
 use graphql_syntax::value::Name;
-use std::alloc::Global;
 
 /// The keyword of a type's definition.
 #[derive(Clone, Copy)]
@@ -63,25 +61,25 @@ struct Body<'a> {
 }
 
 /// `'scalar' | 'type' | 'interface' | 'union' | 'enum' | 'input'`
-fn read_word<'a>(cursor: &mut Cursor<'a>) -> Reading<(Token<'a>, Word)>
-    ensures { Gives (λ x. (seen x.0, x.1)) result cursor.old cursor.new word_at }
+fn read_word<'a>(parser: &mut Parser<'a>) -> Reading<(Token<'a>, Word)>
+    ensures { Gives (λ x. (seen x.0, x.1)) result parser.old parser.new word_at }
 {
-    let word = if cursor.is_at_keyword("scalar") {
+    let word = if parser.is_at_keyword("scalar") {
         Word::Scalar
-    } else if cursor.is_at_keyword("type") {
+    } else if parser.is_at_keyword("type") {
         Word::Type
-    } else if cursor.is_at_keyword("interface") {
+    } else if parser.is_at_keyword("interface") {
         Word::Interface
-    } else if cursor.is_at_keyword("union") {
+    } else if parser.is_at_keyword("union") {
         Word::Union
-    } else if cursor.is_at_keyword("enum") {
+    } else if parser.is_at_keyword("enum") {
         Word::Enum
-    } else if cursor.is_at_keyword("input") {
+    } else if parser.is_at_keyword("input") {
         Word::Input
     } else {
         return Err(Refusal::Syntax);
     };
-    Ok((cursor.take(), word))
+    Ok((parser.take(), word))
 }
 
 /// An extension has at least one of the optional parts: this tells whether the token in hand begins one.
@@ -98,12 +96,12 @@ fn expect_part(extend: bool, is_there: bool) -> Reading<()>
 }
 
 /// `Implements? ConstDirectives? Fields?`
-fn read_members(alloc: Global, cursor: &mut Cursor, depths: Depths) -> Reading<Members>
-    ensures { Gives in_members result cursor.old cursor.new (members_by_part_at (limits_of depths)) }
+fn read_members(parser: &mut Parser, limits: Limits) -> Reading<Members>
+    ensures { Gives in_members result parser.old parser.new (members_by_part_at limits) }
 {
-    let implements = read_maybe_implements(alloc, cursor)?;
-    let directives = read_const_directives(alloc, cursor, depths.values)?;
-    let fields = read_maybe_fields(alloc, cursor, depths)?;
+    let implements = read_maybe_implements(parser, limits)?;
+    let directives = read_const_directives(parser, limits)?;
+    let fields = read_maybe_fields(parser, limits)?;
     Ok(Members {
         implements,
         directives,
@@ -112,35 +110,25 @@ fn read_members(alloc: Global, cursor: &mut Cursor, depths: Depths) -> Reading<M
 }
 
 /// The same; an extension has at least one of them.
-fn read_owed_members(
-    alloc: Global,
-    cursor: &mut Cursor,
-    depths: Depths,
-    extend: bool,
-) -> Reading<Members>
-    ensures { Gives in_members result cursor.old cursor.new (some_field_parts_at extend (limits_of depths)) }
+fn read_owed_members(parser: &mut Parser, limits: Limits, extend: bool) -> Reading<Members>
+    ensures { Gives in_members result parser.old parser.new (some_field_parts_at extend limits) }
 {
-    let is_there = cursor.is_at_keyword("implements")
-        || cursor.is_at_punct("@")
-        || cursor.is_at_punct("{");
+    let is_there = parser.is_at_keyword("implements")
+        || parser.is_at_punct("@")
+        || parser.is_at_punct("{");
     expect_part(extend, is_there)?;
-    read_members(alloc, cursor, depths)
+    read_members(parser, limits)
 }
 
 /// The rest of an object type.
-fn read_object_rest(
-    alloc: Global,
-    cursor: &mut Cursor,
-    depths: Depths,
-    extend: bool,
-) -> Reading<Rest>
-    ensures { Gives in_rest result cursor.old cursor.new (fields_rest_at object extend (limits_of depths)) }
+fn read_object_rest(parser: &mut Parser, limits: Limits, extend: bool) -> Reading<Rest>
+    ensures { Gives in_rest result parser.old parser.new (fields_rest_at object extend limits) }
 {
     let Members {
         implements,
         directives,
         fields,
-    } = read_owed_members(alloc, cursor, depths, extend)?;
+    } = read_owed_members(parser, limits, extend)?;
     Ok(Rest {
         directives,
         kind: TypeKind::Object(ObjectType { implements, fields }),
@@ -148,19 +136,14 @@ fn read_object_rest(
 }
 
 /// The rest of an interface.
-fn read_interface_rest(
-    alloc: Global,
-    cursor: &mut Cursor,
-    depths: Depths,
-    extend: bool,
-) -> Reading<Rest>
-    ensures { Gives in_rest result cursor.old cursor.new (fields_rest_at interface extend (limits_of depths)) }
+fn read_interface_rest(parser: &mut Parser, limits: Limits, extend: bool) -> Reading<Rest>
+    ensures { Gives in_rest result parser.old parser.new (fields_rest_at interface extend limits) }
 {
     let Members {
         implements,
         directives,
         fields,
-    } = read_owed_members(alloc, cursor, depths, extend)?;
+    } = read_owed_members(parser, limits, extend)?;
     Ok(Rest {
         directives,
         kind: TypeKind::Interface(InterfaceType { implements, fields }),
@@ -168,17 +151,12 @@ fn read_interface_rest(
 }
 
 /// `ConstDirectives?`; an extension has them.
-fn read_scalar_rest(
-    alloc: Global,
-    cursor: &mut Cursor,
-    depths: Depths,
-    extend: bool,
-) -> Reading<Rest>
-    ensures { Gives in_rest result cursor.old cursor.new (scalar_rest_at extend (limits_of depths)) }
+fn read_scalar_rest(parser: &mut Parser, limits: Limits, extend: bool) -> Reading<Rest>
+    ensures { Gives in_rest result parser.old parser.new (scalar_rest_at extend limits) }
 {
-    let is_there = cursor.is_at_punct("@");
+    let is_there = parser.is_at_punct("@");
     expect_part(extend, is_there)?;
-    let directives = read_const_directives(alloc, cursor, depths.values)?;
+    let directives = read_const_directives(parser, limits)?;
     Ok(Rest {
         directives,
         kind: TypeKind::Scalar,
@@ -186,18 +164,13 @@ fn read_scalar_rest(
 }
 
 /// `ConstDirectives? Members?`; an extension has at least one of them.
-fn read_union_rest(
-    alloc: Global,
-    cursor: &mut Cursor,
-    depths: Depths,
-    extend: bool,
-) -> Reading<Rest>
-    ensures { Gives in_rest result cursor.old cursor.new (union_rest_at extend (limits_of depths)) }
+fn read_union_rest(parser: &mut Parser, limits: Limits, extend: bool) -> Reading<Rest>
+    ensures { Gives in_rest result parser.old parser.new (union_rest_at extend limits) }
 {
-    let is_there = cursor.is_at_punct("@") || cursor.is_at_punct("=");
+    let is_there = parser.is_at_punct("@") || parser.is_at_punct("=");
     expect_part(extend, is_there)?;
-    let directives = read_const_directives(alloc, cursor, depths.values)?;
-    let members = read_maybe_members(alloc, cursor)?;
+    let directives = read_const_directives(parser, limits)?;
+    let members = read_maybe_members(parser, limits)?;
     Ok(Rest {
         directives,
         kind: TypeKind::Union(UnionType { members }),
@@ -205,13 +178,13 @@ fn read_union_rest(
 }
 
 /// `ConstDirectives? EnumValues?`; an extension has at least one of them.
-fn read_enum_rest(alloc: Global, cursor: &mut Cursor, depths: Depths, extend: bool) -> Reading<Rest>
-    ensures { Gives in_rest result cursor.old cursor.new (enum_rest_at extend (limits_of depths)) }
+fn read_enum_rest(parser: &mut Parser, limits: Limits, extend: bool) -> Reading<Rest>
+    ensures { Gives in_rest result parser.old parser.new (enum_rest_at extend limits) }
 {
-    let is_there = cursor.is_at_punct("@") || cursor.is_at_punct("{");
+    let is_there = parser.is_at_punct("@") || parser.is_at_punct("{");
     expect_part(extend, is_there)?;
-    let directives = read_const_directives(alloc, cursor, depths.values)?;
-    let values = read_maybe_enum_values(alloc, cursor, depths)?;
+    let directives = read_const_directives(parser, limits)?;
+    let values = read_maybe_enum_values(parser, limits)?;
     Ok(Rest {
         directives,
         kind: TypeKind::Enum(EnumType { values }),
@@ -219,18 +192,13 @@ fn read_enum_rest(alloc: Global, cursor: &mut Cursor, depths: Depths, extend: bo
 }
 
 /// `ConstDirectives? InputFields?`; an extension has at least one of them.
-fn read_input_rest(
-    alloc: Global,
-    cursor: &mut Cursor,
-    depths: Depths,
-    extend: bool,
-) -> Reading<Rest>
-    ensures { Gives in_rest result cursor.old cursor.new (input_rest_at extend (limits_of depths)) }
+fn read_input_rest(parser: &mut Parser, limits: Limits, extend: bool) -> Reading<Rest>
+    ensures { Gives in_rest result parser.old parser.new (input_rest_at extend limits) }
 {
-    let is_there = cursor.is_at_punct("@") || cursor.is_at_punct("{");
+    let is_there = parser.is_at_punct("@") || parser.is_at_punct("{");
     expect_part(extend, is_there)?;
-    let directives = read_const_directives(alloc, cursor, depths.values)?;
-    let fields = read_maybe_input_fields(alloc, cursor, depths)?;
+    let directives = read_const_directives(parser, limits)?;
+    let fields = read_maybe_input_fields(parser, limits)?;
     Ok(Rest {
         directives,
         kind: TypeKind::InputObject(InputObjectType { fields }),
@@ -238,22 +206,16 @@ fn read_input_rest(
 }
 
 /// What stands after the name, by the keyword.
-fn read_rest(
-    alloc: Global,
-    cursor: &mut Cursor,
-    depths: Depths,
-    word: Word,
-    extend: bool,
-) -> Reading<Rest>
-    ensures { Gives in_rest result cursor.old cursor.new (rest_at extend (limits_of depths) word) }
+fn read_rest(parser: &mut Parser, limits: Limits, word: Word, extend: bool) -> Reading<Rest>
+    ensures { Gives in_rest result parser.old parser.new (rest_at extend limits word) }
 {
     match word {
-        Word::Scalar => read_scalar_rest(alloc, cursor, depths, extend),
-        Word::Type => read_object_rest(alloc, cursor, depths, extend),
-        Word::Interface => read_interface_rest(alloc, cursor, depths, extend),
-        Word::Union => read_union_rest(alloc, cursor, depths, extend),
-        Word::Enum => read_enum_rest(alloc, cursor, depths, extend),
-        Word::Input => read_input_rest(alloc, cursor, depths, extend),
+        Word::Scalar => read_scalar_rest(parser, limits, extend),
+        Word::Type => read_object_rest(parser, limits, extend),
+        Word::Interface => read_interface_rest(parser, limits, extend),
+        Word::Union => read_union_rest(parser, limits, extend),
+        Word::Enum => read_enum_rest(parser, limits, extend),
+        Word::Input => read_input_rest(parser, limits, extend),
     }
 }
 
@@ -266,18 +228,13 @@ fn read_rest(
 ///   | 'input' Name ConstDirectives? InputFields?
 /// ```
 /// In an extension at least one of the optional parts is there.
-fn read_body<'a>(
-    alloc: Global,
-    cursor: &mut Cursor<'a>,
-    depths: Depths,
-    extend: bool,
-) -> Reading<Body<'a>>
-    ensures { Gives in_body result cursor.old cursor.new (body_by_word_at extend (limits_of depths)) }
+fn read_body<'a>(parser: &mut Parser<'a>, limits: Limits, extend: bool) -> Reading<Body<'a>>
+    ensures { Gives in_body result parser.old parser.new (body_by_word_at extend limits) }
 {
-    let (token, word) = read_word(cursor)?;
-    let name = cursor.expect_name()?;
-    let name = name_in(alloc, name)?;
-    let Rest { directives, kind } = read_rest(alloc, cursor, depths, word, extend)?;
+    let (token, word) = read_word(parser)?;
+    let name = parser.expect_name()?;
+    let name = name_in(parser.alloc(), name)?;
+    let Rest { directives, kind } = read_rest(parser, limits, word, extend)?;
     Ok(Body {
         word: token,
         name,
@@ -290,19 +247,18 @@ fn read_body<'a>(
 ///
 /// `TypeDef : Description? Body` (GraphQL October 2021, section 3.4)
 pub fn read_type_definition(
-    alloc: Global,
-    cursor: &mut Cursor,
-    depths: Depths,
+    parser: &mut Parser,
+    limits: Limits,
     description: Option<Positioned<String>>,
 ) -> Reading<Positioned<TypeDefinition>>
-    ensures { Gives (placed type_definition_tree) result cursor.old cursor.new (mapped_at (λ body. grammar.type_definition_of (description_tree description, body)) (body_at false (limits_of depths))) }
+    ensures { Gives (placed type_definition_tree) result parser.old parser.new (mapped_at (λ body. grammar.type_definition_of (description_tree description, body)) (body_at false limits)) }
 {
     let Body {
         word,
         name,
         directives,
         kind,
-    } = read_body(alloc, cursor, depths, false)?;
+    } = read_body(parser, limits, false)?;
     let pos = place_of(&description, word);
     let definition = TypeDefinition {
         extend: false,
@@ -318,19 +274,18 @@ pub fn read_type_definition(
 ///
 /// `TypeExt : 'extend' Body`, with at least one of the optional parts (GraphQL October 2021, section 3.4.3)
 pub fn read_type_extension(
-    alloc: Global,
-    cursor: &mut Cursor,
-    depths: Depths,
+    parser: &mut Parser,
+    limits: Limits,
     extend: Token,
 ) -> Reading<Positioned<TypeDefinition>>
-    ensures { Gives (placed type_definition_tree) result cursor.old cursor.new (mapped_at (λ body. grammar.type_extension_of (seen extend.entry, body)) (body_at true (limits_of depths))) }
+    ensures { Gives (placed type_definition_tree) result parser.old parser.new (mapped_at (λ body. grammar.type_extension_of (seen extend.entry, body)) (body_at true limits)) }
 {
     let Body {
         word: _,
         name,
         directives,
         kind,
-    } = read_body(alloc, cursor, depths, true)?;
+    } = read_body(parser, limits, true)?;
     let definition = TypeDefinition {
         extend: true,
         description: None,

@@ -3,7 +3,7 @@ use Rattle.std.specs.Prelude.{◌≡◌, ℕ, pred, ◌+◌, ◌<◌, Bool, true
 use Rattle.std.specs.Str.{bytes_eq}
 use Rattle.graphql_tokens.specs.tokens.Token.{Token}
 use Rattle.graphql_syntax.specs.trees.ValueTree.{Tree, null, boolean, enumeration, list, object, trees_of, fields_of}
-use Rattle.graphql_reading.specs.declared.cursor.Refusal.{Refusal}
+use Rattle.graphql_reading.specs.declared.parser.Refusal.{Refusal}
 use Rattle.graphql_grammar.specs.declared.value.frames.Open.{Open}
 use Rattle.graphql_grammar.specs.declared.value.frames.Open.TheVariants as opens
 use Rattle.graphql_grammar.specs.declared.value.frames.Frame.{Frame}

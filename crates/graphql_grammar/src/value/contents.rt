@@ -5,46 +5,41 @@ ghost use Rattle.graphql_reading.specs.reading.Given.{Gives};
 
 use super::frames::Open;
 use super::simple::read_simple;
-use graphql_reading::cursor::{Cursor, Reading, Refusal};
+use graphql_reading::parser::{Parser, Reading, Refusal};
 use graphql_syntax::value::{Literal, Name};
-use std::alloc::Global;
 
 /// A list or an object that begins here, where so many levels are left.
 ///
 /// `('[' | '{')?`
-pub fn enter<V: Literal>(
-    alloc: Global,
-    cursor: &mut Cursor,
-    left: usize,
-) -> Reading<Option<Open<V>>>
-    ensures { Gives (option_map (opened V.tree)) result cursor.old cursor.new (enter_at left) }
+pub fn enter<V: Literal>(parser: &mut Parser, left: usize) -> Reading<Option<Open<V>>>
+    ensures { Gives (option_map (opened V.tree)) result parser.old parser.new (enter_at left) }
 {
-    let opening = if cursor.is_at_punct("[") {
-        Open::List(Vec::new(alloc))
-    } else if cursor.is_at_punct("{") {
-        Open::Object(Vec::new(alloc))
+    let opening = if parser.is_at_punct("[") {
+        Open::List(Vec::new(parser.alloc()))
+    } else if parser.is_at_punct("{") {
+        Open::Object(Vec::new(parser.alloc()))
     } else {
         return Ok(None);
     };
     if left == 0 {
         return Err(Refusal::Limit);
     }
-    cursor.advance();
+    parser.advance();
     Ok(Some(opening))
 }
 
 /// The end of an object, or else the name of its next value.
 ///
 /// `'}' | Name ':'`
-fn read_key(alloc: Global, cursor: &mut Cursor) -> Reading<Option<Name>>
-    ensures { Gives (λ key. key) result cursor.old cursor.new key_at }
+fn read_key(parser: &mut Parser) -> Reading<Option<Name>>
+    ensures { Gives (λ key. key) result parser.old parser.new key_at }
 {
-    if cursor.take_punct("}") {
+    if parser.take_punct("}") {
         return Ok(None);
     }
-    let token = cursor.expect_name()?;
-    let name = Name::new(alloc, token.text)?;
-    cursor.expect_punct(":")?;
+    let token = parser.expect_name()?;
+    let name = Name::new(parser.alloc(), token.text)?;
+    parser.expect_punct(":")?;
     Ok(Some(name))
 }
 
@@ -52,18 +47,17 @@ fn read_key(alloc: Global, cursor: &mut Cursor) -> Reading<Option<Name>>
 ///
 /// `List : '[' Value* ']'` (GraphQL October 2021, section 2.9.7)
 pub fn read_items<V: Literal>(
-    alloc: Global,
-    cursor: &mut Cursor,
+    parser: &mut Parser,
     items: &mut Vec<V>,
     left: usize,
 ) -> Reading<Option<Open<V>>>
-    ensures { Meets V.VARIABLES left (list_stop V.tree items.new.items) result cursor.old cursor.new (list_rest V.VARIABLES left (map V.tree items.old.items)) }
+    ensures { Meets V.VARIABLES left (list_stop V.tree items.new.items) result parser.old parser.new (list_rest V.VARIABLES left (map V.tree items.old.items)) }
 {
-    while !cursor.take_punct("]") {
-        if let Some(inner) = enter(alloc, cursor, left)? {
+    while !parser.take_punct("]") {
+        if let Some(inner) = enter(parser, left)? {
             return Ok(Some(inner));
         }
-        items.push(read_simple(alloc, cursor)?)?;
+        items.push(read_simple(parser)?)?;
     }
     Ok(None)
 }
@@ -72,18 +66,17 @@ pub fn read_items<V: Literal>(
 ///
 /// `Object : '{' (Name ':' Value)* '}'` (GraphQL October 2021, section 2.9.8)
 pub fn read_fields<V: Literal>(
-    alloc: Global,
-    cursor: &mut Cursor,
+    parser: &mut Parser,
     fields: &mut Vec<(Name, V)>,
     left: usize,
 ) -> Reading<Option<(Name, Open<V>)>>
-    ensures { Meets V.VARIABLES left (object_stop V.tree fields.new.items) result cursor.old cursor.new (object_rest V.VARIABLES left (map (field_tree V.tree) fields.old.items)) }
+    ensures { Meets V.VARIABLES left (object_stop V.tree fields.new.items) result parser.old parser.new (object_rest V.VARIABLES left (map (field_tree V.tree) fields.old.items)) }
 {
-    while let Some(name) = read_key(alloc, cursor)? {
-        if let Some(inner) = enter(alloc, cursor, left)? {
+    while let Some(name) = read_key(parser)? {
+        if let Some(inner) = enter(parser, left)? {
             return Ok(Some((name, inner)));
         }
-        fields.push((name, read_simple(alloc, cursor)?))?;
+        fields.push((name, read_simple(parser)?))?;
     }
     Ok(None)
 }

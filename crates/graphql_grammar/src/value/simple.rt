@@ -5,7 +5,7 @@ ghost use Rattle.graphql_reading.specs.reading.Given.{Gives};
 ghost use Rattle.graphql_grammar.specs.reading.Values.{simple_at, word_at, number_at, string_at, block_at, variable_at};
 
 use crate::strings::{read_block, read_string};
-use graphql_reading::cursor::{Cursor, Reading, Refusal};
+use graphql_reading::parser::{Parser, Reading, Refusal};
 use graphql_syntax::lexer::TokenKind;
 use graphql_syntax::value::{Literal, Name, Number};
 use std::alloc::{AllocError, Global};
@@ -26,52 +26,52 @@ fn word_of<V: Literal>(alloc: Global, text: &str) -> Result<V, AllocError>
 }
 
 /// `'true' | 'false' | 'null' | EnumName` (GraphQL October 2021, sections 2.9.3, 2.9.5 and 2.9.6)
-fn read_word<V: Literal>(alloc: Global, cursor: &mut Cursor) -> Reading<V>
-    ensures { Gives V.tree result cursor.old cursor.new (node_at word_at) }
+fn read_word<V: Literal>(parser: &mut Parser) -> Reading<V>
+    ensures { Gives V.tree result parser.old parser.new (node_at word_at) }
 {
-    let token = cursor.expect_name()?;
-    Ok(word_of(alloc, token.text)?)
+    let token = parser.expect_name()?;
+    Ok(word_of(parser.alloc(), token.text)?)
 }
 
 /// `IntValue | FloatValue` (GraphQL October 2021, sections 2.9.1 and 2.9.2)
-fn read_number<V: Literal>(alloc: Global, cursor: &mut Cursor) -> Reading<V>
-    ensures { Gives V.tree result cursor.old cursor.new (node_at number_at) }
+fn read_number<V: Literal>(parser: &mut Parser) -> Reading<V>
+    ensures { Gives V.tree result parser.old parser.new (node_at number_at) }
 {
-    let token = cursor.hand();
+    let token = parser.hand();
     if !token.kind.is_number() {
         return Err(Refusal::Syntax);
     }
-    let number = Number::of_literal(alloc, token.text)?;
-    cursor.advance();
+    let number = Number::of_literal(parser.alloc(), token.text)?;
+    parser.advance();
     Ok(V::number(number))
 }
 
 /// `StringValue` between single quotes (GraphQL October 2021, section 2.9.4)
-fn read_string_node<V: Literal>(alloc: Global, cursor: &mut Cursor) -> Reading<V>
-    ensures { Gives V.tree result cursor.old cursor.new (node_at string_at) }
+fn read_string_node<V: Literal>(parser: &mut Parser) -> Reading<V>
+    ensures { Gives V.tree result parser.old parser.new (node_at string_at) }
 {
-    let text = read_string(alloc, cursor)?;
+    let text = read_string(parser)?;
     Ok(V::string(text))
 }
 
 /// `StringValue` between triple quotes, a block string (GraphQL October 2021, section 2.9.4)
-fn read_block_node<V: Literal>(alloc: Global, cursor: &mut Cursor) -> Reading<V>
-    ensures { Gives V.tree result cursor.old cursor.new (node_at block_at) }
+fn read_block_node<V: Literal>(parser: &mut Parser) -> Reading<V>
+    ensures { Gives V.tree result parser.old parser.new (node_at block_at) }
 {
-    let text = read_block(alloc, cursor)?;
+    let text = read_block(parser)?;
     Ok(V::string(text))
 }
 
 /// `'$' Name` (GraphQL October 2021, section 2.10)
-fn read_variable<V: Literal>(alloc: Global, cursor: &mut Cursor) -> Reading<V>
-    ensures { Gives V.tree result cursor.old cursor.new (node_at (variable_at V.VARIABLES)) }
+fn read_variable<V: Literal>(parser: &mut Parser) -> Reading<V>
+    ensures { Gives V.tree result parser.old parser.new (node_at (variable_at V.VARIABLES)) }
 {
-    if !(cursor.is_at_punct("$") && V::VARIABLES) {
+    if !(parser.is_at_punct("$") && V::VARIABLES) {
         return Err(Refusal::Syntax);
     }
-    cursor.advance();
-    let token = cursor.expect_name()?;
-    match V::variable(Name::new(alloc, token.text)?) {
+    parser.advance();
+    let token = parser.expect_name()?;
+    match V::variable(Name::new(parser.alloc(), token.text)?) {
         Some(variable) => Ok(variable),
         None => unreachable!(),
     }
@@ -80,14 +80,14 @@ fn read_variable<V: Literal>(alloc: Global, cursor: &mut Cursor) -> Reading<V>
 /// A value that is neither a list nor an object.
 ///
 /// `Variable | Number | String | Boolean | Null | Enum`
-pub fn read_simple<V: Literal>(alloc: Global, cursor: &mut Cursor) -> Reading<V>
-    ensures { Gives V.tree result cursor.old cursor.new (node_at (simple_at V.VARIABLES)) }
+pub fn read_simple<V: Literal>(parser: &mut Parser) -> Reading<V>
+    ensures { Gives V.tree result parser.old parser.new (node_at (simple_at V.VARIABLES)) }
 {
-    match cursor.hand().kind {
-        TokenKind::Name => read_word(alloc, cursor),
-        TokenKind::Number => read_number(alloc, cursor),
-        TokenKind::String => read_string_node(alloc, cursor),
-        TokenKind::Block => read_block_node(alloc, cursor),
-        _ => read_variable(alloc, cursor),
+    match parser.hand().kind {
+        TokenKind::Name => read_word(parser),
+        TokenKind::Number => read_number(parser),
+        TokenKind::String => read_string_node(parser),
+        TokenKind::Block => read_block_node(parser),
+        _ => read_variable(parser),
     }
 }

@@ -1,4 +1,4 @@
--- What a cursor shows.
+-- What a parser shows.
 use Rattle.std.specs.Prelude.{ℕ, List, ◌∷◌}
 use Rattle.graphql_tokens.specs.tokens.Token.{Token}
 

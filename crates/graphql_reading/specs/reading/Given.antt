@@ -4,8 +4,8 @@ use Rattle.std.specs.declared.alloc.Global.{Global}
 use Rattle.graphql_reading.specs.grammar.Fronts.{syntax, limit}
 use Rattle.graphql_reading.specs.reading.Ahead.{Ahead, tokens}
 use Rattle.graphql_reading.specs.reading.Outcome.{Reader, Read, Refused}
-use Rattle.graphql_reading.specs.declared.cursor.Refusal.{Refusal}
-use Rattle.graphql_reading.specs.declared.cursor.Refusal.TheVariants.{Memory, Syntax, Limit}
+use Rattle.graphql_reading.specs.declared.parser.Refusal.{Refusal}
+use Rattle.graphql_reading.specs.declared.parser.Refusal.TheVariants.{Memory, Syntax, Limit}
 
 -- a refusal, with the refused token in hand
 abbrev pub Refuses : {Y : Type 0} → Refusal → Ahead → Ahead → Reader Y → Type 0
@@ -23,7 +23,7 @@ abbrev pub ToldWhole : {X Y : Type 0} → (X → Y) → Result X Refusal → Ahe
 ToldWhole view (Ok x) old new r = r (tokens old) ≡ Read (view x) new.behind
 ToldWhole view (Err refusal) old new r = Refuses refusal old new r
 
--- the cursor takes tokens of its text, and gives none back
+-- the parser takes tokens of its text, and gives none back
 abbrev pub GoesOn : Ahead → Ahead → Type 0
 GoesOn old new = (new.whole ≡ old.whole) × (old.taken ≤ new.taken)
 

@@ -10,9 +10,10 @@ ghost use Rattle.graphql_reading.specs.reading.Given.{Gives};
 ghost use Rattle.graphql_requests.specs.reading.Selections.{type_condition_at, inline_first, selection_first};
 
 use graphql_grammar::arguments::{read_directives, read_maybe_arguments};
-use graphql_reading::cursor::{Cursor, Reading, Refusal};
+use graphql_reading::limits::Limits;
 use graphql_reading::names::{name_in, read_name};
 use graphql_reading::nodes::add_node;
+use graphql_reading::parser::{Parser, Reading, Refusal};
 use graphql_request_trees::{
     Field, FragmentSpread, InlineFragment, Selection, SelectionSet, TypeCondition,
 };
@@ -32,24 +33,24 @@ type Arguments = Vec<(Positioned<Name>, Positioned<Value>)>;
 type Selections = Vec<Positioned<Selection>>;
 
 #[inline(always)]
-pub fn is_at_fragment_name(cursor: &Cursor) -> bool
-    ensures { result ≡ fragment_name cursor.now.hand.bare }
+pub fn is_at_fragment_name(parser: &Parser) -> bool
+    ensures { result ≡ fragment_name parser.now.hand.bare }
 {
-    cursor.is_at_name() && !cursor.is_at_keyword("on")
+    parser.is_at_name() && !parser.is_at_keyword("on")
 }
 
 #[inline(always)]
-fn is_at_inline(cursor: &Cursor) -> bool
-    ensures { result ≡ inline_first cursor.now.hand.bare }
+fn is_at_inline(parser: &Parser) -> bool
+    ensures { result ≡ inline_first parser.now.hand.bare }
 {
-    cursor.is_at_keyword("on") || cursor.is_at_punct("@") || cursor.is_at_punct("{")
+    parser.is_at_keyword("on") || parser.is_at_punct("@") || parser.is_at_punct("{")
 }
 
 #[inline(always)]
-pub(super) fn is_at_selection(cursor: &Cursor) -> bool
-    ensures { result ≡ selection_first cursor.now.hand.bare }
+pub(super) fn is_at_selection(parser: &Parser) -> bool
+    ensures { result ≡ selection_first parser.now.hand.bare }
 {
-    cursor.is_at_name() || cursor.is_at_punct("...")
+    parser.is_at_name() || parser.is_at_punct("...")
 }
 
 #[inline(always)]
@@ -63,30 +64,30 @@ fn add_selection(items: &mut Selections, selection: Positioned<Selection>) -> Re
 ///
 /// `(Name ':')? Name`
 #[inline(always)]
-fn read_names(alloc: Global, cursor: &mut Cursor) -> Reading<Names>
-    ensures { Gives (λ names. names) result cursor.old cursor.new names_at }
+fn read_names(parser: &mut Parser) -> Reading<Names>
+    ensures { Gives (λ names. names) result parser.old parser.new names_at }
 {
-    let first = read_name(alloc, cursor)?;
-    if !cursor.is_at_punct(":") {
+    let first = read_name(parser)?;
+    if !parser.is_at_punct(":") {
         return Ok((None, first));
     }
-    cursor.take();
-    let name = read_name(alloc, cursor)?;
+    parser.take();
+    let name = read_name(parser)?;
     Ok((Some(first), name))
 }
 
 /// The `{` of a set, if one follows.
 #[inline(always)]
-fn read_maybe_brace(cursor: &mut Cursor, nests: bool) -> Reading<Option<Pos>>
-    ensures { Gives (λ place. place) result cursor.old cursor.new (maybe_brace_at nests) }
+fn read_maybe_brace(parser: &mut Parser, nests: bool) -> Reading<Option<Pos>>
+    ensures { Gives (λ place. place) result parser.old parser.new (maybe_brace_at nests) }
 {
-    if !cursor.is_at_punct("{") {
+    if !parser.is_at_punct("{") {
         return Ok(None);
     }
     if !nests {
         return Err(Refusal::Limit);
     }
-    let brace = cursor.take();
+    let brace = parser.take();
     Ok(Some(brace.pos))
 }
 
@@ -118,19 +119,21 @@ fn bare_field(
 ///
 /// `Field : (Name ':')? Name Arguments? Directives? SelectionSet?` (GraphQL October 2021, section 2.5)
 fn read_field(
-    alloc: Global,
-    cursor: &mut Cursor,
-    values: usize,
+    parser: &mut Parser,
+    limits: Limits,
     nests: bool,
     items: &mut Selections,
 ) -> Reading<Option<Pos>>
-    ensures { Gives (λ place. (selection_trees items.new.items, place)) result cursor.old cursor.new (onto (selection_trees items.old.items) (field_head_at values nests)) }
+    ensures { Gives (λ place. (selection_trees items.new.items, place)) result parser.old parser.new (onto (selection_trees items.old.items) (field_head_at limits.values nests)) }
 {
-    let names = read_names(alloc, cursor)?;
-    let arguments = read_maybe_arguments(alloc, cursor, values)?;
-    let directives = read_directives(alloc, cursor, values)?;
-    let place = read_maybe_brace(cursor, nests)?;
-    add_selection(items, bare_field(alloc, names, arguments, directives))?;
+    let names = read_names(parser)?;
+    let arguments = read_maybe_arguments(parser, limits)?;
+    let directives = read_directives(parser, limits)?;
+    let place = read_maybe_brace(parser, nests)?;
+    add_selection(
+        items,
+        bare_field(parser.alloc(), names, arguments, directives),
+    )?;
     Ok(place)
 }
 
@@ -138,17 +141,16 @@ fn read_field(
 ///
 /// `Spread : '...' FragmentName Directives?` (GraphQL October 2021, section 2.8)
 fn read_spread(
-    alloc: Global,
-    cursor: &mut Cursor,
-    values: usize,
+    parser: &mut Parser,
+    limits: Limits,
     dots: Pos,
     name: Token,
     items: &mut Selections,
 ) -> Reading<Option<Pos>>
-    ensures { Gives (λ place. (selection_trees items.new.items, place)) result cursor.old cursor.new (onto (selection_trees items.old.items) (spread_at values dots (seen name.entry))) }
+    ensures { Gives (λ place. (selection_trees items.new.items, place)) result parser.old parser.new (onto (selection_trees items.old.items) (spread_at limits.values dots (seen name.entry))) }
 {
-    let fragment_name = name_in(alloc, name)?;
-    let directives = read_directives(alloc, cursor, values)?;
+    let fragment_name = name_in(parser.alloc(), name)?;
+    let directives = read_directives(parser, limits)?;
     let spread = FragmentSpread {
         fragment_name,
         directives,
@@ -161,25 +163,22 @@ fn read_spread(
 /// `on` and the name of a type.
 ///
 /// `TypeCondition : 'on' Name` (GraphQL October 2021, section 2.8)
-pub fn read_type_condition(alloc: Global, cursor: &mut Cursor) -> Reading<Positioned<TypeCondition>>
-    ensures { Gives (placed type_condition_tree) result cursor.old cursor.new type_condition_at }
+pub fn read_type_condition(parser: &mut Parser) -> Reading<Positioned<TypeCondition>>
+    ensures { Gives (placed type_condition_tree) result parser.old parser.new type_condition_at }
 {
-    let word = cursor.expect_keyword("on")?;
-    let on = read_name(alloc, cursor)?;
+    let word = parser.expect_keyword("on")?;
+    let on = read_name(parser)?;
     Ok(Positioned::new(TypeCondition { on }, word.pos))
 }
 
 /// `TypeCondition?`
-fn read_maybe_condition(
-    alloc: Global,
-    cursor: &mut Cursor,
-) -> Reading<Option<Positioned<TypeCondition>>>
-    ensures { Gives (option_map (placed type_condition_tree)) result cursor.old cursor.new maybe_condition_at }
+fn read_maybe_condition(parser: &mut Parser) -> Reading<Option<Positioned<TypeCondition>>>
+    ensures { Gives (option_map (placed type_condition_tree)) result parser.old parser.new maybe_condition_at }
 {
-    if !cursor.is_at_keyword("on") {
+    if !parser.is_at_keyword("on") {
         return Ok(None);
     }
-    let condition = read_type_condition(alloc, cursor)?;
+    let condition = read_type_condition(parser)?;
     Ok(Some(condition))
 }
 
@@ -206,18 +205,20 @@ fn bare_inline(
 ///
 /// `Inline : '...' TypeCondition? Directives? SelectionSet` (GraphQL October 2021, section 2.8)
 fn read_inline(
-    alloc: Global,
-    cursor: &mut Cursor,
-    values: usize,
+    parser: &mut Parser,
+    limits: Limits,
     dots: Pos,
     items: &mut Selections,
 ) -> Reading<Pos>
-    ensures { Gives (λ place. (selection_trees items.new.items, Some place)) result cursor.old cursor.new (onto (selection_trees items.old.items) (inline_head_at values dots)) }
+    ensures { Gives (λ place. (selection_trees items.new.items, Some place)) result parser.old parser.new (onto (selection_trees items.old.items) (inline_head_at limits.values dots)) }
 {
-    let condition = read_maybe_condition(alloc, cursor)?;
-    let directives = read_directives(alloc, cursor, values)?;
-    let brace = cursor.expect_punct("{")?;
-    add_selection(items, bare_inline(alloc, dots, condition, directives))?;
+    let condition = read_maybe_condition(parser)?;
+    let directives = read_directives(parser, limits)?;
+    let brace = parser.expect_punct("{")?;
+    add_selection(
+        items,
+        bare_inline(parser.alloc(), dots, condition, directives),
+    )?;
     Ok(brace.pos)
 }
 
@@ -225,27 +226,26 @@ fn read_inline(
 ///
 /// `FragmentName Directives? | TypeCondition? Directives? SelectionSet`
 fn read_behind_dots(
-    alloc: Global,
-    cursor: &mut Cursor,
-    values: usize,
+    parser: &mut Parser,
+    limits: Limits,
     nests: bool,
     dots: Pos,
     items: &mut Selections,
 ) -> Reading<Option<Pos>>
-    ensures { Gives (λ place. (selection_trees items.new.items, place)) result cursor.old cursor.new (onto (selection_trees items.old.items) (behind_dots_at values nests dots)) }
+    ensures { Gives (λ place. (selection_trees items.new.items, place)) result parser.old parser.new (onto (selection_trees items.old.items) (behind_dots_at limits.values nests dots)) }
 {
-    if is_at_fragment_name(cursor) {
-        let name = cursor.take();
-        return read_spread(alloc, cursor, values, dots, name, items);
+    if is_at_fragment_name(parser) {
+        let name = parser.take();
+        return read_spread(parser, limits, dots, name, items);
     }
     if !nests {
-        return Err(if is_at_inline(cursor) {
+        return Err(if is_at_inline(parser) {
             Refusal::Limit
         } else {
             Refusal::Syntax
         });
     }
-    let place = read_inline(alloc, cursor, values, dots, items)?;
+    let place = read_inline(parser, limits, dots, items)?;
     Ok(Some(place))
 }
 
@@ -254,18 +254,17 @@ fn read_behind_dots(
 ///
 /// `Selection : Field | Spread | Inline` (GraphQL October 2021, section 2.4)
 pub(super) fn read_head(
-    alloc: Global,
-    cursor: &mut Cursor,
-    values: usize,
+    parser: &mut Parser,
+    limits: Limits,
     nests: bool,
     items: &mut Selections,
 ) -> Reading<Option<Pos>>
-    ensures { Gives (λ place. (selection_trees items.new.items, place)) result cursor.old cursor.new (onto (selection_trees items.old.items) (head_at values nests)) }
+    ensures { Gives (λ place. (selection_trees items.new.items, place)) result parser.old parser.new (onto (selection_trees items.old.items) (head_at limits.values nests)) }
 {
-    if cursor.is_at_punct("...") {
-        let dots = cursor.take();
-        read_behind_dots(alloc, cursor, values, nests, dots.pos, items)
+    if parser.is_at_punct("...") {
+        let dots = parser.take();
+        read_behind_dots(parser, limits, nests, dots.pos, items)
     } else {
-        read_field(alloc, cursor, values, nests, items)
+        read_field(parser, limits, nests, items)
     }
 }

@@ -12,52 +12,52 @@ use Rattle.graphql_grammar.proofs.document.read_document.Given.{Over}
 use Rattle.graphql_grammar.proofs.document.read_document.Goals as goal
 use Rattle.graphql_grammar.proofs.document.read_document.Goals.{in-Ok, in-Err}
 
--- the tokens that the cursor reads are those that were left
-ahead-is : (g : Over) (c : goal.After-into_tokens g) → tokens c.new-cursor.result ≡ left c.args.tokens.now
-ahead-is g c = c.new-cursor.ensures.left ∙ ap left c.replace.ensures.value
+-- the tokens that the parser reads are those that were left
+ahead-is : (g : Over) (c : goal.After-into_tokens g) → tokens c.new-parser.result ≡ left c.args.tokens.now
+ahead-is g c = c.new-parser.ensures.left ∙ ap left c.replace.ensures.value
 
-ends : (g : Over) (c : goal.After-into_tokens g) → EndsOnce (tokens c.new-cursor.result)
-ends g c = subst EndsOnce (sym c.new-cursor.ensures.left) c.new-cursor.ensures.ends
+ends : (g : Over) (c : goal.After-into_tokens g) → EndsOnce (tokens c.new-parser.result)
+ends g c = subst EndsOnce (sym c.new-parser.ensures.left) c.new-parser.ensures.ends
 
-proper : (g : Over) (c : goal.After-into_tokens g) → AreProperButFaults (tokens c.new-cursor.result)
-proper g c = subst AreProperButFaults (sym c.new-cursor.ensures.left) c.new-cursor.ensures.proper
+proper : (g : Over) (c : goal.After-into_tokens g) → AreProperButFaults (tokens c.new-parser.result)
+proper g c = subst AreProperButFaults (sym c.new-parser.ensures.left) c.new-parser.ensures.proper
 
 -- so many tokens are taken up to those after the one in hand
 abbrev count : (g : Over) (c : goal.After-into_tokens g) → ℕ
 count g c = c.into_tokens.result.taken - c.args.tokens.now.taken
 
-forward : (g : Over) (c : goal.After-into_tokens g) → GoesOn c.new-cursor.result c.read_whole.new.cursor → c.args.tokens.now.taken ≤ c.into_tokens.result.taken
+forward : (g : Over) (c : goal.After-into_tokens g) → GoesOn c.new-parser.result c.read_whole.new.parser → c.args.tokens.now.taken ≤ c.into_tokens.result.taken
 forward g c on =
-    let a = c.new-cursor.ensures.taken in
+    let a = c.new-parser.ensures.taken in
     let b = on.1 in
     let d = c.into_tokens.ensures.taken in
     let e = ap (λ l. l.taken) c.replace.ensures.value in
     omega (arith, a, b, d, e)
 
-taken : (g : Over) (c : goal.After-into_tokens g) → GoesOn c.new-cursor.result c.read_whole.new.cursor → length (tokens c.new-cursor.result) ≡ count g c + length c.read_whole.new.cursor.behind
+taken : (g : Over) (c : goal.After-into_tokens g) → GoesOn c.new-parser.result c.read_whole.new.parser → length (tokens c.new-parser.result) ≡ count g c + length c.read_whole.new.parser.behind
 taken g c on =
-    let same : c.into_tokens.result.whole ≡ c.args.tokens.now.whole = c.into_tokens.ensures.whole ∙ on.0 ∙ c.new-cursor.ensures.whole ∙ ap (λ l. l.whole) c.replace.ensures.value in
-    taken-between c.args.tokens.now.whole (tokens c.new-cursor.result) c.read_whole.new.cursor.behind c.args.tokens.now.taken c.into_tokens.result.taken
+    let same : c.into_tokens.result.whole ≡ c.args.tokens.now.whole = c.into_tokens.ensures.whole ∙ on.0 ∙ c.new-parser.ensures.whole ∙ ap (λ l. l.whole) c.replace.ensures.value in
+    taken-between c.args.tokens.now.whole (tokens c.new-parser.result) c.read_whole.new.parser.behind c.args.tokens.now.taken c.into_tokens.result.taken
     (ahead-is g c) (sym c.into_tokens.ensures.left ∙ ap (drop c.into_tokens.result.taken) same)
     (forward g c on) (subst (λ whole. c.into_tokens.result.taken ≤ length whole) same c.into_tokens.ensures.within)
 
 pub returns-clause-answer : goal.returns-clause-answer
 returns-clause-answer g c =
     let language = g.D.Definition.language in
-    let ts = tokens c.new-cursor.result in
+    let ts = tokens c.new-parser.result in
     let limits = c.args.limits in
     subst (λ (ts : List Token). Answers language limits ts c.match-read_whole.answer) (ahead-is g c)
     (elim c.match-read_whole.branch [
       | in-Ok w ↦
           let ds = trees_in g.D.Definition.tree w.in-Ok.definitions in
           subst (Answers language limits ts) (sym w.answer-is) (document-answers language limits ts ds _ (c.requires.read.accepts limits ts (ends g c) (proper g c) ds _ w.in-Ok.ensures.0).1 w.document_of-answer.ensures)
-      | in-Err w ↦ subst (Answers language limits ts) (sym w.answer-is) (refusal-answers language g.D.Definition.reader c.requires.read limits c.new-cursor.result c.read_whole.new.cursor w.in-Err.refusal w.error_of.result (ends g c) (proper g c) w.in-Err.ensures.0 w.error_of.ensures)
+      | in-Err w ↦ subst (Answers language limits ts) (sym w.answer-is) (refusal-answers language g.D.Definition.reader c.requires.read limits c.new-parser.result c.read_whole.new.parser w.in-Err.refusal w.error_of.result (ends g c) (proper g c) w.in-Err.ensures.0 w.error_of.ensures)
     ])
 
 pub returns-clause-taken : goal.returns-clause-taken
 returns-clause-taken g c =
     let language = g.D.Definition.language in
-    let ts = tokens c.new-cursor.result in
+    let ts = tokens c.new-parser.result in
     let limits = c.args.limits in
     elim c.match-read_whole.branch [
       | in-Ok w ↦
@@ -73,21 +73,21 @@ returns-clause-taken g c =
         sums w.in-Err.ensures.1,
         subst (λ (ts : List Token). TakenFor language limits ts c.match-read_whole.answer (count g c)) (ahead-is g c)
             (subst (λ r. TakenFor language limits ts r (count g c)) (sym w.answer-is)
-            (refusal-taken language g.D.Definition.reader c.requires.read limits c.new-cursor.result c.read_whole.new.cursor w.in-Err.refusal w.error_of.result (count g c) (taken g c w.in-Err.ensures.1) (ends g c) (proper g c) w.in-Err.ensures.0 w.error_of.ensures)),
+            (refusal-taken language g.D.Definition.reader c.requires.read limits c.new-parser.result c.read_whole.new.parser w.in-Err.refusal w.error_of.result (count g c) (taken g c w.in-Err.ensures.1) (ends g c) (proper g c) w.in-Err.ensures.0 w.error_of.ensures)),
       )
     ]
   where
-    sums : GoesOn c.new-cursor.result c.read_whole.new.cursor → c.into_tokens.result.taken ≡ c.args.tokens.now.taken + count g c
+    sums : GoesOn c.new-parser.result c.read_whole.new.parser → c.into_tokens.result.taken ≡ c.args.tokens.now.taken + count g c
     sums on = let le = forward g c on in omega (arith, le)
 
-    all : GoesOn c.new-cursor.result c.read_whole.new.cursor → c.read_whole.new.cursor.behind ≡ [] → count g c ≡ length (tokens c.new-cursor.result)
+    all : GoesOn c.new-parser.result c.read_whole.new.parser → c.read_whole.new.parser.behind ≡ [] → count g c ≡ length (tokens c.new-parser.result)
     all on empty = let t = taken g c on in let n = ap length empty in omega (arith, t, n)
 
 pub returns-clause-decided : goal.returns-clause-decided
-returns-clause-decided g c = subst (IsDecided g.D.Definition.language c.args.limits) (ahead-is g c) (c.requires.read.decided c.args.limits (tokens c.new-cursor.result) (ends g c) (proper g c))
+returns-clause-decided g c = subst (IsDecided g.D.Definition.language c.args.limits) (ahead-is g c) (c.requires.read.decided c.args.limits (tokens c.new-parser.result) (ends g c) (proper g c))
 
 pub returns-clause-only : goal.returns-clause-only
 returns-clause-only g c ds h =
     let language = g.D.Definition.language in
     subst (λ ts. AreTheDefinitions language c.args.limits ts ds) (ahead-is g c)
-    (c.requires.read.only c.args.limits (tokens c.new-cursor.result) (ends g c) (proper g c) ds (subst (λ ts. grammar language Current c.args.limits ts ds) (sym (ahead-is g c)) h))
+    (c.requires.read.only c.args.limits (tokens c.new-parser.result) (ends g c) (proper g c) ds (subst (λ ts. grammar language Current c.args.limits ts ds) (sym (ahead-is g c)) h))

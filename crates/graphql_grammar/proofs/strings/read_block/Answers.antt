@@ -7,10 +7,10 @@ use Rattle.graphql_grammar.proofs.SimpleValues.{block-here, block-means}
 use Rattle.graphql_grammar.proofs.strings.read_block.Goals as goal
 
 pub inside-requires : goal.inside-requires
-inside-requires c = block-here c.hand-token.result c.args.cursor.now.hand c.hand-token.ensures.token (sym c.is_block.ensures ∙ c.if-not-is_block.false) c.hand-token.ensures.proper
+inside-requires c = block-here c.hand-token.result c.args.parser.now.hand c.hand-token.ensures.token (sym c.is_block.ensures ∙ c.if-not-is_block.false) c.hand-token.ensures.proper
 
 pub returns : goal.returns
 returns c =
     let back = encodes-chars (string_bytes c.in_ok-text.text) (IsUtf8-string_bytes c.in_ok-text.text) in
-    let reads = block-means c.hand-token.result c.args.cursor.now.hand c.args.cursor.now.behind c.inside.result.now (string_bytes c.in_ok-text.text) c.hand-token.ensures.token (sym c.is_block.ensures ∙ c.if-not-is_block.false) c.inside.ensures c.in_ok-text.ensures.value back in
+    let reads = block-means c.hand-token.result c.args.parser.now.hand c.args.parser.now.behind c.inside.result.now (string_bytes c.in_ok-text.text) c.hand-token.ensures.token (sym c.is_block.ensures ∙ c.if-not-is_block.false) c.inside.ensures c.in_ok-text.ensures.value back in
     (reads ∙ ap (λ (l : List Token). Read (string_bytes c.in_ok-text.text) l) (sym c.advance.ensures.left), (c.advance.ensures.whole, omega (arith, c.advance.ensures.taken)))

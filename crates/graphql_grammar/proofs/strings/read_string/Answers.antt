@@ -7,16 +7,16 @@ use Rattle.graphql_grammar.proofs.SimpleValues.{string-here, string-means, strin
 use Rattle.graphql_grammar.proofs.strings.read_string.Goals as goal
 
 pub inside-requires : goal.inside-requires
-inside-requires c = string-here c.hand-token.result c.args.cursor.now.hand c.hand-token.ensures.token (sym c.is_string.ensures ∙ c.if-not-is_string.false) c.hand-token.ensures.proper
+inside-requires c = string-here c.hand-token.result c.args.parser.now.hand c.hand-token.ensures.token (sym c.is_string.ensures ∙ c.if-not-is_string.false) c.hand-token.ensures.proper
 
 pub returns-in_default : goal.returns-in_default
 returns-in_default c =
     let none = rw c.in_default.is at c.in_ok-text.ensures.none in
-    (string-none c.hand-token.result c.args.cursor.now.hand c.args.cursor.now.behind c.inside.result.now c.hand-token.ensures.token (sym c.is_string.ensures ∙ c.if-not-is_string.false) c.inside.ensures none, (refl, omega arith))
+    (string-none c.hand-token.result c.args.parser.now.hand c.args.parser.now.behind c.inside.result.now c.hand-token.ensures.token (sym c.is_string.ensures ∙ c.if-not-is_string.false) c.inside.ensures none, (refl, omega arith))
 
 pub returns : goal.returns
 returns c =
     let means = rw c.in-Some.is at c.in_ok-text.ensures.some in
     let back = encodes-chars (string_bytes c.in-Some.text) (IsUtf8-string_bytes c.in-Some.text) in
-    let reads = string-means c.hand-token.result c.args.cursor.now.hand c.args.cursor.now.behind c.inside.result.now (string_bytes c.in-Some.text) c.hand-token.ensures.token (sym c.is_string.ensures ∙ c.if-not-is_string.false) c.inside.ensures means back in
+    let reads = string-means c.hand-token.result c.args.parser.now.hand c.args.parser.now.behind c.inside.result.now (string_bytes c.in-Some.text) c.hand-token.ensures.token (sym c.is_string.ensures ∙ c.if-not-is_string.false) c.inside.ensures means back in
     (reads ∙ ap (λ (l : List Token). Read (string_bytes c.in-Some.text) l) (sym c.advance.ensures.left), (c.advance.ensures.whole, omega (arith, c.advance.ensures.taken)))

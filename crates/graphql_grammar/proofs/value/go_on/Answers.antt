@@ -14,6 +14,6 @@ returns-in_ok-merge-in-None-2 g c =
     ∙ ap (λ (l : List Field). object (fields_of l)) (sym (merged-map tree held)) in
     let told = rw c.in-None-2.is at c.in_ok-read_fields-in-Object.ensures in
     rw c.in-Object.is (
-      subst (λ (t : Tree). MeetsAt g.V.Literal.VARIABLES c.args.left (closes t) c.args.cursor.now c.read_fields.new.cursor (object_rest g.V.Literal.VARIABLES c.args.left (map (field_tree tree) c.in-Object.fields.items))) (sym made) told.0,
+      subst (λ (t : Tree). MeetsAt g.V.Literal.VARIABLES c.args.left (closes t) c.args.parser.now c.read_fields.new.parser (object_rest g.V.Literal.VARIABLES c.args.left (map (field_tree tree) c.in-Object.fields.items))) (sym made) told.0,
       told.1,
     )

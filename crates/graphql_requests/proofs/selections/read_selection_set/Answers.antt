@@ -15,27 +15,27 @@ use Rattle.graphql_requests.proofs.selections.read_selection_set.Goals as goal
 pub returns-in_err-brace : goal.returns-in_err-brace
 returns-in_err-brace c =
     let p = err_from_is_err_and c.from_residual.result c.from_residual.ensures.1 in
-    rw (p.1, p.2) (opens-not c.args.values c.args.selections c.args.cursor.now c.expect_punct.new.self _ c.in_err-brace.ensures)
+    rw (p.1, p.2) (opens-not c.args.limits.values c.args.limits.selections c.args.parser.now c.expect_punct.new.self _ c.in_err-brace.ensures)
 
 pub loop-frames-init : goal.loop-frames-init
-loop-frames-init c = opens (seen c.in_ok-brace.brace) c.in_ok-brace.ensures (ap selection_trees c.new-items.ensures.items) c.new-frames.ensures.outer c.new-frames.ensures.left
+loop-frames-init c = opens (seen c.in_ok-brace.brace) c.in_ok-brace.ensures (ap selection_trees c.new-items.ensures.items) c.new-frames.ensures.outer (c.new-frames.ensures.left ∙ c.selections.ensures)
 
 pub returns-in_err-place : goal.returns-in_err-place
 returns-in_err-place c =
     let p = err_from_is_err_and c.from_residual-in_err-place.result c.from_residual-in_err-place.ensures.1 in
-    rw (p.1, p.2) (reads-not c.read_head.new.cursor _ c.may_nest-nests.ensures c.in_err-place.ensures c.loop-frames.invariant)
+    rw (p.1, p.2) (reads-not c.read_head.new.parser _ c.may_nest-nests.ensures c.in_err-place.ensures c.loop-frames.invariant)
 
 pub enter-requires : goal.enter-requires
-enter-requires c = sym c.may_nest-nests.ensures ∙ head-nests c.args.values c.may_nest-nests.result (selection_trees c.loop-frames.items.items) _ _ (tokens c.loop-frames.cursor) _ (rw c.in-Some.is at c.in_ok-place.ensures.0)
+enter-requires c = sym c.may_nest-nests.ensures ∙ head-nests c.args.limits.values c.may_nest-nests.result (selection_trees c.loop-frames.items.items) _ _ (tokens c.loop-frames.parser) _ (rw c.in-Some.is at c.in_ok-place.ensures.0)
 
 pub returns-in_err-enter : goal.returns-in_err-enter
 returns-in_err-enter c =
     let p = err_from_is_err_and c.from_residual-in_err-enter.result c.from_residual-in_err-enter.ensures.1 in
-    rw (p.1, p.2) (tt, go-on c.args.cursor.now c.loop-frames.cursor c.read_head.new.cursor c.loop-frames.invariant.kept.on c.in_ok-place.ensures.1)
+    rw (p.1, p.2) (tt, go-on c.args.parser.now c.loop-frames.parser c.read_head.new.parser c.loop-frames.invariant.kept.on c.in_ok-place.ensures.1)
 
 pub loop-frames-smaller-in-Some : goal.loop-frames-smaller-in-Some
 loop-frames-smaller-in-Some c =
-    let shorter = onto-takes c.args.values c.may_nest-nests.result _ (tokens c.loop-frames.cursor) _ (tokens c.read_head.new.cursor) c.in_ok-place.ensures.0 in
+    let shorter = onto-takes c.args.limits.values c.may_nest-nests.result _ (tokens c.loop-frames.parser) _ (tokens c.read_head.new.parser) c.in_ok-place.ensures.0 in
     omega (arith, shorter)
 
 pub loop-frames-preserved-in-Some : goal.loop-frames-preserved-in-Some
@@ -49,7 +49,7 @@ loop-nests-init c = reads (selection_trees c.read_head.new.items.items) c.may_ne
 
 pub loop-frames-smaller : goal.loop-frames-smaller
 loop-frames-smaller c =
-    let shorter = onto-takes c.args.values c.may_nest-nests.result _ (tokens c.loop-frames.cursor) _ (tokens c.read_head.new.cursor) c.in_ok-place.ensures.0 in
+    let shorter = onto-takes c.args.limits.values c.may_nest-nests.result _ (tokens c.loop-frames.parser) _ (tokens c.read_head.new.parser) c.in_ok-place.ensures.0 in
     omega (arith, shorter, c.loop-nests.invariant.kept.less)
 
 pub loop-frames-preserved : goal.loop-frames-preserved
@@ -66,14 +66,14 @@ close-requires c = omega (arith, c.loop-nests.invariant.waits.0, c.loop-nests.it
 pub returns-in_err-set : goal.returns-in_err-set
 returns-in_err-set c =
     let p = err_from_is_err_and c.from_residual-in_err-set.result c.from_residual-in_err-set.ensures.1 in
-    rw (p.1, p.2) (tt, go-on c.args.cursor.now c.loop-nests.cursor c.expect_punct-in-loop-nests.new.self c.loop-nests.invariant.kept.on c.in_ok-expect_punct.ensures.1)
+    rw (p.1, p.2) (tt, go-on c.args.parser.now c.loop-nests.parser c.expect_punct-in-loop-nests.new.self c.loop-nests.invariant.kept.on c.in_ok-expect_punct.ensures.1)
 
 pub returns-in-None : goal.returns-in-None
 returns-in-None c = ends (seen c.in_ok-expect_punct.field-0) (sym c.is_at_selection.ensures ∙ c.loop-nests-test.true) c.in_ok-expect_punct.ensures c.in-None.ensures c.in_ok-set.ensures.set c.loop-nests.invariant
 
 pub loop-nests-smaller : goal.loop-nests-smaller
 loop-nests-smaller c =
-    let shorter = one-takes (punct "}") (tokens c.loop-nests.cursor) _ (tokens c.expect_punct-in-loop-nests.new.self) c.in_ok-expect_punct.ensures.0 in
+    let shorter = one-takes (punct "}") (tokens c.loop-nests.parser) _ (tokens c.expect_punct-in-loop-nests.new.self) c.in_ok-expect_punct.ensures.0 in
     omega (arith, shorter)
 
 pub loop-nests-preserved : goal.loop-nests-preserved

@@ -4,13 +4,13 @@ use Rattle.graphql_requests.proofs.OpenParts.{Wanted, Behind}
 use Rattle.graphql_requests.proofs.selections.read_selection_set.Given as goal
 
 abbrev pub invariant-loop-frames : goal.invariant-loop-frames
-invariant-loop-frames l = Wanted l.values l.selections l.fn.cursor l.cursor l.frames l.own (selection_trees l.items.items)
+invariant-loop-frames l = Wanted l.limits.values l.limits.selections l.fn.parser l.parser l.frames l.own (selection_trees l.items.items)
 
 abbrev pub decreases-loop-frames : goal.decreases-loop-frames
-decreases-loop-frames l = length l.cursor.behind
+decreases-loop-frames l = length l.parser.behind
 
 abbrev pub invariant-loop-nests : goal.invariant-loop-nests
-invariant-loop-nests l = Behind l.values l.selections (length l.initial.cursor.behind) l.fn.cursor l.cursor l.frames l.own (selection_trees l.items.items)
+invariant-loop-nests l = Behind l.limits.values l.limits.selections (length l.initial.parser.behind) l.fn.parser l.parser l.frames l.own (selection_trees l.items.items)
 
 abbrev pub decreases-loop-nests : goal.decreases-loop-nests
-decreases-loop-nests l = length l.cursor.behind
+decreases-loop-nests l = length l.parser.behind

@@ -2,4 +2,4 @@ use Rattle.graphql_requests.proofs.VariableProductions.{takes-variable_definitio
 use Rattle.graphql_requests.proofs.variables.read_maybe_variable_definitions.Goals as goal
 
 pub maybe_bracketed-requires : goal.maybe_bracketed-requires
-maybe_bracketed-requires c = takes-variable_definition c.args.values c.args.types
+maybe_bracketed-requires c = takes-variable_definition c.args.limits.values c.args.limits.types

@@ -1,6 +1,5 @@
-use Rattle.graphql_grammar.specs.reading.Depths.{limits_of}
 use Rattle.graphql_schemas.proofs.FieldProductions.{takes-field_definition}
 use Rattle.graphql_schemas.proofs.fields.read_maybe_fields.Goals as goal
 
 pub maybe_bracketed-requires : goal.maybe_bracketed-requires
-maybe_bracketed-requires c = takes-field_definition (limits_of c.args.depths)
+maybe_bracketed-requires c = takes-field_definition c.args.limits

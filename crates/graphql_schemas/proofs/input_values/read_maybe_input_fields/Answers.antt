@@ -1,6 +1,5 @@
-use Rattle.graphql_grammar.specs.reading.Depths.{limits_of}
 use Rattle.graphql_schemas.proofs.InputValueProductions.{takes-input_value}
 use Rattle.graphql_schemas.proofs.input_values.read_maybe_input_fields.Goals as goal
 
 pub maybe_bracketed-requires : goal.maybe_bracketed-requires
-maybe_bracketed-requires c = takes-input_value (limits_of c.args.depths)
+maybe_bracketed-requires c = takes-input_value c.args.limits

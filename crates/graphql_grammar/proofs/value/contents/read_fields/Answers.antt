@@ -10,29 +10,29 @@ use Rattle.graphql_grammar.proofs.value.contents.read_fields.Goals as goal
 pub returns-in_err-name : goal.returns-in_err-name
 returns-in_err-name g c =
     let p = err_from_is_err_and c.from_residual.result c.from_residual.ensures.1 in
-    rw (p.1, p.2) (stops-field g.V.Literal.VARIABLES c.args.left c.args.cursor.now c.loop-name.cursor c.read_key.new.cursor (map (field_tree g.V.Literal.tree) c.args.fields.now.items) (map (field_tree g.V.Literal.tree) c.loop-name.fields.items) (λ key. key) _ c.loop-name.invariant c.in_err-name.ensures)
+    rw (p.1, p.2) (stops-field g.V.Literal.VARIABLES c.args.left c.args.parser.now c.loop-name.parser c.read_key.new.parser (map (field_tree g.V.Literal.tree) c.args.fields.now.items) (map (field_tree g.V.Literal.tree) c.loop-name.fields.items) (λ key. key) _ c.loop-name.invariant c.in_err-name.ensures)
 
 pub returns-in_err-inner : goal.returns-in_err-inner
 returns-in_err-inner g c =
     let p = err_from_is_err_and c.from_residual-in_err-inner.result c.from_residual-in_err-inner.ensures.1 in
     let key = rw c.in-Some.is at c.in_ok-name.ensures in
-    let wants = wants-field g.V.Literal.VARIABLES c.args.left (map (field_tree g.V.Literal.tree) c.loop-name.fields.items) c.loop-name.cursor c.read_key.new.cursor c.in-Some.name key in
-    rw (p.1, p.2) (stops-inside c.loop-name.invariant wants (option_map (opened g.V.Literal.tree)) _ c.enter.new.cursor c.in_err-inner.ensures)
+    let wants = wants-field g.V.Literal.VARIABLES c.args.left (map (field_tree g.V.Literal.tree) c.loop-name.fields.items) c.loop-name.parser c.read_key.new.parser c.in-Some.name key in
+    rw (p.1, p.2) (stops-inside c.loop-name.invariant wants (option_map (opened g.V.Literal.tree)) _ c.enter.new.parser c.in_err-inner.ensures)
 
 pub returns-in-Some-2 : goal.returns-in-Some-2
 returns-in-Some-2 g c =
     let key = rw c.in-Some.is at c.in_ok-name.ensures in
-    let wants = wants-field g.V.Literal.VARIABLES c.args.left (map (field_tree g.V.Literal.tree) c.loop-name.fields.items) c.loop-name.cursor c.read_key.new.cursor c.in-Some.name key in
+    let wants = wants-field g.V.Literal.VARIABLES c.args.left (map (field_tree g.V.Literal.tree) c.loop-name.fields.items) c.loop-name.parser c.read_key.new.parser c.in-Some.name key in
     let found = rw c.in-Some-2.is at c.in_ok-inner.ensures in
-    meets-inside c.loop-name.invariant wants (opened g.V.Literal.tree c.in-Some-2.inner) c.enter.new.cursor found.0 found.1
+    meets-inside c.loop-name.invariant wants (opened g.V.Literal.tree c.in-Some-2.inner) c.enter.new.parser found.0 found.1
 
 pub returns-in_err-read_simple : goal.returns-in_err-read_simple
 returns-in_err-read_simple g c =
     let p = err_from_is_err_and c.from_residual-in_err-read_simple.result c.from_residual-in_err-read_simple.ensures.1 in
     let key = rw c.in-Some.is at c.in_ok-name.ensures in
-    let wants = wants-field g.V.Literal.VARIABLES c.args.left (map (field_tree g.V.Literal.tree) c.loop-name.fields.items) c.loop-name.cursor c.read_key.new.cursor c.in-Some.name key in
+    let wants = wants-field g.V.Literal.VARIABLES c.args.left (map (field_tree g.V.Literal.tree) c.loop-name.fields.items) c.loop-name.parser c.read_key.new.parser c.in-Some.name key in
     let none = rw c.in_default-2.is at c.in_ok-inner.ensures in
-    rw (p.1, p.2) (stops-alone c.loop-name.invariant wants record { none = none.0; on = none.1 } g.V.Literal.tree _ c.read_simple.new.cursor c.in_err-read_simple.ensures)
+    rw (p.1, p.2) (stops-alone c.loop-name.invariant wants record { none = none.0; on = none.1 } g.V.Literal.tree _ c.read_simple.new.parser c.in_err-read_simple.ensures)
 
 pub loop-name-preserved : goal.loop-name-preserved
 loop-name-preserved g c =
@@ -40,22 +40,22 @@ loop-name-preserved g c =
     let vars = g.V.Literal.VARIABLES in
     let held = c.loop-name.fields.items in
     let key = rw c.in-Some.is at c.in_ok-name.ensures in
-    let wants = wants-field vars c.args.left (map (field_tree tree) held) c.loop-name.cursor c.read_key.new.cursor c.in-Some.name key in
+    let wants = wants-field vars c.args.left (map (field_tree tree) held) c.loop-name.parser c.read_key.new.parser c.in-Some.name key in
     let none = rw c.in_default-2.is at c.in_ok-inner.ensures in
     let t : Tree = tree c.in_ok-read_simple.field-0 in
     let pair : List ℕ × g.row.V.Denot = (c.in-Some.name, c.in_ok-read_simple.field-0) in
     let items : c.push.new.self.items ≡ held ++ pair ∷ [] = search rules in
     let pushed : map (field_tree tree) c.push.new.self.items ≡ map (field_tree tree) held ++ (c.in-Some.name, t) ∷ [] = ap (map (field_tree tree)) items ∙ map_push (field_tree tree) held (c.in-Some.name, c.in_ok-read_simple.field-0) in
-    adds c.loop-name.invariant wants record { none = none.0; on = none.1 } t c.read_simple.new.cursor (map (field_tree tree) c.push.new.self.items) c.in_ok-read_simple.ensures.0 c.in_ok-read_simple.ensures.1 (ap (λ (l : List Field). object_rest vars c.args.left l (tokens c.read_simple.new.cursor)) (sym pushed))
+    adds c.loop-name.invariant wants record { none = none.0; on = none.1 } t c.read_simple.new.parser (map (field_tree tree) c.push.new.self.items) c.in_ok-read_simple.ensures.0 c.in_ok-read_simple.ensures.1 (ap (λ (l : List Field). object_rest vars c.args.left l (tokens c.read_simple.new.parser)) (sym pushed))
 
 pub loop-name-smaller : goal.loop-name-smaller
 loop-name-smaller g c =
     let key = rw c.in-Some.is at c.in_ok-name.ensures in
-    let wants = wants-field g.V.Literal.VARIABLES c.args.left (map (field_tree g.V.Literal.tree) c.loop-name.fields.items) c.loop-name.cursor c.read_key.new.cursor c.in-Some.name key in
+    let wants = wants-field g.V.Literal.VARIABLES c.args.left (map (field_tree g.V.Literal.tree) c.loop-name.fields.items) c.loop-name.parser c.read_key.new.parser c.in-Some.name key in
     let none = rw c.in_default-2.is at c.in_ok-inner.ensures in
-    falls c.loop-name.invariant wants record { none = none.0; on = none.1 } (g.V.Literal.tree c.in_ok-read_simple.field-0) c.read_simple.new.cursor c.in_ok-read_simple.ensures.0
+    falls c.loop-name.invariant wants record { none = none.0; on = none.1 } (g.V.Literal.tree c.in_ok-read_simple.field-0) c.read_simple.new.parser c.in_ok-read_simple.ensures.0
 
 pub returns : goal.returns
 returns g c =
     let key = rw c.in_default.is at c.in_ok-name.ensures in
-    ends-object g.V.Literal.VARIABLES c.args.left c.args.cursor.now c.loop-name.cursor c.read_key.new.cursor (map (field_tree g.V.Literal.tree) c.args.fields.now.items) (map (field_tree g.V.Literal.tree) c.loop-name.fields.items) c.loop-name.invariant key
+    ends-object g.V.Literal.VARIABLES c.args.left c.args.parser.now c.loop-name.parser c.read_key.new.parser (map (field_tree g.V.Literal.tree) c.args.fields.now.items) (map (field_tree g.V.Literal.tree) c.loop-name.fields.items) c.loop-name.invariant key

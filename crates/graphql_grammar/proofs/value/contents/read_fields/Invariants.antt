@@ -5,7 +5,7 @@ use Rattle.graphql_grammar.proofs.ValueContents.{HeldSoFar}
 use Rattle.graphql_grammar.proofs.value.contents.read_fields.Given as goal
 
 abbrev pub invariant-loop-name : goal.invariant-loop-name
-invariant-loop-name g l = HeldSoFar (object_rest g.V.Literal.VARIABLES l.left) l.fn.cursor l.cursor (map (field_tree g.V.Literal.tree) l.fn.fields.items) (map (field_tree g.V.Literal.tree) l.fields.items)
+invariant-loop-name g l = HeldSoFar (object_rest g.V.Literal.VARIABLES l.left) l.fn.parser l.parser (map (field_tree g.V.Literal.tree) l.fn.fields.items) (map (field_tree g.V.Literal.tree) l.fields.items)
 
 abbrev pub decreases-loop-name : goal.decreases-loop-name
-decreases-loop-name g l = length (tokens l.cursor)
+decreases-loop-name g l = length (tokens l.parser)

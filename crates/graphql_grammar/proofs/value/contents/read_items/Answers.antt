@@ -10,38 +10,38 @@ use Rattle.graphql_grammar.proofs.value.contents.read_items.Goals as goal
 pub returns-in_err-inner : goal.returns-in_err-inner
 returns-in_err-inner g c =
     let p = err_from_is_err_and c.from_residual.result c.from_residual.ensures.1 in
-    let wants = wants-item g.V.Literal.VARIABLES c.args.left (map g.V.Literal.tree c.loop-alloc.items.items) c.loop-alloc.cursor c.take_punct.new.self c.loop-alloc-test.ensures in
-    rw (p.1, p.2) (stops-inside c.loop-alloc.invariant wants (option_map (opened g.V.Literal.tree)) _ c.enter.new.cursor c.in_err-inner.ensures)
+    let wants = wants-item g.V.Literal.VARIABLES c.args.left (map g.V.Literal.tree c.loop-parser.items.items) c.loop-parser.parser c.take_punct.new.self c.loop-parser-test.ensures in
+    rw (p.1, p.2) (stops-inside c.loop-parser.invariant wants (option_map (opened g.V.Literal.tree)) _ c.enter.new.parser c.in_err-inner.ensures)
 
 pub returns-in-Some : goal.returns-in-Some
 returns-in-Some g c =
-    let wants = wants-item g.V.Literal.VARIABLES c.args.left (map g.V.Literal.tree c.loop-alloc.items.items) c.loop-alloc.cursor c.take_punct.new.self c.loop-alloc-test.ensures in
+    let wants = wants-item g.V.Literal.VARIABLES c.args.left (map g.V.Literal.tree c.loop-parser.items.items) c.loop-parser.parser c.take_punct.new.self c.loop-parser-test.ensures in
     let found = rw c.in-Some.is at c.in_ok-inner.ensures in
-    meets-inside c.loop-alloc.invariant wants (opened g.V.Literal.tree c.in-Some.inner) c.enter.new.cursor found.0 found.1
+    meets-inside c.loop-parser.invariant wants (opened g.V.Literal.tree c.in-Some.inner) c.enter.new.parser found.0 found.1
 
 pub returns-in_err-read_simple : goal.returns-in_err-read_simple
 returns-in_err-read_simple g c =
     let p = err_from_is_err_and c.from_residual-in_err-read_simple.result c.from_residual-in_err-read_simple.ensures.1 in
-    let wants = wants-item g.V.Literal.VARIABLES c.args.left (map g.V.Literal.tree c.loop-alloc.items.items) c.loop-alloc.cursor c.take_punct.new.self c.loop-alloc-test.ensures in
+    let wants = wants-item g.V.Literal.VARIABLES c.args.left (map g.V.Literal.tree c.loop-parser.items.items) c.loop-parser.parser c.take_punct.new.self c.loop-parser-test.ensures in
     let none = rw c.in_default.is at c.in_ok-inner.ensures in
-    rw (p.1, p.2) (stops-alone c.loop-alloc.invariant wants record { none = none.0; on = none.1 } g.V.Literal.tree _ c.read_simple.new.cursor c.in_err-read_simple.ensures)
+    rw (p.1, p.2) (stops-alone c.loop-parser.invariant wants record { none = none.0; on = none.1 } g.V.Literal.tree _ c.read_simple.new.parser c.in_err-read_simple.ensures)
 
-pub loop-alloc-preserved : goal.loop-alloc-preserved
-loop-alloc-preserved g c =
+pub loop-parser-preserved : goal.loop-parser-preserved
+loop-parser-preserved g c =
     let tree = g.V.Literal.tree in
     let vars = g.V.Literal.VARIABLES in
-    let held = c.loop-alloc.items.items in
-    let wants = wants-item vars c.args.left (map tree held) c.loop-alloc.cursor c.take_punct.new.self c.loop-alloc-test.ensures in
+    let held = c.loop-parser.items.items in
+    let wants = wants-item vars c.args.left (map tree held) c.loop-parser.parser c.take_punct.new.self c.loop-parser-test.ensures in
     let none = rw c.in_default.is at c.in_ok-inner.ensures in
     let t : Tree = tree c.in_ok-read_simple.field-0 in
     let pushed : map tree c.push.new.self.items ≡ map tree held ++ t ∷ [] = ap (map tree) c.in_ok-push.ensures.items ∙ map_push tree held c.in_ok-read_simple.field-0 in
-    adds c.loop-alloc.invariant wants record { none = none.0; on = none.1 } t c.read_simple.new.cursor (map tree c.push.new.self.items) c.in_ok-read_simple.ensures.0 c.in_ok-read_simple.ensures.1 (ap (λ (l : List Tree). list_rest vars c.args.left l (tokens c.read_simple.new.cursor)) (sym pushed))
+    adds c.loop-parser.invariant wants record { none = none.0; on = none.1 } t c.read_simple.new.parser (map tree c.push.new.self.items) c.in_ok-read_simple.ensures.0 c.in_ok-read_simple.ensures.1 (ap (λ (l : List Tree). list_rest vars c.args.left l (tokens c.read_simple.new.parser)) (sym pushed))
 
-pub loop-alloc-smaller : goal.loop-alloc-smaller
-loop-alloc-smaller g c =
-    let wants = wants-item g.V.Literal.VARIABLES c.args.left (map g.V.Literal.tree c.loop-alloc.items.items) c.loop-alloc.cursor c.take_punct.new.self c.loop-alloc-test.ensures in
+pub loop-parser-smaller : goal.loop-parser-smaller
+loop-parser-smaller g c =
+    let wants = wants-item g.V.Literal.VARIABLES c.args.left (map g.V.Literal.tree c.loop-parser.items.items) c.loop-parser.parser c.take_punct.new.self c.loop-parser-test.ensures in
     let none = rw c.in_default.is at c.in_ok-inner.ensures in
-    falls c.loop-alloc.invariant wants record { none = none.0; on = none.1 } (g.V.Literal.tree c.in_ok-read_simple.field-0) c.read_simple.new.cursor c.in_ok-read_simple.ensures.0
+    falls c.loop-parser.invariant wants record { none = none.0; on = none.1 } (g.V.Literal.tree c.in_ok-read_simple.field-0) c.read_simple.new.parser c.in_ok-read_simple.ensures.0
 
 pub returns : goal.returns
-returns g c = ends-list g.V.Literal.VARIABLES c.args.left c.args.cursor.now c.loop-alloc.cursor c.take_punct.new.self (map g.V.Literal.tree c.args.items.now.items) (map g.V.Literal.tree c.loop-alloc.items.items) c.loop-alloc.invariant c.loop-alloc-test.ensures
+returns g c = ends-list g.V.Literal.VARIABLES c.args.left c.args.parser.now c.loop-parser.parser c.take_punct.new.self (map g.V.Literal.tree c.args.items.now.items) (map g.V.Literal.tree c.loop-parser.items.items) c.loop-parser.invariant c.loop-parser-test.ensures

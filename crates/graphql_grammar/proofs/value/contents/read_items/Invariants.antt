@@ -4,8 +4,8 @@ use Rattle.graphql_grammar.specs.reading.OpenValues.{list_rest}
 use Rattle.graphql_grammar.proofs.ValueContents.{HeldSoFar}
 use Rattle.graphql_grammar.proofs.value.contents.read_items.Given as goal
 
-abbrev pub invariant-loop-alloc : goal.invariant-loop-alloc
-invariant-loop-alloc g l = HeldSoFar (list_rest g.V.Literal.VARIABLES l.left) l.fn.cursor l.cursor (map g.V.Literal.tree l.fn.items.items) (map g.V.Literal.tree l.items.items)
+abbrev pub invariant-loop-parser : goal.invariant-loop-parser
+invariant-loop-parser g l = HeldSoFar (list_rest g.V.Literal.VARIABLES l.left) l.fn.parser l.parser (map g.V.Literal.tree l.fn.items.items) (map g.V.Literal.tree l.items.items)
 
-abbrev pub decreases-loop-alloc : goal.decreases-loop-alloc
-decreases-loop-alloc g l = length (tokens l.cursor)
+abbrev pub decreases-loop-parser : goal.decreases-loop-parser
+decreases-loop-parser g l = length (tokens l.parser)

@@ -14,7 +14,7 @@ named values nests dots front t name ts rest e is left = rw e (sym (ap₂ (λ (n
 
 pub returns-then-is_at_fragment_name : goal.returns-then-is_at_fragment_name
 returns-then-is_at_fragment_name c =
-    gives-behind _ c.read_spread.result c.args.cursor.now c.take-name.new.self c.read_spread.new.cursor
-    (onto (selection_trees c.args.items.now.items) (behind_dots_at c.args.values c.args.nests c.args.dots)) _
-    (named c.args.values c.args.nests c.args.dots _ c.args.cursor.now.hand _ c.args.cursor.now.behind _ (sym c.is_at_fragment_name.ensures ∙ c.if-is_at_fragment_name.true) c.take-name.ensures.token c.take-name.ensures.left)
+    gives-behind _ c.read_spread.result c.args.parser.now c.take-name.new.self c.read_spread.new.parser
+    (onto (selection_trees c.args.items.now.items) (behind_dots_at c.args.limits.values c.args.nests c.args.dots)) _
+    (named c.args.limits.values c.args.nests c.args.dots _ c.args.parser.now.hand _ c.args.parser.now.behind _ (sym c.is_at_fragment_name.ensures ∙ c.if-is_at_fragment_name.true) c.take-name.ensures.token c.take-name.ensures.left)
     (c.take-name.ensures.whole, omega (arith, c.take-name.ensures.taken)) c.read_spread.ensures

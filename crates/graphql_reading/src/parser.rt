@@ -5,7 +5,7 @@ ghost use Rattle.graphql_tokens.specs.tokens.Cuts.{is_last, EndsOnce};
 ghost use Rattle.graphql_tokens.specs.tokens.Proper.{AreProperButFaults, IsProper};
 ghost use Rattle.graphql_tokens.specs.tokens.Seen.{seen};
 ghost use Rattle.graphql_tokens.specs.tokens.Token.{left};
-ghost use Rattle.graphql_reading.specs.declared.cursor.Refusal.TheVariants.{Memory};
+ghost use Rattle.graphql_reading.specs.declared.parser.Refusal.TheVariants.{Memory};
 ghost use Rattle.graphql_reading.specs.grammar.Tests as tests;
 ghost use Rattle.graphql_reading.specs.reading.Ahead.{tokens as ahead};
 ghost use Rattle.graphql_reading.specs.reading.Given.{Gives, GivesWhole};
@@ -13,7 +13,7 @@ ghost use Rattle.graphql_reading.specs.reading.Outcome.{one_at, take_at};
 ghost use Rattle.graphql_reading.specs.reading.Spelled.{keyword_of, punct_of};
 
 use graphql_tokens::lexer::{Token, Tokens};
-use std::alloc::{AllocError, AllocFailed};
+use std::alloc::{AllocError, AllocFailed, Global};
 use std::marker::Model;
 
 /// Why a reader stopped.
@@ -27,8 +27,8 @@ pub enum Refusal {
     Limit,
 }
 
-/// What a reader gives: what stands at the cursor, which then is after it; or why there is no such thing,
-/// with the refused token in hand. Where memory ran out, the cursor is somewhere in between.
+/// What a reader gives: what stands at the parser, which then is after it; or why there is no such thing,
+/// with the refused token in hand. Where memory ran out, the parser is somewhere in between.
 pub type Reading<T> = Result<T, Refusal>;
 
 impl From<AllocError> for Refusal {
@@ -60,29 +60,29 @@ fn is_same(text: &str, other: &str) -> bool
     text == other
 }
 
-/// The tokens of a text that are still to be read. The first is in hand; the others are taken
-/// from the lexer one by one, each when the one before it is used up.
+/// Reads one text: the tokens that are still to come, of which the first is in hand, and who takes memory. The tokens after the first are taken from the lexer one by one, each when the one before it is used up.
 #[derive(Drop)]
-pub struct Cursor<'a> {
+pub struct Parser<'a> {
     tokens: Tokens<'a>,
     hand: Token<'a>,
+    alloc: Global,
 }
 
-impl<'a> Model for Cursor<'a> {
+impl<'a> Model for Parser<'a> {
     ghost use Rattle.graphql_reading.specs.reading.Ahead.{Ahead};
 
     ghost Value = { Ahead };
 
-    ghost use Rattle.graphql_reading.specs.reading.Cursor.{shown, IsWellCut};
+    ghost use Rattle.graphql_reading.specs.reading.Parser.{shown, IsWellCut};
 
     ghost view = { shown };
 
     ghost invariant = { IsWellCut };
 }
 
-impl<'a> Cursor<'a> {
+impl<'a> Parser<'a> {
     /// Takes the first token in hand. The caller owes that one is left: `tokens.is_ended()` is false.
-    pub fn new(mut tokens: Tokens<'a>) -> Cursor<'a>
+    pub fn new(alloc: Global, mut tokens: Tokens<'a>) -> Parser<'a>
         requires { left tokens ≢ [] }
         ensures left { ahead result ≡ left tokens.entry }
         ensures whole { result.whole ≡ tokens.entry.whole }
@@ -91,7 +91,17 @@ impl<'a> Cursor<'a> {
         ensures proper { AreProperButFaults (left tokens.entry) }
     {
         let hand = tokens.next_token();
-        Cursor { tokens, hand }
+        Parser {
+            tokens,
+            hand,
+            alloc,
+        }
+    }
+
+    /// Who takes memory.
+    #[inline(always)]
+    pub fn alloc(&self) -> Global {
+        self.alloc
     }
 
     /// The tokens that are still to come, after the one in hand.
