@@ -1,6 +1,0 @@
-use Rattle.std.proofs.Common.{◌≡◌, drop}
-use Rattle.example_linter.specs.Schemas.{is_silent}
-use Rattle.example_linter.proofs.schema_rules.is_silently_deprecated.Given as goal
-
-abbrev pub invariant-loop-directive : goal.invariant-loop-directive
-invariant-loop-directive l = is_silent l.field.directives.items ≡ is_silent (drop l.directive-index l.directive-items)

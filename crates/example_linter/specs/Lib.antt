@@ -1,3 +1,0 @@
--- Public: what the rules of the linter say.
-pub mod Requests
-pub mod Schemas
