@@ -178,3 +178,8 @@ fn unknown_form() -> Error {
         places: [None, None],
     }
 }
+
+// The programs of the crate's page run as tests.
+#[cfg(doctest)]
+#[doc = include_str!("../README.md")]
+struct Readme;

@@ -244,3 +244,76 @@ const fn repeated(byte: u8) -> u64 {
 const fn zero_bytes(word: u64) -> u64 {
     word.wrapping_sub(repeated(1)) & !word & repeated(0x80)
 }
+
+#[cfg(test)]
+mod tests {
+    use super::{request, schema_file};
+    use crate::types::{DocumentOperations, Selection, TypeSystemDefinition};
+    use crate::value::Value;
+
+    const REQUEST: &str = concat!(
+        r#"{"kind":"Document","definitions":[{"kind":"OperationDefinition","line":1,"column":1,"operation":"mutation","#,
+        r#""name":{"kind":"Name","value":"A"},"variableDefinitions":[],"directives":[],"selectionSet":"#,
+        r#"{"kind":"SelectionSet","line":1,"column":12,"selections":[{"kind":"Field","line":20,"column":345,"#,
+        r#""name":{"kind":"Name","line":20,"column":345,"value":"b"},"arguments":[{"kind":"Argument","line":21,"column":6,"#,
+        r#""name":{"kind":"Name","line":21,"column":6,"value":"c"},"value":{"kind":"ListValue","line":21,"column":9,"#,
+        r#""values":[{"kind":"StringValue","value":"\"x\u0001\né"},{"kind":"NullValue"}]}}],"directives":[]}]}}]}"#,
+    );
+
+    const SCHEMA: &str = concat!(
+        r#"{"kind":"Document","definitions":[{"kind":"UnionTypeExtension","line":1,"column":1,"#,
+        r#""name":{"kind":"Name","line":1,"column":14,"value":"A"},"directives":[],"types":[{"kind":"NamedType","line":1,"#,
+        r#""column":18,"name":{"kind":"Name","line":1,"column":18,"value":"B"}}]}]}"#,
+    );
+
+    #[test]
+    fn a_request_is_read() {
+        let document = request(REQUEST).unwrap();
+        let DocumentOperations::Multiple(operations) = &document.operations else {
+            panic!("a name");
+        };
+        let set = &operations["A"].node.selection_set;
+        assert_eq!(set.pos, (1, 12).into());
+        let Selection::Field(field) = &set.node.items[0].node else {
+            panic!("a field");
+        };
+        assert_eq!(
+            (field.pos, field.node.name.node.as_str()),
+            ((20, 345).into(), "b")
+        );
+        let (name, value) = &field.node.arguments[0];
+        assert_eq!((name.pos, value.pos), ((21, 6).into(), (21, 9).into()));
+        assert_eq!(
+            value.node,
+            Value::List(vec!["\"x\u{1}\né".into(), Value::Null])
+        );
+        assert_eq!(field.node.selection_set.pos, (0, 0).into());
+    }
+
+    #[test]
+    fn a_schema_file_is_read() {
+        let document = schema_file(SCHEMA).unwrap();
+        let TypeSystemDefinition::Type(definition) = &document.definitions[0] else {
+            panic!("a type");
+        };
+        assert!(definition.node.extend);
+        assert_eq!(definition.node.name.pos, (1, 14).into());
+    }
+
+    #[test]
+    fn a_text_of_another_form_is_no_tree() {
+        for json in [REQUEST, SCHEMA] {
+            for end in (0..json.len()).filter(|end| json.is_char_boundary(*end)) {
+                let (before, after) = json.split_at(end);
+                assert!(request(before).is_none() && schema_file(before).is_none());
+                // With one character more there is a tree at some places, and nowhere a panic.
+                for c in ["\"", "\\", "0", "{", "é", ","] {
+                    let longer = format!("{before}{c}{after}");
+                    let _ = (request(&longer), schema_file(&longer));
+                }
+            }
+        }
+        assert!(request(&format!("{REQUEST} ")).is_none());
+        assert!(request(SCHEMA).is_none() && schema_file(REQUEST).is_none());
+    }
+}
