@@ -78,21 +78,27 @@ impl<'a> Reader<'a> {
         number
     }
 
-    // The members `line` and `column`, which come behind the kind of a node.
+    // The place of a node, whose opening is next: up to the key `line`.
+    #[inline(always)]
+    fn opened<const N: usize>(&mut self, opening: &[u8; N]) -> Option<Pos> {
+        self.expect(opening)?;
+        self.place()
+    }
+
+    // The values of the members `line` and `column`, behind the first key.
     #[inline(always)]
     fn place(&mut self) -> Option<Pos> {
-        self.expect(b",\"line\":")?;
         let line = self.digits();
         self.expect(b",\"column\":")?;
         let column = self.digits();
         Some(Pos { line, column })
     }
 
-    // The same, where the node has them; else 0:0.
+    // The members `line` and `column`, behind the kind of a node that has them; else 0:0.
     #[inline(always)]
     fn place_if<const PLACED: bool>(&mut self) -> Option<Pos> {
         if PLACED {
-            self.place()
+            self.opened(b",\"line\":")
         } else {
             Some(Pos::default())
         }
@@ -201,10 +207,10 @@ impl<'a> Reader<'a> {
         }
     }
 
-    // A node that is a name, behind `{"kind":"Name"`.
+    // A node that is a name, whose opening is next: up to the key `line`.
     #[inline(always)]
-    fn rest_of_name(&mut self) -> Option<Positioned<Name>> {
-        let pos = self.place()?;
+    fn name_opened<const N: usize>(&mut self, opening: &[u8; N]) -> Option<Positioned<Name>> {
+        let pos = self.opened(opening)?;
         self.expect(b",\"value\":\"")?;
         let name = self.name_text()?;
         self.expect(b"}")?;
@@ -214,15 +220,13 @@ impl<'a> Reader<'a> {
     // A node that is a name.
     #[inline(always)]
     fn name(&mut self) -> Option<Positioned<Name>> {
-        self.expect(b"{\"kind\":\"Name\"")?;
-        self.rest_of_name()
+        self.name_opened(b"{\"kind\":\"Name\",\"line\":")
     }
 
     // The member `name` of a node, which comes next.
     #[inline(always)]
     fn member_name(&mut self) -> Option<Positioned<Name>> {
-        self.expect(b",\"name\":{\"kind\":\"Name\"")?;
-        self.rest_of_name()
+        self.name_opened(b",\"name\":{\"kind\":\"Name\",\"line\":")
     }
 
     // The member `name` of a node that has no place, which comes next.

@@ -112,7 +112,7 @@ fn the_texts_of_the_tables_have_the_trees_of_their_json() {
 #[test]
 fn random_texts_have_the_trees_of_their_json() {
     let (mut requests, mut schema_files) = (Tally::default(), Tally::default());
-    random::texts(20211001, 100_000, |text, is_request| {
+    random::texts(20211001, 50_000, |text, is_request| {
         if is_request {
             compare_request(text, Limits::default(), &mut requests);
         } else {
@@ -120,13 +120,13 @@ fn random_texts_have_the_trees_of_their_json() {
         }
     });
     assert!(
-        requests.accepted > 50_000,
+        requests.accepted > 25_000,
         "{}, {}",
         requests.accepted,
         requests.refused
     );
     assert!(
-        schema_files.accepted > 50_000,
+        schema_files.accepted > 25_000,
         "{}, {}",
         schema_files.accepted,
         schema_files.refused

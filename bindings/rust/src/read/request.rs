@@ -17,7 +17,7 @@ impl Reader<'_> {
         let mut fragments = HashMap::new();
         self.expect(b"{\"kind\":\"Document\",\"definitions\":[")?;
         loop {
-            if self.skips(b"{\"kind\":\"FragmentDefinition\"") {
+            if self.skips(b"{\"kind\":\"FragmentDefinition\",\"line\":") {
                 let (name, fragment) = self.rest_of_fragment()?;
                 fragments.insert(name, fragment);
             } else {
@@ -44,8 +44,7 @@ impl Reader<'_> {
     }
 
     fn operation(&mut self) -> Option<(Option<Name>, Positioned<OperationDefinition>)> {
-        self.expect(b"{\"kind\":\"OperationDefinition\"")?;
-        let pos = self.place()?;
+        let pos = self.opened(b"{\"kind\":\"OperationDefinition\",\"line\":")?;
         self.expect(b",\"operation\":\"")?;
         let (start, end) = self.plain()?;
         let ty = operation_type(self.json.get(start..end)?)?;
@@ -66,10 +65,8 @@ impl Reader<'_> {
     }
 
     fn variable_definition(&mut self) -> Option<Positioned<VariableDefinition>> {
-        self.expect(b"{\"kind\":\"VariableDefinition\"")?;
-        let pos = self.place()?;
-        self.expect(b",\"variable\":{\"kind\":\"Variable\"")?;
-        self.place()?;
+        let pos = self.opened(b"{\"kind\":\"VariableDefinition\",\"line\":")?;
+        self.opened(b",\"variable\":{\"kind\":\"Variable\",\"line\":")?;
         let name = self.member_name()?;
         self.expect(b"}")?;
         let var_type = self.member_type()?;
@@ -85,7 +82,7 @@ impl Reader<'_> {
         Some(Positioned::new(definition, pos))
     }
 
-    // A fragment, behind its kind.
+    // A fragment, behind the key of its line.
     fn rest_of_fragment(&mut self) -> Option<(Name, Positioned<FragmentDefinition>)> {
         let pos = self.place()?;
         let name = self.bare_member_name()?;
@@ -107,16 +104,8 @@ impl Reader<'_> {
     }
 
     // The member `selectionSet`.
-    #[inline(always)]
     fn selection_set(&mut self) -> Option<Positioned<SelectionSet>> {
-        self.expect(b",\"selectionSet\":")?;
-        self.rest_of_set()
-    }
-
-    // A selection set, behind the key of its member.
-    fn rest_of_set(&mut self) -> Option<Positioned<SelectionSet>> {
-        self.expect(b"{\"kind\":\"SelectionSet\"")?;
-        let pos = self.place()?;
+        let pos = self.opened(b",\"selectionSet\":{\"kind\":\"SelectionSet\",\"line\":")?;
         self.expect(b",\"selections\":[")?;
         let items = self.items(Self::selection)?;
         self.expect(b"}")?;
@@ -127,23 +116,23 @@ impl Reader<'_> {
     #[inline(always)]
     fn selection(&mut self) -> Option<Positioned<Selection>> {
         self.expect(b"{\"kind\":\"")?;
-        if self.skips(b"Field\"") {
+        if self.skips(b"Field\",\"line\":") {
             let field = self.rest_of_field()?;
             let pos = field.pos;
             return Some(Positioned::new(Selection::Field(field), pos));
         }
-        if self.skips(b"FragmentSpread\"") {
+        if self.skips(b"FragmentSpread\",\"line\":") {
             let spread = self.rest_of_spread()?;
             let pos = spread.pos;
             return Some(Positioned::new(Selection::FragmentSpread(spread), pos));
         }
-        self.expect(b"InlineFragment\"")?;
+        self.expect(b"InlineFragment\",\"line\":")?;
         let fragment = self.rest_of_inline_fragment()?;
         let pos = fragment.pos;
         Some(Positioned::new(Selection::InlineFragment(fragment), pos))
     }
 
-    // A field, behind its kind. One that selects nothing has no set.
+    // A field, behind the key of its line. One that selects nothing has no set.
     #[inline(always)]
     fn rest_of_field(&mut self) -> Option<Positioned<Field>> {
         let pos = self.place()?;
@@ -154,11 +143,14 @@ impl Reader<'_> {
         let name = self.member_name()?;
         let arguments = self.arguments()?;
         let directives = self.directives::<Value>()?;
-        let selection_set = match self.skips(b",\"selectionSet\":") {
-            true => self.rest_of_set()?,
-            false => Positioned::default(),
+        let selection_set = match self.skips(b"}") {
+            true => Positioned::default(),
+            false => {
+                let set = self.selection_set()?;
+                self.expect(b"}")?;
+                set
+            }
         };
-        self.expect(b"}")?;
         let field = Field {
             alias,
             name,
@@ -169,7 +161,7 @@ impl Reader<'_> {
         Some(Positioned::new(field, pos))
     }
 
-    // A spread, behind its kind.
+    // A spread, behind the key of its line.
     fn rest_of_spread(&mut self) -> Option<Positioned<FragmentSpread>> {
         let pos = self.place()?;
         let fragment_name = self.member_name()?;
@@ -182,7 +174,7 @@ impl Reader<'_> {
         Some(Positioned::new(spread, pos))
     }
 
-    // An inline fragment, behind its kind.
+    // An inline fragment, behind the key of its line.
     fn rest_of_inline_fragment(&mut self) -> Option<Positioned<InlineFragment>> {
         let pos = self.place()?;
         let type_condition = match self.skips(b",\"typeCondition\":") {

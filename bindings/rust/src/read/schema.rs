@@ -21,7 +21,7 @@ impl Reader<'_> {
         self.expect(b"{\"kind\":\"")?;
         let (start, end) = self.plain()?;
         let kind = self.json.get(start..end)?;
-        let pos = self.place()?;
+        let pos = self.opened(b",\"line\":")?;
         if kind == "DirectiveDefinition" {
             let definition = self.rest_of_directive()?;
             return Some(TypeSystemDefinition::Directive(Positioned::new(
@@ -43,7 +43,7 @@ impl Reader<'_> {
     // The member `description`, where it comes next.
     #[inline(always)]
     fn description(&mut self) -> Option<Option<Positioned<String>>> {
-        if !self.skips(b",\"description\":{\"kind\":\"StringValue\"") {
+        if !self.skips(b",\"description\":{\"kind\":\"StringValue\",\"line\":") {
             return Some(None);
         }
         let pos = self.place()?;
@@ -146,8 +146,7 @@ impl Reader<'_> {
     }
 
     fn field_definition(&mut self) -> Option<Positioned<FieldDefinition>> {
-        self.expect(b"{\"kind\":\"FieldDefinition\"")?;
-        let pos = self.place()?;
+        let pos = self.opened(b"{\"kind\":\"FieldDefinition\",\"line\":")?;
         let description = self.description()?;
         let name = self.member_name()?;
         self.expect(b",\"arguments\":[")?;
@@ -163,8 +162,7 @@ impl Reader<'_> {
     }
 
     fn input_value(&mut self) -> Option<Positioned<InputValueDefinition>> {
-        self.expect(b"{\"kind\":\"InputValueDefinition\"")?;
-        let pos = self.place()?;
+        let pos = self.opened(b"{\"kind\":\"InputValueDefinition\",\"line\":")?;
         let value = InputValueDefinition {
             description: self.description()?,
             name: self.member_name()?,
@@ -177,8 +175,7 @@ impl Reader<'_> {
     }
 
     fn enum_value(&mut self) -> Option<Positioned<EnumValueDefinition>> {
-        self.expect(b"{\"kind\":\"EnumValueDefinition\"")?;
-        let pos = self.place()?;
+        let pos = self.opened(b"{\"kind\":\"EnumValueDefinition\",\"line\":")?;
         let value = EnumValueDefinition {
             description: self.description()?,
             value: self.member_name()?,

@@ -192,8 +192,7 @@ impl Reader<'_> {
 
     #[inline(always)]
     fn argument<V: AnyValue>(&mut self) -> Option<(Positioned<Name>, Positioned<V>)> {
-        self.expect(b"{\"kind\":\"Argument\"")?;
-        self.place()?;
+        self.opened(b"{\"kind\":\"Argument\",\"line\":")?;
         let name = self.member_name()?;
         self.expect(b",\"value\":")?;
         let value = self.value::<V, true>()?;
@@ -209,8 +208,7 @@ impl Reader<'_> {
     }
 
     fn directive<V: AnyValue>(&mut self) -> Option<Positioned<V::Directive>> {
-        self.expect(b"{\"kind\":\"Directive\"")?;
-        let pos = self.place()?;
+        let pos = self.opened(b"{\"kind\":\"Directive\",\"line\":")?;
         let name = self.member_name()?;
         let arguments = self.arguments()?;
         self.expect(b"}")?;
@@ -263,8 +261,7 @@ impl Reader<'_> {
     // A type that is named. It stands where its name does.
     #[inline(always)]
     pub(super) fn named_type(&mut self) -> Option<Positioned<Name>> {
-        self.expect(b"{\"kind\":\"NamedType\"")?;
-        self.place()?;
+        self.opened(b"{\"kind\":\"NamedType\",\"line\":")?;
         let name = self.member_name()?;
         self.expect(b"}")?;
         Some(name)

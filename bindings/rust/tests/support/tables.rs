@@ -41,20 +41,22 @@ fn files(folder: &Path) -> Vec<PathBuf> {
     found
 }
 
-/// The raw strings of a source.
+/// The raw strings of a source: what stands between `r"` and `"`, or between `r#"` and `"#`, and so on.
 pub fn raw_strings(source: &str) -> Vec<&str> {
     let mut found = Vec::new();
     let mut rest = source;
-    while let Some(start) = rest.find("r#").into_iter().chain(rest.find("r\"")).min() {
-        let opening = &rest[start + 1..];
-        let hashes = opening.len() - opening.trim_start_matches('#').len();
-        let end = format!("\"{}", "#".repeat(hashes));
-        rest = &opening[hashes..];
-        if let Some(inside) = rest.strip_prefix('"') {
-            let length = inside.find(&end).unwrap();
-            found.push(&inside[..length]);
-            rest = &inside[length + end.len()..];
-        }
+    while let Some((before, after)) = rest.split_once('r') {
+        let opening = after.trim_start_matches('#');
+        let end = format!("\"{}", &after[..after.len() - opening.len()]);
+        let is_word = before.ends_with(|c: char| c.is_ascii_alphanumeric() || c == '_');
+        rest = match opening.strip_prefix('"').filter(|_| !is_word) {
+            Some(inside) => {
+                let (text, behind) = inside.split_once(&end).unwrap();
+                found.push(text);
+                behind
+            }
+            None => after,
+        };
     }
     found
 }
