@@ -94,12 +94,15 @@ fn plain(text: &str) -> String {
     text.chars().map(mark).collect()
 }
 
+// How often a text is repeated at most: a list of a hundred thousand items shows no more than one of a thousand.
+const LARGEST_COUNT: usize = 1_000;
+
 // A text that is repeated, the number of a character, or a text.
 fn inside_brackets(inside: &str) -> String {
     if let Some((count, text)) = inside.split_once('×') {
         if let Ok(count) = count.parse::<usize>() {
             let numbered = |index: usize| plain(&text.replace('№', &index.to_string()));
-            return (0..count).map(numbered).collect();
+            return (0..count.min(LARGEST_COUNT)).map(numbered).collect();
         }
     }
     match u32::from_str_radix(inside, 16)
