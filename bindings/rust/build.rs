@@ -1,4 +1,5 @@
-//! Links the static library that `bindings/build.sh` makes.
+//! Links the static library that `bindings/build.sh` makes. Where it isn't found a system's library is linked by name, so
+//! that the crate is checked and documented without any.
 use std::env;
 use std::path::{Path, PathBuf};
 
@@ -9,12 +10,16 @@ fn main() {
         None => Path::new(env!("CARGO_MANIFEST_DIR")).join("../out"),
     };
     let archive = folder.join("libgraphql_parser.a");
-    assert!(
-        archive.is_file(),
-        "{} is missing: run bindings/build.sh, or set GRAPHQL_PARSER_LIB to the folder of the library",
-        archive.display()
-    );
     println!("cargo:rerun-if-changed={}", archive.display());
-    println!("cargo:rustc-link-search=native={}", folder.display());
-    println!("cargo:rustc-link-lib=static=graphql_parser");
+    if archive.is_file() {
+        println!("cargo:rustc-link-search=native={}", folder.display());
+        println!("cargo:rustc-link-lib=static=graphql_parser");
+    } else {
+        println!(
+            "cargo:warning={} is missing: to link a program run bindings/build.sh, or set GRAPHQL_PARSER_LIB to the \
+             folder of the library",
+            archive.display()
+        );
+        println!("cargo:rustc-link-lib=dylib=graphql_parser");
+    }
 }

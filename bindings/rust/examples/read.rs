@@ -3,7 +3,8 @@
 //! ```sh
 //! cargo run --example read -- query < FILE
 //! ```
-use graphql_parser::{parse_query, parse_schema, Limits, Places};
+use graphql_parser::json::{parse_query, parse_schema, Places};
+use graphql_parser::Limits;
 use std::io::{self, Read};
 use std::process::ExitCode;
 
@@ -22,9 +23,7 @@ fn main() -> Result<ExitCode, Box<dyn std::error::Error>> {
         }
         Err(error) => {
             println!("{error}");
-            if let Some(json) = error.json() {
-                println!("{json}");
-            }
+            println!("{}", error.to_json());
             Ok(ExitCode::FAILURE)
         }
     }

@@ -1,168 +1,326 @@
 //! Why a text is refused.
-use crate::json::Json;
-use std::fmt;
+use crate::pos::Pos;
+use crate::types::OperationType;
+use crate::value::Name;
+use std::fmt::{self, Display, Formatter};
+use std::iter::FusedIterator;
 
-/// A place in a text: the line and the column, both counted from 1, the column in characters (`char`s).
-#[derive(Clone, Copy, Debug, PartialEq, Eq, PartialOrd, Ord, Hash)]
-pub struct Place {
-    pub line: usize,
-    pub column: usize,
-}
-
-impl fmt::Display for Place {
-    fn fmt(&self, f: &mut fmt::Formatter<'_>) -> fmt::Result {
-        write!(f, "{}:{}", self.line, self.column)
-    }
-}
-
-/// What is wrong with a text, or why it couldn't be read.
-#[derive(Clone, Copy, Debug, PartialEq, Eq, Hash)]
+/// Why a text is refused, or couldn't be read. Its display is its message, without the places of
+/// [`positions`](Error::positions).
+///
+/// A later version of this crate may have other errors.
+#[derive(Clone, Debug, PartialEq, Eq)]
 #[non_exhaustive]
-pub enum Kind {
-    /// Memory was refused; nothing is known of the text.
-    OutOfMemory,
-    /// One of the limits is over [`Limits::LARGEST`](crate::Limits::LARGEST).
-    LimitTooLarge,
-    /// The text has no tree. The token at the place is refused: what stands before it could still become a document, and
+pub enum Error {
+    /// The text has no tree. The token at `start` is refused: what stands before it could still become a document, and
     /// together with it that can't.
-    Syntax,
-    /// The same, but the refused token could go on if the limits were greater. It names no place.
-    RecursionLimitExceeded,
-    /// An operation without a name, at the first place, isn't the only one: another stands at the second.
-    MultipleOperations,
-    /// Two operations have one name: the later stands at the first place, the earlier at the second.
-    OperationDuplicated,
-    /// Two fragments have one name: the later stands at the first place, the earlier at the second.
-    FragmentDuplicated,
-    /// A request has fragments alone. It names no place.
+    Syntax {
+        /// `syntax error at `, and the place.
+        message: String,
+        /// Where the refused token begins, or the text ends.
+        start: Pos,
+        /// None: the token that begins at `start` is refused as a whole.
+        end: Option<Pos>,
+    },
+    /// A schema names a kind of operation twice.
+    MultipleRoots {
+        /// The kind.
+        root: OperationType,
+        /// Where the schema stands.
+        schema: Pos,
+        /// Where the kind is named again.
+        pos: Pos,
+    },
+    /// A schema has no type for queries.
+    MissingQueryRoot {
+        /// Where the schema stands.
+        pos: Pos,
+    },
+    /// An operation without a name isn't the only operation.
+    MultipleOperations {
+        /// Where it stands.
+        anonymous: Pos,
+        /// Where another operation stands.
+        operation: Pos,
+    },
+    /// Two operations have one name.
+    OperationDuplicated {
+        /// The name.
+        operation: Name,
+        /// Where the earlier stands.
+        first: Pos,
+        /// Where the later stands.
+        second: Pos,
+    },
+    /// Two fragments have one name.
+    FragmentDuplicated {
+        /// The name.
+        fragment: Name,
+        /// Where the earlier stands.
+        first: Pos,
+        /// Where the later stands.
+        second: Pos,
+    },
+    /// A request has fragments alone.
     MissingOperation,
-    /// A schema names a kind of operation twice: again at the first place. The schema stands at the second.
-    MultipleRoots,
-    /// The schema at the place has no type for queries.
-    MissingQueryRoot,
-    /// What a later version of the library tells by a status that this crate doesn't know, with its number.
-    Other(u32),
+    /// The text has no tree within the limits, and the token that is refused could go on if they were greater.
+    RecursionLimitExceeded,
+    /// Memory was refused. Nothing is known of the text.
+    OutOfMemory,
+    /// One of the limits is over [`Limits::LARGEST`](crate::Limits::LARGEST). The text wasn't read.
+    LimitTooLarge,
+    /// What a later version of the library tells, and this crate has no name for.
+    Other {
+        /// The number by which the library tells it.
+        status: u32,
+        /// The library's message.
+        message: String,
+        /// The places that it is about, the most important first.
+        places: [Option<Pos>; 2],
+    },
 }
 
-impl Kind {
-    // The kind that a status of the library stands for; none where it accepts the text.
-    pub(crate) fn of_status(status: u32) -> Option<Kind> {
-        Some(match status {
-            0 => return None,
-            1 => Kind::OutOfMemory,
-            3 => Kind::LimitTooLarge,
-            4 => Kind::Syntax,
-            5 => Kind::RecursionLimitExceeded,
-            6 => Kind::MultipleOperations,
-            7 => Kind::OperationDuplicated,
-            8 => Kind::FragmentDuplicated,
-            9 => Kind::MissingOperation,
-            10 => Kind::MultipleRoots,
-            11 => Kind::MissingQueryRoot,
-            // 2 says that the text isn't UTF-8, which a `str` is.
-            other => Kind::Other(other),
+impl Error {
+    /// The places that the error is about, the most important first: none, one or two.
+    #[must_use]
+    pub fn positions(&self) -> ErrorPositions {
+        ErrorPositions(match self {
+            Error::Syntax { start, end, .. } => [Some(*start), *end],
+            Error::MultipleRoots { schema, pos, .. } => [Some(*pos), Some(*schema)],
+            Error::MissingQueryRoot { pos } => [Some(*pos), None],
+            Error::MultipleOperations {
+                anonymous,
+                operation,
+            } => [Some(*anonymous), Some(*operation)],
+            Error::OperationDuplicated { first, second, .. }
+            | Error::FragmentDuplicated { first, second, .. } => [Some(*second), Some(*first)],
+            Error::Other { places, .. } => *places,
+            Error::MissingOperation
+            | Error::RecursionLimitExceeded
+            | Error::OutOfMemory
+            | Error::LimitTooLarge => [None, None],
         })
     }
 
-    // What is said where the library gives no message: its message, without the names and places in it.
-    fn text(self) -> &'static str {
-        match self {
-            Kind::OutOfMemory => "out of memory",
-            Kind::LimitTooLarge => "a limit is over 256",
-            Kind::Syntax => "syntax error",
-            Kind::RecursionLimitExceeded => "recursion limit exceeded.",
-            Kind::MultipleOperations => "document contains multiple operations",
-            Kind::OperationDuplicated => "an operation is defined twice",
-            Kind::FragmentDuplicated => "a fragment is defined twice",
-            Kind::MissingOperation => "document does not contain an operation",
-            Kind::MultipleRoots => "multiple roots of one kind in schema definition",
-            Kind::MissingQueryRoot => "schema definition is missing query root",
-            Kind::Other(_) => "refused as only a later version of this crate can tell",
+    /// The error as an entry of `errors` in a response (section 7.1.2): its `message`, and its `locations` where it has
+    /// places.
+    ///
+    /// ```
+    /// let error = graphql_parser::Error::MissingQueryRoot { pos: (3, 14).into() };
+    /// assert_eq!(
+    ///     error.to_json(),
+    ///     r#"{"message":"schema definition is missing query root","locations":[{"line":3,"column":14}]}"#
+    /// );
+    /// ```
+    #[must_use]
+    pub fn to_json(&self) -> String {
+        let mut json = String::from("{\"message\":");
+        push_string(&mut json, &self.to_string());
+        let mut before = ",\"locations\":[";
+        for Pos { line, column } in self.positions() {
+            json += &format!("{before}{{\"line\":{line},\"column\":{column}}}");
+            before = ",";
         }
+        json += if before == "," { "]}" } else { "}" };
+        json
+    }
+
+    // The error that a status stands for, with its places. Without the library's message there is none for a status whose
+    // error has a name in it, nor for one that isn't known.
+    pub(crate) fn of(
+        status: u32,
+        places: [Option<Pos>; 2],
+        message: Option<&str>,
+    ) -> Option<Error> {
+        let [first, second] = places.map(Option::unwrap_or_default);
+        let named = |before, after| {
+            let rest = message?.strip_prefix(before)?;
+            rest.strip_suffix(after)
+        };
+        let twice = " is defined twice";
+        let error = match status {
+            1 => Some(Error::OutOfMemory),
+            3 => Some(Error::LimitTooLarge),
+            4 => Some(Error::Syntax {
+                message: format!("syntax error at {first}"),
+                start: first,
+                end: None,
+            }),
+            5 => Some(Error::RecursionLimitExceeded),
+            6 => Some(Error::MultipleOperations {
+                anonymous: first,
+                operation: second,
+            }),
+            7 => named("operation ", twice).map(|name| Error::OperationDuplicated {
+                operation: Name::new(name),
+                first: second,
+                second: first,
+            }),
+            8 => named("fragment ", twice).map(|name| Error::FragmentDuplicated {
+                fragment: Name::new(name),
+                first: second,
+                second: first,
+            }),
+            9 => Some(Error::MissingOperation),
+            10 => named("multiple ", " roots in schema definition")
+                .and_then(operation_type)
+                .map(|root| Error::MultipleRoots {
+                    root,
+                    schema: second,
+                    pos: first,
+                }),
+            11 => Some(Error::MissingQueryRoot { pos: first }),
+            // 2 says that the text isn't UTF-8, which a `str` is.
+            _ => None,
+        };
+        error.or_else(|| {
+            message.map(|message| Error::Other {
+                status,
+                message: message.to_owned(),
+                places,
+            })
+        })
     }
 }
 
-// The message of an error in JSON, which is its first member. A message with an escape in it is left out; none has one.
-fn message_of(json: &str) -> Option<&str> {
+/// The kind of operation that a keyword stands for.
+pub(crate) fn operation_type(word: &str) -> Option<OperationType> {
+    match word {
+        "query" => Some(OperationType::Query),
+        "mutation" => Some(OperationType::Mutation),
+        "subscription" => Some(OperationType::Subscription),
+        _ => None,
+    }
+}
+
+/// The message of an error in JSON, which is its first member. A message with an escape in it is left out; none has one.
+pub(crate) fn message_of(json: &str) -> Option<&str> {
     let rest = json.strip_prefix(r#"{"message":""#)?;
     let end = rest.find(['"', '\\'])?;
     rest[end..].starts_with('"').then(|| &rest[..end])
 }
 
-/// Why a text is refused, or couldn't be read.
-#[derive(Debug)]
-pub struct Error {
-    kind: Kind,
-    places: [Option<Place>; 2],
-    json: Option<Json>,
+// Adds a text as a string of JSON.
+fn push_string(json: &mut String, text: &str) {
+    json.push('"');
+    for c in text.chars() {
+        match c {
+            '"' | '\\' => json.extend(['\\', c]),
+            c if c < ' ' => *json += &format!("\\u{:04x}", u32::from(c)),
+            c => json.push(c),
+        }
+    }
+    json.push('"');
 }
 
-impl Error {
-    pub(crate) fn new(kind: Kind, places: [Option<Place>; 2], json: Option<Json>) -> Error {
-        Error { kind, places, json }
-    }
-
-    /// What is wrong.
-    pub fn kind(&self) -> Kind {
-        self.kind
-    }
-
-    /// What is wrong, in words: the message of the JSON, as `operation A is defined twice`. Where there is no JSON, as after
-    /// a check, what the kind says, as `an operation is defined twice`.
-    pub fn message(&self) -> &str {
-        self.json()
-            .and_then(message_of)
-            .unwrap_or_else(|| self.kind.text())
-    }
-
-    /// Where it is wrong: none, one or two places, the most important first.
-    pub fn places(&self) -> impl Iterator<Item = Place> + '_ {
-        self.places.iter().flatten().copied()
-    }
-
-    /// The error as an entry of `errors` in a response: its `message`, and its `locations` where it has places. A check
-    /// makes none, nor do the kinds `OutOfMemory` and `LimitTooLarge`.
-    pub fn json(&self) -> Option<&str> {
-        self.json.as_deref()
-    }
-}
-
-/// The message, and the places where it doesn't name them itself: `syntax error at 1:4`, `operation A is defined twice at 2:1
-/// and 1:1`.
-impl fmt::Display for Error {
-    fn fmt(&self, f: &mut fmt::Formatter<'_>) -> fmt::Result {
-        let message = self.message();
-        f.write_str(message)?;
-        if let Some(first) = self.places[0] {
-            if message.ends_with(&format!(" at {first}")) {
-                return Ok(());
+impl Display for Error {
+    fn fmt(&self, f: &mut Formatter<'_>) -> fmt::Result {
+        match self {
+            Error::Syntax { message, .. } | Error::Other { message, .. } => f.write_str(message),
+            Error::MultipleRoots { root, .. } => {
+                write!(f, "multiple {root} roots in schema definition")
             }
+            Error::MissingQueryRoot { .. } => {
+                f.write_str("schema definition is missing query root")
+            }
+            Error::MultipleOperations { .. } => {
+                f.write_str("document contains multiple operations")
+            }
+            Error::OperationDuplicated { operation, .. } => {
+                write!(f, "operation {operation} is defined twice")
+            }
+            Error::FragmentDuplicated { fragment, .. } => {
+                write!(f, "fragment {fragment} is defined twice")
+            }
+            Error::MissingOperation => f.write_str("document does not contain an operation"),
+            Error::RecursionLimitExceeded => f.write_str("recursion limit exceeded."),
+            Error::OutOfMemory => f.write_str("out of memory"),
+            Error::LimitTooLarge => f.write_str("a limit is over 256"),
         }
-        let mut before = " at ";
-        for place in self.places() {
-            write!(f, "{before}{place}")?;
-            before = " and ";
-        }
-        Ok(())
     }
 }
 
 impl std::error::Error for Error {}
 
+/// A [`Result`](std::result::Result) with this crate's [`Error`].
+pub type Result<T> = std::result::Result<T, Error>;
+
+/// The places that an error is about, the most important first.
+#[derive(Clone, Debug)]
+pub struct ErrorPositions([Option<Pos>; 2]);
+
+impl Iterator for ErrorPositions {
+    type Item = Pos;
+
+    fn next(&mut self) -> Option<Pos> {
+        let [first, second] = &mut self.0;
+        std::mem::replace(first, second.take())
+    }
+
+    fn size_hint(&self) -> (usize, Option<usize>) {
+        (self.len(), Some(self.len()))
+    }
+}
+
+impl DoubleEndedIterator for ErrorPositions {
+    fn next_back(&mut self) -> Option<Pos> {
+        let [first, second] = &mut self.0;
+        second.take().or_else(|| first.take())
+    }
+}
+
+impl ExactSizeIterator for ErrorPositions {
+    fn len(&self) -> usize {
+        self.0.iter().flatten().count()
+    }
+}
+
+impl FusedIterator for ErrorPositions {}
+
 #[cfg(test)]
 mod tests {
-    use super::{message_of, Error, Kind, Place};
+    use super::{message_of, Error};
+    use crate::pos::Pos;
+
+    const PLACES: [Option<Pos>; 2] = [
+        Some(Pos { line: 2, column: 3 }),
+        Some(Pos { line: 1, column: 4 }),
+    ];
 
     #[test]
     fn a_status_of_a_later_library_keeps_its_number() {
-        assert_eq!(Kind::of_status(0), None);
-        assert_eq!(Kind::of_status(11), Some(Kind::MissingQueryRoot));
-        let kind = Kind::of_status(12).unwrap();
-        assert_eq!(kind, Kind::Other(12));
-        assert_eq!(Kind::of_status(u32::MAX), Some(Kind::Other(u32::MAX)));
-        let place = Place { line: 2, column: 3 };
-        let error = Error::new(kind, [Some(place), None], None);
-        assert!(error.to_string().ends_with(" at 2:3"));
+        assert_eq!(Error::of(12, PLACES, None), None);
+        let error = Error::of(12, PLACES, Some("a \"b\"\n")).unwrap();
+        assert!(matches!(error, Error::Other { status: 12, .. }));
+        assert_eq!(
+            error.to_json(),
+            r#"{"message":"a \"b\"\u000a","locations":[{"line":2,"column":3},{"line":1,"column":4}]}"#
+        );
+    }
+
+    #[test]
+    fn a_name_is_taken_from_the_message() {
+        assert_eq!(Error::of(7, PLACES, None), None);
+        let error = Error::of(7, PLACES, Some("operation A is defined twice")).unwrap();
+        assert!(matches!(&error, Error::OperationDuplicated { operation, .. } if operation == "A"));
+        assert_eq!(error.to_string(), "operation A is defined twice");
+        let error = Error::of(7, PLACES, Some("another message")).unwrap();
+        assert!(matches!(error, Error::Other { status: 7, .. }));
+    }
+
+    #[test]
+    fn places_are_given_from_both_ends() {
+        let error = Error::of(6, PLACES, None).unwrap();
+        let [first, second] = PLACES;
+        let mut places = error.positions();
+        assert_eq!(places.len(), 2);
+        assert_eq!((places.next_back(), places.len()), (second, 1));
+        assert_eq!(
+            (places.next_back(), places.next_back(), places.next()),
+            (first, None, None)
+        );
+        assert!(error.positions().eq(PLACES.into_iter().flatten()));
+        assert_eq!(Error::MissingOperation.positions().len(), 0);
     }
 
     #[test]

@@ -1,4 +1,15 @@
-//! JSON that was handed over.
+//! Trees as JSON, in the form of GraphQL.js, for whatever else reads such trees.
+//!
+//! ```
+//! use graphql_parser::json::{self, Places};
+//! use graphql_parser::Limits;
+//!
+//! let tree = json::parse_query("{ hero { name } }", Limits::default(), Places::LeftOut)?;
+//! assert!(tree.starts_with(r#"{"kind":"Document""#));
+//! # Ok::<(), graphql_parser::Error>(())
+//! ```
+use crate::raw::{self, ParseCall};
+use crate::{refusal, Limits, Result};
 use std::ffi::c_void;
 use std::fmt;
 use std::ops::Deref;
@@ -8,6 +19,44 @@ use std::str;
 
 extern "C" {
     fn graphql_parser_free(block: *mut c_void);
+}
+
+/// Whether the nodes of a tree are written with their places, as the members `line` and `column`. The document, the names of
+/// operations and fragments, the name in a variable that is a value, the roots of a schema, and what is inside a list, an
+/// object or a list type have none.
+#[derive(Clone, Copy, Debug, PartialEq, Eq)]
+pub enum Places {
+    /// No node has a place.
+    LeftOut,
+    /// Each node has its place, but for those named above.
+    Written,
+}
+
+/// The tree of the request `text`, as JSON.
+///
+/// # Errors
+///
+/// Why it isn't a request within the limits; [`Error::to_json`](crate::Error::to_json) is for a response.
+pub fn parse_query(text: &str, limits: Limits, places: Places) -> Result<Json> {
+    parse(raw::graphql_parser_parse_query, text, limits, places)
+}
+
+/// The tree of the schema file `text`, as JSON.
+///
+/// # Errors
+///
+/// Why it isn't a schema file within the limits; [`Error::to_json`](crate::Error::to_json) is for a response.
+pub fn parse_schema(text: &str, limits: Limits, places: Places) -> Result<Json> {
+    parse(raw::graphql_parser_parse_schema, text, limits, places)
+}
+
+// The tree of a text, as a call of the library hands it over.
+pub(crate) fn parse(call: ParseCall, text: &str, limits: Limits, places: Places) -> Result<Json> {
+    let outcome = raw::parse(call, text, limits, places);
+    match (outcome.status, outcome.json) {
+        (0, Some(json)) => Ok(json),
+        (status, json) => Err(refusal(status, outcome.places, json.as_deref())),
+    }
 }
 
 /// A text of JSON. It is a `str` wherever one is wanted, and lies where the parser wrote it: nothing is copied.

@@ -1,28 +1,48 @@
 //! A parser of GraphQL requests and schema files whose every function is proved, for Rust.
 //!
-//! [`check_query`] and [`check_schema`] tell whether a text is a request or a schema file. [`parse_query`] and
-//! [`parse_schema`] give its tree as JSON, in the form of GraphQL.js, for `serde_json` or whatever else you read JSON
-//! with. All of them borrow the text, may be called from any number of threads, and never panic.
+//! [`parse_query`] and [`parse_schema`] give the tree of a text, in plain Rust: the types of [`types`] and [`value`], each
+//! node with its line and its column. They have the names of async-graphql-parser 7.2.1, so that a program that was
+//! written for that crate changes its imports. [`check_query`] and [`check_schema`] tell whether a text is good, and make
+//! no tree. [`json`] hands over trees as JSON.
+//!
+//! All of them borrow the text, may be called from any number of threads, and never panic. Selection sets, values and types
+//! nest 64 deep each, unless [`Limits`] say otherwise.
 //!
 //! ```
-//! use graphql_parser::{check_query, parse_query, Kind, Limits, Places};
+//! use graphql_parser::types::Selection;
+//! use graphql_parser::{parse_query, Error};
 //!
-//! let tree = parse_query("{ hero { name } }", Limits::default(), Places::LeftOut)?;
-//! assert!(tree.starts_with(r#"{"kind":"Document""#));
+//! let document = parse_query("{ hero(id: 7) { name } }")?;
+//! for (_, operation) in document.operations.iter() {
+//!     for selection in &operation.node.selection_set.node.items {
+//!         if let Selection::Field(field) = &selection.node {
+//!             assert_eq!(field.node.name.node, "hero");
+//!             assert_eq!(field.node.get_argument("id").unwrap().to_string(), "7");
+//!             assert_eq!(field.pos.to_string(), "1:3");
+//!         }
+//!     }
+//! }
 //!
-//! let error = check_query("{ hero { name }", Limits::default()).unwrap_err();
-//! assert_eq!(error.kind(), Kind::Syntax);
+//! let error = parse_query("{ hero { name }").unwrap_err();
+//! assert!(matches!(error, Error::Syntax { .. }));
 //! assert_eq!(error.to_string(), "syntax error at 1:16");
-//! # Ok::<(), graphql_parser::Error>(())
+//! # Ok::<(), Error>(())
 //! ```
+#![deny(missing_docs)]
 
 mod error;
-mod json;
+pub mod json;
+mod pos;
 mod raw;
+mod read;
+pub mod types;
+pub mod value;
 
-pub use error::{Error, Kind, Place};
-pub use json::Json;
-use raw::{CheckCall, Outcome, ParseCall};
+pub use error::{Error, ErrorPositions, Result};
+use json::Places;
+pub use pos::{Pos, Positioned};
+use raw::{CheckCall, ParseCall};
+use types::{ExecutableDocument, ServiceDocument};
 
 /// How deep a text may nest: three numbers, each at most [`Limits::LARGEST`].
 #[derive(Clone, Copy, Debug, PartialEq, Eq)]
@@ -51,81 +71,115 @@ impl Default for Limits {
     }
 }
 
-/// Whether the nodes of a tree are written with their places, as the members `line` and `column`. The document, the names of
-/// operations and fragments, the name in a variable that is a value, the roots of a schema, and what is inside a list, an
-/// object or a list type have none.
-#[derive(Clone, Copy, Debug, PartialEq, Eq)]
-pub enum Places {
-    LeftOut,
-    Written,
-}
-
-/// Tells whether `text` is a request.
+/// The tree of a request, within the limits of [`Limits::default`].
 ///
 /// # Errors
 ///
-/// Why it isn't, as [`Kind`] tells; the error has no JSON.
-pub fn check_query(text: &str, limits: Limits) -> Result<(), Error> {
-    check(raw::graphql_parser_check_query, text, limits)
+/// Why the text isn't a request.
+pub fn parse_query<T: AsRef<str>>(input: T) -> Result<ExecutableDocument> {
+    parse_query_limited(input, Limits::default())
 }
 
-/// Tells whether `text` is a schema file.
+/// The tree of a schema file, within the limits of [`Limits::default`].
 ///
 /// # Errors
 ///
-/// Why it isn't, as [`Kind`] tells; the error has no JSON.
-pub fn check_schema(text: &str, limits: Limits) -> Result<(), Error> {
-    check(raw::graphql_parser_check_schema, text, limits)
+/// Why the text isn't a schema file.
+pub fn parse_schema<T: AsRef<str>>(input: T) -> Result<ServiceDocument> {
+    parse_schema_limited(input, Limits::default())
 }
 
-/// The tree of the request `text`, as JSON.
+/// The tree of a request.
 ///
 /// # Errors
 ///
-/// Why it isn't a request, as [`Kind`] tells. The error has JSON for a response, but for the kinds `OutOfMemory` and
-/// `LimitTooLarge`.
-pub fn parse_query(text: &str, limits: Limits, places: Places) -> Result<Json, Error> {
-    parse(raw::graphql_parser_parse_query, text, limits, places)
+/// Why the text isn't a request within the limits, or that one of them is too large.
+pub fn parse_query_limited<T: AsRef<str>>(input: T, limits: Limits) -> Result<ExecutableDocument> {
+    let call = raw::graphql_parser_parse_query;
+    let json = json::parse(call, input.as_ref(), limits, Places::Written)?;
+    read::request(&json).ok_or_else(unknown_form)
 }
 
-/// The tree of the schema file `text`, as JSON.
+/// The tree of a schema file. It has no selection sets, so that the limit of these makes no difference.
 ///
 /// # Errors
 ///
-/// Why it isn't a schema file, as [`Kind`] tells. The error has JSON for a response, but for the kinds `OutOfMemory` and
-/// `LimitTooLarge`.
-pub fn parse_schema(text: &str, limits: Limits, places: Places) -> Result<Json, Error> {
-    parse(raw::graphql_parser_parse_schema, text, limits, places)
+/// Why the text isn't a schema file within the limits, or that one of them is too large.
+pub fn parse_schema_limited<T: AsRef<str>>(input: T, limits: Limits) -> Result<ServiceDocument> {
+    let call = raw::graphql_parser_parse_schema;
+    let json = json::parse(call, input.as_ref(), limits, Places::Written)?;
+    read::schema_file(&json).ok_or_else(unknown_form)
+}
+
+/// Tells whether a text is a request. It makes no tree, and takes less time and memory than a parse; only an error that has
+/// a name in it takes a second reading.
+///
+/// # Errors
+///
+/// Why the text isn't a request within the limits, or that one of them is too large.
+pub fn check_query<T: AsRef<str>>(input: T, limits: Limits) -> Result<()> {
+    check(
+        raw::graphql_parser_check_query,
+        raw::graphql_parser_parse_query,
+        input.as_ref(),
+        limits,
+    )
+}
+
+/// Tells whether a text is a schema file. It makes no tree, and takes less time and memory than a parse; only an error that
+/// has a name in it takes a second reading.
+///
+/// # Errors
+///
+/// Why the text isn't a schema file within the limits, or that one of them is too large.
+pub fn check_schema<T: AsRef<str>>(input: T, limits: Limits) -> Result<()> {
+    check(
+        raw::graphql_parser_check_schema,
+        raw::graphql_parser_parse_schema,
+        input.as_ref(),
+        limits,
+    )
 }
 
 /// The three numbers of the version of the library that is linked, such as 1, 0 and 0.
+#[must_use]
 pub fn version() -> (u32, u32, u32) {
     let number = raw::version();
     (number / 10000, number / 100 % 100, number % 100)
 }
 
-fn check(call: CheckCall, text: &str, limits: Limits) -> Result<(), Error> {
-    let Outcome { status, places, .. } = raw::check(call, text, limits);
-    match Kind::of_status(status) {
-        None => Ok(()),
-        Some(kind) => Err(Error::new(kind, places, None)),
+// A check tells by numbers alone. The name in an error is told by the parse of the same text.
+fn check(call: CheckCall, parse: ParseCall, text: &str, limits: Limits) -> Result<()> {
+    let (status, places) = raw::check(call, text, limits);
+    if status == 0 {
+        return Ok(());
+    }
+    match Error::of(status, places, None) {
+        Some(error) => Err(error),
+        None => json::parse(parse, text, limits, Places::LeftOut).map(drop),
     }
 }
 
-fn parse(
-    call: ParseCall,
-    text: &str,
-    limits: Limits,
-    places_of_nodes: Places,
-) -> Result<Json, Error> {
-    let Outcome {
+// The error that a status of the library stands for, with the error in JSON that is handed over, if there is one.
+fn refusal(status: u32, places: [Option<Pos>; 2], json: Option<&str>) -> Error {
+    let message = json.and_then(error::message_of);
+    Error::of(status, places, message).unwrap_or_else(|| Error::Other {
         status,
+        message: format!("refused with the status {status}"),
         places,
-        json,
-    } = raw::parse(call, text, limits, places_of_nodes);
-    match (Kind::of_status(status), json) {
-        (None, Some(json)) => Ok(json),
-        (None, None) => unreachable!("an accepted text comes with its tree"),
-        (Some(kind), json) => Err(Error::new(kind, places, json)),
+    })
+}
+
+// What is said of a tree in whose JSON something stands that this crate doesn't know.
+fn unknown_form() -> Error {
+    Error::Other {
+        status: 0,
+        message: "the library's tree has a form that this crate doesn't know".to_owned(),
+        places: [None, None],
     }
 }
+
+// The programs of the crate's page run as tests.
+#[cfg(doctest)]
+#[doc = include_str!("../README.md")]
+struct Readme;

@@ -1,6 +1,7 @@
-//! The functions of C, as `graphql_parser.h` declares them. All that is unsafe stands here and in `json`.
-use crate::json::Json;
-use crate::{Limits, Place, Places};
+//! The functions of C, as `graphql_parser.h` declares them. All that is unsafe stands here, in `json` and in
+//! `value::text`.
+use crate::json::{Json, Places};
+use crate::{Limits, Pos};
 use std::ptr;
 
 #[repr(C)]
@@ -72,22 +73,22 @@ pub fn version() -> u32 {
     unsafe { graphql_parser_version() }
 }
 
-/// What a call tells and hands over.
+/// What a parse tells and hands over.
 pub struct Outcome {
     pub status: u32,
-    pub places: [Option<Place>; 2],
+    pub places: [Option<Pos>; 2],
     pub json: Option<Json>,
 }
 
-fn place(RawPlace { line, column }: RawPlace) -> Option<Place> {
-    (line > 0).then_some(Place { line, column })
+fn place(RawPlace { line, column }: RawPlace) -> Option<Pos> {
+    (line > 0).then_some(Pos { line, column })
 }
 
 /// Has a function called with the limits, one by one, and with room for the places that it tells.
 fn told(
     limits: Limits,
     call: impl FnOnce([usize; 3], &mut RawPlaces) -> u32,
-) -> (u32, [Option<Place>; 2]) {
+) -> (u32, [Option<Pos>; 2]) {
     let Limits {
         selections,
         values,
@@ -98,17 +99,13 @@ fn told(
     (status, [place(places.first), place(places.second)])
 }
 
-pub fn check(call: CheckCall, text: &str, limits: Limits) -> Outcome {
+/// The status of a check, and its places.
+pub fn check(call: CheckCall, text: &str, limits: Limits) -> (u32, [Option<Pos>; 2]) {
     let (start, length) = (text.as_ptr(), text.len());
-    let (status, places) = told(limits, |[selections, values, types], places| {
+    told(limits, |[selections, values, types], places| {
         // SAFETY: `start` and `length` are those of one `str`, and `places` is ours.
         unsafe { call(start, length, selections, values, types, places) }
-    });
-    Outcome {
-        status,
-        places,
-        json: None,
-    }
+    })
 }
 
 pub fn parse(call: ParseCall, text: &str, limits: Limits, places_of_nodes: Places) -> Outcome {

@@ -1,6 +1,10 @@
 //! The calls on good, refused and too deep texts of both languages, from one thread and from several.
+use graphql_parser::json::{self, Places};
+use graphql_parser::types::{DocumentOperations, OperationType};
+use graphql_parser::value::Name;
 use graphql_parser::{
-    check_query, check_schema, parse_query, parse_schema, Error, Kind, Limits, Place, Places,
+    check_query, check_schema, parse_query, parse_query_limited, parse_schema,
+    parse_schema_limited, Error, Limits, Pos,
 };
 use std::thread;
 
@@ -16,37 +20,39 @@ fn limits(each: usize) -> Limits {
     }
 }
 
-fn kind_and_places(error: &Error) -> (Kind, Vec<(usize, usize)>) {
-    let places = error
-        .places()
-        .map(|Place { line, column }| (line, column))
-        .collect();
-    (error.kind(), places)
+fn pos(line: usize, column: usize) -> Pos {
+    Pos { line, column }
 }
 
-// A refused text, read within limits of one number each, and what is wrong where.
+fn syntax(line: usize, column: usize) -> Error {
+    Error::Syntax {
+        message: format!("syntax error at {line}:{column}"),
+        start: pos(line, column),
+        end: None,
+    }
+}
+
+// A refused text, read within limits of one number each, and why.
 struct Refused {
     is_request: bool,
     text: String,
     limit: usize,
-    kind: Kind,
-    places: Vec<(usize, usize)>,
+    error: Error,
 }
 
-fn request(text: &str, limit: usize, kind: Kind, places: &[(usize, usize)]) -> Refused {
+fn request(text: &str, limit: usize, error: Error) -> Refused {
     Refused {
         is_request: true,
         text: text.to_owned(),
         limit,
-        kind,
-        places: places.to_vec(),
+        error,
     }
 }
 
-fn schema_file(text: &str, limit: usize, kind: Kind, places: &[(usize, usize)]) -> Refused {
+fn schema_file(text: &str, limit: usize, error: Error) -> Refused {
     Refused {
         is_request: false,
-        ..request(text, limit, kind, places)
+        ..request(text, limit, error)
     }
 }
 
@@ -54,68 +60,70 @@ fn refused() -> Vec<Refused> {
     let deep = "{a".repeat(66);
     let deep_type = format!("input A{{f:{}", "[".repeat(65));
     let fragments = "fragment F on T{a}{b}fragment F on T{c}";
+    let two = Error::MultipleOperations {
+        anonymous: pos(1, 1),
+        operation: pos(1, 4),
+    };
+    let operation = Error::OperationDuplicated {
+        operation: Name::new("A"),
+        first: pos(1, 1),
+        second: pos(2, 1),
+    };
+    let fragment = Error::FragmentDuplicated {
+        fragment: Name::new("F"),
+        first: pos(1, 1),
+        second: pos(1, 22),
+    };
+    let roots = Error::MultipleRoots {
+        root: OperationType::Query,
+        schema: pos(1, 1),
+        pos: pos(1, 16),
+    };
     vec![
-        request("{a", 64, Kind::Syntax, &[(1, 3)]),
-        request("", 64, Kind::Syntax, &[(1, 1)]),
-        request("{é ?}", 64, Kind::Syntax, &[(1, 2)]),
-        request(&deep, 64, Kind::RecursionLimitExceeded, &[]),
-        request(
-            "{a}query B{b}",
-            64,
-            Kind::MultipleOperations,
-            &[(1, 1), (1, 4)],
-        ),
-        request(
-            "query A{a}\nquery A{a}",
-            64,
-            Kind::OperationDuplicated,
-            &[(2, 1), (1, 1)],
-        ),
-        request(fragments, 64, Kind::FragmentDuplicated, &[(1, 22), (1, 1)]),
-        request("fragment F on T{a}", 64, Kind::MissingOperation, &[]),
-        request("{a}", 257, Kind::LimitTooLarge, &[]),
-        schema_file("type", 64, Kind::Syntax, &[(1, 5)]),
-        schema_file(&deep_type, 64, Kind::RecursionLimitExceeded, &[]),
-        schema_file(
-            "schema{query:A query:B}",
-            64,
-            Kind::MultipleRoots,
-            &[(1, 16), (1, 1)],
-        ),
+        request("{a", 64, syntax(1, 3)),
+        request("", 64, syntax(1, 1)),
+        request("{é ?}", 64, syntax(1, 2)),
+        request(&deep, 64, Error::RecursionLimitExceeded),
+        request("{a}query B{b}", 64, two),
+        request("query A{a}\nquery A{a}", 64, operation),
+        request(fragments, 64, fragment),
+        request("fragment F on T{a}", 64, Error::MissingOperation),
+        request("{a}", 257, Error::LimitTooLarge),
+        schema_file("type", 64, syntax(1, 5)),
+        schema_file(&deep_type, 64, Error::RecursionLimitExceeded),
+        schema_file("schema{query:A query:B}", 64, roots),
         schema_file(
             "scalar A schema{mutation:M}",
             64,
-            Kind::MissingQueryRoot,
-            &[(1, 10)],
+            Error::MissingQueryRoot { pos: pos(1, 10) },
         ),
-        schema_file("scalar A", 257, Kind::LimitTooLarge, &[]),
+        schema_file("scalar A", 257, Error::LimitTooLarge),
     ]
+}
+
+// What a check, a parse and a parse into JSON say of a text.
+fn errors(row: &Refused) -> [Error; 3] {
+    let (text, limits) = (&row.text, limits(row.limit));
+    if row.is_request {
+        [
+            check_query(text, limits).unwrap_err(),
+            parse_query_limited(text, limits).unwrap_err(),
+            json::parse_query(text, limits, Places::LeftOut).unwrap_err(),
+        ]
+    } else {
+        [
+            check_schema(text, limits).unwrap_err(),
+            parse_schema_limited(text, limits).unwrap_err(),
+            json::parse_schema(text, limits, Places::LeftOut).unwrap_err(),
+        ]
+    }
 }
 
 fn refuses_each() {
     for row in refused() {
-        let (text, limits) = (row.text.as_str(), limits(row.limit));
-        let (checked, parsed) = if row.is_request {
-            (
-                check_query(text, limits),
-                parse_query(text, limits, Places::LeftOut),
-            )
-        } else {
-            (
-                check_schema(text, limits),
-                parse_schema(text, limits, Places::LeftOut),
-            )
-        };
-        let (checked, parsed) = (checked.unwrap_err(), parsed.unwrap_err());
-        let wanted = (row.kind, row.places);
-        assert_eq!(kind_and_places(&checked), wanted, "{text}");
-        assert_eq!(kind_and_places(&parsed), wanted, "{text}");
-        assert!(checked.json().is_none());
-        assert_eq!(
-            parsed.json().is_some(),
-            row.kind != Kind::LimitTooLarge,
-            "{text}"
-        );
+        for error in errors(&row) {
+            assert_eq!(error, row.error, "{}", row.text);
+        }
     }
 }
 
@@ -127,13 +135,21 @@ fn each_error_has_its_kind_and_its_places() {
 #[test]
 fn an_accepted_text_gives_its_tree() {
     assert!(check_query("{a}", Limits::default()).is_ok());
-    assert!(check_query(&"{a".repeat(66), limits(65)).is_err_and(|e| e.kind() == Kind::Syntax));
+    assert!(check_query("{a".repeat(66), limits(65)).is_err_and(|e| e == syntax(1, 133)));
     assert!(check_schema("scalar A", limits(0)).is_ok());
+    let tree = parse_query(String::from("query A{a}")).unwrap();
+    assert!(matches!(&tree.operations, DocumentOperations::Multiple(map) if map.contains_key("A")));
     assert_eq!(
-        &*parse_query("{a}", limits(0), Places::LeftOut).unwrap(),
-        FIELD
+        parse_schema("scalar A scalar B").unwrap().definitions.len(),
+        2
     );
-    let tree = parse_schema("scalar A", Limits::default(), Places::Written).unwrap();
+}
+
+#[test]
+fn an_accepted_text_gives_its_json() {
+    let tree = json::parse_query("{a}", limits(0), Places::LeftOut).unwrap();
+    assert_eq!(&*tree, FIELD);
+    let tree = json::parse_schema("scalar A", Limits::default(), Places::Written).unwrap();
     assert_eq!(tree.as_str(), SCALAR);
     assert_eq!(tree.to_string(), SCALAR);
     assert_eq!(tree.as_ref(), SCALAR);
@@ -143,57 +159,52 @@ fn an_accepted_text_gives_its_tree() {
 
 #[test]
 fn a_character_of_number_0_has_its_escape() {
-    let tree = parse_query("{a(b:\"\\u0000c\")}", Limits::default(), Places::LeftOut).unwrap();
+    let text = "{a(b:\"\\u0000c\")}";
+    let tree = json::parse_query(text, Limits::default(), Places::LeftOut).unwrap();
     assert!(tree.contains(r#""value":{"kind":"StringValue","value":"\u0000c"}"#));
     assert!(tree.ends_with('}'));
 }
 
-// A refused text, what a check shows of it, and what a parse shows of it: its message, as the JSON has it, and its places.
+// A refused request, its message, and the locations in its JSON.
 const SHOWN: [(&str, &str, &str); 5] = [
-    ("{a", "syntax error at 1:3", "syntax error at 1:3"),
+    ("{a", "syntax error at 1:3", r#"[{"line":1,"column":3}]"#),
     (
         "{a}query B{b}",
-        "document contains multiple operations at 1:1 and 1:4",
-        "document contains multiple operations at 1:1 and 1:4",
+        "document contains multiple operations",
+        r#"[{"line":1,"column":1},{"line":1,"column":4}]"#,
     ),
     (
         "query A{a}\nquery A{a}",
-        "an operation is defined twice at 2:1 and 1:1",
-        "operation A is defined twice at 2:1 and 1:1",
+        "operation A is defined twice",
+        r#"[{"line":2,"column":1},{"line":1,"column":1}]"#,
     ),
     (
         "fragment F on T{a}{b}fragment F on T{c}",
-        "a fragment is defined twice at 1:22 and 1:1",
-        "fragment F is defined twice at 1:22 and 1:1",
+        "fragment F is defined twice",
+        r#"[{"line":1,"column":22},{"line":1,"column":1}]"#,
     ),
     (
         "fragment F on T{a}",
         "document does not contain an operation",
-        "document does not contain an operation",
+        "",
     ),
 ];
 
 #[test]
-fn an_error_is_shown_with_its_message_and_its_places() {
-    let limits = Limits::default();
-    for (text, checked, parsed) in SHOWN {
-        assert_eq!(check_query(text, limits).unwrap_err().to_string(), checked);
-        let error = parse_query(text, limits, Places::LeftOut).unwrap_err();
-        assert_eq!(error.to_string(), parsed);
-        let json = error.json().unwrap();
-        assert!(json.starts_with(&format!("{{\"message\":\"{}\"", error.message())));
+fn an_error_is_shown_as_its_message() {
+    for (text, message, locations) in SHOWN {
+        let error = parse_query(text).unwrap_err();
+        assert_eq!(error.to_string(), message);
+        let json = match locations {
+            "" => format!("{{\"message\":\"{message}\"}}"),
+            _ => format!("{{\"message\":\"{message}\",\"locations\":{locations}}}"),
+        };
+        assert_eq!(error.to_json(), json);
     }
-    let error = check_schema("schema{query:A query:B}", limits).unwrap_err();
+    let error = parse_schema("schema{query:A query:B}").unwrap_err();
     assert_eq!(
-        error.message(),
-        "multiple roots of one kind in schema definition"
-    );
-    let error = parse_schema("schema{query:A query:B}", limits, Places::LeftOut).unwrap_err();
-    assert_eq!(error.message(), "multiple query roots in schema definition");
-    let error = parse_query("{a", limits, Places::LeftOut).unwrap_err();
-    assert_eq!(
-        error.json(),
-        Some(r#"{"message":"syntax error at 1:3","locations":[{"line":1,"column":3}]}"#)
+        error.to_string(),
+        "multiple query roots in schema definition"
     );
 }
 
@@ -208,18 +219,20 @@ fn the_library_has_the_version_of_the_crate() {
 
 #[test]
 fn several_threads_may_call_at_once() {
-    let tree = parse_query("{a}", Limits::default(), Places::LeftOut).unwrap();
+    let json = json::parse_query("{a}", Limits::default(), Places::LeftOut).unwrap();
+    let tree = parse_query("{a}").unwrap();
     thread::scope(|scope| {
         for _ in 0..4 {
             scope.spawn(|| {
                 for _ in 0..50 {
                     refuses_each();
-                    assert_eq!(tree.as_str(), FIELD);
+                    assert_eq!(json.as_str(), FIELD);
+                    assert_eq!(tree.operations.iter().len(), 1);
                 }
             });
         }
     });
-    thread::spawn(move || assert_eq!(tree.as_str(), FIELD))
+    thread::spawn(move || assert_eq!(json.as_str(), FIELD))
         .join()
         .unwrap();
 }

@@ -1,0 +1,164 @@
+//! The trees of requests ([`ExecutableDocument`]) and of schema files ([`ServiceDocument`]), by the GraphQL specification,
+//! October 2021.
+//!
+//! A tree keeps each node at its place: a node stands where its first token begins. All fields are public, and a tree that
+//! a caller builds is as good as one that was read.
+
+mod executable;
+mod service;
+
+use crate::pos::Positioned;
+use crate::value::{ConstValue, Name, Value};
+use std::fmt;
+
+pub use executable::*;
+pub use service::*;
+
+/// The kind of an operation (section 2.3), and of a root of a schema (section 3.3.1).
+#[derive(Clone, Copy, Debug, PartialEq, Eq)]
+pub enum OperationType {
+    /// A read, `query`.
+    Query,
+    /// A write that is followed by a read, `mutation`.
+    Mutation,
+    /// A long-lived request for events, `subscription`.
+    Subscription,
+}
+
+/// The keyword: `query`, `mutation` or `subscription`.
+impl fmt::Display for OperationType {
+    fn fmt(&self, f: &mut fmt::Formatter<'_>) -> fmt::Result {
+        f.write_str(match self {
+            OperationType::Query => "query",
+            OperationType::Mutation => "mutation",
+            OperationType::Subscription => "subscription",
+        })
+    }
+}
+
+/// A type reference, as `[Int!]` (section 2.11).
+#[derive(Clone, Debug, PartialEq, Eq)]
+pub struct Type {
+    /// The type without its mark.
+    pub base: BaseType,
+    /// Whether null is a value of the type: no `!` follows it.
+    pub nullable: bool,
+}
+
+impl Type {
+    /// The type reference that a text without blanks stands for, as `[Int!]!`; None where a `[` has no `]`.
+    ///
+    /// What stands inside the lists and before the `!` is taken for a name, whatever it is.
+    #[must_use]
+    pub fn new(ty: &str) -> Option<Type> {
+        let (unmarked, nullable) = match ty.strip_suffix('!') {
+            Some(unmarked) => (unmarked, false),
+            None => (ty, true),
+        };
+        let base = match unmarked.strip_prefix('[') {
+            Some(rest) => BaseType::List(Box::new(Type::new(rest.strip_suffix(']')?)?)),
+            None => BaseType::Named(Name::new(unmarked)),
+        };
+        Some(Type { base, nullable })
+    }
+}
+
+/// The reference as GraphQL writes it, without blanks.
+impl fmt::Display for Type {
+    fn fmt(&self, f: &mut fmt::Formatter<'_>) -> fmt::Result {
+        let mark = if self.nullable { "" } else { "!" };
+        write!(f, "{}{mark}", self.base)
+    }
+}
+
+/// A type reference without its mark: a name, or a list.
+#[derive(Clone, Debug, PartialEq, Eq)]
+pub enum BaseType {
+    /// A type by its name.
+    Named(Name),
+    /// The lists of a type.
+    List(Box<Type>),
+}
+
+/// The reference as GraphQL writes it, without blanks.
+impl fmt::Display for BaseType {
+    fn fmt(&self, f: &mut fmt::Formatter<'_>) -> fmt::Result {
+        match self {
+            BaseType::Named(name) => f.write_str(name),
+            BaseType::List(inner) => write!(f, "[{inner}]"),
+        }
+    }
+}
+
+/// A directive in whose arguments no variable stands, as in a schema file (section 2.12).
+///
+/// The node stands at its `@`.
+#[derive(Clone, Debug)]
+pub struct ConstDirective {
+    /// The name after the `@`.
+    pub name: Positioned<Name>,
+    /// The arguments, in source order. One name may come twice.
+    pub arguments: Vec<(Positioned<Name>, Positioned<ConstValue>)>,
+}
+
+impl ConstDirective {
+    /// The same directive as one in which variables may stand.
+    #[must_use]
+    pub fn into_directive(self) -> Directive {
+        let arguments = self.arguments.into_iter();
+        Directive {
+            name: self.name,
+            arguments: arguments
+                .map(|(name, value)| (name, value.map(ConstValue::into_value)))
+                .collect(),
+        }
+    }
+
+    /// The value of the first argument of this name; None where there is none.
+    #[must_use]
+    pub fn get_argument(&self, name: &str) -> Option<&Positioned<ConstValue>> {
+        argument(&self.arguments, name)
+    }
+}
+
+/// A directive in whose arguments variables may stand (section 2.12).
+///
+/// The node stands at its `@`.
+#[derive(Clone, Debug)]
+pub struct Directive {
+    /// The name after the `@`.
+    pub name: Positioned<Name>,
+    /// The arguments, in source order. One name may come twice.
+    pub arguments: Vec<(Positioned<Name>, Positioned<Value>)>,
+}
+
+impl Directive {
+    /// The same directive as one without variables; None where a variable stands in one of its arguments at any depth.
+    #[must_use]
+    pub fn into_const(self) -> Option<ConstDirective> {
+        let arguments = self.arguments.into_iter();
+        Some(ConstDirective {
+            name: self.name,
+            arguments: arguments
+                .map(|(name, Positioned { pos, node })| {
+                    Some((name, Positioned::new(node.into_const()?, pos)))
+                })
+                .collect::<Option<_>>()?,
+        })
+    }
+
+    /// The value of the first argument of this name; None where there is none.
+    #[must_use]
+    pub fn get_argument(&self, name: &str) -> Option<&Positioned<Value>> {
+        argument(&self.arguments, name)
+    }
+}
+
+// The value of the first argument of a name.
+fn argument<'a, V>(
+    arguments: &'a [(Positioned<Name>, Positioned<V>)],
+    wanted: &str,
+) -> Option<&'a Positioned<V>> {
+    let (_, value) = arguments.iter().find(|(name, _)| name.node == *wanted)?;
+    Some(value)
+}

@@ -1,0 +1,115 @@
+//! The texts of the library's own tests.
+//!
+//! Their files have raw strings: tables, with a text before the arrow of each row, and whole texts. What the marks of a row
+//! stand for is written at `crates/rows`.
+use std::fs;
+use std::path::{Path, PathBuf};
+
+/// A path of the repository.
+pub fn path(inside: &str) -> PathBuf {
+    Path::new(env!("CARGO_MANIFEST_DIR"))
+        .join("../..")
+        .join(inside)
+}
+
+/// All texts of the tables, and all raw strings.
+pub fn texts() -> Vec<String> {
+    let crates = ["conformance", "conformance_parts", "conformance_reports"];
+    let mut texts = Vec::new();
+    for name in crates {
+        for file in files(&path("crates").join(name).join("src")) {
+            for text in raw_strings(&fs::read_to_string(file).unwrap()) {
+                texts.extend(rows(text));
+                texts.push(text.to_owned());
+            }
+        }
+    }
+    texts
+}
+
+fn files(folder: &Path) -> Vec<PathBuf> {
+    let mut found = Vec::new();
+    for entry in fs::read_dir(folder).unwrap() {
+        let path = entry.unwrap().path();
+        if path.is_dir() {
+            found.extend(files(&path));
+        } else {
+            found.push(path);
+        }
+    }
+    found.sort();
+    found
+}
+
+/// The raw strings of a source: what stands between `r"` and `"`, or between `r#"` and `"#`, and so on.
+pub fn raw_strings(source: &str) -> Vec<&str> {
+    let mut found = Vec::new();
+    let mut rest = source;
+    while let Some((before, after)) = rest.split_once('r') {
+        let opening = after.trim_start_matches('#');
+        let end = format!("\"{}", &after[..after.len() - opening.len()]);
+        let is_word = before.ends_with(|c: char| c.is_ascii_alphanumeric() || c == '_');
+        rest = match opening.strip_prefix('"').filter(|_| !is_word) {
+            Some(inside) => {
+                let (text, behind) = inside.split_once(&end).unwrap();
+                found.push(text);
+                behind
+            }
+            None => after,
+        };
+    }
+    found
+}
+
+// The texts before the arrows of a table.
+fn rows(table: &str) -> impl Iterator<Item = String> + '_ {
+    let rows = table.lines().filter(|line| !line.starts_with("-- "));
+    rows.filter_map(|line| {
+        line.split_once(" ⇒")
+            .map(|(text, _)| meant(text.trim_end()))
+    })
+}
+
+// What a text with marks stands for.
+fn meant(text: &str) -> String {
+    let mut parts = text.split('⟨');
+    let mut out = plain(parts.next().unwrap_or_default());
+    for part in parts {
+        match part.split_once('⟩') {
+            Some((inside, rest)) => out += &(inside_brackets(inside) + &plain(rest)),
+            None => out += &("⟨".to_owned() + &plain(part)),
+        }
+    }
+    out
+}
+
+fn plain(text: &str) -> String {
+    let mark = |c| match c {
+        '␊' => '\n',
+        '␍' => '\r',
+        '␉' => '\t',
+        '␠' => ' ',
+        other => other,
+    };
+    text.chars().map(mark).collect()
+}
+
+// How often a text is repeated at most: a list of a hundred thousand items shows no more than one of a thousand.
+const LARGEST_COUNT: usize = 1_000;
+
+// A text that is repeated, the number of a character, or a text.
+fn inside_brackets(inside: &str) -> String {
+    if let Some((count, text)) = inside.split_once('×') {
+        if let Ok(count) = count.parse::<usize>() {
+            let numbered = |index: usize| plain(&text.replace('№', &index.to_string()));
+            return (0..count.min(LARGEST_COUNT)).map(numbered).collect();
+        }
+    }
+    match u32::from_str_radix(inside, 16)
+        .ok()
+        .and_then(char::from_u32)
+    {
+        Some(c) => c.to_string(),
+        None => plain(inside),
+    }
+}
