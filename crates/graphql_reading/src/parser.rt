@@ -27,8 +27,8 @@ pub enum Refusal {
     Limit,
 }
 
-/// What a reader gives: what stands at the parser, which then is after it; or why there is no such thing,
-/// with the refused token in hand. Where memory ran out, the parser is somewhere in between.
+/// What a reader gives: what begins with the token in hand, and then the token after it is in hand; or why there is no
+/// such thing, with the refused token in hand. Where memory ran out, the parser is somewhere in between.
 pub type Reading<T> = Result<T, Refusal>;
 
 impl From<AllocError> for Refusal {
