@@ -114,6 +114,16 @@ c_shared() {
         compiled calls_shared calls.c "$out/libgraphql_parser.so" -Wl,-rpath,"$out" && "$out/calls_shared"
 }
 
+# What `install.sh` installs is found by pkg-config, and a caller is compiled and runs with it alone.
+c_installed() {
+    prefix=$out/installed
+    rm -rf "$prefix"
+    "$here/install.sh" "$prefix" && cp "$here/c/example.c" "$prefix" || return 1
+    flags=$(PKG_CONFIG_PATH="$prefix/lib/pkgconfig" pkg-config --cflags --libs graphql_parser) &&
+        is_same "pkg-config" "$(PKG_CONFIG_PATH="$prefix/lib/pkgconfig" pkg-config --modversion graphql_parser)" "$version" &&
+        cc -std=c11 -o "$prefix/example" "$prefix/example.c" $flags -Wl,-rpath,"$prefix/lib" && reads_all "$prefix/example"
+}
+
 # Names, one a line, each once.
 sorted() {
     sort -u | tr '\n' ' '
@@ -191,6 +201,11 @@ elif ! "$here/build.sh"; then
     failed="$failed build"
 else
     language C c_version c_static c_shared
+    if has pkg-config; then
+        language "C installed" c_installed
+    else
+        skip "C installed" "there is no pkg-config"
+    fi
     if has readelf && has nm; then
         language "C's names" c_names
     else
