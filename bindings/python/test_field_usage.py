@@ -116,7 +116,6 @@ class FieldUsage(unittest.TestCase):
 
     def counted_by_a_cluster(self, python, folder, log):
         address = Path(folder, "scheduler.json")
-        errors = open(Path(folder, "errors"), "w+")
         started = []
 
         def start(*arguments, **options):
@@ -127,10 +126,10 @@ class FieldUsage(unittest.TestCase):
             return process
 
         common = ("--host", "127.0.0.1", "--no-dashboard", "--scheduler-file", address)
-        start("-m", "distributed.cli.dask_scheduler", "--port", "0", *common, stderr=errors)
+        start("-m", "distributed.cli.dask_scheduler", "--port", "0", *common, stderr=subprocess.DEVNULL)
         self.wait_for(address)
         workers = [
-            start("-m", "distributed.cli.dask_worker", "--nthreads", "1", "--no-nanny", *common, stderr=errors) for _ in range(2)
+            start("-m", "distributed.cli.dask_worker", "--nthreads", "1", "--no-nanny", *common, stderr=subprocess.DEVNULL) for _ in range(2)
         ]
         scheduler = json.loads(address.read_text())["address"]
         with open(Path(folder, "counted"), "w+") as found:

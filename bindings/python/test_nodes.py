@@ -204,18 +204,18 @@ class Trees(unittest.TestCase):
         self.assertIsNone(difference(graphql_parser.parse(b"{a}"), graphql.parse("{a}")))
 
     def test_ends_and_tokens_are_those_of_graphql_core(self):
-        text = '{a(b: [1, "c"]) {d}} query B($e: [F!] = []) {f}'
+        text = 'query A{a(b: [1, "c"]) {d}} query B($e: [F!] = []) {f}'
         ours, theirs = graphql_parser.parse(text), graphql.parse(text)
-        self.assertEqual(str(ours.loc), "0:47")
+        self.assertEqual(str(ours.loc), f"0:{len(text)}")
         self.assertEqual(ours, theirs)
         operation = ours.definitions[1]
-        self.assertEqual((operation.loc.end, operation.loc.start_token.value, operation.loc.end_token.kind.value), (47, "query", "}"))
+        self.assertEqual((operation.loc.end, operation.loc.start_token.value, operation.loc.end_token.kind.value), (len(text), "query", "}"))
         self.assertFalse(hasattr(operation.loc, "other"))
         self.assertEqual(graphql_parser.parse(text), graphql_parser.parse(text))
         self.assertNotEqual(graphql_parser.parse("{a}").definitions[0].loc, graphql_parser.parse("{a b}").definitions[0].loc)
 
     def test_an_end_that_graphql_core_cannot_tell_is_no_attribute(self):
-        deep = "{a" * 200 + "}" * 200
+        deep = "{a" * 257 + "}" * 257
         document = graphql_parser.parse(deep, selections=256)
         self.assertFalse(hasattr(document.loc, "end"))
 
@@ -268,10 +268,10 @@ class Deep(unittest.TestCase):
 
         for frames, limit in ((0, 64), (700, 64), (0, 256), (700, 256)):
             with self.subTest(frames=frames, limit=limit):
-                values = "{c:" * limit + '["d"]' + "}" * limit
+                values = "{c:" * (limit - 1) + '["d"]' + "}" * (limit - 1)
                 twice = "{a:{b:1,b:2}" + "}"
                 types = "[" * limit + "T" + "]" * limit
-                text = f"query($v:{types}){{a" + "{a" * limit + "{b(c:%s,d:%s)}" % (values, twice) + "}" * limit + "}"
+                text = f"query($v:{types})" + "{a" * limit + "{b(c:%s,d:%s)}" % (values, twice) + "}" * limit
                 document = from_below(frames, text, selections=256, values=256, types=256)
                 node = document.definitions[0].variable_definitions[0].type
                 for depth in range(limit):
@@ -286,7 +286,7 @@ class Deep(unittest.TestCase):
                 node = node.value
                 for _ in range(limit - 1):
                     node = node.fields[0].value
-                self.assertEqual(node.fields[0].value.values[0].loc.start, text.index('"d"'))
+                self.assertEqual(node.values[0].loc.start, text.index('"d"'))
 
     def test_a_deeper_text_is_refused(self):
         for text in ("{a" * 66 + "}" * 66, "{a(b:" + "[" * 65 + "]" * 65 + ")}"):

@@ -332,20 +332,19 @@ _LISTS = {
 
 _OPERATIONS = {operation.value: operation for operation in OperationType}
 
+# What the instances of a subclass have that is as quick as any object to make and to fill.
+_PLAIN = {"__slots__": (), "__setattr__": object.__setattr__, "__init__": object.__init__}
+
 _MAKER = """
 def made(members, text):
-    node = new(filled_class)
-    line = members.get("line")
-    if line is None:
-        node.loc = None
-    else:
-        start = text.starts[line] + members["column"]
+    node = filled_class()
+    node.loc = None
+    if "line" in members:
+        start = text.starts[members["line"]] + members["column"]
         if text.is_located:
-            location = node.loc = new(location_class)
+            location = node.loc = location_class()
             location.start = start
             location.source = text.source
-        else:
-            node.loc = None
 {attributes}
     node.__class__ = node_class
 {finish}
@@ -362,7 +361,7 @@ def _attribute(node_class, key):
     if key == "block":
         return "False"
     if member in _LISTS and (node_class, key) != (ast.FragmentDefinitionNode, "variable_definitions"):
-        return f'tuple(members["{member}"])'
+        return f'tuple(members["{member}"]) if members["{member}"] else ()'
     return f'members.get("{member}")'
 
 
@@ -375,14 +374,13 @@ def _maker(node_class):
     finish = _FINISHES.get(node_class)
     attributes = [f"    node.{key} = {_attribute(node_class, key)}" for key in node_class.keys if key != "loc"]
     names = {
-        "new": _new,
         "node_class": node_class,
-        "filled_class": type(node_class.__name__, (node_class,), {"__slots__": (), "__setattr__": object.__setattr__}),
+        "filled_class": type(node_class.__name__, (node_class,), _PLAIN),
         "location_class": _LOCATIONS[node_class],
         "operations": _OPERATIONS,
         "finish": finish,
     }
-    called = "    if line is not None:\n        finish(node, start, text)" if finish else ""
+    called = "    if \"line\" in members:\n        finish(node, start, text)" if finish else ""
     if node_class is ast.DocumentNode:
         names["finish"], called = _place_document, "    finish(node, 0, text)"
     exec(_MAKER.format(attributes="\n".join(attributes), finish=called), names)
@@ -395,6 +393,6 @@ _CLASSES = [
     if name.endswith("Node") and not name.startswith("Const") and isinstance(node_class, type)
 ]
 _LOCATIONS = {
-    node_class: type("Location", (_Location,), {"__slots__": (), "node_class": node_class}) for node_class in _CLASSES
+    node_class: type("Location", (_Location,), {"__slots__": (), "__init__": object.__init__, "node_class": node_class}) for node_class in _CLASSES
 }
 _MAKERS = {node_class.__name__[: -len("Node")]: _maker(node_class) for node_class in _CLASSES}
