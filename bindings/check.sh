@@ -163,7 +163,7 @@ c_version() {
     is_same "GRAPHQL_PARSER_VERSION_NUMBER" "$(sed -n 's/^#define GRAPHQL_PARSER_VERSION_NUMBER //p' "$here/graphql_parser.h")" "$number" &&
         is_same "gql --version" "$(sed -n 's/.*"gql \([0-9.]*\)\\n".*/\1/p' "$here"/../crates/gql/src/*.rt)" "$version" &&
         is_same "Cargo.toml" "$(sed -n 's/^version = "\(.*\)"$/\1/p' "$here/rust/Cargo.toml")" "$version" &&
-        is_same "graphql_parser.py" "$(sed -n 's/^__version__ = "\(.*\)"$/\1/p' "$here/python/graphql_parser.py")" "$version"
+        is_same "graphql_parser for Python" "$(sed -n 's/^__version__ = "\(.*\)"$/\1/p' "$here/python/graphql_parser/__init__.py")" "$version"
 }
 
 rust_tests() {
@@ -177,11 +177,24 @@ rust_example() {
     (cd "$here/rust" && cargo build --quiet --offline --example read) && reads_all "$CARGO_TARGET_DIR/debug/examples/read"
 }
 
-python_tests() {
-    (cd "$here/python" && python3 -m unittest --quiet test_graphql_parser) >"$out/python.log" 2>&1 || {
+# The tests of a module beside the Python package.
+python_module() {
+    (cd "$here/python" && python3 -m unittest --quiet "$1") >"$out/python.log" 2>&1 || {
         cat "$out/python.log"
         return 1
     }
+}
+
+python_tests() {
+    python_module test_graphql_parser && python_module test_package
+}
+
+python_nodes() {
+    python_module test_nodes
+}
+
+python_field_usage() {
+    python_module test_field_usage
 }
 
 python_example() {
@@ -223,6 +236,15 @@ else
     fi
     if has python3; then
         language Python python_tests python_example
+        language "Python's field_usage" python_field_usage
+        if [ -z "$(cd "$here/python" && python3 -c 'import test_field_usage as test; print(test.python_with_dask() or "")')" ]; then
+            skip "field_usage on a cluster" "no python3 has Dask (python3-dask, python3-distributed)"
+        fi
+        if python3 -c 'import graphql' 2>/dev/null; then
+            language "Python's graphql-core" python_nodes
+        else
+            skip "Python's graphql-core" "python3 doesn't have it"
+        fi
     else
         skip Python "there is no python3"
     fi

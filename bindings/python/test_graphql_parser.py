@@ -10,7 +10,7 @@ import threading
 import unittest
 
 import graphql_parser
-from graphql_parser import GraphQLError, Kind
+from graphql_parser import GraphQLError, Kind, _json, _library
 
 FIELD = {
     "kind": "Document",
@@ -114,10 +114,10 @@ class Calls(unittest.TestCase):
         self.assertEqual((int(Kind(12)), Kind(12).name), (12, "OTHER_12"))
         self.assertIs(Kind(12), Kind(12))
         self.assertIs(pickle.loads(pickle.dumps(Kind(12))), Kind(12))
-        places = graphql_parser._Places(graphql_parser._Place(2, 3))
+        places = _library.Places(_library.Place(2, 3))
         for written in (None, '{"message":"too long"}'):
             with self.assertRaises(GraphQLError) as caught:
-                graphql_parser._raise(12, places, written)
+                _library.refuse(12, places, written)
             self.assertEqual((caught.exception.kind, caught.exception.places), (12, [(2, 3)]))
         self.assertEqual(str(caught.exception), "too long at 2:3")
 
@@ -162,7 +162,7 @@ class Calls(unittest.TestCase):
                     node = node["fields"][0]["value"]
                 self.assertEqual(node, {"kind": "IntValue", "value": "1"})
         written = graphql_parser.query_json('{a(b:"{\\\\\\"[",c:[1,true]){d}}', places=True)
-        self.assertEqual(graphql_parser._decoded_in_a_loop(written), shallow)
+        self.assertEqual(_json.decoded_in_a_loop(written), shallow)
 
     def test_texts_are_str_and_bytes(self):
         for text in (b"{a}", bytearray(b"{a}"), memoryview(b"{a}"), memoryview(b"}xax{")[::-2]):
@@ -183,7 +183,7 @@ class Calls(unittest.TestCase):
 
     def test_the_library_has_the_version_of_the_module(self):
         major, minor, patch = map(int, graphql_parser.__version__.split("."))
-        self.assertEqual(graphql_parser._lib.graphql_parser_version(), major * 10000 + minor * 100 + patch)
+        self.assertEqual(_library.version(), major * 10000 + minor * 100 + patch)
 
     def test_several_threads_may_call_at_once(self):
         wrong = []

@@ -1,0 +1,95 @@
+"""A parser of GraphQL requests and schema files whose every function is proved, for Python.
+
+    >>> import graphql_parser
+    >>> graphql_parser.parse_query("{ hero }")["kind"]
+    'Document'
+    >>> graphql_parser.check_query("{ hero")
+    Traceback (most recent call last):
+    graphql_parser.GraphQLError: syntax error at 1:7
+
+`check_query` and `check_schema` raise an error or return None. `parse_query` and `parse_schema` return the tree in the form
+of GraphQL.js, as dicts and lists; `query_json` and `schema_json` return it as the JSON that it is handed over in. `parse`
+stands in for `graphql.parse` of graphql-core: it returns graphql-core's nodes and raises its errors.
+
+A text is a str, or bytes, a bytearray or a memoryview in UTF-8; anything else is a TypeError. A text that isn't UTF-8, or a
+str with a lone surrogate, which has no UTF-8, is refused like any other, with the kind NOT_UTF8. `selections`, `values` and
+`types` say how deep each may nest, 0 to LARGEST_LIMIT; another number is a ValueError. Other threads run while a text is
+read.
+
+The shared object, which `bindings/build.sh` makes, is looked for in the folder that the environment variable
+GRAPHQL_PARSER_LIB names, beside this file, and in the folder `bindings/out`.
+"""
+
+from . import _library
+from ._errors import GraphQLError, Kind
+from ._library import LARGEST_LIMIT
+
+__all__ = [
+    "GraphQLError",
+    "Kind",
+    "LARGEST_LIMIT",
+    "check_query",
+    "check_schema",
+    "parse",
+    "parse_query",
+    "parse_schema",
+    "query_json",
+    "schema_json",
+]
+
+__version__ = "1.0.0"
+
+for _class in (GraphQLError, Kind):
+    _class.__module__ = __name__
+
+
+def check_query(text, *, selections=64, values=64, types=64):
+    """Raises a GraphQLError where `text` isn't a request."""
+    _library.check(_library.check_query, text, (selections, values, types))
+
+
+def check_schema(text, *, selections=64, values=64, types=64):
+    """Raises a GraphQLError where `text` isn't a schema file. It has no selection sets: `selections` makes no difference."""
+    _library.check(_library.check_schema, text, (selections, values, types))
+
+
+def query_json(text, *, selections=64, values=64, types=64, places=False):
+    """The tree of a request as JSON, a str; with `places` the nodes that have places have their `line` and `column`."""
+    return _library.parse(_library.parse_query, text, (selections, values, types), places)
+
+
+def schema_json(text, *, selections=64, values=64, types=64, places=False):
+    """The tree of a schema file as JSON, a str; with `places` the nodes that have places have their `line` and `column`."""
+    return _library.parse(_library.parse_schema, text, (selections, values, types), places)
+
+
+def parse_query(text, *, selections=64, values=64, types=64, places=False):
+    """The tree of a request, read from `query_json`, however deep it nests."""
+    from ._json import decoded
+
+    return decoded(query_json(text, selections=selections, values=values, types=types, places=places))
+
+
+def parse_schema(text, *, selections=64, values=64, types=64, places=False):
+    """The tree of a schema file, read from `schema_json`, however deep it nests."""
+    from ._json import decoded
+
+    return decoded(schema_json(text, selections=selections, values=values, types=types, places=places))
+
+
+def parse(source, no_location=False, *, selections=64, values=64, types=64):
+    """The tree of a request or a schema file, as the DocumentNode that `graphql.parse` of graphql-core 3.2 gives.
+
+    `source` is a text, or a Source of graphql-core. Whether it is a request or a schema file is told by its first token; one
+    that is neither is refused. With `no_location` the nodes have no `loc`.
+
+    Raises graphql-core's GraphQLSyntaxError where the text is refused, with a GraphQLError as its `__cause__`, and an
+    ImportError where graphql-core isn't installed.
+    """
+    try:
+        from . import _nodes
+    except ModuleNotFoundError as error:
+        if error.name != "graphql":
+            raise
+        raise ImportError("graphql_parser.parse gives nodes of graphql-core: pip install 'graphql-core>=3.2,<3.3'") from error
+    return _nodes.parse(source, no_location, (selections, values, types))

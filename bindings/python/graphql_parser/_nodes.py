@@ -1,0 +1,398 @@
+"""graphql-core's nodes, from the library's JSON.
+
+The standard library reads the JSON, and calls a function for each object in it, innermost first. That function makes the node
+from its members. What the library's places leave out is found in the text: where the nodes inside lists and objects stand,
+and which strings are block strings.
+"""
+
+import gc
+import itertools
+import re
+
+import graphql
+from graphql.error import GraphQLSyntaxError
+from graphql.language import Location, OperationType, Source, ast
+
+from . import _library
+from ._errors import GraphQLError, Kind
+from ._json import decoded
+
+_IGNORED = r"(?:[ \t\n\r,\ufeff]+|#[^\n\r]*)*"
+_FIRST = re.compile(_IGNORED + r'("|\w*)')
+_SCHEMA_WORDS = {'"', "schema", "scalar", "type", "interface", "union", "enum", "input", "directive", "extend"}
+# A dollar sign or a keyword, and what is ignored after it.
+_BEFORE_NAME = re.compile(r"(?:\$|\w+)" + _IGNORED)
+_LONE_CARRIAGE_RETURN = re.compile("\r(?!\n)")
+_BLOCK = '"""'
+# A comment, a mark, or in one of the groups a token at which a value, a type or a name begins, or one that closes a list or an
+# object.
+_TOKEN = re.compile(r'#[^\n\r]*|([\w.+-]+|"""(?:\\"""|[^"]|"(?!""))*"""|"(?:\\.|[^"\\])*"|\$)|([\[{])|([\]}])|[():!=@&|]')
+_OPENS = 2
+_CLOSES = 3
+# Where a report says what is wrong: after the place, in its first line.
+_SAID = re.compile(r"(?:.*?\b\d+:\d+: )?(?:syntax error: )?(.*)")
+_CACHE = "_graphql_parser_locations"
+
+
+class _Text:
+    """A text that is read, and whether its nodes get locations."""
+
+    __slots__ = "source", "body", "starts", "is_located"
+
+    def __init__(self, source, is_located):
+        self.source = source
+        self.is_located = is_located
+        # The library begins no line at a lone carriage return, so places after one aren't unique. A line feed in its stead
+        # is as good: either ends a comment, or a line of a block string, and neither may stand in a string.
+        self.body = _LONE_CARRIAGE_RETURN.sub("\n", source.body) if "\r" in source.body else source.body
+        # For each line, counted from 1, one less than the offset that it begins at: columns are counted from 1 too.
+        lengths = (len(line) + 1 for line in self.body.split("\n"))
+        self.starts = [0, *itertools.accumulate(lengths, initial=-1)]
+
+
+def parse(source, no_location, limits):
+    """What `graphql_parser.parse` gives."""
+    if not isinstance(source, Source):
+        # What isn't UTF-8 becomes lone surrogates, which have none.
+        is_text = isinstance(source, str)
+        source = Source(source if is_text else _library.raw_bytes(source).decode(errors="surrogateescape"))
+    text = _Text(source, not no_location)
+    is_schema = _FIRST.match(text.body).group(1) in _SCHEMA_WORDS
+    call = _library.parse_schema if is_schema else _library.parse_query
+    try:
+        written = _library.parse(call, text.body, limits, True)
+    except GraphQLError as error:
+        explain = _library.explain_schema if is_schema else _library.explain_query
+        raise _syntax_error(error, text, explain, limits) from error
+    return _document(written, text)
+
+
+def _syntax_error(error, text, explain, limits):
+    """graphql-core's error, with what the library's report says, or else with our message."""
+    report = _library.explain(explain, text.body, limits) if explain and error.kind != Kind.NOT_UTF8 else None
+    said = _SAID.match(report).group(1) if report else error.message
+    positions = [text.starts[line] + column for line, column in error.places]
+    refused = GraphQLSyntaxError(text.source, positions[0] if positions else 0, said)
+    refused.positions = positions or None
+    refused.locations = [text.source.get_location(position) for position in positions] or None
+    return refused
+
+
+def _document(written, text):
+    def made(members):
+        return _MAKERS[members["kind"]](members, text)
+
+    # A tree has no cycles, and the collector would look through it again and again while it grows.
+    collects = gc.isenabled()
+    gc.disable()
+    try:
+        return decoded(written, made)
+    finally:
+        if collects:
+            gc.enable()
+
+
+class _Location(Location):
+    """Where a node starts. Its end and its tokens are those that graphql-core's parser finds, which runs when the first of
+    them is asked for."""
+
+    __slots__ = ()
+
+    # Each class of nodes has a class of locations.
+    node_class = None
+
+    def __getattr__(self, name):
+        if name not in ("end", "start_token", "end_token"):
+            raise AttributeError(f"a location has no attribute {name!r}")
+        whole = _whole_locations(self.source).get((self.start, self.node_class))
+        if whole is None:
+            raise AttributeError(f"graphql-core doesn't read this text, which {name!r} is asked of")
+        self.end, self.start_token, self.end_token = whole.end, whole.start_token, whole.end_token
+        return getattr(self, name)
+
+    def __eq__(self, other):
+        if isinstance(other, _Location) and self.source == other.source:
+            return (self.start, self.node_class) == (other.start, other.node_class)
+        return super().__eq__(other)
+
+    def __hash__(self):
+        return hash(self.start)
+
+    def __reduce__(self):
+        return _location, (self.node_class, self.start, self.source)
+
+
+def _whole_locations(source):
+    """graphql-core's locations of the nodes of a text, by where they start and their class; none where it refuses the text."""
+    found = getattr(source, _CACHE, None)
+    if found is None:
+        found = {}
+        try:
+            waiting = [graphql.parse(source)]
+        except (graphql.GraphQLError, RecursionError):
+            waiting = []
+        while waiting:
+            node = waiting.pop()
+            if isinstance(node, tuple):
+                waiting.extend(node)
+            elif isinstance(node, ast.Node):
+                found[node.loc.start, type(node)] = node.loc
+                waiting.extend(getattr(node, key) for key in node.keys if key != "loc")
+        setattr(source, _CACHE, found)
+    return found
+
+
+_new = object.__new__
+
+
+def _location(node_class, start, source):
+    location = _new(_LOCATIONS[node_class])
+    location.start = start
+    location.source = source
+    return location
+
+
+# The slots themselves: `Node.__setattr__` first looks for a cached hash, which a node that nobody has seen hasn't got.
+_set_loc = ast.Node.loc.__set__
+_set_block = ast.StringValueNode.block.__set__
+
+
+def _place(node, start, text):
+    if text.is_located:
+        _set_loc(node, _location(node.__class__, start, text.source))
+
+
+def _place_document(node, start, text):
+    _place(node, 0, text)
+
+
+def _place_name(node, start, text):
+    """Places the name of an operation or a fragment, which stands after its keyword, or that of a variable."""
+    name = node.name
+    if name is not None and name.loc is None and text.is_located:
+        _place(name, _BEFORE_NAME.match(text.body, start).end(), text)
+
+
+def _place_roots(node, start, text):
+    """Places the roots of a schema: each begins at its keyword, two tokens before its type."""
+    roots = {root.type.loc.start: root for root in node.operation_types} if text.is_located else {}
+    before = None
+    tokens = _TOKEN.finditer(text.body, start)
+    while roots:
+        token = next(tokens)
+        if token.lastindex:
+            at = token.start()
+            if at in roots:
+                _place(roots.pop(at), before, text)
+            before = at
+
+
+def _tell_block(node, start, text):
+    _set_block(node, text.body.startswith(_BLOCK, start))
+
+
+def _place_inside(outermost, start, text):
+    """Places what is inside a list, an object or a type, and tells which strings in it are block strings.
+
+    Gives whether each token is of a node. Where an object has a field twice some aren't: the library has it once.
+    """
+    source = text.source if text.is_located else None
+    waiting = [outermost]
+    depth = 0
+    for token in _TOKEN.finditer(text.body, start):
+        group = token.lastindex
+        if group == _CLOSES:
+            depth -= 1
+            if not depth:
+                return not waiting
+        elif group:
+            if not waiting:
+                return False
+            depth += group == _OPENS
+            node = waiting.pop()
+            at = token.start()
+            while node is not None:
+                if source is not None:
+                    location = _new(_LOCATIONS[node.__class__])
+                    location.start = at
+                    location.source = source
+                    _set_loc(node, location)
+                after = _AFTER.get(node.__class__)
+                node = after(node, waiting, token) if after else None
+
+
+def _after_field(node, waiting, token):
+    waiting.append(node.value)
+    return node.name
+
+
+def _after_list(node, waiting, token):
+    waiting.extend(reversed(node.values))
+
+
+def _after_object(node, waiting, token):
+    waiting.extend(reversed(node.fields))
+
+
+def _after_variable(node, waiting, token):
+    waiting.append(node.name)
+
+
+def _after_list_type(node, waiting, token):
+    waiting.append(node.type)
+
+
+def _after_string(node, waiting, token):
+    _set_block(node, token.string.startswith(_BLOCK, token.start()))
+
+
+# What follows a node that is placed: the nodes that begin at later tokens go to those that wait, the next one last; what is
+# given begins at the same token.
+_AFTER = {
+    ast.ObjectFieldNode: _after_field,
+    ast.ListValueNode: _after_list,
+    ast.ObjectValueNode: _after_object,
+    ast.VariableNode: _after_variable,
+    ast.StringValueNode: _after_string,
+    ast.ListTypeNode: _after_list_type,
+    ast.NonNullTypeNode: lambda node, waiting, token: node.type,
+    ast.NamedTypeNode: lambda node, waiting, token: node.name,
+}
+
+
+def _place_value(node, start, text):
+    if not _place_inside(node, start, text):
+        whole = _value_with_repeated_fields(text.body, start)
+        for key in node.keys:
+            setattr(node, key, getattr(whole, key))
+        _place_inside(node, start, text)
+
+
+def _value_with_repeated_fields(body, start):
+    """The list or object at an offset, with all the fields of its objects. Each string, number or word in it is read by
+    graphql-core."""
+    opened = []
+    is_variable = False
+    for token in _TOKEN.finditer(body, start):
+        mark = token.group()
+        if mark in "[{":
+            opened.append((mark, []))
+            continue
+        elif mark in "]}":
+            kind, items = opened.pop()
+            if kind == "[":
+                value = ast.ListValueNode(values=items)
+            else:
+                fields = zip(items[::2], items[1::2])
+                value = ast.ObjectValueNode(fields=[ast.ObjectFieldNode(name=name, value=value) for name, value in fields])
+            if not opened:
+                return value
+        elif not token.lastindex:
+            continue
+        elif mark == "$":
+            is_variable = True
+            continue
+        elif is_variable:
+            value = ast.VariableNode(name=ast.NameNode(value=mark))
+            is_variable = False
+        elif opened[-1][0] == "{" and len(opened[-1][1]) % 2 == 0:
+            value = ast.NameNode(value=mark)
+        else:
+            value = graphql.parse_value(mark, no_location=True)
+        opened[-1][1].append(value)
+
+
+# What is done once a node that has a place is made.
+_FINISHES = {
+    ast.OperationDefinitionNode: _place_name,
+    ast.FragmentDefinitionNode: _place_name,
+    ast.VariableNode: _place_name,
+    ast.SchemaDefinitionNode: _place_roots,
+    ast.SchemaExtensionNode: _place_roots,
+    ast.StringValueNode: _tell_block,
+    ast.ListValueNode: _place_value,
+    ast.ObjectValueNode: _place_value,
+    ast.ListTypeNode: _place_inside,
+}
+
+# The members that are lists, which are there even if they are empty.
+_LISTS = {
+    "definitions",
+    "variableDefinitions",
+    "directives",
+    "selections",
+    "arguments",
+    "values",
+    "fields",
+    "operationTypes",
+    "interfaces",
+    "types",
+    "locations",
+}
+
+_OPERATIONS = {operation.value: operation for operation in OperationType}
+
+# What the instances of a subclass have that is as quick as any object to make and to fill.
+_PLAIN = {"__slots__": (), "__setattr__": object.__setattr__, "__init__": object.__init__}
+
+_MAKER = """
+def made(members, text):
+    node = filled_class()
+    node.loc = None
+    if "line" in members:
+        start = text.starts[members["line"]] + members["column"]
+        if text.is_located:
+            location = node.loc = location_class()
+            location.start = start
+            location.source = text.source
+{attributes}
+    node.__class__ = node_class
+{finish}
+    return node
+"""
+
+
+def _attribute(node_class, key):
+    """What an attribute of a node is, as an expression over `members`."""
+    first, *others = key.split("_")
+    member = first + "".join(other.capitalize() for other in others)
+    if key == "operation":
+        return 'operations[members["operation"]]'
+    if key == "block":
+        return "False"
+    if member in _LISTS and (node_class, key) != (ast.FragmentDefinitionNode, "variable_definitions"):
+        return f'tuple(members["{member}"]) if members["{member}"] else ()'
+    return f'members.get("{member}")'
+
+
+def _maker(node_class):
+    """The function that makes a node of a class from its members.
+
+    It fills an instance of a subclass, whose attributes are set as those of any object are, and makes it a node of the class
+    at the end.
+    """
+    finish = _FINISHES.get(node_class)
+    attributes = [f"    node.{key} = {_attribute(node_class, key)}" for key in node_class.keys if key != "loc"]
+    names = {
+        "node_class": node_class,
+        "filled_class": type(node_class.__name__, (node_class,), _PLAIN),
+        "location_class": _LOCATIONS[node_class],
+        "operations": _OPERATIONS,
+        "finish": finish,
+    }
+    called = "    if \"line\" in members:\n        finish(node, start, text)" if finish else ""
+    if node_class is ast.DocumentNode:
+        names["finish"], called = _place_document, "    finish(node, 0, text)"
+    exec(_MAKER.format(attributes="\n".join(attributes), finish=called), names)
+    return names["made"]
+
+
+_CLASSES = [
+    node_class
+    for name, node_class in vars(ast).items()
+    if name.endswith("Node") and not name.startswith("Const") and isinstance(node_class, type)
+]
+_LOCATIONS = {
+    node_class: type("Location", (_Location,), {"__slots__": (), "__init__": object.__init__, "node_class": node_class}) for node_class in _CLASSES
+}
+_MAKERS = {node_class.__name__[: -len("Node")]: _maker(node_class) for node_class in _CLASSES}

@@ -1,0 +1,89 @@
+"""The package as pip installs it, and its types."""
+
+import ast
+import inspect
+import os
+import shutil
+import subprocess
+import sys
+import tempfile
+import unittest
+import venv
+from pathlib import Path
+
+import build_wheel
+import graphql_parser
+
+HERE = Path(__file__).resolve().parent
+
+
+class Package(unittest.TestCase):
+    def test_pip_installs_what_runs_on_its_own(self):
+        with tempfile.TemporaryDirectory() as folder:
+            venv.create(folder, with_pip=False, symlinks=True, system_site_packages=True)
+            python = os.path.join(folder, "bin", "python")
+            # Where graphql-core is, should this interpreter be of a venv of its own.
+            outside = {key: value for key, value in os.environ.items() if key != "GRAPHQL_PARSER_LIB"}
+            command = [sys.executable, "-m", "pip", "--python", python, "install", "--quiet", "--no-deps", "--no-index", str(HERE)]
+            done = subprocess.run(command, capture_output=True, text=True)
+            self.assertEqual(done.returncode, 0, done.stdout + done.stderr)
+            program = (
+                "import graphql_parser; print(graphql_parser.__file__, graphql_parser.__version__); "
+                "graphql_parser.check_query('{a}'); print(graphql_parser.parse_query('{a}')['kind'])"
+            )
+            done = subprocess.run([python, "-c", program], cwd=folder, env=outside, capture_output=True, text=True)
+            self.assertEqual(done.returncode, 0, done.stderr)
+            file, version, kind = done.stdout.split()
+            self.assertTrue(os.path.realpath(file).startswith(os.path.realpath(folder)), file)
+            self.assertEqual((version, kind), (graphql_parser.__version__, "Document"))
+            beside = set(os.listdir(os.path.dirname(file)))
+            self.assertLessEqual({"py.typed", "__init__.pyi", "libgraphql_parser.so.1"}, beside)
+
+    def test_a_missing_shared_object_is_told(self):
+        with tempfile.TemporaryDirectory() as folder:
+            shutil.copytree(HERE / "graphql_parser", Path(folder, "python", "graphql_parser"))
+            for name in ("build_wheel.py", "pyproject.toml", "README.md"):
+                shutil.copy(HERE / name, Path(folder, "python", name))
+            outside = {**os.environ, "GRAPHQL_PARSER_LIB": folder}
+            program = "import build_wheel; build_wheel.build_wheel('.')"
+            done = subprocess.run(
+                [sys.executable, "-c", program], cwd=Path(folder, "python"), env=outside, capture_output=True, text=True
+            )
+            self.assertEqual(done.returncode, 1)
+            self.assertIn("libgraphql_parser.so.1 is missing", done.stderr)
+            self.assertIn("bindings/build.sh", done.stderr)
+
+
+class Types(unittest.TestCase):
+    """The stub says what the module has."""
+
+    def test_each_signature(self):
+        stub = ast.parse((HERE / "graphql_parser" / "__init__.pyi").read_text())
+        declared = {node.name: node for node in stub.body if isinstance(node, (ast.FunctionDef, ast.ClassDef))}
+        self.assertEqual(set(declared) | {"LARGEST_LIMIT"}, set(graphql_parser.__all__))
+        for name, node in declared.items():
+            if isinstance(node, ast.FunctionDef):
+                with self.subTest(name=name):
+                    signature = inspect.signature(getattr(graphql_parser, name))
+                    self.assertEqual(arguments_of(node), [(one.name, one.kind, one.default) for one in signature.parameters.values()])
+
+    def test_each_kind(self):
+        stub = ast.parse((HERE / "graphql_parser" / "__init__.pyi").read_text())
+        kinds = next(node for node in stub.body if isinstance(node, ast.ClassDef) and node.name == "Kind")
+        declared = {one.targets[0].id: one.value.value for one in kinds.body}
+        self.assertEqual(declared, {kind.name: int(kind) for kind in graphql_parser.Kind if not kind.name.startswith("OTHER_")})
+
+
+def arguments_of(node):
+    """The names, kinds and defaults of a function's arguments."""
+    either, only_named = inspect.Parameter.POSITIONAL_OR_KEYWORD, inspect.Parameter.KEYWORD_ONLY
+    empty = inspect.Parameter.empty
+    defaults = [ast.literal_eval(default) for default in node.args.defaults]
+    defaults = [empty] * (len(node.args.args) - len(defaults)) + defaults
+    found = [(one.arg, either, default) for one, default in zip(node.args.args, defaults)]
+    named = zip(node.args.kwonlyargs, node.args.kw_defaults)
+    return found + [(one.arg, only_named, ast.literal_eval(default)) for one, default in named]
+
+
+if __name__ == "__main__":
+    unittest.main()
