@@ -13,7 +13,7 @@ import graphql
 from graphql.language import Node, Source
 
 import graphql_parser
-from graphql_parser import Kind, _nodes
+from graphql_parser import Kind
 
 REQUESTS = [
     "{a}",
@@ -320,8 +320,7 @@ class Errors(unittest.TestCase):
                 graphql_parser.parse(text)
             error = caught.exception
             self.assertEqual((error.__cause__.kind, error.positions), (kind, positions))
-            if graphql_parser._library.explain_query is None:
-                self.assertEqual(error.message, "Syntax Error: " + message)
+            self.assertEqual(error.message, "Syntax Error: " + message)
             self.assertEqual(len(error.locations or ()), len(positions or ()))
             self.assertEqual(error.formatted["message"], error.message)
             self.assertIsInstance(str(error), str)
@@ -330,14 +329,6 @@ class Errors(unittest.TestCase):
         for text in (None, 1, ["{a}"]):
             with self.assertRaises(TypeError):
                 graphql_parser.parse(text)
-
-    def test_what_a_report_says_is_said(self):
-        for report, said in (
-            ('1:3: syntax error: found ")", expected a name\n 1 | {a)\n', 'found ")", expected a name'),
-            ("2:1: operation A is defined twice\n", "operation A is defined twice"),
-            ("document does not contain an operation", "document does not contain an operation"),
-        ):
-            self.assertEqual(_nodes._SAID.match(report).group(1), said)
 
     def test_without_graphql_core(self):
         program = (

@@ -41,11 +41,10 @@ _TEXT = [ctypes.c_char_p, ctypes.c_size_t, ctypes.c_size_t, ctypes.c_size_t, cty
 
 
 def _call(name, arguments, result):
-    """A call of the library, or None where it has none of this name."""
-    call = getattr(library, "graphql_parser_" + name, None)
-    if call is not None:
-        call.argtypes = arguments
-        call.restype = result
+    """A call of the library."""
+    call = getattr(library, "graphql_parser_" + name)
+    call.argtypes = arguments
+    call.restype = result
     return call
 
 
@@ -56,9 +55,6 @@ check_query = _call("check_query", _CHECK, ctypes.c_uint32)
 check_schema = _call("check_schema", _CHECK, ctypes.c_uint32)
 parse_query = _call("parse_query", _PARSE, ctypes.c_uint32)
 parse_schema = _call("parse_schema", _PARSE, ctypes.c_uint32)
-# A library of version 1.0.0 has no reports.
-explain_query = _call("explain_query", _TEXT + [ctypes.POINTER(Block)], ctypes.c_uint32)
-explain_schema = _call("explain_schema", _TEXT + [ctypes.POINTER(Block)], ctypes.c_uint32)
 version = _call("version", [], ctypes.c_uint32)
 # The `free` that goes with the library's `malloc`: both are bound in the shared object. A `free` that is looked up from here
 # isn't the same one where another allocator was loaded before the C library.
@@ -126,10 +122,3 @@ def parse(call, text, limits, with_places):
     if status:
         refuse(status, places, written)
     return written
-
-
-def explain(call, text, limits):
-    """The report on a text; None where it isn't refused."""
-    block = Block()
-    call(*_asked(text, limits), ctypes.byref(block))
-    return _taken(block)

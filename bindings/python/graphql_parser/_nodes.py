@@ -14,7 +14,7 @@ from graphql.error import GraphQLSyntaxError
 from graphql.language import Location, OperationType, Source, ast
 
 from . import _library
-from ._errors import GraphQLError, Kind
+from ._errors import GraphQLError
 from ._json import decoded
 
 _IGNORED = r"(?:[ \t\n\r,\ufeff]+|#[^\n\r]*)*"
@@ -29,8 +29,6 @@ _BLOCK = '"""'
 _TOKEN = re.compile(r'#[^\n\r]*|([\w.+-]+|"""(?:\\"""|[^"]|"(?!""))*"""|"(?:\\.|[^"\\])*"|\$)|([\[{])|([\]}])|[():!=@&|]')
 _OPENS = 2
 _CLOSES = 3
-# Where a report says what is wrong: after the place, in its first line.
-_SAID = re.compile(r"(?:.*?\b\d+:\d+: )?(?:syntax error: )?(.*)")
 _CACHE = "_graphql_parser_locations"
 
 
@@ -62,17 +60,14 @@ def parse(source, no_location, limits):
     try:
         written = _library.parse(call, text.body, limits, True)
     except GraphQLError as error:
-        explain = _library.explain_schema if is_schema else _library.explain_query
-        raise _syntax_error(error, text, explain, limits) from error
+        raise _syntax_error(error, text) from error
     return _document(written, text)
 
 
-def _syntax_error(error, text, explain, limits):
-    """graphql-core's error, with what the library's report says, or else with our message."""
-    report = _library.explain(explain, text.body, limits) if explain and error.kind != Kind.NOT_UTF8 else None
-    said = _SAID.match(report).group(1) if report else error.message
+def _syntax_error(error, text):
+    """graphql-core's error, with our message and places."""
     positions = [text.starts[line] + column for line, column in error.places]
-    refused = GraphQLSyntaxError(text.source, positions[0] if positions else 0, said)
+    refused = GraphQLSyntaxError(text.source, positions[0] if positions else 0, error.message)
     refused.positions = positions or None
     refused.locations = [text.source.get_location(position) for position in positions] or None
     return refused
