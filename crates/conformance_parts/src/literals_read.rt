@@ -35,11 +35,7 @@ impl Subject for ReadPlain {
     }
 }
 
-fn write_read(
-    shown: &mut Shown,
-    parser: &mut Parser<'_>,
-    limits: Limits,
-) -> Reading<()> {
+fn write_read(shown: &mut Shown, parser: &mut Parser<'_>, limits: Limits) -> Reading<()> {
     if parser.is_at_punct("(") {
         for argument in &read_arguments::<Plain>(parser, limits)? {
             shown.item("", &argument.0.node);
