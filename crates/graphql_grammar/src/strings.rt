@@ -7,7 +7,6 @@ ghost use Rattle.graphql_reading.specs.reading.Spelled.{IsQuoted};
 
 use graphql_reading::parser::{Parser, Reading, Refusal};
 use graphql_syntax::text::{block_string_value, string_value};
-use std::alloc::Global;
 
 /// What stands between so many quotes.
 fn inside(text: &str, quotes: usize) -> &str

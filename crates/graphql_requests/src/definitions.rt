@@ -1,17 +1,12 @@
 //! Readers of operations, fragments and requests.
-ghost use Rattle.std.specs.Prelude.{◌≡◌, true};
+ghost use Rattle.std.specs.Prelude.{◌≡◌};
 ghost use Rattle.graphql_tokens.specs.tokens.Seen.{seen};
-ghost use Rattle.graphql_syntax.specs.trees.Parts.{placed};
-ghost use Rattle.graphql_syntax.specs.trees.PartViews.{directive_tree};
-ghost use Rattle.graphql_request_trees.specs.trees.RequestViews.{variable_definition_tree, selection_set_tree};
 ghost use Rattle.graphql_requests.specs.grammar.Request.{Definition as SpecDefinition};
 ghost use Rattle.graphql_requests.specs.grammar.Selections.{fragment_name};
-ghost use Rattle.graphql_reading.specs.reading.Given.{trees_in};
-ghost use Rattle.graphql_grammar.specs.reading.Arguments.{directives_at};
-ghost use Rattle.graphql_requests.specs.reading.Definitions.{definition_tree, in_definitions, maybe_name_at, given_variables_at, worded_at};
+ghost use Rattle.graphql_requests.specs.reading.Definitions.{definition_tree, in_definitions, maybe_name_at, worded_at};
 ghost use Rattle.graphql_reading.specs.reading.Given.{Gives};
 ghost use Rattle.graphql_reading.specs.reading.Outcome.{one_at};
-ghost use Rattle.graphql_requests.specs.reading.Request.{own_set_at, short_operation_at, fragment_at, definition_first, definition_at, definitions_at};
+ghost use Rattle.graphql_requests.specs.reading.Request.{short_operation_at, fragment_at, definition_first, definition_at, definitions_at};
 
 use crate::selections::{is_at_fragment_name, read_selection_set, read_type_condition};
 use crate::variables::read_maybe_variable_definitions;
@@ -20,12 +15,10 @@ use graphql_grammar::operations::read_operation_type;
 use graphql_reading::limits::Limits;
 use graphql_reading::parser::{Parser, Reading, Refusal};
 use graphql_reading::production::{Production, one_or_more};
-use graphql_request_trees::{
-    FragmentDefinition, OperationDefinition, SelectionSet, VariableDefinition,
-};
+use graphql_request_trees::{FragmentDefinition, OperationDefinition};
 use graphql_syntax::lexer::Token;
 use graphql_syntax::pos::Positioned;
-use graphql_syntax::types::{Directive, OperationType};
+use graphql_syntax::types::OperationType;
 use graphql_syntax::value::Name;
 
 /// A definition, before the rules of documents are looked at.
