@@ -1,5 +1,5 @@
-//! The examples of README.md and docs/USING.md, as they stand there. They are tested beside the program, which lets go of
-//! documents too: each crate that does so proves it anew, for every type of the tree.
+//! The example of README.md, as it stands there, and the one that docs/USING.md names. They are tested beside the program, which
+//! lets go of documents too: each crate that does so proves it anew, for every type of the tree.
 use graphql_parser::types::{Selection, TypeKind, TypeSystemDefinition};
 use graphql_parser::{Error, parse_query, parse_schema};
 use std::alloc::Global;
