@@ -14,15 +14,13 @@ SCHEMA = graphql.build_schema("type Query { a: Int }")
 
 HEAD = """# Messages
 
-What a person is told of a request that is refused: by `gql check`, and by graphql-core {version}, the port of GraphQL.js
-to Python, which has its messages (it prints single quotes where GraphQL.js prints double ones). The texts and our half are rows
-of `crates/conformance_reports/src/messages.rt`, which are tested. `tests/messages.py` makes this page of them, and asks
-graphql-core for its parser's message, or else for those of its three rules on the names of operations and fragments. Where
-it has no message it takes the text: it sets no limit to how deep a text nests, reads definitions of types in the same
-document, and asks for no operation.
+What `gql check` says of a request, and after `core:` graphql-core {version}, the port of GraphQL.js to Python (single
+quotes for double ones, without `Syntax Error: `). `tests/messages.py` makes this page of the tested rows of
+`crates/conformance_reports/src/messages.rt` and of graphql-core's parser and its three rules on names. Where that is silent
+it accepts the text: it has no limit of depth, reads type definitions too, and asks for no operation. A text that the report
+cuts is above it.
 
-Ours tells at each place all that could have stood there, and shows the line.
-"""
+```"""
 
 
 def meant(text):
@@ -54,11 +52,15 @@ def core(text):
     return [
         error.message + "".join(f" ({place.line}:{place.column})" for place in error.locations or [])
         for error in errors
-    ] or ["(no message)"]
+    ] or ["(silent)"]
 
 
-def fence(lines):
-    return "\n".join(["```", *lines, "```", ""])
+def shown_above(text, told):
+    """The lines of a text that the report leaves out or cuts."""
+    lines = text.split("\n")
+    if all(any(line.endswith(" | " + part) for line in told) for part in lines):
+        return []
+    return [line if len(line) < 100 else line[:20] + "..." + line[-10:] for line in lines]
 
 
 def cases(table):
@@ -79,13 +81,11 @@ def cases(table):
 def main():
     print(HEAD.format(version=graphql.version))
     table = re.search(r'r#"\n(.*?)"#', ROWS.read_text(), re.S)[1]
-    for number, (title, text, told) in enumerate(cases(table), 1):
-        text = meant(text)
-        print(f"## {number}. {title}\n")
-        shown = text if len(text) < 100 else text[:60] + "..." + text[-10:]
-        print(fence(shown.split("\n")))
-        print("Ours:\n\n" + fence(report(told)))
-        print("graphql-core:\n\n" + fence(core(text)))
+    for title, text, told in cases(table):
+        text, told = meant(text), report(told)
+        says = [f"core: {line.removeprefix('Syntax Error: ')}" for line in core(text)]
+        print("\n".join([f"# {title}", *shown_above(text, told), *told, *says, ""]))
+    print("```")
 
 
 main()
