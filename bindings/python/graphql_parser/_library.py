@@ -27,10 +27,15 @@ class Block(ctypes.Structure):
 SHARED_OBJECT = "libgraphql_parser.so.1"
 
 
-def _loaded():
+def paths_of(name):
+    """Where a file may be that `bindings/build.sh` makes."""
     here = os.path.dirname(os.path.abspath(__file__))
     folders = [os.environ.get("GRAPHQL_PARSER_LIB"), here, os.path.join(here, "..", "..", "out")]
-    paths = [os.path.join(folder, SHARED_OBJECT) for folder in folders if folder]
+    return [os.path.join(folder, name) for folder in folders if folder]
+
+
+def _loaded():
+    paths = paths_of(SHARED_OBJECT)
     for path in paths:
         if os.path.exists(path):
             return ctypes.CDLL(path)
@@ -96,9 +101,9 @@ def refuse(status, places, json):
 
 
 def _taken(block):
-    """The text in a block, which is given back; None where there is none."""
+    """The bytes in a block, which is given back; None where there is none."""
     try:
-        return ctypes.string_at(block.start, block.length).decode() if block.start else None
+        return ctypes.string_at(block.start, block.length) if block.start else None
     finally:
         _free(block.start)
 
@@ -112,13 +117,18 @@ def check(call, text, limits):
         refuse(status, places, None)
 
 
-def parse(call, text, limits, with_places):
-    """The JSON of a text; a GraphQLError where it is refused."""
+def parse_bytes(call, text, limits, with_places):
+    """The JSON of a text, in UTF-8; a GraphQLError where it is refused."""
     asked = _asked(text, limits)
     places = Places()
     block = Block()
     status = call(*asked, bool(with_places), ctypes.byref(places), ctypes.byref(block))
     written = _taken(block)
     if status:
-        refuse(status, places, written)
+        refuse(status, places, written and written.decode())
     return written
+
+
+def parse(call, text, limits, with_places):
+    """The JSON of a text; a GraphQLError where it is refused."""
+    return parse_bytes(call, text, limits, with_places).decode()

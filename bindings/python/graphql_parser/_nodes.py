@@ -1,12 +1,16 @@
 """graphql-core's nodes, from the library's JSON.
 
-The standard library reads the JSON, and calls a function for each object in it, innermost first. That function makes the node
-from its members. What the library's places leave out is found in the text: where the nodes inside lists and objects stand,
-and which strings are block strings.
+The module in C that `nodes.c` is, where there is one, makes them. Else the standard library reads the JSON, and calls a
+function for each object in it, innermost first. That function makes the node from its members. What the library's places leave
+out is found in the text: where the nodes inside lists and objects stand, and which strings are block strings.
 """
 
 import gc
+import importlib.machinery
+import importlib.util
 import itertools
+import json
+import os
 import re
 
 import graphql
@@ -35,7 +39,7 @@ _CACHE = "_graphql_parser_locations"
 class _Text:
     """A text that is read, and whether its nodes get locations."""
 
-    __slots__ = "source", "body", "starts", "is_located"
+    __slots__ = "source", "body", "is_located", "starts"
 
     def __init__(self, source, is_located):
         self.source = source
@@ -43,6 +47,8 @@ class _Text:
         # The library begins no line at a lone carriage return, so places after one aren't unique. A line feed in its stead
         # is as good: either ends a comment, or a line of a block string, and neither may stand in a string.
         self.body = _LONE_CARRIAGE_RETURN.sub("\n", source.body) if "\r" in source.body else source.body
+
+    def find_lines(self):
         # For each line, counted from 1, one less than the offset that it begins at: columns are counted from 1 too.
         lengths = (len(line) + 1 for line in self.body.split("\n"))
         self.starts = [0, *itertools.accumulate(lengths, initial=-1)]
@@ -58,7 +64,7 @@ def parse(source, no_location, limits):
     is_schema = _FIRST.match(text.body).group(1) in _SCHEMA_WORDS
     call = _library.parse_schema if is_schema else _library.parse_query
     try:
-        written = _library.parse(call, text.body, limits, True)
+        written = _library.parse_bytes(call, text.body, limits, True)
     except GraphQLError as error:
         raise _syntax_error(error, text) from error
     return _document(written, text)
@@ -66,6 +72,7 @@ def parse(source, no_location, limits):
 
 def _syntax_error(error, text):
     """graphql-core's error, with our message and places."""
+    text.find_lines()
     positions = [text.starts[line] + column for line, column in error.places]
     refused = GraphQLSyntaxError(text.source, positions[0] if positions else 0, error.message)
     refused.positions = positions or None
@@ -74,17 +81,29 @@ def _syntax_error(error, text):
 
 
 def _document(written, text):
-    def made(members):
-        return _MAKERS[members["kind"]](members, text)
-
     # A tree has no cycles, and the collector would look through it again and again while it grows.
     collects = gc.isenabled()
     gc.disable()
     try:
-        return decoded(written, made)
+        return (_document_in_c if _in_c else _document_in_python)(written, text)
     finally:
         if collects:
             gc.enable()
+
+
+def _document_in_c(written, text):
+    def repeated(start):
+        return _located_value(text, start)
+
+    return _in_c.document(written, text.body, text.source if text.is_located else None, repeated)
+
+
+def _document_in_python(written, text):
+    def made(members):
+        return _MAKERS[members["kind"]](members, text)
+
+    text.find_lines()
+    return decoded(written.decode(), made)
 
 
 class _Location(Location):
@@ -257,10 +276,16 @@ _AFTER = {
 
 def _place_value(node, start, text):
     if not _place_inside(node, start, text):
-        whole = _value_with_repeated_fields(text.body, start)
+        whole = _located_value(text, start)
         for key in node.keys:
             setattr(node, key, getattr(whole, key))
-        _place_inside(node, start, text)
+
+
+def _located_value(text, start):
+    """The list or object at an offset, in which an object has a field twice."""
+    node = _value_with_repeated_fields(text.body, start)
+    _place_inside(node, start, text)
+    return node
 
 
 def _value_with_repeated_fields(body, start):
@@ -347,10 +372,15 @@ def made(members, text):
 """
 
 
+def _member(key):
+    """The JSON's name of an attribute."""
+    first, *others = key.split("_")
+    return first + "".join(other.capitalize() for other in others)
+
+
 def _attribute(node_class, key):
     """What an attribute of a node is, as an expression over `members`."""
-    first, *others = key.split("_")
-    member = first + "".join(other.capitalize() for other in others)
+    member = _member(key)
     if key == "operation":
         return 'operations[members["operation"]]'
     if key == "block":
@@ -390,4 +420,30 @@ _CLASSES = [
 _LOCATIONS = {
     node_class: type("Location", (_Location,), {"__slots__": (), "__init__": object.__init__, "node_class": node_class}) for node_class in _CLASSES
 }
-_MAKERS = {node_class.__name__[: -len("Node")]: _maker(node_class) for node_class in _CLASSES}
+_KINDS = {node_class.__name__[: -len("Node")]: node_class for node_class in _CLASSES}
+_MAKERS = {kind: _maker(node_class) for kind, node_class in _KINDS.items()}
+
+
+def _c_module():
+    """The module in C, which was told of graphql-core's classes; None where there is none, or where they don't keep their
+    attributes in slots."""
+    name = "_nodes_c"
+    paths = [path for suffix in importlib.machinery.EXTENSION_SUFFIXES[:1] for path in _library.paths_of(name + suffix)]
+    path = next(filter(os.path.exists, paths), None)
+    if path is None:
+        return None
+    spec = importlib.util.spec_from_file_location(f"{__package__}.{name}", path)
+    module = importlib.util.module_from_spec(spec)
+    spec.loader.exec_module(module)
+    kinds = [
+        (kind, node_class, _LOCATIONS[node_class], tuple((_member(key), getattr(node_class, key)) for key in node_class.keys if key != "loc"))
+        for kind, node_class in _KINDS.items()
+    ]
+    try:
+        module.setup(_OPERATIONS, json.decoder.scanstring, ast.Node.loc, Location.start, Location.source, tuple(kinds))
+    except TypeError:
+        return None
+    return module
+
+
+_in_c = _c_module()
