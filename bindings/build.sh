@@ -4,8 +4,9 @@
 #   libgraphql_parser.a                 the static library, with the kit's functions of the heap in it
 #   libgraphql_parser.so.MAJOR.x.y      the shared object, made from it; `libgraphql_parser.so.MAJOR`, its soname, and
 #                                       `libgraphql_parser.so` are links to it
+#   _nodes_c.*.so                       the module in C of the Python package, for the `python3` at hand, if it has headers
 #
-# Both show what the header declares, and nothing else.
+# Both libraries show what the header declares, and nothing else.
 #
 # The first call proves and compiles the crate and all below it, which takes some minutes; later calls do nothing until a
 # source changes. Needs the kit (`rt`) and a C compiler (`cc`, with `ar` and `objcopy`). The callers need neither the kit
@@ -26,10 +27,13 @@ is_built() {
             -newer "$shared" | head -n 1)" ]
 }
 
+mkdir -p "$out"
+if command -v python3 >/dev/null 2>&1; then
+    python3 -B "$here/python/build_nodes.py" "$out"
+fi
 if is_built; then
     exit 0
 fi
-mkdir -p "$out"
 rm -f "$archive" "$out"/libgraphql_parser.so*
 if ! (cd "$root/crates/graphql_parser_c" && rt lib >"$out/build.log" 2>&1); then
     cat "$out/build.log" >&2

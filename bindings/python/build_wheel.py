@@ -1,4 +1,5 @@
-"""Makes the package, for `pip install ./bindings/python`: the modules, their types and the shared object.
+"""Makes the package, for `pip install ./bindings/python`: the modules, their types, the shared object, and the module in C
+where it can be compiled.
 
 The shared object is taken from the folder that the environment variable GRAPHQL_PARSER_LIB names, or from `bindings/out`,
 where `bindings/build.sh` leaves it. This is a build backend, as PEP 517 has it, that makes a wheel, as PEP 427 has it.
@@ -8,9 +9,13 @@ import base64
 import hashlib
 import os
 import re
+import sys
 import sysconfig
+import tempfile
 import zipfile
 from pathlib import Path
+
+from build_nodes import compiled
 
 HERE = Path(__file__).resolve().parent
 PACKAGE = HERE / "graphql_parser"
@@ -48,11 +53,23 @@ def shared_object():
     )
 
 
+def module_in_c():
+    """The name and the bytes of the module in C; none where it can't be compiled."""
+    with tempfile.TemporaryDirectory() as folder:
+        module = compiled(folder)
+        return {f"graphql_parser/{module.name}": module.read_bytes()} if module else {}
+
+
 def build_wheel(wheel_directory, config_settings=None, metadata_directory=None):
     version = re.search(r'^__version__ = "(.*)"$', (PACKAGE / "__init__.py").read_text(), re.MULTILINE).group(1)
-    tag = "py3-none-" + re.sub(r"[-.]", "_", sysconfig.get_platform())
+    in_c = module_in_c()
+    python = f"cp{sys.version_info.major}{sys.version_info.minor}"
+    tag = f"{python}-{python}{sys.abiflags}-" if in_c else "py3-none-"
+    tag += re.sub(r"[-.]", "_", sysconfig.get_platform())
     about = f"graphql_parser-{version}.dist-info/"
-    files = {f"graphql_parser/{path.name}": path.read_bytes() for path in sorted(PACKAGE.iterdir()) if path.is_file()}
+    modules = (path for path in sorted(PACKAGE.iterdir()) if path.is_file() and path.suffix != ".c")
+    files = {f"graphql_parser/{path.name}": path.read_bytes() for path in modules}
+    files.update(in_c)
     files[f"graphql_parser/{SHARED_OBJECT}"] = shared_object().read_bytes()
     readme = (HERE / "README.md").read_text()
     files[about + "METADATA"] = METADATA.format(version=version, readme=readme).encode()

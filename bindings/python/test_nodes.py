@@ -1,7 +1,12 @@
-"""`graphql_parser.parse` beside `graphql.parse` of graphql-core."""
+"""`graphql_parser.parse` beside `graphql.parse` of graphql-core, with nodes that are made in C and in Python.
 
+RANDOM_TEXTS in the environment says how many random texts are read, in place of 2,000.
+"""
+
+import contextlib
 import copy
 import gc
+import os
 import pickle
 import random
 import subprocess
@@ -10,10 +15,31 @@ import threading
 import unittest
 
 import graphql
-from graphql.language import Node, Source
+from graphql.language import Node, Source, ast
 
 import graphql_parser
-from graphql_parser import Kind
+from graphql_parser import Kind, _library, _nodes
+
+IN_C = _nodes._in_c
+
+
+@contextlib.contextmanager
+def made_by(module):
+    """Makes nodes by the module in C, or in Python where that is None."""
+    before = _nodes._in_c
+    _nodes._in_c = module
+    try:
+        yield
+    finally:
+        _nodes._in_c = before
+
+
+class InPython:
+    """Tests whose nodes are made in Python."""
+
+    def run(self, result=None):
+        with made_by(None):
+            return super().run(result)
 
 REQUESTS = [
     "{a}",
@@ -183,21 +209,6 @@ class Trees(unittest.TestCase):
         for text in REQUESTS + SCHEMA_FILES:
             self.assert_same(text)
 
-    def test_random_texts(self):
-        made = Random(1)
-        read = 0
-        for _ in range(400):
-            text = made.text()
-            try:
-                graphql_parser.parse(text)
-            except graphql.GraphQLSyntaxError as error:
-                # The rules for whole documents, which graphql-core leaves to its validation.
-                self.assertNotIn(error.__cause__.kind, (Kind.SYNTAX, Kind.NOT_UTF8), (text, error))
-                continue
-            self.assert_same(text)
-            read += 1
-        self.assertGreater(read, 300)
-
     def test_a_source_is_kept(self):
         source = Source("{a}", "A.graphql", (3, 5))
         self.assertIs(graphql_parser.parse(source).loc.source, source)
@@ -255,6 +266,28 @@ class Trees(unittest.TestCase):
         document.note = "mine"
         self.assertNotEqual(hash(document), before)
         self.assertEqual(graphql.print_ast(graphql_parser.parse("{a}")), "{\n  a\n}")
+
+
+class RandomTexts(unittest.TestCase):
+    def test_each_is_read_as_graphql_core_reads_it(self):
+        made = Random(1)
+        count = int(os.environ.get("RANDOM_TEXTS", 2000))
+        read = 0
+        for number in range(count):
+            text = made.text()
+            is_without = number % 4 == 0
+            try:
+                ours = graphql_parser.parse(text, is_without)
+            except graphql.GraphQLSyntaxError as error:
+                # The rules for whole documents, which graphql-core leaves to its validation.
+                self.assertNotIn(error.__cause__.kind, (Kind.SYNTAX, Kind.NOT_UTF8), (text, error))
+                continue
+            theirs = graphql.parse(text, is_without)
+            self.assertIsNone(difference(ours, theirs), text)
+            with made_by(None):
+                self.assertIsNone(difference(graphql_parser.parse(text, is_without), theirs), text)
+            read += 1
+        self.assertGreater(read, count * 3 // 4)
 
 
 class Deep(unittest.TestCase):
@@ -374,6 +407,133 @@ class Process(unittest.TestCase):
         for thread in threads:
             thread.join()
         self.assertEqual(wrong, [])
+
+
+class TreesInPython(InPython, Trees):
+    pass
+
+
+class DeepInPython(InPython, Deep):
+    pass
+
+
+class ErrorsInPython(InPython, Errors):
+    pass
+
+
+class ProcessInPython(InPython, Process):
+    pass
+
+
+TEXT = """query A($a: [T!] = [1, {b: "c"}]) @d {e: f(g: [$a, {h: "\\u00e9\\n", h: 2}], i: true) {...F ... on T {j}}}
+fragment F on T {k(l: {m: [{}]})}"""
+SCHEMA_FILE = 'schema {query: Q mutation: M} "a" type Q implements I {b(c: [D!] = ["e"]): F} directive @g repeatable on FIELD'
+
+
+def texts_in_c():
+    """Texts, with the JSON of each, and a call that makes the nodes of such JSON."""
+    for call, body in ((_library.parse_query, TEXT), (_library.parse_schema, SCHEMA_FILE)):
+        text = _nodes._Text(Source(body), True)
+        written = _library.parse_bytes(call, body, (64, 64, 64), True)
+        yield body, written, lambda written, text=text: _nodes._document_in_c(written, text)
+
+
+@unittest.skipIf(IN_C is None, "the module in C isn't built")
+class InC(unittest.TestCase):
+    """What the module in C has to keep to beyond the nodes."""
+
+    def test_other_json_is_refused(self):
+        choose = random.Random(1)
+        for _, written, document in texts_in_c():
+            self.assertIsInstance(document(written), ast.DocumentNode)
+            for length in range(len(written)):
+                with self.assertRaises(ValueError):
+                    document(written[:length])
+            with self.assertRaises(ValueError):
+                document(written + b" ")
+            for _ in range(3000):
+                changed = bytearray(written)
+                for _ in range(choose.choice((1, 1, 2, 5))):
+                    changed[choose.randrange(len(changed))] = choose.choice(b'{}[]",:\\$19ea\x00\xff')
+                with contextlib.suppress(ValueError, TypeError, AttributeError, IndexError, KeyError, graphql.GraphQLError):
+                    document(bytes(changed))
+        nested = b'{"kind":"ListValue","line":1,"column":1,"values":[' * 3000
+        with self.assertRaises(ValueError):
+            IN_C.document(nested, "[" * 3000, None, None)
+
+    def test_other_arguments_are_refused(self):
+        for arguments in ((), ("{}", "", None, None), (b"", b"", None, None), (b"", "", None)):
+            with self.assertRaises(TypeError):
+                IN_C.document(*arguments)
+        with self.assertRaises(TypeError):
+            IN_C.setup()
+
+    def test_nothing_is_kept(self):
+        refused = (b"", b'{"kind":"Document","definitions":[{"kind":"OperationDefinition","line":1,"column":1,"operation":"que')
+
+        def rounds(count):
+            for _ in range(count):
+                for body, written, document in texts_in_c():
+                    document(written)
+                    graphql_parser.parse(body, no_location=True)
+                    for other in (*refused, written[:-3]):
+                        with contextlib.suppress(ValueError):
+                            document(other)
+
+        # Python's own free lists have to be full.
+        rounds(300)
+        gc.collect()
+        before = sys.getallocatedblocks(), sys.getrefcount(ast.NameNode), sys.getrefcount(True)
+        rounds(500)
+        gc.collect()
+        after = sys.getallocatedblocks(), sys.getrefcount(ast.NameNode), sys.getrefcount(True)
+        for one, other in zip(before, after):
+            self.assertLess(abs(other - one), 400)
+
+    def test_each_refused_request_for_memory_is_answered(self):
+        try:
+            import _testcapi
+        except ImportError:
+            self.skipTest("this Python has no module _testcapi")
+        for body, call in ((TEXT.replace("h: 2", "i: 2"), _library.parse_query), (SCHEMA_FILE, _library.parse_schema)):
+            json = _library.parse_bytes(call, body, (64, 64, 64), True)
+            source = Source(body)
+            expected = IN_C.document(json, body, source, None)
+            gc.collect()
+            before = sys.getallocatedblocks()
+            for number in range(1, 100000):
+                document = None
+                _testcapi.set_nomemory(number, number + 1)
+                try:
+                    document = IN_C.document(json, body, source, None)
+                except MemoryError:
+                    pass
+                finally:
+                    _testcapi.remove_mem_hooks()
+                if document is not None:
+                    break
+            self.assertGreater(number, 50)
+            self.assertEqual(document, expected)
+            del document
+            gc.collect()
+            self.assertLess(abs(sys.getallocatedblocks() - before), 50)
+
+    def test_the_deepest_text_takes_little_stack(self):
+        limit = 256
+        text = "{a" * limit + "{b(c:" + "{d:" * (limit - 1) + '["e"]' + "}" * (limit - 1) + ")}" + "}" * limit
+        found = []
+
+        def read():
+            found.append(graphql_parser.parse(text, selections=limit, values=limit, types=limit))
+
+        before = threading.stack_size(512 * 1024)
+        try:
+            thread = threading.Thread(target=read)
+            thread.start()
+            thread.join()
+        finally:
+            threading.stack_size(before)
+        self.assertEqual(len(found), 1)
 
 
 if __name__ == "__main__":

@@ -9,9 +9,10 @@ import sys
 import tempfile
 import unittest
 import venv
+import zipfile
 from pathlib import Path
 
-import build_wheel
+import build_nodes
 import graphql_parser
 
 HERE = Path(__file__).resolve().parent
@@ -39,10 +40,26 @@ class Package(unittest.TestCase):
             beside = set(os.listdir(os.path.dirname(file)))
             self.assertLessEqual({"py.typed", "__init__.pyi", "libgraphql_parser.so.1"}, beside)
 
+    def test_the_module_in_c_is_in_the_package_where_it_can_be_compiled(self):
+        with tempfile.TemporaryDirectory() as folder:
+            is_compiled = build_nodes.compiled(folder) is not None
+        for compiler, has_module in ((os.environ.get("CC", "cc"), is_compiled), ("no-compiler", False)):
+            with self.subTest(compiler=compiler), tempfile.TemporaryDirectory() as folder:
+                program = f"import build_wheel; print(build_wheel.build_wheel({folder!r}))"
+                done = subprocess.run(
+                    [sys.executable, "-c", program], cwd=HERE, env={**os.environ, "CC": compiler}, capture_output=True, text=True
+                )
+                self.assertEqual(done.returncode, 0, done.stderr)
+                wheel = done.stdout.strip()
+                names = zipfile.ZipFile(Path(folder, wheel)).namelist()
+                self.assertEqual(any("_nodes_c" in name for name in names), has_module)
+                self.assertEqual("-py3-none-" not in wheel, has_module)
+                self.assertFalse(any(name.endswith(".c") for name in names))
+
     def test_a_missing_shared_object_is_told(self):
         with tempfile.TemporaryDirectory() as folder:
             shutil.copytree(HERE / "graphql_parser", Path(folder, "python", "graphql_parser"))
-            for name in ("build_wheel.py", "pyproject.toml", "README.md"):
+            for name in ("build_nodes.py", "build_wheel.py", "pyproject.toml", "README.md"):
                 shutil.copy(HERE / name, Path(folder, "python", name))
             outside = {**os.environ, "GRAPHQL_PARSER_LIB": folder}
             program = "import build_wheel; build_wheel.build_wheel('.')"
