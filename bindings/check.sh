@@ -189,8 +189,15 @@ python_tests() {
     python_module test_graphql_parser && python_module test_package
 }
 
+# Compiled anew with all warnings as errors.
 python_nodes() {
-    python_module test_nodes
+    mkdir -p "$out/nodes" && rm -f "$out"/nodes/* && CFLAGS=-Werror python3 "$here/python/build_nodes.py" "$out/nodes" &&
+        python_module test_nodes
+}
+
+# Whether the module in C was made for the `python3` at hand.
+has_nodes_in_c() {
+    (cd "$here/python" && python3 -c 'import sys; from graphql_parser import _nodes; sys.exit(_nodes._in_c is None)') 2>/dev/null
 }
 
 python_field_usage() {
@@ -242,6 +249,9 @@ else
         fi
         if python3 -c 'import graphql' 2>/dev/null; then
             language "Python's graphql-core" python_nodes
+            if ! has_nodes_in_c; then
+                skip "Python's nodes in C" "nodes.c isn't compiled: there are no headers of Python"
+            fi
         else
             skip "Python's graphql-core" "python3 doesn't have it"
         fi

@@ -2,18 +2,18 @@
 
     python3 speed.py FILE..
 
-For each text, of the best of five runs that take turns: seconds of either, and how many times as fast ours is, with locations
-and without; then how much of ours goes to the library's call, to the standard library's reader of JSON, and to the nodes.
+For each text, of the best of five runs that take turns, milliseconds: of graphql-core, of ours with nodes made in C and in
+Python, with locations and without, each with how many times as fast as graphql-core it is; and of the library's call alone.
 """
 
 import gc
-import json
 import sys
 import time
 
 import graphql
 
 import graphql_parser
+from graphql_parser import _nodes
 
 ROUNDS = 5
 
@@ -26,23 +26,21 @@ def seconds(call):
 
 
 def measure(text):
+    """The least seconds of each call."""
     is_schema = text.lstrip().startswith("schema")
     read = graphql_parser.schema_json if is_schema else graphql_parser.query_json
-    written = read(text, places=True)
+    in_c = _nodes._in_c
 
-    def without_collector():
-        gc.disable()
-        json.loads(written)
-        gc.enable()
+    def ours(module, no_location):
+        _nodes._in_c = module
+        graphql_parser.parse(text, no_location)
+        _nodes._in_c = in_c
 
-    calls = {
-        "core": lambda: graphql.parse(text),
-        "ours": lambda: graphql_parser.parse(text),
-        "core_no_location": lambda: graphql.parse(text, no_location=True),
-        "ours_no_location": lambda: graphql_parser.parse(text, no_location=True),
-        "library": lambda: read(text, places=True),
-        "json": without_collector,
-    }
+    calls = {"library": lambda: read(text, places=True)}
+    for no_location in (False, True):
+        calls["core", no_location] = lambda no_location=no_location: graphql.parse(text, no_location)
+        calls["C", no_location] = lambda no_location=no_location: ours(in_c, no_location)
+        calls["Python", no_location] = lambda no_location=no_location: ours(None, no_location)
     best = dict.fromkeys(calls, float("inf"))
     for _ in range(ROUNDS):
         for name, call in calls.items():
@@ -50,21 +48,22 @@ def measure(text):
     return best
 
 
+def shown(best, no_location):
+    core = best["core", no_location]
+    ours = [(best[name, no_location] * 1000, core / best[name, no_location]) for name in ("C", "Python")]
+    return f"{core * 1000:9.1f}" + "".join(f"{taken:8.1f} {ratio:5.1f}" for taken, ratio in ours)
+
+
 def main():
-    print("text                       core    ours  ratio | no location: core    ours  ratio | library  json  nodes (ms)")
+    if _nodes._in_c is None:
+        print("the module in C isn't built: both columns are of nodes made in Python")
+    columns = "     core       C times  Python times"
+    print(f"{'text':18}{columns} | no location: {columns} | library")
     for path in sys.argv[1:]:
         with open(path, encoding="utf-8", newline="") as file:
-            text = file.read()
-        best = measure(text)
-        ratios = best["core"] / best["ours"], best["core_no_location"] / best["ours_no_location"]
-        nodes = best["ours"] - best["library"] - best["json"]
-        times = {name: f"{taken * 1000:8.1f}" for name, taken in best.items()}
-        print(
-            f"{path.rsplit('/', 1)[-1]:22} {times['core']}{times['ours']} {ratios[0]:6.1f} |"
-            f"           {times['core_no_location']}{times['ours_no_location']} {ratios[1]:6.1f} |"
-            f"{times['library']}{times['json']}{nodes * 1000:8.1f}",
-            flush=True,
-        )
+            best = measure(file.read())
+        rows = f"{shown(best, False)} |              {shown(best, True)} | {best['library'] * 1000:7.1f}"
+        print(f"{path.rsplit('/', 1)[-1]:18}{rows}", flush=True)
 
 
 if __name__ == "__main__":

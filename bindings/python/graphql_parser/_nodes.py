@@ -428,17 +428,17 @@ def _c_module():
     """The module in C, which was told of graphql-core's classes; None where there is none, or where they don't keep their
     attributes in slots."""
     name = "_nodes_c"
-    paths = [path for suffix in importlib.machinery.EXTENSION_SUFFIXES[:1] for path in _library.paths_of(name + suffix)]
+    paths = _library.paths_of(name + importlib.machinery.EXTENSION_SUFFIXES[0])
     path = next(filter(os.path.exists, paths), None)
     if path is None:
         return None
     spec = importlib.util.spec_from_file_location(f"{__package__}.{name}", path)
     module = importlib.util.module_from_spec(spec)
     spec.loader.exec_module(module)
-    kinds = [
-        (kind, node_class, _LOCATIONS[node_class], tuple((_member(key), getattr(node_class, key)) for key in node_class.keys if key != "loc"))
-        for kind, node_class in _KINDS.items()
-    ]
+    kinds = []
+    for kind, node_class in _KINDS.items():
+        members = tuple((_member(key), getattr(node_class, key)) for key in node_class.keys if key != "loc")
+        kinds.append((kind, node_class, _LOCATIONS[node_class], members))
     try:
         module.setup(_OPERATIONS, json.decoder.scanstring, ast.Node.loc, Location.start, Location.source, tuple(kinds))
     except TypeError:
