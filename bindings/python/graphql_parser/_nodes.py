@@ -425,23 +425,23 @@ _MAKERS = {kind: _maker(node_class) for kind, node_class in _KINDS.items()}
 
 
 def _c_module():
-    """The module in C, which was told of graphql-core's classes; None where there is none, or where they don't keep their
-    attributes in slots."""
+    """The module in C, which was told of graphql-core's classes; None where there is none that this interpreter takes, or where
+    the classes don't keep their attributes in slots."""
     name = "_nodes_c"
     paths = _library.paths_of(name + importlib.machinery.EXTENSION_SUFFIXES[0])
     path = next(filter(os.path.exists, paths), None)
     if path is None:
         return None
-    spec = importlib.util.spec_from_file_location(f"{__package__}.{name}", path)
-    module = importlib.util.module_from_spec(spec)
-    spec.loader.exec_module(module)
     kinds = []
     for kind, node_class in _KINDS.items():
         members = tuple((_member(key), getattr(node_class, key)) for key in node_class.keys if key != "loc")
         kinds.append((kind, node_class, _LOCATIONS[node_class], members))
+    spec = importlib.util.spec_from_file_location(f"{__package__}.{name}", path)
     try:
+        module = importlib.util.module_from_spec(spec)
+        spec.loader.exec_module(module)
         module.setup(_OPERATIONS, json.decoder.scanstring, ast.Node.loc, Location.start, Location.source, tuple(kinds))
-    except TypeError:
+    except (ImportError, TypeError):
         return None
     return module
 

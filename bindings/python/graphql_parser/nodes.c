@@ -480,7 +480,9 @@ static PyObject *document(PyObject *module, PyObject *arguments) {
     Py_ssize_t length;
     Reader reader = {.forms = PyModule_GetState(module), .at = NOWHERE, .placed = NOWHERE};
     if (!PyArg_ParseTuple(arguments, "y#UOO:document", &reader.json, &length, &text, &source, &reader.repeated)) return NULL;
+#if PY_VERSION_HEX < 0x030c0000
     if (PyUnicode_READY(text) < 0) return NULL;
+#endif
     reader.json_start = reader.json;
     reader.json_end = reader.json + length;
     reader.text_kind = PyUnicode_KIND(text);
