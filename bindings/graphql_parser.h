@@ -60,6 +60,26 @@ enum {
     GRAPHQL_PARSER_MISSING_QUERY_ROOT = 11
 };
 
+/* The name of a status, as in "SYNTAX"; "UNKNOWN" for one that a later library added. It is never null. */
+static inline const char *
+graphql_parser_status_name(uint32_t status) {
+    switch (status) {
+    case GRAPHQL_PARSER_ACCEPTED: return "ACCEPTED";
+    case GRAPHQL_PARSER_OUT_OF_MEMORY: return "OUT_OF_MEMORY";
+    case GRAPHQL_PARSER_NOT_UTF8: return "NOT_UTF8";
+    case GRAPHQL_PARSER_LIMIT_TOO_LARGE: return "LIMIT_TOO_LARGE";
+    case GRAPHQL_PARSER_SYNTAX: return "SYNTAX";
+    case GRAPHQL_PARSER_RECURSION_LIMIT_EXCEEDED: return "RECURSION_LIMIT_EXCEEDED";
+    case GRAPHQL_PARSER_MULTIPLE_OPERATIONS: return "MULTIPLE_OPERATIONS";
+    case GRAPHQL_PARSER_OPERATION_DUPLICATED: return "OPERATION_DUPLICATED";
+    case GRAPHQL_PARSER_FRAGMENT_DUPLICATED: return "FRAGMENT_DUPLICATED";
+    case GRAPHQL_PARSER_MISSING_OPERATION: return "MISSING_OPERATION";
+    case GRAPHQL_PARSER_MULTIPLE_ROOTS: return "MULTIPLE_ROOTS";
+    case GRAPHQL_PARSER_MISSING_QUERY_ROOT: return "MISSING_QUERY_ROOT";
+    default: return "UNKNOWN";
+    }
+}
+
 /* How deep selection sets, values and types may nest where the caller has no limits of its own: the three arguments
  * `selections`, `values` and `types` of each call, as in
  *
@@ -107,11 +127,12 @@ void graphql_parser_free(void *block);
 
 /* Tells whether a text is a request, or a schema file.
  *
- * text, length             the text, in UTF-8. Where `length` is 0, `text` may be null: that is the empty text.
+ * text, length             the text, in UTF-8. Where `length` is 0, `text` may be null: that is the empty text. Nothing changes
+ *                          the text during the call.
  * selections, values,      how deep each of these may nest, 0 to 256: the selection sets inside an operation's or a
  * types                    fragment's own set, the lists and objects of one value, the lists of one type. A schema file
  *                          has no selection sets, so there the first number is looked at and makes no difference.
- * places                   is written on every call. What stood there isn't read.
+ * places                   is written on every call, unless it is null. What stood there isn't read.
  *
  * The answer is one of the statuses above. Where two apply, the limits are told first, then UTF-8, then what the text
  * is. All memory that is taken is given back before the call returns. */
@@ -144,17 +165,6 @@ uint32_t graphql_parser_parse_query(
 uint32_t graphql_parser_parse_schema(
     const uint8_t *text, size_t length, size_t selections, size_t values, size_t types, bool with_places,
     graphql_parser_places *places, graphql_parser_json *json);
-
-/* The functions themselves take no null: these macros pass on the empty text in its place. Whoever calls by the address of a
- * function, or from another language, does the same. */
-static inline const uint8_t *
-graphql_parser_text(const uint8_t *text) {
-    return text ? text : (const uint8_t *)"";
-}
-#define graphql_parser_check_query(text, ...) (graphql_parser_check_query)(graphql_parser_text(text), __VA_ARGS__)
-#define graphql_parser_check_schema(text, ...) (graphql_parser_check_schema)(graphql_parser_text(text), __VA_ARGS__)
-#define graphql_parser_parse_query(text, ...) (graphql_parser_parse_query)(graphql_parser_text(text), __VA_ARGS__)
-#define graphql_parser_parse_schema(text, ...) (graphql_parser_parse_schema)(graphql_parser_text(text), __VA_ARGS__)
 
 #ifdef __cplusplus
 }

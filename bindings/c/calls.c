@@ -49,6 +49,44 @@ static const char *fault(const row *row, const uint8_t *text, size_t length) {
     return NULL;
 }
 
+/* What is wrong with what the calls tell of a row where no places are wanted; null where nothing is. */
+static const char *fault_without_places(const row *row, const uint8_t *text, size_t length) {
+    size_t limit = row->limit;
+    if (row->language->check(text, length, limit, limit, limit, NULL) != row->status) return "status of check without places";
+    graphql_parser_json json = garbage;
+    uint32_t status = row->language->parse(text, length, limit, limit, limit, false, NULL, &json);
+    const char *wrong = fault_of_parse(row, status, false, &row->places, &json);
+    free(json.start);
+    return wrong;
+}
+
+/* What is wrong where one of the three limits is too large; null where nothing is. */
+static const char *fault_of_limits(const language *language) {
+    static const size_t limits[][3] = {{257, 0, 0}, {0, 257, 0}, {0, 0, 257}, {SIZE_MAX, 0, 0}};
+    static const graphql_parser_places nowhere = NOWHERE;
+    const uint8_t *text = (const uint8_t *)"scalar A";
+    for (size_t i = 0; i < sizeof limits / sizeof *limits; i++) {
+        graphql_parser_places places = unwritten;
+        const size_t *limit = limits[i];
+        if (language->check(text, 8, limit[0], limit[1], limit[2], &places) != GRAPHQL_PARSER_LIMIT_TOO_LARGE)
+            return "status of a limit that is too large";
+        if (!are_same(&places, &nowhere)) return "places of a limit that is too large";
+    }
+    return NULL;
+}
+
+/* What is wrong with the names of statuses; null where nothing is. */
+static const char *fault_of_names(void) {
+    for (uint32_t status = 0; status <= GRAPHQL_PARSER_MISSING_QUERY_ROOT; status++) {
+        if (!strcmp(graphql_parser_status_name(status), "UNKNOWN")) return "a status without a name";
+        for (uint32_t other = 0; other < status; other++)
+            if (!strcmp(graphql_parser_status_name(status), graphql_parser_status_name(other))) return "two statuses of one name";
+    }
+    if (strcmp(graphql_parser_status_name(GRAPHQL_PARSER_SYNTAX), "SYNTAX")) return "the name of SYNTAX";
+    if (strcmp(graphql_parser_status_name(UINT32_MAX), "UNKNOWN")) return "the name of a status that there isn't";
+    return NULL;
+}
+
 /* What is wrong with one `json` used for a call of each status, one after the other; null where nothing is. */
 static const char *fault_of_reuse(void) {
     graphql_parser_json json = GRAPHQL_PARSER_NO_JSON;
@@ -72,6 +110,7 @@ static size_t failures(void) {
         size_t length;
         uint8_t *text = text_of(&rows[i], &length);
         const char *wrong = fault(&rows[i], text, length);
+        if (!wrong) wrong = fault_without_places(&rows[i], text, length);
         if (wrong) {
             printf("wrong at %.60s: %s\n", shown(&rows[i]), wrong);
             count++;
@@ -89,6 +128,9 @@ static void *rounds(void *count) {
 int main(void) {
     size_t counts[THREADS] = {0}, all = failures();
     const char *wrong = fault_of_reuse();
+    if (!wrong) wrong = fault_of_limits(&requests);
+    if (!wrong) wrong = fault_of_limits(&schema_files);
+    if (!wrong) wrong = fault_of_names();
     if (!wrong && graphql_parser_version() != GRAPHQL_PARSER_VERSION_NUMBER) wrong = "the version";
     if (wrong) {
         printf("wrong: %s\n", wrong);

@@ -1,4 +1,4 @@
--- How a `Json` is stored: a pointer and a number.
+-- How a `Block` is stored: a pointer and a number.
 use Rattle.std.proofs.Common.{ℕ, ◌^◌, ◌<◌, List, [], ◌∷◌, refl, lit<, w64}
 use seplogic.Ra.Ura.{Ura}
 use mir.Syntax.{ty_int, ty_ptr, ty_struct, tcons, tnil}

@@ -1,2 +1,4 @@
 -- What the proofs share.
 pub mod Blocks
+pub mod Loans
+pub mod Words

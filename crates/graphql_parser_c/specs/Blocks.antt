@@ -1,4 +1,4 @@
--- What a `Json` says of memory.
+-- What a `Block` says of memory.
 -- Source: this project's choice.
 use Rattle.std.specs.Prelude.{ℕ, List, [], length, Option, Some, None}
 use Rattle.std.specs.Borrow.{u8}

@@ -14,7 +14,7 @@ use Rattle.graphql_parser.specs.notation.Limits.{Limits}
 use Rattle.graphql_parser.specs.tokens.Cuts.{IsCutInto}
 use Rattle.graphql_parser.specs.tokens.Token.{Token}
 use Rattle.graphql_parser_c.specs.Statuses.{number_of, status_of}
-use Rattle.graphql_parser_c.specs.declared.block.Json.{Json}
+use Rattle.graphql_parser_c.specs.declared.block.Block.{Block}
 use Rattle.graphql_parser_c.specs.declared.status.Status.TheVariants.{OutOfMemory, NotUtf8, LimitTooLarge}
 use Rattle.json.specs.Json as json
 
@@ -33,17 +33,17 @@ answer_value value (Ok document) = value document
 answer_value value (Err error) = error_value (error_text error) (error_places error)
 
 -- nothing to give back: null, and no bytes
-abbrev pub IsNothing : Json → Type 0
-IsNothing json = (json.start ≡ null_ptr) × (json.length ≡ 0)
+abbrev pub IsNothing : Block → Type 0
+IsNothing block = (block.start ≡ null_ptr) × (block.length ≡ 0)
 
 -- where the status says something of the text, this JSON is handed over; else nothing is
-abbrev pub IsHanded : List ℕ → ℕ → Json → Type 0
-IsHanded text number json = (SaysNothing number → IsNothing json) × (¬ SaysNothing number → json.text ≡ Some text)
+abbrev pub IsHanded : List ℕ → ℕ → Block → Type 0
+IsHanded text number block = (SaysNothing number → IsNothing block) × (¬ SaysNothing number → block.text ≡ Some text)
 
 -- What a call hands over of a text, in a language and within limits, where `value` gives the JSON of a document: nothing, where
 -- the status says nothing of the text, and else the JSON of the parser's answer for the tokens of the text. What was there
 -- before the call makes no difference.
-pub record IsAnswered {D Document : Type 0} (language : Language D Document) (value : Document → json.Json) (limits : Limits) (text : List ℕ) (number : ℕ) (handed : Json) : Type 0 where
+pub record IsAnswered {D Document : Type 0} (language : Language D Document) (value : Document → json.Json) (limits : Limits) (text : List ℕ) (number : ℕ) (handed : Block) : Type 0 where
   pub nothing : SaysNothing number → IsNothing handed
   pub answer : ¬ SaysNothing number → (tokens : List Token) → IsCutInto text tokens
       → (answer : Result Document Error) × Answers language limits tokens answer × (number ≡ number_of (status_of answer)) × (handed.text ≡ Some (json_text (answer_value value answer)))

@@ -11,6 +11,9 @@ use Rattle.graphql_parser.specs.notation.Limits.{Limits, IsAllowed}
 use Rattle.graphql_parser.specs.tokens.Cuts.{IsCutInto}
 use Rattle.graphql_parser.specs.tokens.Token.{Token}
 use Rattle.graphql_parser_c.specs.Statuses.{number_of, status_of}
+use Rattle.graphql_parser_c.specs.declared.lending.Room.{Room}
+use Rattle.graphql_parser_c.specs.declared.lending.Text.{Text}
+use Rattle.graphql_parser_c.specs.declared.lending.Told.{Told}
 use Rattle.graphql_parser_c.specs.declared.status.Status.{Status}
 use Rattle.graphql_parser_c.specs.declared.status.Status.TheVariants.{LimitTooLarge, NotUtf8}
 use Rattle.graphql_parser_c.specs.declared.telling.Place.{Place}
@@ -42,6 +45,12 @@ first_two (one ∷ two ∷ others) = record { first = place_of (Some one); secon
 abbrev pub places_of : {Document : Type 0} → Result Document Error → Places
 places_of (Ok document) = nowhere
 places_of (Err error) = first_two (error_places error)
+
+-- ---- what is given back
+
+-- the text is the caller's again, and what is told is told where there was room for it
+abbrev pub IsBack : Text → Room → Told → Type 0
+IsBack text room told = (told.life ≡ text.life) × (told.at ≡ room.at)
 
 -- ---- what is told
 

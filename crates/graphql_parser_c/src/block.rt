@@ -6,11 +6,11 @@ ghost use Rattle.graphql_parser_c.specs.Blocks.{holds};
 use std::marker::Model;
 use std::ptr::null;
 
-/// JSON, in a block of the program's `malloc`, which whoever is handed it gives back by `free`; or nothing: null, and no
+/// A text, in a block of the program's `malloc`, which whoever is handed it gives back by `free`; or nothing: null, and no
 /// bytes. What a caller has there before a call may be anything.
 #[repr(C)]
 #[derive(Drop)]
-pub struct Json {
+pub struct Block {
     /// Where the text begins. It is in UTF-8.
     pub start: *const u8,
     /// The number of its bytes.
@@ -18,26 +18,26 @@ pub struct Json {
     pub ghost text: { Option (List ℕ) },
 }
 
-impl Model for Json {
-    ghost also_owns = { λ json. holds json.start json.length json.text };
+impl Model for Block {
+    ghost also_owns = { λ block. holds block.start block.length block.text };
 }
 
-impl Json {
+impl Block {
     /// Nothing to give back.
-    pub fn nothing() -> Json
+    pub fn nothing() -> Block
         ensures { (result.start ≡ null_ptr) × (result.length ≡ 0) }
     {
-        Json {
+        Block {
             start: null(),
             length: 0,
         }
     }
 
     /// These bytes.
-    pub fn of(bytes: &'static [u8]) -> Json
+    pub fn of(bytes: &'static [u8]) -> Block
         ensures { result.text ≡ Some bytes.now }
     {
-        Json {
+        Block {
             start: bytes.as_ptr(),
             length: bytes.len(),
         }

@@ -7,7 +7,7 @@ ghost use Rattle.graphql_parser_c.specs.Handing.{IsHanded, IsAnswered, answer_va
 ghost use Rattle.graphql_parser_c.specs.Statuses.{number_of, status_of};
 ghost use Rattle.graphql_parser_c.specs.Telling.{IsTold, limits_of, places_of};
 
-use crate::block::Json;
+use crate::block::Block;
 use crate::documents::Document;
 use crate::status::Status;
 use crate::telling::{Places, Question, ReadableText, tell};
@@ -38,17 +38,17 @@ fn hand_over<D: Document>(
     answer: &Result<D>,
     with_places: bool,
     places: &mut Places,
-    json: &mut Json,
+    json: &mut Block,
 ) -> Status
     ensures told { (told : SpecResult D SpecError) × ((told ≡ answer.now) ⊎ (told ≡ Err OutOfMemory)) × (result ≡ status_of told) × (places.new ≡ places_of told) }
     ensures handed { IsHanded (json_text (answer_value (D.value (places_asked with_places)) answer.now)) (number_of result) json.new }
 {
     let Ok(bytes) = written(alloc, answer, with_places) else {
         *places = Places::none();
-        *json = Json::nothing();
+        *json = Block::nothing();
         return Status::OutOfMemory;
     };
-    *json = Json::of(bytes.leak());
+    *json = Block::of(bytes.leak());
     tell(answer, places)
 }
 
@@ -58,7 +58,7 @@ pub fn parse<D: Document>(
     question: &Question<'_>,
     with_places: bool,
     places: &mut Places,
-    json: &mut Json,
+    json: &mut Block,
 ) -> u32
     ensures told { IsTold D.language (limits_of question.now.selections question.now.values question.now.types) question.now.text.now result places.new }
     ensures handed { IsAnswered D.language (D.value (places_asked with_places)) (limits_of question.now.selections question.now.values question.now.types) question.now.text.now result json.new }
@@ -67,7 +67,7 @@ pub fn parse<D: Document>(
         Ok(readable) => readable,
         Err(status) => {
             *places = Places::none();
-            *json = Json::nothing();
+            *json = Block::nothing();
             return status.number();
         }
     };

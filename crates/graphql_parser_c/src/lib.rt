@@ -2,14 +2,14 @@
 //!
 //! A check tells whether a text is a request or a schema file, by a status and up to two places, and keeps no tree. A
 //! parse tells the same, and hands over the tree, or the error, as JSON. `bindings/graphql_parser.h` declares the four
-//! functions and says what a caller owes, and its macros pass on an empty text in place of null; `bindings/README.md` says
-//! how to link them.
+//! functions and says what a caller owes; `bindings/README.md` says how to link them.
 //!
-//! Proved of each call, for every text and all limits: its status and its places are those of the parser's one answer
+//! Proved of each call, for every text, at null too where it has no bytes, and for all limits: its status and its places are those of the parser's one answer
 //! for that text, as `graphql_parser` promises it, or the status says that a limit is too large or that the text isn't
 //! UTF-8, exactly where that is so. Where the status says something of the text, what a parse hands over is the JSON of
 //! that answer's tree or error, as `graphql_json` defines it, and these bytes lie where the pointer says; else null is
-//! handed over, with no bytes. What was there before makes no difference. That the JSON lies in a block that `free` takes
+//! handed over, with no bytes. What was there before makes no difference. The places are written where the caller's
+//! pointer isn't null, and the text is the caller's own again after the call. That the JSON lies in a block that `free` takes
 //! is tested, by `bindings/check.sh`.
 #![tactic(auto)]
 
@@ -21,22 +21,22 @@ ghost use Rattle.graphql_json.specs.nodes.Schemas.{schema_value};
 ghost use Rattle.graphql_parser.specs.trees.RequestViews.{document_tree};
 ghost use Rattle.graphql_parser.specs.trees.SchemaViews.{schema_document_tree};
 ghost use Rattle.graphql_parser_c.specs.Handing.{IsAnswered, places_asked};
-ghost use Rattle.graphql_parser_c.specs.Telling.{IsTold, limits_of};
+ghost use Rattle.graphql_parser_c.specs.Telling.{IsBack, IsTold, limits_of};
 
 mod block;
+mod calls;
 mod documents;
 mod handing;
+mod lending;
 mod status;
 mod telling;
-#[cfg(test)]
-mod tests;
 
-pub use block::Json;
+pub use block::Block;
+use calls::{check_text, parse_text};
 use graphql_parser::types::{ExecutableDocument, ServiceDocument};
-use handing::parse;
+pub use lending::{Room, Text, Told};
 use std::alloc::Global;
 pub use telling::{Place, Places};
-use telling::{Question, check};
 
 /// The version of the library: its first number times 10000, its second times 100, and its third, together.
 #[unsafe(no_mangle)]
@@ -49,26 +49,21 @@ pub extern "C" fn graphql_parser_version() -> u32
 /// Tells whether a text is a request: gives the number of a `Status`, and writes the places that it is about.
 ///
 /// `text` is in UTF-8. `selections`, `values` and `types` say how deep selection sets, values and types may nest, each at
-/// most 256. `places` is written on every call: 0:0 stands where there is no place. It takes memory for the tree, and
-/// gives it back.
+/// most 256. `places`, if it isn't null, is written on every call: 0:0 stands where there is no place. It takes memory for
+/// the tree, and gives it back.
 #[unsafe(no_mangle)]
 pub extern "C" fn graphql_parser_check_query(
     alloc: Global,
-    text: &[u8],
+    text: Text,
     selections: usize,
     values: usize,
     types: usize,
-    places: &mut Places,
-) -> u32
-    ensures { IsTold requests (limits_of selections values types) text.now result places.new }
+    places: Room,
+) -> Told
+    ensures told { IsTold requests (limits_of selections values types) text.bytes result.number result.places }
+    ensures back { IsBack text places result }
 {
-    let question = Question {
-        text,
-        selections,
-        values,
-        types,
-    };
-    check::<ExecutableDocument>(alloc, &question, places)
+    check_text::<ExecutableDocument>(alloc, text, selections, values, types, places)
 }
 
 /// Tells whether a text is a schema file, as [`graphql_parser_check_query`] does of a request.
@@ -77,21 +72,16 @@ pub extern "C" fn graphql_parser_check_query(
 #[unsafe(no_mangle)]
 pub extern "C" fn graphql_parser_check_schema(
     alloc: Global,
-    text: &[u8],
+    text: Text,
     selections: usize,
     values: usize,
     types: usize,
-    places: &mut Places,
-) -> u32
-    ensures { IsTold schemas (limits_of selections values types) text.now result places.new }
+    places: Room,
+) -> Told
+    ensures told { IsTold schemas (limits_of selections values types) text.bytes result.number result.places }
+    ensures back { IsBack text places result }
 {
-    let question = Question {
-        text,
-        selections,
-        values,
-        types,
-    };
-    check::<ServiceDocument>(alloc, &question, places)
+    check_text::<ServiceDocument>(alloc, text, selections, values, types, places)
 }
 
 /// Reads a request as [`graphql_parser_check_query`] does, and hands over its tree as JSON, or its error.
@@ -103,24 +93,28 @@ pub extern "C" fn graphql_parser_check_schema(
 #[unsafe(no_mangle)]
 pub extern "C" fn graphql_parser_parse_query(
     alloc: Global,
-    text: &[u8],
+    text: Text,
     selections: usize,
     values: usize,
     types: usize,
     with_places: bool,
-    places: &mut Places,
-    json: &mut Json,
-) -> u32
-    ensures told { IsTold requests (limits_of selections values types) text.now result places.new }
-    ensures handed { IsAnswered requests (λ document. request_value (places_asked with_places) (document_tree document)) (limits_of selections values types) text.now result json.new }
+    places: Room,
+    json: &mut Block,
+) -> Told
+    ensures told { IsTold requests (limits_of selections values types) text.bytes result.number result.places }
+    ensures handed { IsAnswered requests (λ document. request_value (places_asked with_places) (document_tree document)) (limits_of selections values types) text.bytes result.number json.new }
+    ensures back { IsBack text places result }
 {
-    let question = Question {
+    parse_text::<ExecutableDocument>(
+        alloc,
         text,
         selections,
         values,
         types,
-    };
-    parse::<ExecutableDocument>(alloc, &question, with_places, places, json)
+        with_places,
+        places,
+        json,
+    )
 }
 
 /// Reads a schema file as [`graphql_parser_check_schema`] does, and hands over its tree as JSON, or its error, as
@@ -128,22 +122,26 @@ pub extern "C" fn graphql_parser_parse_query(
 #[unsafe(no_mangle)]
 pub extern "C" fn graphql_parser_parse_schema(
     alloc: Global,
-    text: &[u8],
+    text: Text,
     selections: usize,
     values: usize,
     types: usize,
     with_places: bool,
-    places: &mut Places,
-    json: &mut Json,
-) -> u32
-    ensures told { IsTold schemas (limits_of selections values types) text.now result places.new }
-    ensures handed { IsAnswered schemas (λ document. schema_value (places_asked with_places) (schema_document_tree document)) (limits_of selections values types) text.now result json.new }
+    places: Room,
+    json: &mut Block,
+) -> Told
+    ensures told { IsTold schemas (limits_of selections values types) text.bytes result.number result.places }
+    ensures handed { IsAnswered schemas (λ document. schema_value (places_asked with_places) (schema_document_tree document)) (limits_of selections values types) text.bytes result.number json.new }
+    ensures back { IsBack text places result }
 {
-    let question = Question {
+    parse_text::<ServiceDocument>(
+        alloc,
         text,
         selections,
         values,
         types,
-    };
-    parse::<ServiceDocument>(alloc, &question, with_places, places, json)
+        with_places,
+        places,
+        json,
+    )
 }

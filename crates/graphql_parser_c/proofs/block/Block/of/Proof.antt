@@ -21,11 +21,11 @@ use denote.Triple.Entry.{alive}
 use denote.Triple.Walked.{Stays, stay_dropped, Goes-dropped, walk_of}
 use Rattle.std.proofs.raw_atomic.Walks.{proved_at, leaves}
 use Rattle.graphql_parser_c.proofs.Blocks.{stored, fields_own, fields_made, is_stored}
-use Rattle.graphql_parser_c.specs.contracts.block.Json.{the_row as row}
-use Rattle.graphql_parser_c.specs.contracts.block.Json.of.{ended, clauses}
-use Rattle.graphql_parser_c.specs.contracts.block.Json.of.Key.{name as key}
-use Rattle.graphql_parser_c.proofs.block.Json.of.Statement.{statement}
-use Rattle.graphql_parser_c.proofs.block.Json.of.Code as code
+use Rattle.graphql_parser_c.specs.contracts.block.Block.{the_row as row}
+use Rattle.graphql_parser_c.specs.contracts.block.Block.of.{ended, clauses}
+use Rattle.graphql_parser_c.specs.contracts.block.Block.of.Key.{name as key}
+use Rattle.graphql_parser_c.proofs.block.Block.of.Statement.{statement}
+use Rattle.graphql_parser_c.proofs.block.Block.of.Code as code
 
 pub of_spec : {M : Type 1} → statement M
 of_spec 𝓤 𝓛 𝓜 𝓡 wired =

@@ -17,11 +17,11 @@ use denote.Triple.Entry.{alive}
 use denote.Triple.Walked.{Stays, walk_of}
 use Rattle.std.proofs.raw_atomic.Walks.{proved_at, leaves}
 use Rattle.graphql_parser_c.proofs.Blocks.{stored, fields_own, fields_made, is_stored}
-use Rattle.graphql_parser_c.specs.contracts.block.Json.{the_row as row}
-use Rattle.graphql_parser_c.specs.contracts.block.Json.nothing.{ended, clauses}
-use Rattle.graphql_parser_c.specs.contracts.block.Json.nothing.Key.{name as key}
-use Rattle.graphql_parser_c.proofs.block.Json.nothing.Statement.{statement}
-use Rattle.graphql_parser_c.proofs.block.Json.nothing.Code as code
+use Rattle.graphql_parser_c.specs.contracts.block.Block.{the_row as row}
+use Rattle.graphql_parser_c.specs.contracts.block.Block.nothing.{ended, clauses}
+use Rattle.graphql_parser_c.specs.contracts.block.Block.nothing.Key.{name as key}
+use Rattle.graphql_parser_c.proofs.block.Block.nothing.Statement.{statement}
+use Rattle.graphql_parser_c.proofs.block.Block.nothing.Code as code
 
 pub nothing_spec : {M : Type 1} → statement M
 nothing_spec 𝓤 𝓛 𝓜 𝓡 wired =

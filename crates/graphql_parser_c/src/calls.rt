@@ -1,0 +1,62 @@
+//! The calls of both languages, over what a caller lends.
+ghost use Rattle.std.specs.Prelude.{◌≡◌};
+ghost use Rattle.graphql_parser_c.specs.Handing.{IsAnswered, places_asked};
+ghost use Rattle.graphql_parser_c.specs.Telling.{IsBack, IsTold, limits_of};
+
+use crate::block::Block;
+use crate::documents::Document;
+use crate::handing::parse;
+use crate::lending::{Room, Text, Told};
+use crate::telling::{Places, Question, check};
+use std::alloc::Global;
+
+/// Checks a text.
+pub fn check_text<D: Document>(
+    alloc: Global,
+    text: Text,
+    selections: usize,
+    values: usize,
+    types: usize,
+    room: Room,
+) -> Told
+    ensures told { IsTold D.language (limits_of selections values types) text.bytes result.number result.places }
+    ensures back { IsBack text room result }
+{
+    let (lent, count) = text.lent();
+    let question = Question {
+        text: lent.bytes(count),
+        selections,
+        values,
+        types,
+    };
+    let mut places = Places::none();
+    let number = check::<D>(alloc, &question, &mut places);
+    Told::of(number, places, room, lent)
+}
+
+/// Parses a text, and hands over its tree, or its error, as JSON.
+pub fn parse_text<D: Document>(
+    alloc: Global,
+    text: Text,
+    selections: usize,
+    values: usize,
+    types: usize,
+    with_places: bool,
+    room: Room,
+    json: &mut Block,
+) -> Told
+    ensures told { IsTold D.language (limits_of selections values types) text.bytes result.number result.places }
+    ensures handed { IsAnswered D.language (D.value (places_asked with_places)) (limits_of selections values types) text.bytes result.number json.new }
+    ensures back { IsBack text room result }
+{
+    let (lent, count) = text.lent();
+    let question = Question {
+        text: lent.bytes(count),
+        selections,
+        values,
+        types,
+    };
+    let mut places = Places::none();
+    let number = parse::<D>(alloc, &question, with_places, &mut places, json);
+    Told::of(number, places, room, lent)
+}
