@@ -164,7 +164,7 @@ fn check_text<E: Write>(
                 None => Ok(Found::Good),
                 Some(error) => {
                     let reading = Reading { language, limits };
-                    let count = tell_all(alloc, told, reading, text, &error, lines, err)?;
+                    let count = tell_all(alloc, told, &reading, text, &error, lines, err)?;
                     *findings = findings.saturating_add(count);
                     Ok(Found::Refused)
                 }

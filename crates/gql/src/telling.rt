@@ -40,7 +40,7 @@ pub struct Reading {
 pub fn tell_all<E: Write>(
     alloc: Global,
     told: &Told<'_>,
-    reading: Reading,
+    reading: &Reading,
     text: &str,
     error: &Error,
     lines: &mut String,
@@ -50,27 +50,44 @@ pub fn tell_all<E: Write>(
         return Ok(0);
     }
     tell(alloc, told, reading, text, error, lines, err)?;
-    let mut count = 1usize;
-    let Some(mut part) = rest_after(alloc, reading, text, error)? else {
-        return Ok(count);
-    };
+    match rest_after(alloc, reading, text, error)? {
+        None => Ok(1),
+        Some(rest) => {
+            let count = tell_rest(alloc, told, reading, rest, lines, err)?;
+            Ok(count.saturating_add(1))
+        }
+    }
+}
+
+// Tells the first error of each definition in the rest of a text. Gives how many errors were told.
+fn tell_rest<E: Write>(
+    alloc: Global,
+    told: &Told<'_>,
+    reading: &Reading,
+    rest: String,
+    lines: &mut String,
+    err: &mut E,
+) -> Result<usize, AllocError> {
+    let mut rest = rest;
+    let mut count = 0usize;
     for _ in 1..MOST_FINDINGS {
-        let Some(error) = next_error(alloc, reading, part.as_str())? else {
+        let Some(error) = next_error(alloc, reading, rest.as_str())? else {
             break;
         };
-        tell(alloc, told, reading, part.as_str(), &error, lines, err)?;
+        tell(alloc, told, reading, rest.as_str(), &error, lines, err)?;
         count = count.saturating_add(1);
-        match rest_after(alloc, reading, part.as_str(), &error)? {
-            Some(rest) => part = rest,
-            None => break,
-        }
+        let Some(next) = rest_after(alloc, reading, rest.as_str(), &error)? else {
+            break;
+        };
+        rest.clear();
+        rest.push_str(next.as_str())?;
     }
     Ok(count)
 }
 
 // The error of the rest of a text, if it is one to be told.
-fn next_error(alloc: Global, reading: Reading, rest: &str) -> Result<Option<Error>, AllocError> {
-    let Reading { language, limits } = reading;
+fn next_error(alloc: Global, reading: &Reading, rest: &str) -> Result<Option<Error>, AllocError> {
+    let Reading { language, limits } = *reading;
     match error_of(alloc, language, rest, limits, true)? {
         Some(Error::MultipleOperations { .. }) => Ok(None),
         other => Ok(other),
@@ -80,14 +97,14 @@ fn next_error(alloc: Global, reading: Reading, rest: &str) -> Result<Option<Erro
 // What is read next of a text that has this error.
 fn rest_after(
     alloc: Global,
-    reading: Reading,
+    reading: &Reading,
     text: &str,
     error: &Error,
 ) -> Result<Option<String>, AllocError> {
     if !matches!(error, Error::Syntax { .. } | Error::RecursionLimitExceeded) {
         return Ok(None);
     }
-    let Reading { language, limits } = reading;
+    let Reading { language, limits } = *reading;
     let Some(token) = refused_token(alloc, language, text, limits, error)? else {
         return Ok(None);
     };
@@ -101,13 +118,13 @@ fn rest_after(
 fn tell<E: Write>(
     alloc: Global,
     told: &Told<'_>,
-    reading: Reading,
+    reading: &Reading,
     text: &str,
     error: &Error,
     lines: &mut String,
     err: &mut E,
 ) -> Result<(), AllocError> {
-    let Reading { language, limits } = reading;
+    let Reading { language, limits } = *reading;
     if told.format == Format::Text {
         let report = explain_in(told.style, alloc, language, told.shown, text, limits, error)?;
         complain(err, report.as_str());
