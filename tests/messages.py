@@ -14,8 +14,8 @@ SCHEMA = graphql.build_schema("type Query { a: Int }")
 
 HEAD = """# Messages
 
-What `gql check` says of a request, and after `core:` graphql-core {version}, the port of GraphQL.js to Python (single
-quotes for double ones, without `Syntax Error: `). `tests/messages.py` makes this page of the tested rows of
+What `gql check --executable` says of a request, and after `core:` graphql-core {version}, the port of GraphQL.js to Python
+(single quotes for double ones, without `Syntax Error: `). `tests/messages.py` makes this page of the tested rows of
 `crates/conformance_reports/src/messages.rt` and of graphql-core's parser and its three rules on names. Where that is silent
 it accepts the text: it has no limit of depth, reads type definitions too, and asks for no operation. A text that the report
 cuts is above it.

@@ -1,12 +1,12 @@
 //! What the tables are about.
 use crate::{limits, messages, places, requests, schemas};
 use graphql_parser::{Error, Limits, parse_query_limited, parse_schema_limited};
-use graphql_report::{Language, explain, is_front};
+use graphql_report::{Language, explain, finding_of, is_front};
 use rows::{Subject, failures};
 use std::alloc::{AllocError, Global};
 use std::test::Fail;
 
-/// The report of a text that is read so, at these limits.
+/// The report of a text that is read so, at these limits, whose first line is told by the finding too.
 #[derive(Clone, Copy)]
 pub struct Report {
     pub language: Language,
@@ -43,8 +43,30 @@ impl Subject for Report {
             return Ok(String::from_str(alloc, "accepted")?);
         };
         let report = explain(alloc, self.language, "f", text, limits, &error)?;
+        let first_line = told_in_parts(alloc, self.language, text, limits, &error)?;
+        if report.as_str().lines().next() != Some(first_line.as_str()) {
+            return Ok(first_line);
+        }
         Ok(in_rows(alloc, report.as_str())?)
     }
+}
+
+// The first line of a report, made of the finding.
+fn told_in_parts(
+    alloc: Global,
+    language: Language,
+    text: &str,
+    limits: Limits,
+    error: &Error,
+) -> Result<String, AllocError> {
+    let finding = finding_of(alloc, language, text, limits, error)?;
+    let mut line = String::from_str(alloc, "f:")?;
+    if let Some(place) = finding.place {
+        write!(line, "{place}:")?;
+    }
+    line.push(' ')?;
+    line.push_str(finding.message.as_str())?;
+    Ok(line)
 }
 
 fn requests_at(sets: usize, values: usize, types: usize) -> Report {

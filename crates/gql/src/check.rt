@@ -3,28 +3,29 @@ ghost use Rattle.std.specs.Prelude.{◌≡◌, ◌≤◌, ◌↔◌, IfOk, map, 
 ghost use Rattle.gql.specs.checked.Good.{IsGoodText, IsGood, GiveGoodTexts};
 ghost use Rattle.gql.specs.declared.check.Found.TheVariants.{Good};
 
-use crate::command::Call;
+use crate::command::{Call, Format};
 use crate::language::read_as;
-use crate::output::{complain, complain_of_file, shown_name};
+use crate::output::shown_name;
+use crate::telling::{Reading, Told, tell_all, tell_unread};
 use crate::texts::{Texts, Unread};
 use graphql_parser::{Error, Limits, parse_query_limited, parse_schema_limited};
-use graphql_report::{Language, Style, explain_in};
+use graphql_report::{Language, Style};
 use std::alloc::{AllocError, Global};
 use std::io::Write;
 
-/// How many files were good, refused, and without a text.
+/// How many files were good, refused, and without a text, and how many findings were told of those that were refused.
 #[derive(Clone, Copy)]
 pub struct Tally {
     pub good: usize,
     pub refused: usize,
     pub unread: usize,
+    pub findings: usize,
 }
 
-/// What is told of all files: the exit status, a line for each good file, and how many there were.
-#[derive(Drop)]
-pub struct Told {
+/// What was found of all files: the exit status, and how many there were.
+#[derive(Clone, Copy)]
+pub struct Outcome {
     pub status: u8,
-    pub lines: String,
     pub tally: Tally,
 }
 
@@ -50,8 +51,8 @@ impl Found {
     }
 }
 
-// The error of a text within these limits; None where it has none, or lacks an operation and may.
-fn error_of(
+/// The error of a text within these limits; None where it has none, or lacks an operation and may.
+pub fn error_of(
     alloc: Global,
     language: Language,
     text: &str,
@@ -77,41 +78,54 @@ fn error_of(
     }
 }
 
-/// Reads each file and checks it, one after another, and reports on `err` what is wrong with it. No text is kept while the
-/// next one is read. The status is 0 only where each file has a text that is good. An error says that memory was refused.
+/// Reads each of these files and checks it, one after another, and tells what is wrong with it: reports go to `err`, and
+/// what is for standard output is added to `lines`. No text is kept while the next one is read. The status is 0 only where
+/// each file has a text that is good. An error says that memory was refused.
 pub fn check_files<T: Texts, E: Write>(
     alloc: Global,
     call: &Call<'_>,
     style: Style,
+    files: &Vec<&str>,
     texts: &mut T,
+    lines: &mut String,
     err: &mut E,
-) -> Result<Told, AllocError>
-    ensures status { IfOk result (λ told. told.status ≤ 2) }
-    ensures good { IfOk result (λ told. told.status ≡ 0 → GiveGoodTexts T.gives call.now.takes_fragments call.now.limits texts.old (map (λ name. name.now) call.now.files.items) texts.new) }
+) -> Result<Outcome, AllocError>
+    ensures status { IfOk result (λ outcome. outcome.status ≤ 2) }
+    ensures good { IfOk result (λ outcome. outcome.status ≡ 0 → GiveGoodTexts T.gives call.now.takes_fragments call.now.limits texts.old (map (λ name. name.now) files.now.items) texts.new) }
 {
-    let mut lines = String::new(alloc);
     let mut tally = Tally {
         good: 0,
         refused: 0,
         unread: 0,
+        findings: 0,
     };
     let mut worst: u8 = 0;
-    for name in &call.files {
+    for name in files {
         let text = texts.text(alloc, name);
         let shown = shown_name(alloc, name)?;
-        let shown = shown.as_str();
-        let found = check_text(alloc, call, style, name, shown, &text, err)?;
+        let told = told_of(call, style, name, shown.as_str());
+        let found = check_text(alloc, call, &told, &text, &mut tally.findings, lines, err)?;
         worst = worst.max(found.status());
         tally = counted(tally, found);
-        if found == Found::Good {
+        if found == Found::Good && call.is_verbose && told.format == Format::Text {
             writeln!(lines, "{shown}: good")?;
         }
     }
-    Ok(Told {
+    Ok(Outcome {
         status: worst,
-        lines,
         tally,
     })
+}
+
+/// How a file is told of.
+pub fn told_of<'a>(call: &Call<'_>, style: Style, name: &'a str, shown: &'a str) -> Told<'a> {
+    Told {
+        shown,
+        name: if name == "-" { shown } else { name },
+        format: call.format,
+        style,
+        is_quiet: call.is_quiet,
+    }
 }
 
 fn counted(tally: Tally, found: Found) -> Tally {
@@ -125,31 +139,33 @@ fn counted(tally: Tally, found: Found) -> Tally {
     tally
 }
 
-// What is found of the text of a file, or of there being none. The file is told by the name that is shown.
+// What is found of the text of a file, or of there being none. The number of findings that were told is added.
 fn check_text<E: Write>(
     alloc: Global,
     call: &Call<'_>,
-    style: Style,
-    name: &str,
-    shown: &str,
+    told: &Told<'_>,
     text: &Result<String, Unread>,
+    findings: &mut usize,
+    lines: &mut String,
     err: &mut E,
 ) -> Result<Found, AllocError>
     ensures { (result ≡ Ok Good) → IsGood call.now.takes_fragments call.now.limits text.now }
 {
     match text {
         Err(why) => {
-            complain_of_file(alloc, shown, *why, err)?;
+            tell_unread(alloc, told, *why, lines, err)?;
             Ok(Found::Unread)
         }
         Ok(text) => {
             let text = text.as_str();
-            let language = read_as(alloc, call.language, name, text)?;
-            match error_of(alloc, language, text, call.limits, call.takes_fragments)? {
+            let language = read_as(alloc, call.language, told.name, text)?;
+            let limits = call.limits;
+            match error_of(alloc, language, text, limits, call.takes_fragments)? {
                 None => Ok(Found::Good),
                 Some(error) => {
-                    let report = report(alloc, call, style, language, shown, text, &error)?;
-                    complain(err, report.as_str());
+                    let reading = Reading { language, limits };
+                    let count = tell_all(alloc, told, &reading, text, &error, lines, err)?;
+                    *findings = findings.saturating_add(count);
                     Ok(Found::Refused)
                 }
             }
@@ -157,36 +173,20 @@ fn check_text<E: Write>(
     }
 }
 
-// The report of an error. A file of fragments alone is told how it is checked.
-fn report(
-    alloc: Global,
-    call: &Call<'_>,
-    style: Style,
-    language: Language,
-    shown: &str,
-    text: &str,
-    error: &Error,
-) -> Result<String, AllocError> {
-    if matches!(error, Error::MissingOperation) {
-        return format!(in alloc;
-            "{shown}: {error} (use --fragments if this file holds fragments alone)\n"
-        );
-    }
-    explain_in(style, alloc, language, shown, text, call.limits, error)
-}
-
-/// How many files there were, as `3 files: 1 good, 1 refused, 1 not read`.
+/// How many files there were, as `3 files: 1 good, 1 refused (2 findings), 1 not read`.
 pub fn summary(alloc: Global, tally: Tally) -> Result<String, AllocError> {
     let Tally {
         good,
         refused,
         unread,
+        findings,
     } = tally;
     let count = good.saturating_add(refused).saturating_add(unread);
     let files = if count == 1 { "file" } else { "files" };
     let mut line = format!(in alloc; "{count} {files}: {good} good")?;
     if refused > 0 {
-        write!(line, ", {refused} refused")?;
+        let word = if findings == 1 { "finding" } else { "findings" };
+        write!(line, ", {refused} refused ({findings} {word})")?;
     }
     if unread > 0 {
         write!(line, ", {unread} not read")?;

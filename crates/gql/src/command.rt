@@ -1,6 +1,6 @@
 //! What the program is asked for.
 use graphql_parser::Limits;
-use graphql_report::Language;
+use graphql_report::{Language, Style};
 use std::alloc::{AllocError, Global};
 
 /// What is done with the texts.
@@ -14,21 +14,46 @@ pub enum Command {
     Tokens,
 }
 
+/// How findings are told.
+#[derive(Clone, Copy, PartialEq, Eq)]
+pub enum Format {
+    /// `text`: a report each, for people.
+    Text,
+    /// `json`: a line of JSON each.
+    Json,
+    /// `github`: a command each, by which GitHub shows it beside its line.
+    Github,
+}
+
 /// A command with its options and files.
 #[derive(Drop)]
 pub struct Call<'a> {
     pub command: Command,
-    /// The names of the files; `-` is standard input.
+    /// The names of the files, and for `check` of folders too; `-` is standard input.
     pub files: Vec<&'a str>,
     /// What the texts are read as; None where each file tells it.
     pub language: Option<Language>,
     pub limits: Limits,
     /// `-v`: a line for each good text.
     pub is_verbose: bool,
-    /// `--fragments`: a request that lacks nothing but an operation is good.
+    /// A request that lacks nothing but an operation is good: so it is without `--executable`.
     pub takes_fragments: bool,
     /// `--places`: the tree has the place of each node.
     pub has_places: bool,
+    /// `--format`.
+    pub format: Format,
+    /// `-q`: nothing is told but the status.
+    pub is_quiet: bool,
+    /// `--color`: how reports are written; None where that depends on the terminal.
+    pub style: Option<Style>,
+}
+
+/// An option that a value follows.
+#[derive(Clone, Copy, PartialEq, Eq)]
+pub enum Valued {
+    Limits,
+    Format,
+    Color,
 }
 
 /// What the arguments ask for.
@@ -46,10 +71,10 @@ pub enum Wrong<'a> {
     NoCommand,
     UnknownCommand(&'a str),
     UnknownOption(&'a str),
-    /// `--limits` is the last word.
-    NoLimits,
-    /// What stands after `--limits` isn't three numbers of at most 256.
-    WrongLimits(&'a str),
+    /// The last word is an option that a value follows.
+    NoValue(Valued),
+    /// The value of an option is none that it takes.
+    WrongValue(Valued, &'a str),
     /// A second file for a command that takes one.
     SecondFile(&'a str),
     /// An argument is no text.
@@ -76,8 +101,11 @@ pub fn command_of<'a>(alloc: Global, words: &'a [String]) -> Result<Asked<'a>, A
         language: None,
         limits: Limits::default(),
         is_verbose: false,
-        takes_fragments: false,
+        takes_fragments: true,
         has_places: false,
+        format: Format::Text,
+        is_quiet: false,
+        style: None,
     };
     if let Some(other) = read_words(&mut call, words)? {
         return Ok(other);
@@ -101,8 +129,8 @@ fn is_option(word: &str) -> bool {
 #[derive(Clone, Copy, PartialEq, Eq)]
 enum Next {
     Any,
-    // The numbers after `--limits`.
-    Limits,
+    // The value of an option.
+    Value(Valued),
     // After `--` each word is a file.
     File,
 }
@@ -116,41 +144,83 @@ fn read_words<'a>(
     for word in words {
         let word = word.as_str();
         match next {
-            Next::Limits => {
-                let Some(limits) = limits_of(word) else {
-                    return Ok(Some(Asked::Wrong(Wrong::WrongLimits(word))));
-                };
-                call.limits = limits;
+            Next::Value(option) => {
+                if !read_value(call, option, word) {
+                    return Ok(Some(Asked::Wrong(Wrong::WrongValue(option, word))));
+                }
                 next = Next::Any;
             }
             Next::Any if is_option(word) => match word {
                 "--" => next = Next::File,
-                "--limits" => next = Next::Limits,
                 "--help" | "-h" => return Ok(Some(Asked::Help)),
-                _ => {
-                    if !read_option(call, word) {
-                        return Ok(Some(Asked::Wrong(Wrong::UnknownOption(word))));
-                    }
-                }
+                _ => match read_option(call, word) {
+                    Ok(then) => next = then,
+                    Err(wrong) => return Ok(Some(Asked::Wrong(wrong))),
+                },
             },
             Next::Any | Next::File => call.files.push(word)?,
         }
     }
-    if next == Next::Limits {
-        return Ok(Some(Asked::Wrong(Wrong::NoLimits)));
+    if let Next::Value(option) = next {
+        return Ok(Some(Asked::Wrong(Wrong::NoValue(option))));
     }
     Ok(None)
 }
 
-// Whether the option could be read into the call.
-fn read_option(call: &mut Call<'_>, word: &str) -> bool {
+// Reads an option into the call, and tells what the word after it is. Its value may stand after `=`.
+fn read_option<'a>(call: &mut Call<'a>, word: &'a str) -> Result<Next, Wrong<'a>> {
+    if let Some((option, value)) = word.split_once('=') {
+        let option = option_named(option).ok_or(Wrong::UnknownOption(word))?;
+        if !read_value(call, option, value) {
+            return Err(Wrong::WrongValue(option, value));
+        }
+        return Ok(Next::Any);
+    }
     match word {
         "--query" => call.language = Some(Language::Requests),
         "--schema" => call.language = Some(Language::Schemas),
         "-v" | "--verbose" => call.is_verbose = true,
+        "-q" | "--quiet" => call.is_quiet = true,
+        "--executable" => call.takes_fragments = false,
         "--fragments" => call.takes_fragments = true,
         "--places" => call.has_places = true,
-        _ => return false,
+        _ => {
+            let option = option_named(word).ok_or(Wrong::UnknownOption(word))?;
+            return Ok(Next::Value(option));
+        }
+    }
+    Ok(Next::Any)
+}
+
+// The option of this name that a value follows.
+fn option_named(name: &str) -> Option<Valued> {
+    match name {
+        "--limits" => Some(Valued::Limits),
+        "--format" => Some(Valued::Format),
+        "--color" => Some(Valued::Color),
+        _ => None,
+    }
+}
+
+// Whether the value of an option could be read into the call.
+fn read_value(call: &mut Call<'_>, option: Valued, value: &str) -> bool {
+    match option {
+        Valued::Limits => match limits_of(value) {
+            Some(limits) => call.limits = limits,
+            None => return false,
+        },
+        Valued::Format => match value {
+            "text" => call.format = Format::Text,
+            "json" => call.format = Format::Json,
+            "github" => call.format = Format::Github,
+            _ => return false,
+        },
+        Valued::Color => match value {
+            "always" => call.style = Some(Style::Coloured),
+            "never" => call.style = Some(Style::Plain),
+            "auto" => call.style = None,
+            _ => return false,
+        },
     }
     true
 }

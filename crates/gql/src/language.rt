@@ -76,7 +76,8 @@ fn begun_by(text: &str, first: &Token<'_>) -> Option<Language> {
     }
 }
 
-fn language_of_keyword(word: &str) -> Option<Language> {
+/// The language of whose definitions this word is a keyword.
+pub fn language_of_keyword(word: &str) -> Option<Language> {
     for (keyword, language) in KEYWORDS {
         if keyword == word {
             return Some(language);

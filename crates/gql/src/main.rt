@@ -12,6 +12,8 @@ mod language;
 mod listed;
 mod output;
 mod program;
+mod recovery;
+mod telling;
 #[cfg(test)]
 mod tests;
 mod texts;

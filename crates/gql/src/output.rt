@@ -1,6 +1,5 @@
 //! Writing: whole texts, and complaints.
-use crate::command::Wrong;
-use crate::texts::Unread;
+use crate::command::{Valued, Wrong};
 use std::alloc::{AllocError, Global};
 use std::io;
 use std::io::{ErrorKind, Write};
@@ -37,26 +36,6 @@ pub fn complain<W: Write>(to: &mut W, text: &str) {
     let _ = put(to, text.as_bytes());
 }
 
-/// Tells on standard error why there is no text in the file that is shown so.
-pub fn complain_of_file<E: Write>(
-    alloc: Global,
-    name: &str,
-    why: Unread,
-    err: &mut E,
-) -> Result<(), AllocError> {
-    let why = match why {
-        Unread::Missing => "cannot be read: no such file",
-        Unread::Forbidden => "cannot be read: permission denied",
-        Unread::Folder => "cannot be read: is a directory",
-        Unread::Unreadable => "cannot be read",
-        Unread::NotText => "is not UTF-8",
-        Unread::NoMemory => return Err(AllocError),
-    };
-    let line = format!(in alloc; "gql: {name} {why}\n")?;
-    complain(err, line.as_str());
-    Ok(())
-}
-
 /// Tells on standard error what is wrong with the arguments, and then how the program is called.
 pub fn complain_of_call<E: Write>(
     alloc: Global,
@@ -68,11 +47,8 @@ pub fn complain_of_call<E: Write>(
         Wrong::NoCommand => ("a command is missing", None),
         Wrong::UnknownCommand(word) => ("unknown command", Some(word)),
         Wrong::UnknownOption(word) => ("unknown option", Some(word)),
-        Wrong::NoLimits => ("--limits needs three numbers", None),
-        Wrong::WrongLimits(word) => (
-            "--limits needs three numbers of at most 256, as 64,64,64, and not",
-            Some(word),
-        ),
+        Wrong::NoValue(option) => (needs(option), None),
+        Wrong::WrongValue(option, word) => (needs(option), Some(word)),
         Wrong::SecondFile(word) => (
             "this command takes one file, and there is a second",
             Some(word),
@@ -81,13 +57,22 @@ pub fn complain_of_call<E: Write>(
     };
     let mut lines = format!(in alloc; "gql: {what}")?;
     if let Some(word) = word {
-        lines.push(' ')?;
+        let is_value = matches!(wrong, Wrong::WrongValue(..));
+        lines.push_str(if is_value { ", and not " } else { " " })?;
         push_shown(&mut lines, word)?;
     }
     lines.push('\n')?;
     lines.push_str(usage)?;
     complain(err, lines.as_str());
     Ok(())
+}
+
+fn needs(option: Valued) -> &'static str {
+    match option {
+        Valued::Limits => "--limits needs three numbers of at most 256, as 64,64,64",
+        Valued::Format => "--format needs text, json or github",
+        Valued::Color => "--color needs always, never or auto",
+    }
 }
 
 /// The name by which a file is told.

@@ -1,11 +1,12 @@
 //! The program's work, over any source of texts and any writers.
 ghost use Rattle.std.specs.Prelude.{◌≤◌, IfOk};
 
-use crate::check::{check_files, summary};
-use crate::command::{Asked, Call, Command, Wrong, command_of};
+use crate::check::{check_files, summary, told_of};
+use crate::command::{Asked, Call, Command, Format, Wrong, command_of};
 use crate::language::read_as;
 use crate::listed::token_lines;
-use crate::output::{Stop, complain, complain_of_call, complain_of_file, put, shown_name};
+use crate::output::{Stop, complain, complain_of_call, put, shown_name};
+use crate::telling::{Told, tell_unread};
 use crate::texts::Texts;
 use graphql_json::{Places, request_json, schema_json};
 use graphql_parser::{Error, parse_query_limited, parse_schema_limited};
@@ -20,7 +21,8 @@ const USAGE: &str = "usage: gql check|tree|tokens [OPTION].. [FILE].. (gql --hel
 const HELP: &str = "usage: gql COMMAND [OPTION].. [FILE]..
 
 Commands:
-  check    reports what is wrong with each file
+  check    tells what is wrong with each file, and with each file named *.graphql, *.graphqls or *.gql below a folder:
+           the first error of each definition, 100 of a file at most
   tree     prints the tree of a file as JSON, as GraphQL.js has it
   tokens   prints the tokens of a file, a line for each
 
@@ -31,17 +33,23 @@ Options:
   --schema         the texts are schema files. Without either a file named *.graphqls, *.gqls or *.sdl is a schema
                    file, and another one is what its first word tells
   --limits S,V,T   how deep selection sets, values and list types may nest; 64,64,64 without it, 256 at most
-  --fragments      check: a request may hold fragments alone
+  --executable     check: a request needs an operation; without it fragments alone are good, as --fragments says
+  --format FORMAT  check: text for people, which is so without it; json, a line for each finding, which has its file,
+                   severity, status and message, and line, column, endLine and endColumn where they are known; or
+                   github, a line for each, with which GitHub shows it where it is
+  --color WHEN     always, never or auto, which is so without it: if standard error is a terminal, NO_COLOR is not set
+                   or empty, and TERM is not dumb
   -v, --verbose    check: a line for each good file
+  -q, --quiet      check: nothing but the status
   --places         tree: with the line and the column of each node
   --               each word after it is a file
   -h, --help       prints this
   -V, --version    prints the version
 
-Reports go to standard error, in colours if that is a terminal, NO_COLOR is not set or empty, and TERM is not dumb. The
-status is 0 where all files are good, 1 where one is refused, and 2 where one can't be read, where the output can't be
-written, and for a wrong call. Where the reader of standard output has gone away, as head does, the status is the same
-as if it had stayed.
+Reports for people go to standard error, and how many files there were to standard output, as do the lines of json and
+github. The status is 0 where all files are good, 1 where one is refused, and 2 where one can't be read, where the output
+can't be written, and for a wrong call. Where the reader of standard output has gone away, as head does, the status is the
+same as if it had stayed.
 ";
 
 /// Does the work of the program, and gives the exit status: 0, or 1 where a text is refused, or 2 for wrong arguments, a
@@ -100,14 +108,17 @@ fn served<T: Texts, O: Write, E: Write>(
             complain_of_call(alloc, wrong, USAGE, err)?;
             Ok(2)
         }
-        Asked::Call(call) => match call.command {
-            Command::Check => check(alloc, &call, style, texts, out, err),
-            Command::Tree | Command::Tokens => print_one(alloc, &call, style, texts, out, err),
-        },
+        Asked::Call(call) => {
+            let style = call.style.unwrap_or(style);
+            match call.command {
+                Command::Check => check(alloc, &call, style, texts, out, err),
+                Command::Tree | Command::Tokens => print_one(alloc, &call, style, texts, out, err),
+            }
+        }
     }
 }
 
-// `check`: a report of each file that is refused, and how many there were of each kind.
+// `check`: what is wrong with each file that is refused, and how many there were of each kind.
 fn check<T: Texts, O: Write, E: Write>(
     alloc: Global,
     call: &Call<'_>,
@@ -118,12 +129,59 @@ fn check<T: Texts, O: Write, E: Write>(
 ) -> Result<u8, Stop>
     ensures { IfOk result (λ status. status ≤ 2) }
 {
-    let told = check_files(alloc, call, style, texts, err)?;
-    if call.is_verbose {
-        put(out, told.lines.as_str().as_bytes())?;
+    let mut lines = String::new(alloc);
+    let mut files: Vec<String> = Vec::new(alloc);
+    let unlisted = push_files(alloc, call, style, texts, &mut files, &mut lines, err)?;
+    let names = texts_of(alloc, &files)?;
+    let outcome = check_files(alloc, call, style, &names, texts, &mut lines, err)?;
+    let mut tally = outcome.tally;
+    tally.unread = tally.unread.saturating_add(unlisted);
+    if call.format == Format::Text {
+        lines.push_str(summary(alloc, tally)?.as_str())?;
     }
-    put(out, summary(alloc, told.tally)?.as_str().as_bytes())?;
-    Ok(told.status)
+    if !call.is_quiet {
+        put(out, lines.as_str().as_bytes())?;
+    }
+    Ok(if unlisted > 0 { 2 } else { outcome.status })
+}
+
+fn texts_of<'a>(alloc: Global, strings: &'a Vec<String>) -> Result<Vec<&'a str>, AllocError> {
+    let mut texts = Vec::new(alloc);
+    for string in strings {
+        texts.push(string.as_str())?;
+    }
+    Ok(texts)
+}
+
+// Adds the files that are checked: those of the call, and in place of a folder those below it. Tells of each folder that
+// has none or can't be listed, and gives how many there were.
+fn push_files<T: Texts, E: Write>(
+    alloc: Global,
+    call: &Call<'_>,
+    style: Style,
+    texts: &mut T,
+    files: &mut Vec<String>,
+    lines: &mut String,
+    err: &mut E,
+) -> Result<usize, AllocError> {
+    let mut unlisted = 0usize;
+    for name in &call.files {
+        match texts.files_below(alloc, name) {
+            Ok(Some(found)) => {
+                for file in found {
+                    files.push(file)?;
+                }
+            }
+            Ok(None) => files.push(String::from_str(alloc, name)?)?,
+            Err(why) => {
+                let shown = shown_name(alloc, name)?;
+                let told = told_of(call, style, name, shown.as_str());
+                tell_unread(alloc, &told, why, lines, err)?;
+                unlisted = unlisted.saturating_add(1);
+            }
+        }
+    }
+    Ok(unlisted)
 }
 
 // `tree` and `tokens`: what is printed of the one file.
@@ -142,7 +200,8 @@ fn print_one<T: Texts, O: Write, E: Write>(
     let text = match texts.text(alloc, name) {
         Ok(text) => text,
         Err(why) => {
-            complain_of_file(alloc, shown.as_str(), why, err)?;
+            let told = told_for_people(style, shown.as_str());
+            tell_unread(alloc, &told, why, &mut String::new(alloc), err)?;
             return Ok(2);
         }
     };
@@ -164,6 +223,17 @@ fn print_one<T: Texts, O: Write, E: Write>(
             complain(err, report.as_str());
             Ok(1)
         }
+    }
+}
+
+// How a file is told of where findings have no other form.
+fn told_for_people(style: Style, shown: &str) -> Told<'_> {
+    Told {
+        shown,
+        name: shown,
+        format: Format::Text,
+        style,
+        is_quiet: false,
     }
 }
 

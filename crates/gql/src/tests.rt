@@ -111,7 +111,10 @@ fn help_is_printed_and_output_may_fail(rt: HostRuntime) -> Result<(), Fail> {
             "--query",
             "--schema",
             "--limits S,V,T",
-            "--fragments",
+            "--executable",
+            "--format FORMAT",
+            "--color WHEN",
+            "--quiet",
             "--places",
         ] {
             assert!(rt; help.contains(word), "{word}");

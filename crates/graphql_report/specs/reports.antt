@@ -1,2 +1,3 @@
--- Public: how a report begins, and which places it tells.
+-- Public: how a report begins, and which places it tells; and where a finding stands.
 pub mod Reports
+pub mod Findings

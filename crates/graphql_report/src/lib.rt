@@ -5,6 +5,9 @@
 //! refused token it tells what was found, and what is expected: exactly those of the samples in the module `samples` that
 //! the parser takes there. Of a limit it tells which one, and how great it is.
 //!
+//! [`finding_of`] gives the same in parts, for a program that shows it in its own way: the place, where the refused token
+//! ends, the name of the error's status, and the message. [`refused_token`] gives the refused token itself.
+//!
 //! The parsers give all of this themselves. A sample is expected where the text before the refused token, with the sample
 //! after it, is a viable front, and one parse of these tells that ([`is_front`]). So a report of a refused text costs some
 //! twenty parses of the text before the refused token, or some forty where no name can stand there; each is linear, and one
@@ -14,7 +17,7 @@
 //! Proved of it, unless memory runs out: `is_front` answers true exactly where the tokens of a text are a viable front, in
 //! both languages and at all limits; what is expected is exactly those of the samples, in their order, that can stand
 //! after the text before the refused token, a keyword only where a name can't, and the end of the text where that text is a
-//! whole document; a report begins with the place of the error and its message; and every call is safe and ends. What a
+//! whole document; a report begins with the place of the error and its message, and a finding stands at that place; and every call is safe and ends. What a
 //! report says in words besides is tested, in `conformance_reports`.
 #![tactic(auto)]
 
@@ -22,6 +25,7 @@ mod definitions;
 mod excerpt;
 mod expected;
 mod faults;
+mod findings;
 mod fronts;
 mod hints;
 mod probes;
@@ -30,6 +34,8 @@ mod report;
 mod samples;
 mod style;
 
+pub use findings::{Finding, finding_of};
 pub use fronts::{Language, is_front};
+pub use refused::refused_token;
 pub use report::{explain, explain_in};
 pub use style::Style;

@@ -34,7 +34,7 @@ pub fn after(text: &str, offset: usize) -> &str {
 /// the tokens up to it, itself included.
 ///
 /// Where the error names a place at which one token stands, it is that one, and nothing is parsed. At the default limits
-/// one parse counts the tokens up to it. Else it is found by halving.
+/// one parse counts the tokens up to it. Else it is found by halving. (This project's own call.)
 pub fn refused_token<'a>(
     alloc: Global,
     language: Language,

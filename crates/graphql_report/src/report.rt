@@ -20,7 +20,8 @@ use std::alloc::{AllocError, Global};
 // So many characters of a token are shown.
 const SHOWN_TOKEN: usize = 30;
 
-const TOO_DEEP: &str = "recursion limit exceeded";
+/// What is told of a text that nests too deep.
+pub const TOO_DEEP: &str = "recursion limit exceeded";
 
 const OF_ROOTS: Remarks = Remarks {
     first: "",
@@ -182,18 +183,19 @@ fn explain_syntax(
     )
 }
 
-// What is told of a refused token.
+/// What is told of a refused token.
 #[derive(Drop)]
-struct Details {
-    // What was found, or what is wrong there, and what was expected.
-    message: String,
-    // Where the caret stands, and whether that is inside the token, where an escape begins.
-    offset: usize,
-    is_inside: bool,
+pub struct Details {
+    /// What was found, or what is wrong there, and what was expected.
+    pub message: String,
+    /// Where the caret stands.
+    pub offset: usize,
+    /// Whether that is inside the token, where an escape begins.
+    pub is_inside: bool,
 }
 
-// The place where the caret stands, in a text that is cut there: that of the refused token, or of the escape in it.
-fn place_told(front: &str, back: &str, start: Pos, is_inside: bool) -> Pos
+/// The place where the caret stands, in a text that is cut there: that of the refused token, or of the escape in it.
+pub fn place_told(front: &str, back: &str, start: Pos, is_inside: bool) -> Pos
     ensures { IsToldAt (front.now ++ back.now) start result }
 {
     if is_inside
@@ -205,7 +207,8 @@ fn place_told(front: &str, back: &str, start: Pos, is_inside: bool) -> Pos
     start
 }
 
-fn details_of(
+/// What is told of the refused token of a text.
+pub fn details_of(
     alloc: Global,
     language: Language,
     text: &str,
@@ -284,6 +287,14 @@ fn explain_place(
 struct Remarks {
     first: &'static str,
     second: &'static str,
+}
+
+/// What is said after the message of an error, before the line of its first place.
+pub fn remark_of(error: &Error) -> &'static str {
+    match error {
+        Error::MultipleOperations { .. } => OF_OPERATIONS.first,
+        _ => "",
+    }
 }
 
 // An error with two places.

@@ -1,6 +1,6 @@
 //! Texts and writers over memory.
 use crate::texts::{Texts, Unread, text_of};
-use std::alloc::Global;
+use std::alloc::{AllocError, Global};
 use std::io::{Error, ErrorKind, Result as IoResult, Write};
 
 // What is read under these names; under another there is no file.
@@ -23,6 +23,17 @@ const FILES: &[(&str, &[u8])] = &[
         b"fragment F on T{a} fragment F on T{a}",
     ),
     ("\u{1b}[1m\u{202e}.graphql", b"{a}"),
+    ("folder/a.graphql", b"{a}"),
+    ("folder/b/c.gql", b"{a()}"),
+    ("a,b:c%.graphql", b"{a(b:%)}"),
+    (
+        "query.graphql",
+        b"query A {\n  a(\n}\n\nquery B {\n  b\n}\n\n{\n  c(d:)\n}\n",
+    ),
+    (
+        "fields.graphql",
+        b"type A {\na: B!!\ntype: C\ninput(a: D): E\n}\ntype F {\n  g H\n}\n",
+    ),
 ];
 
 /// These files.
@@ -45,6 +56,27 @@ impl Texts for Files {
             _ => Unread::Missing,
         })
     }
+
+    fn files_below(&mut self, alloc: Global, name: &str) -> Result<Option<Vec<String>>, Unread> {
+        match name {
+            "folder" => {}
+            "empty" => return Err(Unread::NoFiles),
+            "locked" => return Err(Unread::Forbidden),
+            _ => return Ok(None),
+        }
+        Ok(Some(files_of(alloc, "folder/")?))
+    }
+}
+
+// The names of the files that begin so.
+fn files_of(alloc: Global, front: &str) -> Result<Vec<String>, AllocError> {
+    let mut files = Vec::new(alloc);
+    for (known, _) in FILES {
+        if known.starts_with(front) {
+            files.push(String::from_str(alloc, known)?)?;
+        }
+    }
+    Ok(files)
 }
 
 /// Keeps what it is given, and fails in this way once no call is left. A flush is a call too.

@@ -19,14 +19,14 @@ $ check good.graphql good.graphqls described.graphqls described.graphql
 = 0
 
 $ check bad.graphql
-> 1 file: 0 good, 1 refused
+> 1 file: 0 good, 1 refused (1 finding)
 ! bad.graphql:1:4: syntax error: found ")", expected a name
 !  1 | {a()}
 !    |    ^
 = 1
 
 $ check bad.graphqls
-> 1 file: 0 good, 1 refused
+> 1 file: 0 good, 1 refused (1 finding)
 ! bad.graphqls:1:8: syntax error: found "}", expected a name or a string
 !  1 | type A{}
 !    |        ^
@@ -34,7 +34,7 @@ $ check bad.graphqls
 
 $ check -v bad.graphql good.graphql
 > good.graphql: good
-> 2 files: 1 good, 1 refused
+> 2 files: 1 good, 1 refused (1 finding)
 ! bad.graphql:1:4: syntax error: found ")", expected a name
 !  1 | {a()}
 !    |    ^
@@ -47,18 +47,122 @@ $ check none bytes.graphql good.graphql
 = 2
 
 $ check bad.graphql none
-> 2 files: 0 good, 1 refused, 1 not read
+> 2 files: 0 good, 1 refused (1 finding), 1 not read
 ! bad.graphql:1:4: syntax error: found ")", expected a name
 !  1 | {a()}
 !    |    ^
 ! gql: none cannot be read: no such file
 = 2
 
-$ check secret.graphql folder disk.graphql
-> 3 files: 0 good, 3 not read
+$ check secret.graphql disk.graphql
+> 2 files: 0 good, 2 not read
 ! gql: secret.graphql cannot be read: permission denied
-! gql: folder cannot be read: is a directory
 ! gql: disk.graphql cannot be read
+= 2
+
+$ check folder good.graphql
+> 3 files: 2 good, 1 refused (1 finding)
+! folder/b/c.gql:1:4: syntax error: found ")", expected a name
+!  1 | {a()}
+!    |    ^
+= 1
+
+$ check -v good.graphql empty locked bad.graphql
+> good.graphql: good
+> 4 files: 1 good, 1 refused (1 finding), 2 not read
+! gql: empty has no file named *.graphql, *.graphqls or *.gql
+! gql: locked cannot be read: permission denied
+! bad.graphql:1:4: syntax error: found ")", expected a name
+!  1 | {a()}
+!    |    ^
+= 2
+
+$ tree folder
+! gql: folder cannot be read: is a directory
+= 2
+
+$ check query.graphql
+> 1 file: 0 good, 1 refused (2 findings)
+! query.graphql:3:1: syntax error: found "}", expected a name
+!  3 | }
+!    | ^
+! query.graphql:10:7: syntax error: found ")", expected a value or "$"
+!  10 |   c(d:)
+!     |       ^
+= 1
+
+$ check fields.graphql
+> 1 file: 0 good, 1 refused (2 findings)
+! fields.graphql:2:6: syntax error: found "!", expected a name, a string, "@" or "}"
+!  2 | a: B!!
+!    |      ^
+! fields.graphql:7:5: syntax error: found "H", expected "(" or ":"
+!  7 |   g H
+!    |     ^
+= 1
+
+$ check -q query.graphql none
+= 2
+
+$ check --quiet good.graphql -v
+= 0
+
+$ check --format json query.graphql good.graphql none bytes.graphql fragments.graphql
+> {"file":"query.graphql","line":3,"column":1,"endLine":3,"endColumn":2,"severity":"error","status":"SYNTAX","message":"syntax error: found \"}\", expected a name"}
+> {"file":"query.graphql","line":10,"column":7,"endLine":10,"endColumn":8,"severity":"error","status":"SYNTAX","message":"syntax error: found \")\", expected a value or \"$\""}
+> {"file":"none","severity":"error","status":"UNREADABLE","message":"cannot be read: no such file"}
+> {"file":"bytes.graphql","severity":"error","status":"NOT_UTF8","message":"is not UTF-8"}
+> {"file":"fragments.graphql","line":1,"column":20,"severity":"error","status":"FRAGMENT_DUPLICATED","message":"fragment F is defined twice"}
+= 2
+
+$ check --format json --limits=0,0,0 short.graphql
+> {"file":"short.graphql","line":1,"column":3,"endLine":1,"endColumn":4,"severity":"error","status":"RECURSION_LIMIT_EXCEEDED","message":"recursion limit exceeded: selection sets may nest 0 deep"}
+= 1
+
+$ check --format json --executable -v fragment.graphql -
+> {"file":"fragment.graphql","severity":"error","status":"MISSING_OPERATION","message":"document does not contain an operation"}
+= 1
+
+$ check --format=github bad.graphql a,b:c%.graphql fragments.graphql none good.graphql
+> ::error file=bad.graphql,line=1,col=4::syntax error: found ")", expected a name
+> ::error file=a%2Cb%3Ac%25.graphql,line=1,col=6::syntax error: the character %25 begins no token, expected a value or "$"
+> ::error file=fragments.graphql,line=1,col=20::fragment F is defined twice
+> ::error file=none::cannot be read: no such file
+= 2
+
+$ check --color always bad.graphql
+> 1 file: 0 good, 1 refused (1 finding)
+! ␛[1mbad.graphql:1:4:␛[0m syntax ␛[1;31merror␛[0m: found ")", expected a name
+!  1 | {a()}
+!    |    ␛[31m^␛[0m
+= 1
+
+% tree bad.graphql --color=never
+! bad.graphql:1:4: syntax error: found ")", expected a name
+!  1 | {a()}
+!    |    ^
+= 1
+
+% check --color never --color auto bad.graphql
+> 1 file: 0 good, 1 refused (1 finding)
+! ␛[1mbad.graphql:1:4:␛[0m syntax ␛[1;31merror␛[0m: found ")", expected a name
+!  1 | {a()}
+!    |    ␛[31m^␛[0m
+= 1
+
+$ check --color
+! gql: --color needs always, never or auto
+! usage: gql check|tree|tokens [OPTION].. [FILE].. (gql --help tells more)
+= 2
+
+$ check --format=xml
+! gql: --format needs text, json or github, and not xml
+! usage: gql check|tree|tokens [OPTION].. [FILE].. (gql --help tells more)
+= 2
+
+$ check --quiet=no
+! gql: unknown option --quiet=no
+! usage: gql check|tree|tokens [OPTION].. [FILE].. (gql --help tells more)
 = 2
 
 $ check -v ␛[1m⟲.graphql none␛
@@ -68,7 +172,7 @@ $ check -v ␛[1m⟲.graphql none␛
 = 2
 
 $ check --limits 0,0,0 short.graphql
-> 1 file: 0 good, 1 refused
+> 1 file: 0 good, 1 refused (1 finding)
 ! short.graphql:1:3: recursion limit exceeded: selection sets may nest 0 deep
 !  1 | {a{b}}
 !    |   ^
@@ -83,30 +187,45 @@ $ check --schema -- good.graphqls
 = 0
 
 $ check --schema none.graphql
-> 1 file: 0 good, 1 refused
+> 1 file: 0 good, 1 refused (1 finding)
 ! none.graphql:1:7: syntax error: found the end of the text, expected a string, "directive", "enum", "extend", "input", "interface", "scalar", "schema", "type" or "union"
 !  1 | # none
 !    |       ^
 = 1
 
 $ check --query good.graphqls
-> 1 file: 0 good, 1 refused
+> 1 file: 0 good, 1 refused (1 finding)
 ! good.graphqls:1:1: syntax error: found "type", expected "{", "fragment", "mutation", "query" or "subscription" ("type" begins a definition of a schema file, and this text is read as a request)
 !  1 | type A{b:C}
 !    | ^
 = 1
 
-$ check fragment.graphql
-> 1 file: 0 good, 1 refused
-! fragment.graphql: document does not contain an operation (use --fragments if this file holds fragments alone)
+$ check --executable fragment.graphql
+> 1 file: 0 good, 1 refused (1 finding)
+! fragment.graphql: document does not contain an operation
 = 1
 
-$ check --fragments fragment.graphql good.graphql good.graphqls
+$ check --executable good.graphql good.graphqls
+> 2 files: 2 good
+= 0
+
+$ check fragment.graphql good.graphql good.graphqls
 > 3 files: 3 good
 = 0
 
-$ check --fragments fragments.graphql
-> 1 file: 0 good, 1 refused
+$ check --executable --fragments fragment.graphql
+> 1 file: 1 good
+= 0
+
+$ check none.graphql
+> 1 file: 0 good, 1 refused (1 finding)
+! none.graphql:1:7: syntax error: found the end of the text, expected "{", "fragment", "mutation", "query" or "subscription"
+!  1 | # none
+!    |       ^
+= 1
+
+$ check fragments.graphql
+> 1 file: 0 good, 1 refused (1 finding)
 ! fragments.graphql:1:20: fragment F is defined twice
 !  1 | fragment F on T{a} fragment F on T{a}
 !    |                    ^
@@ -166,7 +285,7 @@ $ --colour
 = 2
 
 $ check --limits
-! gql: --limits needs three numbers
+! gql: --limits needs three numbers of at most 256, as 64,64,64
 ! usage: gql check|tree|tokens [OPTION].. [FILE].. (gql --help tells more)
 = 2
 
@@ -205,7 +324,7 @@ $ --version
 = 0
 
 % check bad.graphql good.graphql
-> 2 files: 1 good, 1 refused
+> 2 files: 1 good, 1 refused (1 finding)
 ! ␛[1mbad.graphql:1:4:␛[0m syntax ␛[1;31merror␛[0m: found ")", expected a name
 !  1 | {a()}
 !    |    ␛[31m^␛[0m

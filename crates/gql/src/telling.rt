@@ -1,0 +1,252 @@
+//! Telling what is wrong with a file: in a report for people, or in a line for a program.
+use crate::check::error_of;
+use crate::command::Format;
+use crate::output::complain;
+use crate::recovery::{next_definition, rest_at};
+use crate::texts::Unread;
+use graphql_parser::{Error, Limits, Pos};
+use graphql_report::{Finding, Language, Style, explain_in, finding_of, refused_token};
+use serde::Serialize;
+use std::alloc::{AllocError, Global};
+use std::io::Write;
+
+/// So many findings of a file are told at most.
+pub const MOST_FINDINGS: usize = 100;
+
+/// A file, and how it is told what is wrong with it.
+#[derive(Clone, Copy)]
+pub struct Told<'a> {
+    /// The name by which it is told to people.
+    pub shown: &'a str,
+    /// The name by which it is told to programs.
+    pub name: &'a str,
+    pub format: Format,
+    pub style: Style,
+    pub is_quiet: bool,
+}
+
+/// What a text is read as, and how deep it may nest.
+#[derive(Clone, Copy)]
+pub struct Reading {
+    pub language: Language,
+    pub limits: Limits,
+}
+
+/// Tells the error of a text, and then the first error of each definition after it. Gives how many errors were told.
+///
+/// A refused text is read again from the next definition on, and so on. What the definitions before the refused one lack, or
+/// have twice, is no matter then, and neither is that an operation without a name isn't alone: a brace at the beginning of a
+/// line may belong to a definition that is refused before it.
+pub fn tell_all<E: Write>(
+    alloc: Global,
+    told: &Told<'_>,
+    reading: &Reading,
+    text: &str,
+    error: &Error,
+    lines: &mut String,
+    err: &mut E,
+) -> Result<usize, AllocError> {
+    if told.is_quiet {
+        return Ok(0);
+    }
+    tell(alloc, told, reading, text, error, lines, err)?;
+    match rest_after(alloc, reading, text, error)? {
+        None => Ok(1),
+        Some(rest) => {
+            let count = tell_rest(alloc, told, reading, rest, lines, err)?;
+            Ok(count.saturating_add(1))
+        }
+    }
+}
+
+// Tells the first error of each definition in the rest of a text. Gives how many errors were told.
+fn tell_rest<E: Write>(
+    alloc: Global,
+    told: &Told<'_>,
+    reading: &Reading,
+    rest: String,
+    lines: &mut String,
+    err: &mut E,
+) -> Result<usize, AllocError> {
+    let mut rest = rest;
+    let mut count = 0usize;
+    for _ in 1..MOST_FINDINGS {
+        let Some(error) = next_error(alloc, reading, rest.as_str())? else {
+            break;
+        };
+        tell(alloc, told, reading, rest.as_str(), &error, lines, err)?;
+        count = count.saturating_add(1);
+        let Some(next) = rest_after(alloc, reading, rest.as_str(), &error)? else {
+            break;
+        };
+        rest.clear();
+        rest.push_str(next.as_str())?;
+    }
+    Ok(count)
+}
+
+// The error of the rest of a text, if it is one to be told.
+fn next_error(alloc: Global, reading: &Reading, rest: &str) -> Result<Option<Error>, AllocError> {
+    let Reading { language, limits } = *reading;
+    match error_of(alloc, language, rest, limits, true)? {
+        Some(Error::MultipleOperations { .. }) => Ok(None),
+        other => Ok(other),
+    }
+}
+
+// What is read next of a text that has this error.
+fn rest_after(
+    alloc: Global,
+    reading: &Reading,
+    text: &str,
+    error: &Error,
+) -> Result<Option<String>, AllocError> {
+    if !matches!(error, Error::Syntax { .. } | Error::RecursionLimitExceeded) {
+        return Ok(None);
+    }
+    let Reading { language, limits } = *reading;
+    let Some(token) = refused_token(alloc, language, text, limits, error)? else {
+        return Ok(None);
+    };
+    match next_definition(language, text, token.start) {
+        Some(offset) => rest_at(alloc, text, offset),
+        None => Ok(None),
+    }
+}
+
+// Tells the error of a text: a report goes to `err`, and a line for programs is added to the lines.
+fn tell<E: Write>(
+    alloc: Global,
+    told: &Told<'_>,
+    reading: &Reading,
+    text: &str,
+    error: &Error,
+    lines: &mut String,
+    err: &mut E,
+) -> Result<(), AllocError> {
+    let Reading { language, limits } = *reading;
+    if told.format == Format::Text {
+        let report = explain_in(told.style, alloc, language, told.shown, text, limits, error)?;
+        complain(err, report.as_str());
+        return Ok(());
+    }
+    let finding = finding_of(alloc, language, text, limits, error)?;
+    push_finding(alloc, told, &finding, lines)
+}
+
+/// Tells why there is no text in a file.
+pub fn tell_unread<E: Write>(
+    alloc: Global,
+    told: &Told<'_>,
+    why: Unread,
+    lines: &mut String,
+    err: &mut E,
+) -> Result<(), AllocError> {
+    let why_told = why.words().ok_or(AllocError)?;
+    if told.is_quiet {
+        return Ok(());
+    }
+    if told.format == Format::Text {
+        let shown = told.shown;
+        let line = format!(in alloc; "gql: {shown} {why_told}\n")?;
+        complain(err, line.as_str());
+        return Ok(());
+    }
+    let finding = Finding {
+        place: None,
+        end: None,
+        status: why.status(),
+        message: String::from_str(alloc, why_told)?,
+    };
+    push_finding(alloc, told, &finding, lines)
+}
+
+// Adds the line of a finding for programs.
+fn push_finding(
+    alloc: Global,
+    told: &Told<'_>,
+    finding: &Finding,
+    lines: &mut String,
+) -> Result<(), AllocError> {
+    if told.format == Format::Github {
+        push_command(alloc, told.shown, finding, lines)
+    } else {
+        push_json(alloc, told.name, finding, lines)
+    }
+}
+
+// ---- JSON
+
+// A finding as it is written in JSON.
+#[derive(Clone, Copy, Serialize)]
+#[serde(rename_all = "camelCase")]
+struct Line<'a> {
+    file: &'a str,
+    #[serde(skip_serializing_if = "Option::is_none")]
+    line: Option<usize>,
+    #[serde(skip_serializing_if = "Option::is_none")]
+    column: Option<usize>,
+    #[serde(skip_serializing_if = "Option::is_none")]
+    end_line: Option<usize>,
+    #[serde(skip_serializing_if = "Option::is_none")]
+    end_column: Option<usize>,
+    severity: &'static str,
+    status: &'static str,
+    message: &'a str,
+}
+
+fn push_json(
+    alloc: Global,
+    name: &str,
+    finding: &Finding,
+    lines: &mut String,
+) -> Result<(), AllocError> {
+    let line = Line {
+        file: name,
+        line: finding.place.map(|place| place.line),
+        column: finding.place.map(|place| place.column),
+        end_line: finding.end.map(|place| place.line),
+        end_column: finding.end.map(|place| place.column),
+        severity: "error",
+        status: finding.status,
+        message: finding.message.as_str(),
+    };
+    let json = serde_json::to_string(alloc, &line).map_err(|_| AllocError)?;
+    lines.push_str(json.as_str())?;
+    lines.push('\n')
+}
+
+// ---- GitHub
+
+// Adds the command by which GitHub shows a finding beside its line.
+fn push_command(
+    alloc: Global,
+    shown: &str,
+    finding: &Finding,
+    lines: &mut String,
+) -> Result<(), AllocError> {
+    lines.push_str("::error file=")?;
+    push_escaped(lines, shown, true)?;
+    if let Some(Pos { line, column }) = finding.place {
+        let place = format!(in alloc; ",line={line},col={column}")?;
+        lines.push_str(place.as_str())?;
+    }
+    lines.push_str("::")?;
+    push_escaped(lines, finding.message.as_str(), false)?;
+    lines.push('\n')
+}
+
+// Adds a text in which no character ends the message of a command, or the property where it is one.
+fn push_escaped(out: &mut String, text: &str, is_property: bool) -> Result<(), AllocError> {
+    for c in text.chars() {
+        match c {
+            '%' => out.push_str("%25")?,
+            '\r' => out.push_str("%0D")?,
+            '\n' => out.push_str("%0A")?,
+            ':' if is_property => out.push_str("%3A")?,
+            ',' if is_property => out.push_str("%2C")?,
+            other => out.push(other)?,
+        }
+    }
+    Ok(())
+}

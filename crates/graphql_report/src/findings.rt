@@ -1,0 +1,150 @@
+//! What is wrong with a text, in parts: for those who show it in a way of their own.
+ghost use Rattle.std.specs.Prelude.{◌≡◌, IfOk, Some};
+ghost use Rattle.graphql_grammar.specs.errors.Errors.{error_places};
+ghost use Rattle.graphql_report.specs.reports.Findings.{StandsAt, first_of};
+ghost use Rattle.graphql_report.specs.reports.Reports.{IsToldAt, IsPlaceIn};
+
+use crate::fronts::{Language, end_of};
+use crate::refused::{before, reached_limit, refused_token, split};
+use crate::report::{TOO_DEEP, details_of, place_told, remark_of};
+use graphql_parser::lexer::Token;
+use graphql_parser::{Error, Limits, Pos};
+use std::alloc::{AllocError, Global};
+
+/// What is wrong with a text, in parts.
+#[derive(Drop)]
+pub struct Finding {
+    /// The first place of the report; None of an error that names none.
+    pub place: Option<Pos>,
+    /// Where the refused token ends, before its next character; None where the error is about no one token.
+    pub end: Option<Pos>,
+    /// The name of the error's status, as C has it, without `GRAPHQL_PARSER_`.
+    pub status: &'static str,
+    /// What the first line of the report says after the place.
+    pub message: String,
+}
+
+/// What [`explain`](crate::explain) tells of an error, in parts and without the line of the place. (This project's own call.)
+///
+/// It takes what `explain` takes, and as long. An error says that memory was refused.
+pub fn finding_of(
+    alloc: Global,
+    language: Language,
+    text: &str,
+    limits: Limits,
+    error: &Error,
+) -> Result<Finding, AllocError>
+    ensures { IfOk result (λ finding. StandsAt text.now error.now finding.place) }
+{
+    match error {
+        Error::Syntax { start, .. } => syntax_finding(alloc, language, text, limits, error, *start),
+        Error::RecursionLimitExceeded => limit_finding(alloc, language, text, limits, error),
+        Error::MultipleRoots { .. }
+        | Error::MissingQueryRoot { .. }
+        | Error::MultipleOperations { .. }
+        | Error::OperationDuplicated { .. }
+        | Error::FragmentDuplicated { .. }
+        | Error::MissingOperation
+        | Error::OutOfMemory => breach_finding(alloc, error),
+    }
+}
+
+// A refused token.
+fn syntax_finding(
+    alloc: Global,
+    language: Language,
+    text: &str,
+    limits: Limits,
+    error: &Error,
+    start: Pos,
+) -> Result<Finding, AllocError>
+    ensures { IfOk result (λ finding. (place : Pos) × (finding.place ≡ Some place) × IsToldAt text.now start place) }
+{
+    let token = refused_token(alloc, language, text, limits, error)?;
+    let details = details_of(alloc, language, text, limits, token)?;
+    let (front, back) = split(text, details.offset);
+    let place = place_told(front, back, start, details.is_inside);
+    let mut message = String::from_str(alloc, "syntax error: ")?;
+    message.push_str(details.message.as_str())?;
+    Ok(Finding {
+        place: Some(place),
+        end: token.and_then(|token| end_of_token(text, &token)),
+        status: status_of(error),
+        message,
+    })
+}
+
+// A token that nests too deep.
+fn limit_finding(
+    alloc: Global,
+    language: Language,
+    text: &str,
+    limits: Limits,
+    error: &Error,
+) -> Result<Finding, AllocError>
+    ensures { IfOk result (λ finding. (place : Pos) × (finding.place ≡ Some place) × IsPlaceIn text.now place) }
+{
+    let status = status_of(error);
+    let Some(token) = refused_token(alloc, language, text, limits, error)? else {
+        return Ok(Finding {
+            place: Some(place_of(text, text.len())),
+            end: None,
+            status,
+            message: format!(in alloc; "{TOO_DEEP} at the end of the text")?,
+        });
+    };
+    let depth = reached_limit(alloc, language, text, limits, &token)?;
+    let (what, most) = (depth.what, depth.most);
+    Ok(Finding {
+        place: Some(place_of(text, token.start)),
+        end: end_of_token(text, &token),
+        status,
+        message: format!(in alloc; "{TOO_DEEP}: {what} may nest {most} deep")?,
+    })
+}
+
+// A tree that breaks a rule, or memory that was refused.
+fn breach_finding(alloc: Global, error: &Error) -> Result<Finding, AllocError>
+    ensures { IfOk result (λ finding. finding.place ≡ first_of (error_places error.now)) }
+{
+    let place = error.positions().next();
+    let mut message = format!(in alloc; "{error}")?;
+    message.push_str(remark_of(error))?;
+    Ok(Finding {
+        place,
+        end: None,
+        status: status_of(error),
+        message,
+    })
+}
+
+// Where the text stands from this offset on.
+fn place_of(text: &str, offset: usize) -> Pos
+    ensures { IsPlaceIn text.now result }
+{
+    end_of(before(text, offset))
+}
+
+// Where a token ends, if it has any characters.
+fn end_of_token(text: &str, token: &Token<'_>) -> Option<Pos> {
+    if token.text.is_empty() {
+        return None;
+    }
+    let end = token.start.saturating_add(token.text.len());
+    Some(end_of(before(text, end)))
+}
+
+// The name of the status that the error has in C.
+fn status_of(error: &Error) -> &'static str {
+    match error {
+        Error::OutOfMemory => "OUT_OF_MEMORY",
+        Error::Syntax { .. } => "SYNTAX",
+        Error::RecursionLimitExceeded => "RECURSION_LIMIT_EXCEEDED",
+        Error::MultipleOperations { .. } => "MULTIPLE_OPERATIONS",
+        Error::OperationDuplicated { .. } => "OPERATION_DUPLICATED",
+        Error::FragmentDuplicated { .. } => "FRAGMENT_DUPLICATED",
+        Error::MissingOperation => "MISSING_OPERATION",
+        Error::MultipleRoots { .. } => "MULTIPLE_ROOTS",
+        Error::MissingQueryRoot { .. } => "MISSING_QUERY_ROOT",
+    }
+}
