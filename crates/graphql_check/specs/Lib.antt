@@ -1,0 +1,2 @@
+-- Inner: what clauses of readers cite. No public definition imports one of these.
+pub mod Checked
