@@ -1,2 +1,9 @@
 pub mod Rests
 pub mod Loops
+pub mod SeparatedLoop
+pub mod Sums
+pub mod SchemaRoots
+pub mod SchemaDefinitions
+pub mod CheckedLanguages
+pub mod SchemaBreaches
+pub mod Lines
