@@ -1,2 +1,11 @@
 pub mod Rests
+pub mod Parts
+pub mod Straight
 pub mod Loops
+pub mod Levels
+pub mod Open
+pub mod Values
+pub mod Strings
+pub mod TypeSteps
+pub mod Heads
+pub mod OpenSets
