@@ -1,5 +1,5 @@
 -- Selections up to their sets, part by part.
-use Rattle.std.proofs.Common.{◌≡◌, ℕ, Bool, true, Option, Some, is_some, List, ◌∷◌, refl, ap, ◌∙◌}
+use Rattle.std.proofs.Common.{◌≡◌, ℕ, Bool, true, Option, Some, is_some, List, ◌∷◌, refl, ◌∙◌}
 use Rattle.graphql_tokens.specs.declared.pos.Pos.{Pos}
 use Rattle.graphql_tokens.specs.declared.pos.Positioned.{Positioned}
 use Rattle.graphql_tokens.specs.tokens.Token.{Token}
@@ -9,14 +9,14 @@ use Rattle.graphql_reading.specs.grammar.Fronts.{Verdict}
 use Rattle.graphql_reading.specs.grammar.Places.{nowhere}
 use Rattle.graphql_reading.specs.grammar.Relations.{given}
 use Rattle.graphql_reading.specs.grammar.Tests.{punct}
-use Rattle.graphql_reading.specs.reading.Outcome.{Outcome, Refused, Reader, one_at, then_at, mapped_at}
+use Rattle.graphql_reading.specs.reading.Outcome.{Refused, Reader, one_at, then_at, mapped_at}
 use Rattle.graphql_grammar.specs.reading.Arguments.{maybe_arguments_at, directives_at}
 use Rattle.graphql_requests.specs.grammar.Selections.{fragment_name}
-use Rattle.graphql_requests.specs.reading.SelectionSteps.{Heading, Names, names_at, given_arguments_at, maybe_brace_at, bare_field, bare_inline, bare_spread, maybe_condition_at, field_head_at, inline_head_at, behind_dots_at}
+use Rattle.graphql_requests.specs.reading.SelectionSteps.{Heading, Names, names_at, given_arguments_at, maybe_brace_at, bare_field, bare_inline, maybe_condition_at, field_head_at, inline_head_at, behind_dots_at}
 use Rattle.graphql_check.specs.Checked.{rest_of}
 use Rattle.graphql_check.specs.Heads.{entered, entered_at}
 use Rattle.graphql_check.proofs.Rests.{ended}
-use Rattle.graphql_check.proofs.Straight.{ended-mapped, rest-mapped, mapped-twice, past, past-seen, refused-first}
+use Rattle.graphql_check.proofs.Straight.{ended-mapped, rest-mapped, mapped-twice, past, past-seen}
 
 -- ---- fields
 

@@ -1,5 +1,5 @@
 -- What the loop over open sets keeps, of which only the number is kept, and each way on.
-use Rattle.std.proofs.Common.{◌≡◌, ℕ, zero, suc, pred, ◌+◌, ◌<◌, ◌≤◌, Bool, true, false, nat_lt, Option, Some, None, is_some, List, [], ◌∷◌, ◌++◌, length, refl, sym, ap, ◌∙◌, arith}
+use Rattle.std.proofs.Common.{◌≡◌, ℕ, zero, suc, pred, ◌+◌, ◌<◌, ◌≤◌, Bool, true, false, nat_lt, Some, None, is_some, List, [], ◌∷◌, ◌++◌, length, refl, sym, ap, ◌∙◌, arith}
 use Rattle.std.proofs.lemmas.Bool.Decides.{nat_tests}
 use Rattle.graphql_tokens.specs.declared.pos.Pos.{Pos}
 use Rattle.graphql_tokens.specs.declared.pos.Positioned.{Positioned}
@@ -7,7 +7,6 @@ use Rattle.graphql_tokens.specs.tokens.Token.{Token}
 use Rattle.graphql_syntax.specs.trees.Parts.{placed}
 use Rattle.graphql_request_trees.specs.trees.Request.{Selection}
 use Rattle.graphql_reading.specs.declared.parser.Refusal.{Refusal}
-use Rattle.graphql_reading.specs.grammar.Fronts.{Verdict}
 use Rattle.graphql_reading.specs.grammar.Places.{nowhere}
 use Rattle.graphql_reading.specs.grammar.Tests.{punct}
 use Rattle.graphql_reading.specs.reading.Ahead.{Ahead, tokens}
@@ -17,7 +16,7 @@ use Rattle.graphql_reading.proofs.Loop.{rest-more, rest-stops}
 use Rattle.graphql_reading.proofs.Loops.{go-on}
 use Rattle.graphql_requests.specs.grammar.Selections.{Set}
 use Rattle.graphql_requests.specs.reading.Selections.{selection_first, selection_set_at}
-use Rattle.graphql_requests.specs.reading.SelectionSteps.{Heading, with_set, may_nest, head_at, onto, item_at, Opened, closed, close_at, behind_rest, more, begun, wanted_rest, headed}
+use Rattle.graphql_requests.specs.reading.SelectionSteps.{Heading, with_set, may_nest, head_at, item_at, Opened, closed, close_at, behind_rest, more, begun, wanted_rest, headed}
 use Rattle.graphql_requests.proofs.Heads.{set-law, item-law}
 use Rattle.graphql_requests.proofs.HeadTakes.{head-nests, item-takes, onto-takes}
 use Rattle.graphql_check.specs.Checked.{rest_of}

@@ -1,5 +1,5 @@
 -- What is left to read after the first of two readers has read, where its tree isn't kept.
-use Rattle.std.proofs.Common.{◌≡◌, List, Option, Some, refl, ap, ◌∙◌}
+use Rattle.std.proofs.Common.{◌≡◌, List, Some, refl, ap, ◌∙◌}
 use Rattle.graphql_tokens.specs.tokens.Token.{Token}
 use Rattle.graphql_reading.specs.grammar.Fronts.{Verdict}
 use Rattle.graphql_reading.specs.reading.Outcome.{Outcome, Read, Refused, Reader, ◌>>=◌, then_at, mapped_at}

@@ -1,5 +1,5 @@
 -- A string that is no fault stands for something.
-use Rattle.std.proofs.Common.{◌≡◌, ℕ, ◌-◌, true, false, subst, sym, List, [], ◌∷◌, ◌++◌, length, take, drop, Some, refl, ap, ap₂, ◌∙◌, length-append, arith}
+use Rattle.std.proofs.Common.{◌≡◌, ℕ, ◌-◌, true, false, subst, sym, List, [], ◌∷◌, ◌++◌, length, take, drop, Some, refl, ap, ◌∙◌, length-append, arith}
 use Rattle.std.proofs.Math.Seq.{take-append_seam}
 use Rattle.std.proofs.lemmas.Str.{chars-encodes, encodes-append}
 use Rattle.std.specs.Char.{IsScalar}
@@ -48,9 +48,9 @@ spelled-stands t h =
     let value : List ℕ = h.3.2.0 in
     let all : AllByRecursion IsScalar (34 ∷ (content ++ 34 ∷ [])) = subst (AllByRecursion IsScalar) h.3.1 h.1 in
     let here : chars (inside 1 t.bare.spelling) ≡ content =
-        ap (λ (l : List ℕ). chars (inside 1 l)) (h.2 ∙ ap encode_utf8_all h.3.1)
-        ∙ ap chars (content-is content)
-        ∙ chars-encodes content (all-scalars content (front-all content (34 ∷ []) all.1)) in
+    ap (λ (l : List ℕ). chars (inside 1 l)) (h.2 ∙ ap encode_utf8_all h.3.1)
+    ∙ ap chars (content-is content)
+    ∙ chars-encodes content (all-scalars content (front-all content (34 ∷ []) all.1)) in
     record {
       bytes = encode_utf8_all value;
       is = rw (here, means_content content value h.3.2.1) refl;

@@ -1,12 +1,12 @@
 -- A value from its beginning.
-use Rattle.std.proofs.Common.{◌≡◌, ℕ, pred, ◌<◌, Bool, List, Option, Some, None, Result, Ok, Err, refl, sym, ap, ◌∙◌}
+use Rattle.std.proofs.Common.{◌≡◌, ℕ, pred, ◌<◌, Bool, List, Option, Some, None, Result, refl, sym, ap, ◌∙◌}
 use Rattle.graphql_tokens.specs.tokens.Token.{Token}
 use Rattle.graphql_reading.specs.declared.parser.Refusal.{Refusal}
 use Rattle.graphql_reading.specs.declared.parser.Refusal.TheVariants.{Memory, Syntax, Limit}
-use Rattle.graphql_reading.specs.grammar.Fronts.{Verdict, syntax, limit}
+use Rattle.graphql_reading.specs.grammar.Fronts.{syntax, limit}
 use Rattle.graphql_reading.specs.reading.Ahead.{Ahead, tokens}
 use Rattle.graphql_reading.specs.reading.Given.{GoesOn, Refuses}
-use Rattle.graphql_reading.specs.reading.Outcome.{Outcome, Read, Refused, Reader, ◌>>=◌}
+use Rattle.graphql_reading.specs.reading.Outcome.{Outcome, Read, Refused, ◌>>=◌}
 use Rattle.graphql_grammar.specs.reading.OpenValues.{Opened, node_of, enter_at, open_rest}
 use Rattle.graphql_grammar.specs.reading.Values.{simple_at, value_at}
 use Rattle.graphql_grammar.proofs.ValueFrames.{value-law, begun, entered}

@@ -1,6 +1,5 @@
-use Rattle.std.proofs.Common.{true, sym, ap, ◌∙◌, List, arith}
+use Rattle.std.proofs.Common.{true, sym, ap, ◌∙◌, arith}
 use Rattle.std.proofs.lemmas.Result.{err_from_is_err_and}
-use Rattle.graphql_tokens.specs.tokens.Token.{Token}
 use Rattle.graphql_reading.specs.grammar.Places.{nowhere}
 use Rattle.graphql_reading.specs.reading.Ahead.{tokens}
 use Rattle.graphql_grammar.specs.reading.Arguments.{directives_at}

@@ -30,9 +30,9 @@ returns-in_err-check_directives c =
     let new = c.check_directives.new.parser in
     rw (p.1, p.2) (stops-as _ old given new (entered_at (field_head_at c.args.limits.values c.args.nests)) (directives_at true c.args.limits.values)
     (λ v k.
-        ap ended (past-names c.args.limits.values c.args.nests (tokens old) (tokens named) c.in_ok-check_names.ensures.0
-        ∙ past-arguments c.args.limits.values c.args.nests (tokens named) (tokens given) c.in_ok-check_maybe_arguments.ensures.0)
-        ∙ directives-not c.args.limits.values c.args.nests (tokens given) (tokens new) v k)
+    ap ended (past-names c.args.limits.values c.args.nests (tokens old) (tokens named) c.in_ok-check_names.ensures.0
+    ∙ past-arguments c.args.limits.values c.args.nests (tokens named) (tokens given) c.in_ok-check_maybe_arguments.ensures.0)
+    ∙ directives-not c.args.limits.values c.args.nests (tokens given) (tokens new) v k)
     (go-on old named given c.in_ok-check_names.ensures.1 c.in_ok-check_maybe_arguments.ensures.1) c.in_err-check_directives.ensures.0 c.in_err-check_directives.ensures.1)
 
 pub returns : goal.returns

@@ -32,9 +32,9 @@ returns-in_err-expect_punct c =
     let new = c.expect_punct.new.self in
     rw (p.1, p.2) (stops-as _ old directed new (inline_head_at c.args.limits.values nowhere) (one_at (punct "{"))
     (λ v k.
-        past-condition c.args.limits.values (tokens old) (tokens mid) c.in_ok-check_maybe_condition.ensures.0
-        ∙ past (directives_at true c.args.limits.values) (one_at (punct "{")) (tokens mid) (tokens directed) c.in_ok-check_directives.ensures.0
-        ∙ ap ended k)
+    past-condition c.args.limits.values (tokens old) (tokens mid) c.in_ok-check_maybe_condition.ensures.0
+    ∙ past (directives_at true c.args.limits.values) (one_at (punct "{")) (tokens mid) (tokens directed) c.in_ok-check_directives.ensures.0
+    ∙ ap ended k)
     (go-on old mid directed c.in_ok-check_maybe_condition.ensures.1 c.in_ok-check_directives.ensures.1) c.in_err-expect_punct.ensures.0 c.in_err-expect_punct.ensures.1)
 
 pub returns : goal.returns
@@ -44,8 +44,8 @@ returns c =
     let directed = c.check_directives.new.parser in
     let new = c.expect_punct.new.self in (
       ended-read _ (tokens new)
-      (past-condition c.args.limits.values (tokens old) (tokens mid) c.in_ok-check_maybe_condition.ensures.0
-      ∙ past (directives_at true c.args.limits.values) (one_at (punct "{")) (tokens mid) (tokens directed) c.in_ok-check_directives.ensures.0
-      ∙ ap ended c.in_ok-expect_punct.ensures.0),
+          (past-condition c.args.limits.values (tokens old) (tokens mid) c.in_ok-check_maybe_condition.ensures.0
+          ∙ past (directives_at true c.args.limits.values) (one_at (punct "{")) (tokens mid) (tokens directed) c.in_ok-check_directives.ensures.0
+          ∙ ap ended c.in_ok-expect_punct.ensures.0),
       go-on old mid new c.in_ok-check_maybe_condition.ensures.1 (go-on mid directed new c.in_ok-check_directives.ensures.1 c.in_ok-expect_punct.ensures.1),
     )
