@@ -1,4 +1,6 @@
 pub mod Rests
+pub mod Parts
+pub mod Straight
 pub mod Loops
 pub mod SeparatedLoop
 pub mod Sums
@@ -7,3 +9,10 @@ pub mod SchemaDefinitions
 pub mod CheckedLanguages
 pub mod SchemaBreaches
 pub mod Lines
+pub mod Levels
+pub mod Open
+pub mod Values
+pub mod Strings
+pub mod TypeSteps
+pub mod Heads
+pub mod OpenSets

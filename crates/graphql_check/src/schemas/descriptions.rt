@@ -2,24 +2,18 @@
 ghost use Rattle.graphql_check.specs.Checked.{Checks};
 ghost use Rattle.graphql_schemas.specs.reading.Descriptions.{description_at, maybe_description_at};
 
-use graphql_grammar::strings::read_string;
-use graphql_reading::parser::{Parser, Reading, Refusal};
+use crate::value::simple::{check_block, check_string};
+use graphql_reading::parser::{Parser, Reading};
 use graphql_schemas::descriptions::is_at_description;
 
 /// `Description : String | Block`
 fn check_description(parser: &mut Parser) -> Reading<()>
     ensures { Checks result parser.old parser.new description_at }
 {
-    let kind = parser.hand().kind;
-    if kind.is_string() {
-        read_string(parser)?;
-        return Ok(());
+    if parser.hand().kind.is_string() {
+        return check_string(parser);
     }
-    if !kind.is_block() {
-        return Err(Refusal::Syntax);
-    }
-    parser.advance();
-    Ok(())
+    check_block(parser)
 }
 
 /// `Description?` (GraphQL October 2021, section 3.2)
