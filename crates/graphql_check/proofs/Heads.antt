@@ -1,75 +1,69 @@
--- What is known of the heads of requests.
-use Rattle.std.proofs.Common.{◌≡◌, Bool, true, false, cond, Option, Some, None, option_map, List, [], ◌∷◌, map, refl, sym, ap, ◌∙◌}
-use Rattle.std.specs.Str.{bytes_eq}
+-- Selections up to their sets, part by part.
+use Rattle.std.proofs.Common.{◌≡◌, ℕ, Bool, true, Option, Some, is_some, List, ◌∷◌, refl, ◌∙◌}
 use Rattle.graphql_tokens.specs.declared.pos.Pos.{Pos}
-use Rattle.graphql_tokens.specs.tokens.Cuts.{EndsOnce}
+use Rattle.graphql_tokens.specs.declared.pos.Positioned.{Positioned}
 use Rattle.graphql_tokens.specs.tokens.Token.{Token}
-use Rattle.graphql_syntax.specs.trees.Parts.{Name}
-use Rattle.graphql_check.specs.Checking.{checked}
-use Rattle.graphql_check.specs.Heads.{LooksAtHeads}
-use Rattle.graphql_check.specs.RequestHeads.{head_of}
-use Rattle.graphql_check.proofs.Mapped.{takes-mapped, plus-mapped}
-use Rattle.graphql_grammar.specs.answers.Breaches.{or_else}
-use Rattle.graphql_grammar.specs.declared.error.Error.TheVariants.{MultipleOperations, OperationDuplicated, FragmentDuplicated}
-use Rattle.graphql_grammar.specs.reading.ReadBy.{IsReadBy}
-use Rattle.graphql_grammar.proofs.Languages.{IsRead, is-read-by}
-use Rattle.graphql_reading.specs.grammar.Limits.{Limits}
-use Rattle.graphql_reading.specs.reading.Outcome.{Takes, mapped_at, plus_at}
-use Rattle.graphql_requests.specs.grammar.Request.{Definition, operation, fragment}
-use Rattle.graphql_requests.specs.grammar.Requests.{requests}
-use Rattle.graphql_requests.specs.grammar.Rules.{breach_of, missing_operation, first_operation, first_anonymous, first_operation_named, first_fragment_named}
-use Rattle.graphql_requests.specs.reading.Request.{definition_first, definition_at, definitions_at}
-use Rattle.graphql_requests.proofs.RequestProductions.{takes-definition, requests-are-read}
+use Rattle.graphql_syntax.specs.trees.Parts.{Arguments, Directives}
+use Rattle.graphql_request_trees.specs.trees.Request.{TypeCondition}
+use Rattle.graphql_reading.specs.grammar.Fronts.{Verdict}
+use Rattle.graphql_reading.specs.grammar.Places.{nowhere}
+use Rattle.graphql_reading.specs.grammar.Relations.{given}
+use Rattle.graphql_reading.specs.grammar.Tests.{punct}
+use Rattle.graphql_reading.specs.reading.Outcome.{Refused, Reader, one_at, then_at, mapped_at}
+use Rattle.graphql_grammar.specs.reading.Arguments.{maybe_arguments_at, directives_at}
+use Rattle.graphql_requests.specs.grammar.Selections.{fragment_name}
+use Rattle.graphql_requests.specs.reading.SelectionSteps.{Heading, Names, names_at, given_arguments_at, maybe_brace_at, bare_field, bare_inline, maybe_condition_at, field_head_at, inline_head_at, behind_dots_at}
+use Rattle.graphql_check.specs.Checked.{rest_of}
+use Rattle.graphql_check.specs.Heads.{entered, entered_at}
+use Rattle.graphql_check.proofs.Rests.{ended}
+use Rattle.graphql_check.proofs.Straight.{ended-mapped, rest-mapped, mapped-twice, past, past-seen}
 
--- ---- reading
+-- ---- fields
 
-pub takes-head : (limits : Limits) → Takes (mapped_at head_of (definition_at limits))
-takes-head limits = takes-mapped head_of (definition_at limits) (takes-definition limits)
+module _ (values : ℕ) (nests : Bool) where
+  -- what is left of a field after its names, its arguments, and its directives
+  abbrev pub behind-directives : Reader Bool
+  behind-directives = mapped_at is_some (maybe_brace_at nests)
 
-pub definitions-are : (limits : Limits) (ts : List Token) → plus_at definition_first (mapped_at head_of (definition_at limits)) ts ≡ mapped_at (map head_of) (definitions_at limits) ts
-definitions-are limits ts = plus-mapped head_of definition_first (definition_at limits) ts
+  abbrev pub behind-arguments : Reader Bool
+  behind-arguments = mapped_at (λ x. is_some x.1) (then_at (directives_at true values) (maybe_brace_at nests))
 
-pub checks-are-read : IsRead (checked requests) definitions_at
-checks-are-read = record { has_phrase = requests-are-read.has_phrase; ignores_places = requests-are-read.ignores_places; reads_exactly = requests-are-read.reads_exactly; includes = requests-are-read.includes }
+  abbrev pub behind-names : Reader Bool
+  behind-names = mapped_at (λ x. is_some x.1.1) (then_at (given_arguments_at values) (then_at (directives_at true values) (maybe_brace_at nests)))
 
-pub checks-read-by : IsReadBy (checked requests) definitions_at
-checks-read-by = is-read-by (checked requests) definitions_at checks-are-read
+  abbrev heading : Names × (Arguments × (Directives × Option Pos)) → Heading
+  heading x = (bare_field x.0 x.1.0 x.1.1.0, x.1.1.1)
 
--- a list that ends has a token
-pub ends-some : (ts : List Token) → EndsOnce ts → ts ≡ [] → ⊥
-ends-some [] ends e = ends
-ends-some (t ∷ ts) ends e = absurd cc
+  pub past-names : (ts mid : List Token) → rest_of (names_at ts) ≡ Some mid → entered_at (field_head_at values nests) ts ≡ behind-names mid
+  past-names ts mid h =
+      mapped-twice heading entered (then_at names_at (then_at (given_arguments_at values) (then_at (directives_at true values) (maybe_brace_at nests)))) ts
+      ∙ past-seen (λ (y : Arguments × (Directives × Option Pos)). is_some y.1.1) names_at (then_at (given_arguments_at values) (then_at (directives_at true values) (maybe_brace_at nests))) ts mid h
 
--- ---- the rules look at heads alone
+  pub past-arguments : (ts mid : List Token) → rest_of (maybe_arguments_at true values ts) ≡ Some mid → behind-names ts ≡ behind-arguments mid
+  past-arguments ts mid h = past-seen (λ (y : Directives × Option Pos). is_some y.1) (given_arguments_at values) (then_at (directives_at true values) (maybe_brace_at nests)) ts mid (rest-mapped given (maybe_arguments_at true values) ts ∙ h)
 
-first-of : (ds : List Definition) → first_operation (map head_of ds) ≡ first_operation ds
-first-of [] = refl
-first-of (operation name o ∷ ds) = refl
-first-of (fragment name f ∷ ds) = first-of ds
+  pub past-directives : (ts mid : List Token) → rest_of (directives_at true values ts) ≡ Some mid → behind-arguments ts ≡ behind-directives mid
+  past-directives ts mid h = past-seen (λ (p : Option Pos). is_some p) (directives_at true values) (maybe_brace_at nests) ts mid h
 
-anonymous-of : (ds : List Definition) → first_anonymous (map head_of ds) ≡ first_anonymous ds
-anonymous-of [] = refl
-anonymous-of (operation None o ∷ ds) = refl
-anonymous-of (operation (Some name) o ∷ ds) = anonymous-of ds
-anonymous-of (fragment name f ∷ ds) = anonymous-of ds
+  pub arguments-not : (ts rest : List Token) (v : Verdict) → maybe_arguments_at true values ts ≡ Refused v rest → ended (behind-names ts) ≡ Refused v rest
+  arguments-not ts rest v h = rw h refl
 
-operation-of : (name : Name) (ds : List Definition) → first_operation_named name (map head_of ds) ≡ first_operation_named name ds
-operation-of name [] = refl
-operation-of name (operation None o ∷ ds) = operation-of name ds
-operation-of name (operation (Some other) o ∷ ds) = ap (cond (bytes_eq name other) (Some o.pos)) (operation-of name ds)
-operation-of name (fragment other f ∷ ds) = operation-of name ds
+  pub directives-not : (ts rest : List Token) (v : Verdict) → directives_at true values ts ≡ Refused v rest → ended (behind-arguments ts) ≡ Refused v rest
+  directives-not ts rest v h = rw h refl
 
-fragment-of : (name : Name) (ds : List Definition) → first_fragment_named name (map head_of ds) ≡ first_fragment_named name ds
-fragment-of name [] = refl
-fragment-of name (operation other o ∷ ds) = fragment-of name ds
-fragment-of name (fragment other f ∷ ds) = ap (cond (bytes_eq name other) (Some f.pos)) (fragment-of name ds)
+-- ---- inline fragments
 
-same-breach : (before : List Definition) (d : Definition) → breach_of (map head_of before) (head_of d) ≡ breach_of before d
-same-breach before (operation None o) = ap (option_map (λ first. MultipleOperations o.pos first)) (first-of before)
-same-breach before (operation (Some name) o) =
-    ap (λ (x : Option Pos). or_else (option_map (λ anonymous. MultipleOperations anonymous o.pos) x) (option_map (λ first. OperationDuplicated name first o.pos) (first_operation_named name (map head_of before)))) (anonymous-of before)
-    ∙ ap (λ (x : Option Pos). or_else (option_map (λ anonymous. MultipleOperations anonymous o.pos) (first_anonymous before)) (option_map (λ first. OperationDuplicated name first o.pos) x)) (operation-of name before)
-same-breach before (fragment name f) = ap (option_map (λ first. FragmentDuplicated name first f.pos)) (fragment-of name before)
+module _ (values : ℕ) where
+  abbrev pub behind-condition : Reader (Directives × Token)
+  behind-condition = then_at (directives_at true values) (one_at (punct "{"))
 
-pub looks-at-heads : LooksAtHeads (checked requests) head_of
-looks-at-heads = record { breach = same-breach; lack = λ ds. ap missing_operation (first-of ds); makes = λ ds document h. tt }
+  abbrev inline : Option (Positioned TypeCondition) × (Directives × Token) → Heading
+  inline x = (bare_inline nowhere x.0 x.1.0, Some x.1.1.pos)
+
+  pub past-condition : (ts mid : List Token) → rest_of (maybe_condition_at ts) ≡ Some mid → ended (inline_head_at values nowhere ts) ≡ ended (behind-condition mid)
+  past-condition ts mid h = ended-mapped inline (then_at maybe_condition_at behind-condition) ts ∙ past maybe_condition_at behind-condition ts mid h
+
+-- ---- spreads
+
+pub spread-not : (values : ℕ) (nests : Bool) (t : Token) (ts rest : List Token) (v : Verdict) → fragment_name t.bare ≡ true → directives_at true values ts ≡ Refused v rest → ended (entered_at (behind_dots_at values nests nowhere) (t ∷ ts)) ≡ Refused v rest
+spread-not values nests t ts rest v e h = rw (e, h) refl

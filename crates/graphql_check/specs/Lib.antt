@@ -3,5 +3,8 @@ pub mod Checking
 -- Inner: what clauses of readers cite. No public definition imports one of these.
 pub mod Checked
 pub mod Heads
+pub mod Levels
+pub mod LooksAtHeads
 pub mod RequestHeads
 pub mod Sorting
+pub mod Types

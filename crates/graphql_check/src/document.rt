@@ -7,7 +7,7 @@ ghost use Rattle.graphql_grammar.specs.answers.Answers.{Answers, AreTheDefinitio
 ghost use Rattle.graphql_grammar.specs.answers.Language.{Language, grammar};
 ghost use Rattle.graphql_grammar.specs.reading.DocumentOf.{IsDocumentOf};
 ghost use Rattle.graphql_grammar.specs.reading.ReadBy.{IsReadBy};
-ghost use Rattle.graphql_check.specs.Heads.{LooksAtHeads};
+ghost use Rattle.graphql_check.specs.LooksAtHeads.{LooksAtHeads};
 ghost use Rattle.graphql_reading.specs.grammar.Limits.{Limits as SpecLimits};
 ghost use Rattle.graphql_reading.specs.reading.Given.{Gives, GivesWhole};
 ghost use Rattle.graphql_reading.specs.reading.Outcome.{Reader, mapped_at, whole_at};

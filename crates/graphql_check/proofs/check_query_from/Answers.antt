@@ -1,5 +1,5 @@
 use Rattle.std.proofs.Common.{refl}
-use Rattle.graphql_check.proofs.Heads.{checks-read-by, looks-at-heads}
+use Rattle.graphql_check.proofs.RequestHeads.{checks-read-by, looks-at-heads}
 use Rattle.graphql_check.proofs.check_query_from.Goals as goal
 
 pub check_document-requires : goal.check_document-requires

@@ -1,6 +1,6 @@
 use Rattle.std.proofs.Common.{◌≡◌, refl, sym, subst}
 use Rattle.graphql_check.specs.Checking.{checked}
-use Rattle.graphql_check.proofs.Heads.{ends-some, checks-are-read, checks-read-by, looks-at-heads}
+use Rattle.graphql_check.proofs.RequestHeads.{ends-some, checks-are-read, checks-read-by, looks-at-heads}
 use Rattle.graphql_tokens.specs.tokens.Edition.{Current}
 use Rattle.graphql_tokens.specs.tokens.Token.{left}
 use Rattle.graphql_tokens.proofs.Editions.{former-cuts}

@@ -1,7 +1,7 @@
 use Rattle.std.proofs.Common.{map, Err, sym, ◌∙◌}
 use Rattle.std.proofs.lemmas.Result.{err_from_is_err_and}
 use Rattle.graphql_check.specs.RequestHeads.{head_of, head_tree, in_heads}
-use Rattle.graphql_check.proofs.Heads.{takes-head, definitions-are}
+use Rattle.graphql_check.proofs.RequestHeads.{takes-head, definitions-are}
 use Rattle.graphql_reading.proofs.Loops.{stops, goes, ends, shorter, there}
 use Rattle.graphql_reading.specs.reading.Ahead.{tokens}
 use Rattle.graphql_reading.specs.reading.Outcome.{mapped_at, plus_at}
