@@ -1,7 +1,7 @@
 -- What the rules say of heads, they say of the definitions.
-use Rattle.std.proofs.Common.{◌≡◌, None, Some, inl, inr, ◌⊎◌, Result, Ok, Err, List, [], ◌∷◌, ◌++◌, map, refl, sym, ap, ◌∙◌, subst}
+use Rattle.std.proofs.Common.{◌≡◌, inl, inr, ◌⊎◌, Result, Ok, Err, List, [], ◌∷◌, ◌++◌, map, refl, sym, ap, ◌∙◌, subst}
 use Rattle.graphql_check.specs.LooksAtHeads.{LooksAtHeads}
-use Rattle.graphql_grammar.specs.answers.Answers.{AreUnbroken, FirstBreach, Lacks, IsDocument}
+use Rattle.graphql_grammar.specs.answers.Answers.{AreUnbroken, FirstBreach, Lacks}
 use Rattle.graphql_grammar.specs.answers.Language.{Language}
 use Rattle.graphql_grammar.specs.declared.error.Error.{Error}
 use Rattle.graphql_grammar.specs.declared.error.Error.TheVariants as errors

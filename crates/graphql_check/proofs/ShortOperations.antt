@@ -1,5 +1,5 @@
 -- A query in its short form stands where its set does, at its `{`.
-use Rattle.std.proofs.Common.{◌≡◌, ℕ, zero, suc, Bool, true, false, cond, None, Some, List, [], ◌∷◌, refl, sym, ap, ◌∙◌}
+use Rattle.std.proofs.Common.{◌≡◌, ℕ, zero, suc, Bool, true, false, cond, None, Some, List, ◌∷◌, sym, ap, ◌∙◌}
 use Rattle.graphql_tokens.specs.declared.pos.Pos.{Pos}
 use Rattle.graphql_tokens.specs.declared.pos.Positioned.{Positioned}
 use Rattle.graphql_tokens.specs.tokens.Token.{Token}
@@ -11,7 +11,7 @@ use Rattle.graphql_reading.specs.grammar.Fronts.{syntax}
 use Rattle.graphql_reading.specs.grammar.Limits.{Limits}
 use Rattle.graphql_reading.specs.grammar.Tests.{punct}
 use Rattle.graphql_reading.specs.reading.Outcome.{Outcome, Read, Refused, ◌>>=◌, Reader, one_at, then_at, mapped_at, plus_at, deep_at}
-use Rattle.graphql_requests.specs.grammar.Request.{Definition, query_of}
+use Rattle.graphql_requests.specs.grammar.Request.{query_of}
 use Rattle.graphql_requests.specs.grammar.Selections.{Set, selection_set_of}
 use Rattle.graphql_requests.specs.reading.Request.{own_set_at, short_operation_at}
 use Rattle.graphql_requests.specs.reading.Selections.{a_set_at, selection_first, selection_at, selection_set_at, inline_at, inline_first}

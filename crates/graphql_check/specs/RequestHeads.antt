@@ -1,7 +1,6 @@
 -- The heads of the definitions of a request: what each is, its name, and where it stands. A head is seen as a definition
 -- that has nothing more.
-use Rattle.std.specs.Prelude.{Option, Some, None, option_map, List, [], map}
-use Rattle.std.specs.declared.alloc.Global.{Global}
+use Rattle.std.specs.Prelude.{Option, None, option_map, List, [], map}
 use Rattle.smallvec.specs.SmallVec.{SmallVec}
 use Rattle.graphql_tokens.specs.declared.pos.Pos.{Pos}
 use Rattle.graphql_syntax.specs.declared.types.OperationType.TheVariants.{Query}

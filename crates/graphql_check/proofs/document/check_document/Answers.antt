@@ -7,11 +7,10 @@ use Rattle.graphql_grammar.specs.answers.Answers.{Answers, TakenFor, IsDecided, 
 use Rattle.graphql_grammar.specs.answers.Language.{grammar}
 use Rattle.graphql_grammar.specs.reading.DocumentOf.{IsDocumentOf}
 use Rattle.graphql_reading.specs.reading.Ahead.{tokens}
-use Rattle.graphql_reading.specs.reading.Given.{GoesOn, Refuses}
-use Rattle.graphql_reading.specs.reading.Outcome.{mapped_at, whole_at}
+use Rattle.graphql_reading.specs.reading.Given.{GoesOn}
 use Rattle.graphql_grammar.proofs.Answering.{document-answers, document-taken, refusal-answers, refusal-taken, taken-between}
 use Rattle.graphql_check.proofs.Documents.{document-of}
-use Rattle.graphql_check.proofs.Mapped.{Was, refuses-mapped, whole-was}
+use Rattle.graphql_check.proofs.Mapped.{refuses-mapped, whole-was}
 use Rattle.graphql_check.proofs.document.check_document.Given.{Over}
 use Rattle.graphql_check.proofs.document.check_document.Goals as goal
 use Rattle.graphql_check.proofs.document.check_document.Goals.{in-Ok, in-Err}

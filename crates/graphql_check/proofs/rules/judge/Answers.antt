@@ -1,4 +1,4 @@
-use Rattle.std.proofs.Common.{◌≡◌, List, [], ◌∷◌, ◌++◌, suc, take, drop, map, ap, ◌∙◌}
+use Rattle.std.proofs.Common.{suc, take, drop, map, ap, ◌∙◌}
 use Rattle.std.proofs.Math.Seq.{split_at}
 use Rattle.std.proofs.lemmas.Result.{err_from_is_err_and}
 use Rattle.graphql_check.specs.RequestHeads.{head_tree}
