@@ -6,7 +6,6 @@ pub mod SeparatedLoop
 pub mod Sums
 pub mod SchemaRoots
 pub mod SchemaDefinitions
-pub mod CheckedLanguages
 pub mod SchemaBreaches
 pub mod Lines
 pub mod Levels
@@ -16,3 +15,9 @@ pub mod Strings
 pub mod TypeSteps
 pub mod Heads
 pub mod OpenSets
+pub mod Mapped
+pub mod Documents
+pub mod ShortOperations
+pub mod RequestHeads
+pub mod WordedHeads
+pub mod Sorted

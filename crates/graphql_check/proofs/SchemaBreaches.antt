@@ -14,7 +14,11 @@ use Rattle.graphql_schemas.specs.grammar.Rules.{first_of_kind, first_repeated, m
 use Rattle.graphql_schemas.specs.grammar.Schema.{Root, Schema}
 use Rattle.graphql_schemas.specs.grammar.SchemaFile.{Definition, schema, type_def, directive}
 use Rattle.graphql_schemas.specs.grammar.Schemas.{schemas}
+use Rattle.graphql_grammar.specs.reading.ReadBy.{IsReadBy}
+use Rattle.graphql_grammar.proofs.Languages.{is-read-by}
 use Rattle.graphql_schemas.proofs.Finished.{anywhere}
+use Rattle.graphql_schemas.proofs.SchemaFileProductions.{schemas-are-read}
+use Rattle.graphql_schemas.specs.reading.SchemaFile.{definitions_at}
 use Rattle.graphql_check.specs.Checking.{checked}
 use Rattle.graphql_check.specs.SchemaRules.{first_breach}
 
@@ -84,3 +88,8 @@ first-told ds error h =
     let first = first-here ds error h in
     breaks (checked schemas) ds first.before first.broken first.after error first.split (unbroken first.before first.none)
     (tells (breach_of first.before first.broken) error (is-rules first.broken error first.is) (sym (anywhere first.before first.broken) ∙ first.is))
+
+-- ---- reading
+
+pub schema-checks-read-by : IsReadBy (checked schemas) definitions_at
+schema-checks-read-by = is-read-by (checked schemas) definitions_at (record { has_phrase = schemas-are-read.has_phrase; ignores_places = schemas-are-read.ignores_places; reads_exactly = schemas-are-read.reads_exactly; includes = schemas-are-read.includes })

@@ -5,4 +5,6 @@ pub mod Checked
 pub mod SchemaRules
 pub mod Heads
 pub mod Levels
+pub mod RequestHeads
+pub mod Sorting
 pub mod Types

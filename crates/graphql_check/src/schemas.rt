@@ -25,7 +25,7 @@ mod rules;
 mod schema;
 mod types;
 
-use crate::text::{Kept, check_text};
+use crate::document::{Kept, check_document};
 use definitions::check_definitions;
 use graphql_grammar::error::{Error, Result};
 use graphql_reading::limits::Limits;
@@ -94,7 +94,7 @@ pub fn check_schema_limited(alloc: Global, text: &str, limits: Limits) -> Result
     ensures bare { (tokens : List SpecToken) → IsCutInto text.now tokens → RestsOnBareTokens (checked schemas) limits tokens }
 {
     let mut tokens = Tokens::new(text);
-    check_text::<FirstBreach>(alloc, &mut tokens, limits)
+    check_document::<FirstBreach>(alloc, &mut tokens, limits)
 }
 
 /// As [`check_schema`], over the tokens that are not yet taken, with the places that they have in the whole text. The
@@ -112,5 +112,5 @@ pub fn check_schema_from(alloc: Global, tokens: &mut Tokens<'_>) -> Result<()>
     ensures taken { (count : ℕ) × (tokens.new.taken ≡ tokens.old.taken + count) × TakenFor (checked schemas) default_limits (left tokens.old) result count }
     ensures whole { tokens.new.whole ≡ tokens.old.whole }
 {
-    check_text::<FirstBreach>(alloc, tokens, Limits::default())
+    check_document::<FirstBreach>(alloc, tokens, Limits::default())
 }

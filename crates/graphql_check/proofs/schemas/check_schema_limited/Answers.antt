@@ -10,12 +10,12 @@ use Rattle.graphql_schemas.specs.grammar.SchemaFile.{definitions}
 use Rattle.graphql_schemas.specs.grammar.Schemas.{schemas}
 use Rattle.graphql_schemas.specs.reading.SchemaFile.{definitions_at}
 use Rattle.graphql_schemas.proofs.Laws.{none-described}
-use Rattle.graphql_schemas.proofs.SchemaFileProductions.{schemas-are-read, schemas-read-by}
-use Rattle.graphql_check.proofs.CheckedLanguages.{checked-read-by}
+use Rattle.graphql_schemas.proofs.SchemaFileProductions.{schemas-are-read}
+use Rattle.graphql_check.proofs.SchemaBreaches.{schema-checks-read-by}
 use Rattle.graphql_check.proofs.schemas.check_schema_limited.Goals as goal
 
-pub check_text-requires : goal.check_text-requires
-check_text-requires c = λ k. ((refl, tt), (search rules, checked-read-by schemas definitions_at schemas-read-by))
+pub check_document-requires : goal.check_document-requires
+check_document-requires c = λ k. ((refl, tt), (search rules, schema-checks-read-by))
 
 pub returns-clause-former : goal.returns-clause-former
 returns-clause-former c ts ds cuts h =
@@ -24,6 +24,6 @@ returns-clause-former c ts ds cuts h =
     let cut = former-cuts c.args.text.now ts cuts end.front end.last end.joined end.is_end in
     let same : ts ≡ left c.new-tokens.result = c.new-tokens.ensures.only ts cut in (
       cut,
-      subst (λ us. AreTheDefinitions (checked schemas) c.args.limits us ds) (sym same) (c.check_text.ensures.only ds (subst (λ us. grammar schemas Current c.args.limits us ds) same now)),
+      subst (λ us. AreTheDefinitions (checked schemas) c.args.limits us ds) (sym same) (c.check_document.ensures.only ds (subst (λ us. grammar schemas Current c.args.limits us ds) same now)),
       none-described c.args.limits ts ds h,
     )

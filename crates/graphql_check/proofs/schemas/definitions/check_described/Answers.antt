@@ -9,6 +9,6 @@ returns-then-is_at_keyword c =
     let mid = c.check_maybe_description.new.parser in
     let new = c.check_schema_definition.new.parser in (
       described-schema c.args.limits old mid new _ c.breach.result c.in_ok-check_maybe_description.ensures.0 (sym c.is_at_keyword.ensures ∙ c.if-is_at_keyword.true) c.in_ok-roots.ensures.0
-      (λ s place extend roots. c.breach.ensures s (ap (λ t. t.pos) c.hand.ensures.token ∙ place) extend roots),
+          (λ s place extend roots. c.breach.ensures s (ap (λ t. t.pos) c.hand.ensures.token ∙ place) extend roots),
       go-on old mid new c.in_ok-check_maybe_description.ensures.1 c.in_ok-roots.ensures.1,
     )

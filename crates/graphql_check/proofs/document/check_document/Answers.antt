@@ -10,9 +10,9 @@ use Rattle.graphql_reading.specs.reading.Given.{GoesOn}
 use Rattle.graphql_reading.specs.reading.Outcome.{whole_at}
 use Rattle.graphql_grammar.proofs.Answering.{document-answers, document-taken, refusal-answers, refusal-taken, taken-between}
 use Rattle.graphql_check.proofs.Sums.{is-made, refuses-made}
-use Rattle.graphql_check.proofs.text.check_text.Given.{Over}
-use Rattle.graphql_check.proofs.text.check_text.Goals as goal
-use Rattle.graphql_check.proofs.text.check_text.Goals.{in-Ok, in-Err}
+use Rattle.graphql_check.proofs.document.check_document.Given.{Over}
+use Rattle.graphql_check.proofs.document.check_document.Goals as goal
+use Rattle.graphql_check.proofs.document.check_document.Goals.{in-Ok, in-Err}
 
 -- the tokens that the parser reads are those that were left
 ahead-is : (g : Over) (c : goal.After-into_tokens g) → tokens c.new-parser.result ≡ left c.args.tokens.now

@@ -1,5 +1,5 @@
-//! Texts, whichever language they are of, read without a tree: the definitions are read whole before the first rule is
-//! looked at.
+//! Documents, whichever language they are of, read without a tree: the definitions are read whole before the first
+//! rule is looked at.
 ghost use Rattle.std.specs.Prelude.{◌≡◌, ◌≢◌, ◌+◌, ℕ, List, []};
 ghost use Rattle.graphql_tokens.specs.tokens.Edition.{Current};
 ghost use Rattle.graphql_tokens.specs.tokens.Token.{left};
@@ -54,8 +54,8 @@ fn read_whole<'a, K: Kept<'a>>(parser: &mut Parser<'a>, limits: Limits) -> Readi
     Ok(kept)
 }
 
-/// Reads the tokens that are left as a document, and makes nothing of it.
-pub fn check_text<'a, K: Kept<'a>>(
+/// Reads the tokens that are left as a document, of which no tree is made.
+pub fn check_document<'a, K: Kept<'a>>(
     alloc: Global,
     tokens: &mut Tokens<'a>,
     limits: Limits,
