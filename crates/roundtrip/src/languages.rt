@@ -5,8 +5,8 @@ use graphql_parser::lexer::Tokens;
 use graphql_parser::types::{ExecutableDocument, ServiceDocument};
 use graphql_parser::{
     Error, Limits, Result as Answer, check_query, check_query_from, check_query_limited,
-    parse_query, parse_query_from, parse_query_limited, parse_schema, parse_schema_from,
-    parse_schema_limited,
+    check_schema, check_schema_from, check_schema_limited, parse_query, parse_query_from,
+    parse_query_limited, parse_schema, parse_schema_from, parse_schema_limited,
 };
 use rows::Shown;
 use std::alloc::{AllocError, Global};
@@ -99,13 +99,17 @@ impl Language for Schemas {
     }
 
     fn seen(&self, alloc: Global, form: Form, text: &str) -> Result<Seen, AllocError> {
-        let answer = match form {
-            Form::Plain => parse_schema(alloc, text),
-            Form::Limited => parse_schema_limited(alloc, text, Limits::default()),
-            Form::FromTokens => parse_schema_from(alloc, &mut Tokens::new(text)),
-            Form::Shallow => parse_schema_limited(alloc, text, narrow()),
+        of_file(alloc, read_file(alloc, form, text))
+    }
+
+    fn is_checked_alike(&self, alloc: Global, form: Form, text: &str) -> bool {
+        let check = match form {
+            Form::Plain => check_schema(alloc, text),
+            Form::Limited => check_schema_limited(alloc, text, Limits::default()),
+            Form::FromTokens => check_schema_from(alloc, &mut Tokens::new(text)),
+            Form::Shallow => check_schema_limited(alloc, text, narrow()),
         };
-        of_file(alloc, answer)
+        read_file(alloc, form, text).err() == check.err()
     }
 }
 
@@ -115,6 +119,15 @@ fn read_request(alloc: Global, form: Form, text: &str) -> Answer<ExecutableDocum
         Form::Limited => parse_query_limited(alloc, text, Limits::default()),
         Form::FromTokens => parse_query_from(alloc, &mut Tokens::new(text)),
         Form::Shallow => parse_query_limited(alloc, text, narrow()),
+    }
+}
+
+fn read_file(alloc: Global, form: Form, text: &str) -> Answer<ServiceDocument> {
+    match form {
+        Form::Plain => parse_schema(alloc, text),
+        Form::Limited => parse_schema_limited(alloc, text, Limits::default()),
+        Form::FromTokens => parse_schema_from(alloc, &mut Tokens::new(text)),
+        Form::Shallow => parse_schema_limited(alloc, text, narrow()),
     }
 }
 

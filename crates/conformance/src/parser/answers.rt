@@ -4,8 +4,9 @@ use super::views::View;
 use graphql_parser::lexer::Tokens;
 use graphql_parser::types::{ExecutableDocument, ServiceDocument};
 use graphql_parser::{
-    Limits, Result as Answer, check_query, check_query_from, check_query_limited, parse_query,
-    parse_query_from, parse_query_limited, parse_schema, parse_schema_from, parse_schema_limited,
+    Limits, Result as Answer, check_query, check_query_from, check_query_limited, check_schema,
+    check_schema_from, check_schema_limited, parse_query, parse_query_from, parse_query_limited,
+    parse_schema, parse_schema_from, parse_schema_limited,
 };
 use std::alloc::{AllocError, Global};
 
@@ -78,7 +79,7 @@ impl Parser {
         Ok(answer)
     }
 
-    // Whether the checks of requests give the error that the parser gives, or none where it gives none.
+    // Whether the checks give the error that the parser gives, or none where it gives none.
     fn is_checked_alike(self, alloc: Global, text: &str) -> bool {
         match self {
             Parser::Query => {
@@ -87,7 +88,12 @@ impl Parser {
                     && answer == check_query_limited(alloc, text, Limits::default()).err()
                     && answer == check_query_from(alloc, &mut Tokens::new(text)).err()
             }
-            Parser::Schema => true,
+            Parser::Schema => {
+                let answer = parse_schema(alloc, text).err();
+                answer == check_schema(alloc, text).err()
+                    && answer == check_schema_limited(alloc, text, Limits::default()).err()
+                    && answer == check_schema_from(alloc, &mut Tokens::new(text)).err()
+            }
         }
     }
 
