@@ -1,11 +1,12 @@
 //! Measures the library as it is built. `bench tokens` cuts the text on standard input into its tokens,
 //! again and again, and prints a line for each round: `lex NANOSECONDS COUNT`, the count being that of
 //! the tokens. `bench query` reads it as a request, and `bench schema` as a schema file; they drop the tree, and
-//! print `parse NANOSECONDS ANSWER` for each round, the answer being `accepted` or `refused`.
+//! print `parse NANOSECONDS ANSWER` for each round, the answer being `accepted` or `refused`. `bench check` and
+//! `bench check-schema` make no tree, and print the same.
 #![tactic(auto)]
 
 use graphql_parser::lexer::{Token, Tokens};
-use graphql_parser::{parse_query, parse_schema};
+use graphql_parser::{check_query, check_schema, parse_query, parse_schema};
 use std::alloc::Global;
 use std::time::Instant;
 use std::{env, io};
@@ -14,7 +15,7 @@ use std::{env, io};
 // rounds find the machine cold.
 const BYTES: usize = 10_000_000;
 
-const USAGE: &str = "usage: bench tokens|query|schema < TEXT";
+const USAGE: &str = "usage: bench tokens|query|check|schema|check-schema < TEXT";
 
 fn main(rt: HostRuntime) -> io::Result<()> {
     let mut words = env::args(&rt)?;
@@ -23,7 +24,9 @@ fn main(rt: HostRuntime) -> io::Result<()> {
     match mode.as_ref().map(|word| word.as_str()) {
         Some("tokens") => time_tokens(&rt),
         Some("query") => time_parser(&rt, Parser::Query),
+        Some("check") => time_parser(&rt, Parser::Check),
         Some("schema") => time_parser(&rt, Parser::Schema),
+        Some("check-schema") => time_parser(&rt, Parser::CheckSchema),
         _ => println!(rt; "{USAGE}"),
     }
 }
@@ -51,7 +54,9 @@ fn time_tokens(rt: &HostRuntime) -> io::Result<()> {
 #[derive(Clone, Copy)]
 enum Parser {
     Query,
+    Check,
     Schema,
+    CheckSchema,
 }
 
 impl Parser {
@@ -59,7 +64,9 @@ impl Parser {
     fn accepts(self, alloc: Global, text: &str) -> bool {
         match self {
             Parser::Query => parse_query(alloc, text).is_ok(),
+            Parser::Check => check_query(alloc, text).is_ok(),
             Parser::Schema => parse_schema(alloc, text).is_ok(),
+            Parser::CheckSchema => check_schema(alloc, text).is_ok(),
         }
     }
 }

@@ -9,3 +9,4 @@ pub use Rattle.graphql_grammar.specs.answers
 pub use Rattle.graphql_grammar.specs.errors
 pub use Rattle.graphql_requests.specs.grammar as requests
 pub use Rattle.graphql_schemas.specs.grammar as schemas
+pub use Rattle.graphql_check.specs.Checking

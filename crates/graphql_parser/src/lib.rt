@@ -5,7 +5,8 @@
 //! the text's tokens have a tree within the limits, it is the only one, and it is given, or else the first rule that it
 //! breaks is told. Where they have none, the answer is `RecursionLimitExceeded` or `Syntax`, at the first token whose
 //! front no document completes, and which of the two it is depends on whether a deeper one does. The texts and the
-//! places of each `Error` are written definitions too.
+//! places of each `Error` are written definitions too. `check_query`, `check_schema` and
+//! their forms answer as the parses do, and make no tree.
 //!
 //! A user names this crate alone: what stands here is given out from the crates below it. What a reader of the
 //! contracts has to believe is given out by `specs/Lib.antt`.
@@ -13,6 +14,10 @@
 
 pub mod types;
 
+pub use graphql_check::{
+    check_query, check_query_from, check_query_limited, check_schema, check_schema_from,
+    check_schema_limited,
+};
 pub use graphql_grammar::error::{Error, Result};
 pub use graphql_grammar::positions::ErrorPositions;
 pub use graphql_reading::limits::Limits;

@@ -38,7 +38,8 @@ fn is_at_body(parser: &Parser) -> bool
         || parser.is_at_keyword("input")
 }
 
-fn is_at_definition(parser: &Parser) -> bool
+/// Whether a definition or an extension is in hand.
+pub fn is_at_definition(parser: &Parser) -> bool
     ensures { result ≡ definition_first parser.now.hand.bare }
 {
     is_at_description(parser)

@@ -20,7 +20,7 @@ use graphql_schema_trees::{DirectiveDefinition, DirectiveLocation};
 use graphql_syntax::pos::Positioned;
 
 /// The location that a word names, if it names one.
-fn location_of(word: &str) -> Option<DirectiveLocation>
+pub fn location_of(word: &str) -> Option<DirectiveLocation>
     ensures { result ≡ location_named word.now }
 {
     match word {

@@ -8,7 +8,7 @@
 //!
 //! Users name `graphql_parser`, which gives these calls out. What a reader of the contracts has to believe stands in
 //! `specs/grammar`, and below it in the public specs of `graphql_grammar` and `graphql_reading`; `specs/reading` is
-//! inner.
+//! inner. Modules are `pub` for `graphql_check` alone, which reads the same keywords and tells the same tokens.
 #![tactic(auto)]
 
 ghost use Rattle.std.specs.Prelude.{◌≡◌, ◌≢◌, ◌+◌, ℕ, List, [], IfOk};
@@ -28,15 +28,15 @@ ghost use Rattle.graphql_schemas.specs.grammar.Schemas.{schemas};
 ghost use Rattle.graphql_schemas.specs.reading.SchemaFile.{definitions_at};
 ghost use Rattle.graphql_schemas.specs.reading.Views.{definition_tree, definition_trees};
 
-mod definitions;
-mod descriptions;
-mod directives;
+pub mod definitions;
+pub mod descriptions;
+pub mod directives;
 mod fields;
-mod input_values;
-mod members;
+pub mod input_values;
+pub mod members;
 mod rules;
 mod schema;
-mod types;
+pub mod types;
 
 use definitions::{Definition, read_definitions};
 use graphql_grammar::document::read_document;

@@ -65,7 +65,7 @@ pub fn read_maybe_members(parser: &mut Parser, limits: Limits) -> Reading<Vec<Po
 }
 
 /// Whether a name is in hand that an enum's value may have.
-fn is_at_enum_name(parser: &Parser) -> bool
+pub fn is_at_enum_name(parser: &Parser) -> bool
     ensures { result ≡ enum_name parser.now.hand.bare }
 {
     parser.is_at_name()
@@ -75,7 +75,7 @@ fn is_at_enum_name(parser: &Parser) -> bool
 }
 
 /// `EnumName : a Name other than 'true', 'false', 'null'`
-fn expect_enum_name<'a>(parser: &mut Parser<'a>) -> Reading<Token<'a>>
+pub fn expect_enum_name<'a>(parser: &mut Parser<'a>) -> Reading<Token<'a>>
     ensures { Gives seen result parser.old parser.new (one_at enum_name) }
 {
     if !is_at_enum_name(parser) {

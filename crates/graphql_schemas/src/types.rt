@@ -30,7 +30,7 @@ use graphql_syntax::value::Name;
 
 /// The keyword of a type's definition.
 #[derive(Clone, Copy)]
-enum Word {
+pub enum Word {
     Scalar,
     Type,
     Interface,
@@ -61,7 +61,7 @@ struct Body<'a> {
 }
 
 /// `'scalar' | 'type' | 'interface' | 'union' | 'enum' | 'input'`
-fn read_word<'a>(parser: &mut Parser<'a>) -> Reading<(Token<'a>, Word)>
+pub fn read_word<'a>(parser: &mut Parser<'a>) -> Reading<(Token<'a>, Word)>
     ensures { Gives (λ x. (seen x.0, x.1)) result parser.old parser.new word_at }
 {
     let word = if parser.is_at_keyword("scalar") {
@@ -84,7 +84,7 @@ fn read_word<'a>(parser: &mut Parser<'a>) -> Reading<(Token<'a>, Word)>
 
 /// An extension has at least one of the optional parts: this tells whether the token in hand begins one.
 #[inline(always)]
-fn expect_part(extend: bool, is_there: bool) -> Reading<()>
+pub fn expect_part(extend: bool, is_there: bool) -> Reading<()>
     ensures { MatchResult result
         (λ _. (extend && not is_there) ≡ false)
         (λ refusal. (refusal ≡ Syntax) × ((extend && not is_there) ≡ true)) }

@@ -1,0 +1,60 @@
+-- What a straight line of readers gives, from what each of them gives.
+use Rattle.std.proofs.Common.{◌≡◌, Bool, false, not, ◌&&◌, Some, Result, Ok, Err, List, refl, ap, ◌∙◌}
+use Rattle.graphql_tokens.specs.tokens.Token.{Token}
+use Rattle.graphql_reading.specs.declared.parser.Refusal.{Refusal}
+use Rattle.graphql_reading.specs.declared.parser.Refusal.TheVariants.{Memory, Syntax, Limit}
+use Rattle.graphql_reading.specs.grammar.Tests.{Test}
+use Rattle.graphql_reading.specs.reading.Ahead.{Ahead, tokens}
+use Rattle.graphql_reading.specs.reading.Given.{GoesOn, Refuses}
+use Rattle.graphql_reading.specs.reading.Outcome.{Outcome, Read, Refused, Reader, ◌>>=◌, then_at, mapped_at}
+use Rattle.graphql_reading.proofs.Loops.{go-on}
+use Rattle.graphql_schemas.specs.reading.Types.{owed_at}
+use Rattle.graphql_check.specs.Checked.{rest_of, Checks}
+use Rattle.graphql_check.proofs.Rests.{IsRead, is-read}
+
+rest-mapped : {A B : Type 0} (f : A → B) (o : Outcome A) (rest : List Token) → rest_of o ≡ Some rest → rest_of (o >>= λ a rest'. Read (f a) rest') ≡ Some rest
+rest-mapped f (Read a rest') rest e = e
+rest-mapped f (Refused v rest') rest e = absurd cc
+
+-- another tree is made of what is read
+pub mapped-goes : {X Y Z : Type 0} (f : Y → Z) (result : Result X Refusal) (old new : Ahead) (r : Reader Y) → Checks result old new r → Checks result old new (mapped_at f r)
+mapped-goes f (Ok x) old new r h = (rest-mapped f (r (tokens old)) (tokens new) h.0, h.1)
+mapped-goes f (Err Memory) old new r h = (tt, h.1)
+mapped-goes f (Err Syntax) old new r h = (ap (λ (o : Outcome _). o >>= λ a rest. Read (f a) rest) h.0, h.1)
+mapped-goes f (Err Limit) old new r h = (ap (λ (o : Outcome _). o >>= λ a rest. Read (f a) rest) h.0, h.1)
+
+-- the first part is read, and this is what comes of the others
+pub then-goes : {X Y Z : Type 0} (result : Result X Refusal) (old mid new : Ahead) (r : Reader Y) (s : Reader Z) → rest_of (r (tokens old)) ≡ Some (tokens mid) → GoesOn old mid → Checks result mid new s → Checks result old new (then_at r s)
+then-goes {X} {Y} {Z} result old mid new r s h on checks = go result checks
+  where
+    read : IsRead (r (tokens old)) (tokens mid)
+    read = is-read (r (tokens old)) (tokens mid) h
+
+    pair : Z → List Token → Outcome (Y × Z)
+    pair b rest = Read (read.tree, b) rest
+
+    same : then_at r s (tokens old) ≡ (s (tokens mid) >>= pair)
+    same = ap (λ (o : Outcome Y). o >>= λ a rest. s rest >>= λ b rest'. Read (a, b) rest') read.is
+
+    go : (result : Result X Refusal) → Checks result mid new s → Checks result old new (then_at r s)
+    go (Ok x) h = (ap rest_of same ∙ rest-mapped (λ b. (read.tree, b)) (s (tokens mid)) (tokens new) h.0, go-on old mid new on h.1)
+    go (Err Memory) h = (tt, go-on old mid new on h.1)
+    go (Err Syntax) h = (same ∙ ap (λ (o : Outcome Z). o >>= pair) h.0, go-on old mid new on h.1)
+    go (Err Limit) h = (same ∙ ap (λ (o : Outcome Z). o >>= pair) h.0, go-on old mid new on h.1)
+
+-- the first part is refused
+pub then-stops : {Y Z : Type 0} (e : Refusal) (old new : Ahead) (r : Reader Y) (s : Reader Z) → Refuses e old new r → Refuses e old new (then_at r s)
+then-stops Memory old new r s h = tt
+then-stops Syntax old new r s h = ap (λ (o : Outcome _). o >>= λ a rest. s rest >>= λ b rest'. Read (a, b) rest') h
+then-stops Limit old new r s h = ap (λ (o : Outcome _). o >>= λ a rest. s rest >>= λ b rest'. Read (a, b) rest') h
+
+-- one reader in place of another that reads the same here
+pub goes-there : {X Y : Type 0} (result : Result X Refusal) (old new : Ahead) (r s : Reader Y) → s (tokens old) ≡ r (tokens old) → Checks result old new r → Checks result old new s
+goes-there (Ok x) old new r s same h = (ap rest_of same ∙ h.0, h.1)
+goes-there (Err Memory) old new r s same h = (tt, h.1)
+goes-there (Err Syntax) old new r s same h = (same ∙ h.0, h.1)
+goes-there (Err Limit) old new r s same h = (same ∙ h.0, h.1)
+
+-- a part that is owed is there
+pub owed-goes : {X Y : Type 0} (result : Result X Refusal) (extend : Bool) (first : Test) (old new : Ahead) (r : Reader Y) → (extend && not (first old.hand.bare)) ≡ false → Checks result old new r → Checks result old new (owed_at extend first r)
+owed-goes result extend first old new r there h = goes-there result old new r (owed_at extend first r) (rw there refl) h

@@ -1,0 +1,31 @@
+-- What is known where the tokens after a tree are.
+use Rattle.std.proofs.Common.{◌≡◌, Some, List, refl}
+use Rattle.graphql_tokens.specs.tokens.Token.{Token}
+use Rattle.graphql_reading.specs.grammar.Fronts.{Verdict}
+use Rattle.graphql_reading.specs.reading.Outcome.{Outcome, Read, Refused, with_front}
+use Rattle.graphql_check.specs.Checked.{rest_of}
+
+-- without its tree
+abbrev pub ended : {Y : Type 0} → Outcome Y → Outcome (Unit {0})
+ended (Read tree rest) = Read tt rest
+ended (Refused v rest) = Refused v rest
+
+pub record IsRead {Y : Type 0} (o : Outcome Y) (rest : List Token) : Type 0 where
+  pub tree : Y
+  pub is : o ≡ Read tree rest
+
+pub is-read : {Y : Type 0} (o : Outcome Y) (rest : List Token) → rest_of o ≡ Some rest → IsRead o rest
+is-read (Read tree rest') rest e = record { tree = tree; is = (cc) }
+is-read (Refused v rest') rest e = absurd cc
+
+pub ended-read : {Y : Type 0} (o : Outcome Y) (rest : List Token) → ended o ≡ Read tt rest → rest_of o ≡ Some rest
+ended-read (Read tree rest') rest e = cc
+ended-read (Refused v rest') rest e = absurd cc
+
+pub ended-refused : {Y : Type 0} (o : Outcome Y) (v : Verdict) (rest : List Token) → ended o ≡ Refused v rest → o ≡ Refused v rest
+ended-refused (Read tree rest') v rest e = absurd cc
+ended-refused (Refused w rest') v rest e = cc
+
+pub front-ended : {Y : Type 0} (front : List Y) (o : Outcome (List Y)) → ended (with_front front o) ≡ ended o
+front-ended front (Read items rest) = refl
+front-ended front (Refused v rest) = refl

@@ -1,0 +1,13 @@
+use Rattle.std.proofs.Common.{map, ap, sym, ◌∙◌, subst}
+use Rattle.graphql_grammar.specs.reading.DocumentOf.{IsDocumentOf}
+use Rattle.graphql_requests.specs.grammar.Requests.{requests}
+use Rattle.graphql_check.specs.Checking.{checked}
+use Rattle.graphql_check.specs.RequestHeads.{head_of, head_tree}
+use Rattle.graphql_check.proofs.Documents.{document-of}
+use Rattle.graphql_check.proofs.RequestHeads.{looks-at-heads}
+use Rattle.graphql_check.proofs.SmallVecHead1Kept.judge.Goals as goal
+
+pub returns : goal.returns
+returns c ds h =
+    document-of (checked requests) head_of looks-at-heads ds c.judge.result
+    (subst (λ hs. IsDocumentOf (checked requests) hs c.judge.result) (ap (map head_tree) c.as_slice.ensures ∙ h) c.judge.ensures)

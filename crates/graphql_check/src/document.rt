@@ -1,0 +1,80 @@
+//! Documents, whichever language they are of, read without a tree: the definitions are read whole before the first
+//! rule is looked at.
+ghost use Rattle.std.specs.Prelude.{◌≡◌, ◌≢◌, ◌+◌, ℕ, List, []};
+ghost use Rattle.graphql_tokens.specs.tokens.Edition.{Current};
+ghost use Rattle.graphql_tokens.specs.tokens.Token.{left};
+ghost use Rattle.graphql_grammar.specs.answers.Answers.{Answers, AreTheDefinitions, HasOneTree, IsDecided, RestsOnBareTokens, TakenFor};
+ghost use Rattle.graphql_grammar.specs.answers.Language.{Language, grammar};
+ghost use Rattle.graphql_grammar.specs.reading.DocumentOf.{IsDocumentOf};
+ghost use Rattle.graphql_grammar.specs.reading.ReadBy.{IsReadBy};
+ghost use Rattle.graphql_reading.specs.grammar.Limits.{Limits as SpecLimits};
+ghost use Rattle.graphql_reading.specs.reading.Given.{Gives, GivesWhole};
+ghost use Rattle.graphql_reading.specs.reading.Outcome.{Reader, mapped_at, whole_at};
+
+use graphql_grammar::error::Result;
+use graphql_grammar::refusals::error_of;
+use graphql_reading::limits::Limits;
+use graphql_reading::parser::{Parser, Reading};
+use graphql_tokens::lexer::Tokens;
+use std::alloc::Global;
+use std::mem;
+
+/// What is kept of the definitions of a text: enough to tell the first of the rules that they break.
+pub trait Kept<'a>: Drop {
+    // The tree that a definition stands for.
+    ghost Tree: { Type 0 };
+
+    // What definitions come to, where nothing but this is kept.
+    ghost Sum: { Type 0 };
+
+    ghost sum: { List Self.Tree → Self.Sum };
+
+    ghost kept: { Self → Self.Sum };
+
+    // The language of the definitions.
+    ghost language: { Language Self.Tree (Unit {0}) };
+
+    // How they are read from a list of tokens, up to its end.
+    ghost reader: { SpecLimits → Reader (List Self.Tree) };
+
+    /// Reads the definitions of a text, up to its end.
+    fn read_all(parser: &mut Parser<'a>, limits: Limits) -> Reading<Self>
+        ensures { Gives Self.kept result parser.old parser.new (mapped_at Self.sum (Self.reader limits)) };
+
+    /// Whether the definitions make a document, or the first of the rules that they break, in source order.
+    fn judge(self, alloc: Global) -> Result<()>
+        ensures { (ds : List Self.Tree) → Self.kept self ≡ Self.sum ds → IsDocumentOf Self.language ds result };
+}
+
+fn read_whole<'a, K: Kept<'a>>(parser: &mut Parser<'a>, limits: Limits) -> Reading<K>
+    ensures { GivesWhole K.kept result parser.old parser.new (mapped_at K.sum (whole_at (K.reader limits))) }
+{
+    let kept = K::read_all(parser, limits)?;
+    parser.expect_end()?;
+    Ok(kept)
+}
+
+/// Reads the tokens that are left as a document, of which no tree is made.
+pub fn check_document<'a, K: Kept<'a>>(
+    alloc: Global,
+    tokens: &mut Tokens<'a>,
+    limits: Limits,
+) -> Result<()>
+    requires some { left tokens.old ≢ [] }
+    requires read { IsReadBy K.language K.reader }
+    ensures answer { Answers K.language limits (left tokens.old) result }
+    ensures only { (ds : List K.Tree) → grammar K.language Current limits (left tokens.old) ds → AreTheDefinitions K.language limits (left tokens.old) ds }
+    ensures one_tree { HasOneTree K.language (left tokens.old) }
+    ensures decided { IsDecided K.language limits (left tokens.old) }
+    ensures bare { RestsOnBareTokens K.language limits (left tokens.old) }
+    ensures taken { (count : ℕ) × (tokens.new.taken ≡ tokens.old.taken + count) × TakenFor K.language limits (left tokens.old) result count }
+    ensures whole { tokens.new.whole ≡ tokens.old.whole }
+{
+    let mut parser = Parser::new(alloc, mem::replace(tokens, Tokens::new("")));
+    let answer = match read_whole::<K>(&mut parser, limits) {
+        Ok(kept) => kept.judge(alloc),
+        Err(refusal) => Err(error_of(&parser, refusal)),
+    };
+    *tokens = parser.into_tokens();
+    answer
+}

@@ -1,0 +1,128 @@
+//! Checks of documents that make no tree: each answers of a text what the parser of its language does, less the tree.
+//!
+//! Proved of `check_query` and `check_schema`, and of their `_limited` and `_from` forms: the clauses of the parses of
+//! `graphql_requests` and `graphql_schemas`, over the same grammar and the same rules, of a language that makes nothing
+//! of its documents (`specs/Checking`).
+//!
+//! Users name `graphql_parser`, which gives these calls out.
+#![tactic(auto)]
+
+ghost use Rattle.std.specs.Prelude.{◌≡◌, ◌≢◌, ◌+◌, ℕ, List, [], map};
+ghost use Rattle.std.specs.Str.{chars};
+ghost use Rattle.graphql_check.specs.Checking.{checked};
+ghost use Rattle.graphql_check.specs.RequestHeads.{head_of, in_heads};
+ghost use Rattle.graphql_tokens.specs.tokens.Cuts.{Cuts, HasNoFault, IsCutInto};
+ghost use Rattle.graphql_tokens.specs.tokens.Edition.{Former};
+ghost use Rattle.graphql_tokens.specs.tokens.Token.{Token as SpecToken, left};
+ghost use Rattle.graphql_grammar.specs.answers.Answers.{Answers, AreTheDefinitions, HasOneTree, IsDecided, RestsOnBareTokens, TakenFor};
+ghost use Rattle.graphql_grammar.specs.answers.Language.{grammar};
+ghost use Rattle.graphql_grammar.specs.reading.DocumentOf.{IsDocumentOf};
+ghost use Rattle.graphql_reading.specs.grammar.Limits.{default_limits};
+ghost use Rattle.graphql_requests.specs.grammar.Request.{Definition as SpecDefinition};
+ghost use Rattle.graphql_requests.specs.grammar.Requests.{requests};
+ghost use Rattle.graphql_requests.specs.reading.Request.{definitions_at};
+
+pub mod arguments;
+mod definitions;
+mod document;
+pub mod production;
+mod rules;
+mod schemas;
+pub mod selections;
+mod separated;
+pub mod types;
+pub mod value;
+pub mod variables;
+
+use definitions::{Head, read_heads};
+use document::{Kept, check_document};
+use graphql_grammar::error::Result;
+use graphql_reading::limits::Limits;
+use graphql_reading::parser::{Parser, Reading};
+use graphql_tokens::lexer::Tokens;
+use rules::judge;
+pub use schemas::{check_schema, check_schema_from, check_schema_limited};
+use smallvec::SmallVec;
+use std::alloc::Global;
+
+// Requests: the heads of their operations and fragments, of which the first lies in place.
+impl<'a> Kept<'a> for SmallVec<Head<'a>, 1> {
+    ghost Tree = { SpecDefinition };
+
+    ghost Sum = { List SpecDefinition };
+
+    ghost sum = { map head_of };
+
+    ghost kept = { in_heads };
+
+    ghost language = { checked requests };
+
+    ghost reader = { definitions_at };
+
+    fn read_all(parser: &mut Parser<'a>, limits: Limits) -> Reading<SmallVec<Head<'a>, 1>> {
+        read_heads(parser, limits)
+    }
+
+    fn judge(self, alloc: Global) -> Result<()> {
+        judge(alloc, self.as_slice())
+    }
+}
+
+/// Checks a request (GraphQL October 2021, section 2): whether `parse_query` reads it, and else the error that it gives.
+/// No tree is made. Selection sets, values and types may nest 64 deep each, as [`Limits`] counts them.
+///
+/// Memory is taken for places by name where there are two definitions or more, for a name of more than 16 bytes that is
+/// given twice, and for the message of a `Syntax`.
+///
+/// Errors:
+/// - `Syntax` where the text has no tree, at the first token with which no request goes on from what
+///   stands before it, with the message `syntax error at L:C`;
+/// - `RecursionLimitExceeded` where that token could go on without the limits alone;
+/// - where the text has a tree that breaks a rule, the first breach in source order:
+///   `MultipleOperations` for an operation without a name beside another, `OperationDuplicated` and
+///   `FragmentDuplicated` for a name given twice; and `MissingOperation` for fragments alone;
+/// - `OutOfMemory` where memory was refused.
+pub fn check_query(alloc: Global, text: &str) -> Result<()>
+    ensures answer { (tokens : List SpecToken) → IsCutInto text.now tokens → Answers (checked requests) default_limits tokens result }
+    // A text that has a tree by the former grammar has the same tree now.
+    ensures former { (tokens : List SpecToken) (ds : List SpecDefinition) → Cuts Former [] (chars text.now) tokens → grammar (checked requests) Former default_limits tokens ds → IsCutInto text.now tokens × AreTheDefinitions (checked requests) default_limits tokens ds }
+    // The tokens of a text that the former edition cuts without a fault are those of now.
+    ensures former_tokens { (tokens : List SpecToken) → HasNoFault tokens → Cuts Former [] (chars text.now) tokens → Answers (checked requests) default_limits tokens result }
+    // These three hold of each text, also where memory runs out.
+    ensures one_tree { (tokens : List SpecToken) → IsCutInto text.now tokens → HasOneTree (checked requests) tokens }
+    ensures decided { (tokens : List SpecToken) → IsCutInto text.now tokens → IsDecided (checked requests) default_limits tokens }
+    ensures bare { (tokens : List SpecToken) → IsCutInto text.now tokens → RestsOnBareTokens (checked requests) default_limits tokens }
+{
+    check_query_limited(alloc, text, Limits::default())
+}
+
+/// As [`check_query`], with limits that the caller chooses.
+pub fn check_query_limited(alloc: Global, text: &str, limits: Limits) -> Result<()>
+    ensures answer { (tokens : List SpecToken) → IsCutInto text.now tokens → Answers (checked requests) limits tokens result }
+    ensures former { (tokens : List SpecToken) (ds : List SpecDefinition) → Cuts Former [] (chars text.now) tokens → grammar (checked requests) Former limits tokens ds → IsCutInto text.now tokens × AreTheDefinitions (checked requests) limits tokens ds }
+    ensures former_tokens { (tokens : List SpecToken) → HasNoFault tokens → Cuts Former [] (chars text.now) tokens → Answers (checked requests) limits tokens result }
+    ensures one_tree { (tokens : List SpecToken) → IsCutInto text.now tokens → HasOneTree (checked requests) tokens }
+    ensures decided { (tokens : List SpecToken) → IsCutInto text.now tokens → IsDecided (checked requests) limits tokens }
+    ensures bare { (tokens : List SpecToken) → IsCutInto text.now tokens → RestsOnBareTokens (checked requests) limits tokens }
+{
+    let mut tokens = Tokens::new(text);
+    check_document::<SmallVec<Head, 1>>(alloc, &mut tokens, limits)
+}
+
+/// As [`check_query`], over the tokens that are not yet taken, with the places that they have in the whole
+/// text. The caller owes that there are some: `is_ended` is false.
+///
+/// Afterwards so many more tokens are taken: where the text has no tree, those up to the refused one,
+/// that one included; where it has one, all that were left; where memory ran out, no more than were
+/// left. What `tokens` then gives is the rest of the same list.
+pub fn check_query_from(alloc: Global, tokens: &mut Tokens<'_>) -> Result<()>
+    requires { left tokens.old ≢ [] }
+    ensures answer { Answers (checked requests) default_limits (left tokens.old) result }
+    ensures one_tree { HasOneTree (checked requests) (left tokens.old) }
+    ensures decided { IsDecided (checked requests) default_limits (left tokens.old) }
+    ensures bare { RestsOnBareTokens (checked requests) default_limits (left tokens.old) }
+    ensures taken { (count : ℕ) × (tokens.new.taken ≡ tokens.old.taken + count) × TakenFor (checked requests) default_limits (left tokens.old) result count }
+    ensures whole { tokens.new.whole ≡ tokens.old.whole }
+{
+    check_document::<SmallVec<Head, 1>>(alloc, tokens, Limits::default())
+}

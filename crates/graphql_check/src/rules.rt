@@ -1,0 +1,141 @@
+//! The rules that the definitions of a request keep, by their heads. Names are found by their order, so none take
+//! longer than others of their length.
+ghost use Rattle.std.specs.Prelude.{◌≡◌, List, [], ◌∷◌, Some, None, map};
+ghost use Rattle.graphql_check.specs.Checking.{checked};
+ghost use Rattle.graphql_check.specs.RequestHeads.{operation_head, fragment_head, head_tree};
+ghost use Rattle.graphql_check.specs.Sorting.{IsSorted, IsAdded};
+ghost use Rattle.graphql_grammar.specs.reading.DocumentOf.{IsDocumentOf};
+ghost use Rattle.graphql_requests.specs.grammar.Request.{Definition as SpecDefinition};
+ghost use Rattle.graphql_requests.specs.grammar.Requests.{requests};
+
+use crate::definitions::Head;
+use graphql_grammar::error::{Error, Result};
+use graphql_syntax::pos::Pos;
+use graphql_syntax::value::Name;
+use std::alloc::Global;
+use std::collections::BTreeMap;
+
+/// What the rules have to know of the definitions so far, which break none.
+#[derive(Drop)]
+struct Sorted<'a> {
+    // Where the first operation stands, and where the one without a name does.
+    first: Option<Pos>,
+    anonymous: Option<Pos>,
+    // Where the operation, and where the fragment of a name stands.
+    operations: BTreeMap<&'a str, Pos>,
+    fragments: BTreeMap<&'a str, Pos>,
+    alloc: Global,
+}
+
+impl<'a> Sorted<'a> {
+    fn new(alloc: Global) -> Sorted<'a>
+        ensures { IsSorted [] result }
+    {
+        Sorted {
+            first: None,
+            anonymous: None,
+            operations: BTreeMap::new(alloc),
+            fragments: BTreeMap::new(alloc),
+            alloc,
+        }
+    }
+
+    /// An operation without a name: no other operation may stand beside it.
+    fn add_anonymous(&mut self, place: Pos) -> Result<()>
+        ensures { (ds : List SpecDefinition) → IsSorted ds self.old → IsAdded ds (operation_head None place) result self.new }
+    {
+        if let Some(first) = self.first {
+            return Err(Error::MultipleOperations {
+                anonymous: place,
+                operation: first,
+            });
+        }
+        self.first = Some(place);
+        self.anonymous = Some(place);
+        Ok(())
+    }
+
+    /// An operation with a name, which no other may have.
+    fn add_operation(&mut self, name: &'a str, place: Pos) -> Result<()>
+        ensures { (ds : List SpecDefinition) → IsSorted ds self.old → IsAdded ds (operation_head (Some name.now) place) result self.new }
+    {
+        if let Some(anonymous) = self.anonymous {
+            return Err(Error::MultipleOperations {
+                anonymous,
+                operation: place,
+            });
+        }
+        match self.operations.insert(name, place) {
+            Ok(None) => {
+                self.first = self.first.or(Some(place));
+                Ok(())
+            }
+            Ok(Some(first)) => Err(Error::OperationDuplicated {
+                operation: Name::new(self.alloc, name)?,
+                first,
+                second: place,
+            }),
+            Err(_) => Err(Error::OutOfMemory),
+        }
+    }
+
+    /// A fragment, whose name no other may have.
+    fn add_fragment(&mut self, name: &'a str, place: Pos) -> Result<()>
+        ensures { (ds : List SpecDefinition) → IsSorted ds self.old → IsAdded ds (fragment_head name.now place) result self.new }
+    {
+        match self.fragments.insert(name, place) {
+            Ok(None) => Ok(()),
+            Ok(Some(first)) => Err(Error::FragmentDuplicated {
+                fragment: Name::new(self.alloc, name)?,
+                first,
+                second: place,
+            }),
+            Err(_) => Err(Error::OutOfMemory),
+        }
+    }
+
+    fn add(&mut self, head: Head<'a>) -> Result<()>
+        ensures { (ds : List SpecDefinition) → IsSorted ds self.old → IsAdded ds (head_tree head.entry) result self.new }
+    {
+        match head {
+            Head::Operation(Some(name), place) => self.add_operation(name, place),
+            Head::Operation(None, place) => self.add_anonymous(place),
+            Head::Fragment(name, place) => self.add_fragment(name, place),
+        }
+    }
+
+    /// There is an operation.
+    fn finish(&self) -> Result<()>
+        ensures { (ds : List SpecDefinition) → IsSorted ds self.now → IsDocumentOf (checked requests) ds result }
+    {
+        if self.first.is_none() {
+            return Err(Error::MissingOperation);
+        }
+        Ok(())
+    }
+}
+
+/// One definition breaks no rule, and is to be an operation.
+fn judge_one(head: Head) -> Result<()>
+    ensures { IsDocumentOf (checked requests) (head_tree head.entry ∷ []) result }
+{
+    match head {
+        Head::Operation(..) => Ok(()),
+        Head::Fragment(..) => Err(Error::MissingOperation),
+    }
+}
+
+/// Whether definitions with these heads make a document, or the first of the rules that they break, in source order.
+/// Two heads or more take memory.
+pub fn judge(alloc: Global, heads: &[Head]) -> Result<()>
+    ensures { IsDocumentOf (checked requests) (map head_tree heads.now) result }
+{
+    if let [head] = heads {
+        return judge_one(*head);
+    }
+    let mut sorted = Sorted::new(alloc);
+    for head in heads {
+        sorted.add(*head)?;
+    }
+    sorted.finish()
+}

@@ -1,0 +1,116 @@
+//! Schema files, checked without a tree (GraphQL October 2021, section 3).
+ghost use Rattle.std.specs.Prelude.{◌≡◌, ◌≢◌, ◌+◌, ℕ, Option, List, []};
+ghost use Rattle.std.specs.List.{AllByRecursion};
+ghost use Rattle.std.specs.Str.{chars};
+ghost use Rattle.graphql_tokens.specs.tokens.Cuts.{Cuts, HasNoFault, IsCutInto};
+ghost use Rattle.graphql_tokens.specs.tokens.Edition.{Former};
+ghost use Rattle.graphql_tokens.specs.tokens.Token.{Token as SpecToken, left};
+ghost use Rattle.graphql_check.specs.Checking.{checked};
+ghost use Rattle.graphql_check.specs.SchemaRules.{first_breach};
+ghost use Rattle.graphql_grammar.specs.answers.Answers.{Answers, AreTheDefinitions, HasOneTree, IsDecided, RestsOnBareTokens, TakenFor};
+ghost use Rattle.graphql_grammar.specs.answers.Language.{grammar};
+ghost use Rattle.graphql_grammar.specs.declared.error.Error.{Error as SpecError};
+ghost use Rattle.graphql_reading.specs.grammar.Limits.{default_limits};
+ghost use Rattle.graphql_schemas.specs.grammar.SchemaFile.{Definition as SpecDefinition, HasNoDescribedSchema};
+ghost use Rattle.graphql_schemas.specs.grammar.Schemas.{schemas};
+ghost use Rattle.graphql_schemas.specs.reading.SchemaFile.{definitions_at};
+
+mod definitions;
+mod descriptions;
+mod directives;
+mod fields;
+mod input_values;
+mod members;
+mod rules;
+mod schema;
+mod types;
+
+use crate::document::{Kept, check_document};
+use definitions::check_definitions;
+use graphql_grammar::error::{Error, Result};
+use graphql_reading::limits::Limits;
+use graphql_reading::parser::{Parser, Reading};
+use graphql_tokens::lexer::Tokens;
+use std::alloc::Global;
+
+/// What is kept of the definitions of a schema file: the first rule that one of them breaks.
+#[derive(Drop)]
+struct FirstBreach {
+    breach: Option<Error>,
+}
+
+impl<'a> Kept<'a> for FirstBreach {
+    ghost Tree = { SpecDefinition };
+
+    ghost Sum = { Option SpecError };
+
+    ghost sum = { first_breach };
+
+    ghost kept = { λ kept. kept.breach };
+
+    ghost language = { checked schemas };
+
+    ghost reader = { definitions_at };
+
+    fn read_all(parser: &mut Parser<'a>, limits: Limits) -> Reading<FirstBreach> {
+        let breach = check_definitions(parser, limits)?;
+        Ok(FirstBreach { breach })
+    }
+
+    fn judge(self, _alloc: Global) -> Result<()> {
+        match self.breach {
+            None => Ok(()),
+            Some(error) => Err(error),
+        }
+    }
+}
+
+/// Tells of a schema file what [`parse_schema`](graphql_schemas::parse_schema) tells, and makes no tree: Ok where it has
+/// one that breaks no rule, and else the same error. Memory is taken for the message of a `Syntax` alone.
+///
+/// Errors: as `parse_schema`'s.
+pub fn check_schema(alloc: Global, text: &str) -> Result<()>
+    ensures answer { (tokens : List SpecToken) → IsCutInto text.now tokens → Answers (checked schemas) default_limits tokens result }
+    // A text that has a tree by the former grammar has the same tree now, and no schema in it has a description.
+    ensures former { (tokens : List SpecToken) (ds : List SpecDefinition) → Cuts Former [] (chars text.now) tokens → grammar (checked schemas) Former default_limits tokens ds → IsCutInto text.now tokens × AreTheDefinitions (checked schemas) default_limits tokens ds × AllByRecursion HasNoDescribedSchema ds }
+    // The tokens of a text that the former edition cuts without a fault are those of now.
+    ensures former_tokens { (tokens : List SpecToken) → HasNoFault tokens → Cuts Former [] (chars text.now) tokens → Answers (checked schemas) default_limits tokens result }
+    // These three hold of each text, also where memory runs out.
+    ensures one_tree { (tokens : List SpecToken) → IsCutInto text.now tokens → HasOneTree (checked schemas) tokens }
+    ensures decided { (tokens : List SpecToken) → IsCutInto text.now tokens → IsDecided (checked schemas) default_limits tokens }
+    ensures bare { (tokens : List SpecToken) → IsCutInto text.now tokens → RestsOnBareTokens (checked schemas) default_limits tokens }
+{
+    check_schema_limited(alloc, text, Limits::default())
+}
+
+/// As [`check_schema`], with limits that the caller chooses. The first number isn't used: a schema file has no
+/// selection sets.
+pub fn check_schema_limited(alloc: Global, text: &str, limits: Limits) -> Result<()>
+    ensures answer { (tokens : List SpecToken) → IsCutInto text.now tokens → Answers (checked schemas) limits tokens result }
+    ensures former { (tokens : List SpecToken) (ds : List SpecDefinition) → Cuts Former [] (chars text.now) tokens → grammar (checked schemas) Former limits tokens ds → IsCutInto text.now tokens × AreTheDefinitions (checked schemas) limits tokens ds × AllByRecursion HasNoDescribedSchema ds }
+    ensures former_tokens { (tokens : List SpecToken) → HasNoFault tokens → Cuts Former [] (chars text.now) tokens → Answers (checked schemas) limits tokens result }
+    ensures one_tree { (tokens : List SpecToken) → IsCutInto text.now tokens → HasOneTree (checked schemas) tokens }
+    ensures decided { (tokens : List SpecToken) → IsCutInto text.now tokens → IsDecided (checked schemas) limits tokens }
+    ensures bare { (tokens : List SpecToken) → IsCutInto text.now tokens → RestsOnBareTokens (checked schemas) limits tokens }
+{
+    let mut tokens = Tokens::new(text);
+    check_document::<FirstBreach>(alloc, &mut tokens, limits)
+}
+
+/// As [`check_schema`], over the tokens that are not yet taken, with the places that they have in the whole text. The
+/// caller owes that there are some: `is_ended` is false.
+///
+/// Afterwards so many more tokens are taken: where the text has no tree, those up to the refused one,
+/// that one included; where it has one, all that were left; where memory ran out, no more than were
+/// left. What `tokens` then gives is the rest of the same list.
+pub fn check_schema_from(alloc: Global, tokens: &mut Tokens<'_>) -> Result<()>
+    requires { left tokens.old ≢ [] }
+    ensures answer { Answers (checked schemas) default_limits (left tokens.old) result }
+    ensures one_tree { HasOneTree (checked schemas) (left tokens.old) }
+    ensures decided { IsDecided (checked schemas) default_limits (left tokens.old) }
+    ensures bare { RestsOnBareTokens (checked schemas) default_limits (left tokens.old) }
+    ensures taken { (count : ℕ) × (tokens.new.taken ≡ tokens.old.taken + count) × TakenFor (checked schemas) default_limits (left tokens.old) result count }
+    ensures whole { tokens.new.whole ≡ tokens.old.whole }
+{
+    check_document::<FirstBreach>(alloc, tokens, Limits::default())
+}

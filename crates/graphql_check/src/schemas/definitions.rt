@@ -1,0 +1,70 @@
+//! The check of definitions and of schema files, by GraphQL October 2021, section 3.1.
+ghost use Rattle.std.specs.Prelude.{[]};
+ghost use Rattle.graphql_check.specs.SchemaRules.{first_breach};
+ghost use Rattle.graphql_reading.specs.reading.Given.{Gives};
+ghost use Rattle.graphql_reading.specs.reading.Outcome.{mapped_at};
+ghost use Rattle.graphql_schemas.specs.grammar.Rules.{breach_of};
+ghost use Rattle.graphql_schemas.specs.reading.SchemaFile.{described_at, extension_at, definition_at, definitions_at};
+
+use crate::schemas::descriptions::check_maybe_description;
+use crate::schemas::directives::check_directive_definition;
+use crate::schemas::schema::{check_schema_definition, check_schema_extension};
+use crate::schemas::types::check_body;
+use graphql_grammar::error::Error;
+use graphql_reading::limits::Limits;
+use graphql_reading::parser::{Parser, Reading};
+use graphql_schemas::definitions::is_at_definition;
+
+/// `SchemaExt | TypeExt`: the rule that it breaks, if it breaks one.
+fn check_extension(parser: &mut Parser, limits: Limits) -> Reading<Option<Error>>
+    ensures { Gives (λ breach. breach) result parser.old parser.new (mapped_at (breach_of []) (extension_at limits)) }
+{
+    let extend = parser.expect_keyword("extend")?;
+    if parser.is_at_keyword("schema") {
+        let roots = check_schema_extension(parser, limits)?;
+        return Ok(roots.breach(extend.pos, true));
+    }
+    check_body(parser, limits, true)?;
+    Ok(None)
+}
+
+/// `Schema | TypeDef | DirectiveDef`, each of which may have a description: the rule that it breaks, if it breaks one.
+fn check_described(parser: &mut Parser, limits: Limits) -> Reading<Option<Error>>
+    ensures { Gives (λ breach. breach) result parser.old parser.new (mapped_at (breach_of []) (described_at limits)) }
+{
+    let pos = parser.hand().pos;
+    check_maybe_description(parser)?;
+    if parser.is_at_keyword("schema") {
+        let roots = check_schema_definition(parser, limits)?;
+        return Ok(roots.breach(pos, false));
+    }
+    if parser.is_at_keyword("directive") {
+        check_directive_definition(parser, limits)?;
+    } else {
+        check_body(parser, limits, false)?;
+    }
+    Ok(None)
+}
+
+/// `Definition : Schema | SchemaExt | TypeDef | TypeExt | DirectiveDef`: the rule that it breaks, if it breaks one.
+fn check_definition(parser: &mut Parser, limits: Limits) -> Reading<Option<Error>>
+    ensures { Gives (λ breach. breach) result parser.old parser.new (mapped_at (breach_of []) (definition_at limits)) }
+{
+    if parser.is_at_keyword("extend") {
+        return check_extension(parser, limits);
+    }
+    check_described(parser, limits)
+}
+
+/// `Definition+` (GraphQL October 2021, section 3.1): the first rule that one of them breaks, if one breaks a rule.
+pub fn check_definitions(parser: &mut Parser, limits: Limits) -> Reading<Option<Error>>
+    ensures { Gives (λ breach. breach) result parser.old parser.new (mapped_at first_breach (definitions_at limits)) }
+{
+    let mut first: Option<Error> = None;
+    loop {
+        first = first.or(check_definition(parser, limits)?);
+        if !is_at_definition(parser) {
+            return Ok(first);
+        }
+    }
+}

@@ -1,0 +1,115 @@
+//! The check of definitions and extensions of types, by GraphQL October 2021, sections 3.4 to 3.10.
+ghost use Rattle.std.specs.Prelude.{◌≡◌};
+ghost use Rattle.graphql_check.specs.Checked.{Checks};
+ghost use Rattle.graphql_reading.specs.grammar.Tests.{punct};
+ghost use Rattle.graphql_reading.specs.reading.Spelled.{punct_of};
+ghost use Rattle.graphql_schemas.specs.reading.Bodies.{rest_at, body_by_word_at};
+ghost use Rattle.graphql_schemas.specs.reading.Fields.{fields_at};
+ghost use Rattle.graphql_schemas.specs.reading.InputValues.{input_fields_at};
+ghost use Rattle.graphql_schemas.specs.reading.Members.{members_at, enum_values_at};
+ghost use Rattle.graphql_schemas.specs.reading.Types.{part_first, field_parts_at, some_field_parts_at, some_parts_at, scalar_rest_at};
+
+use crate::arguments::check_const_directives;
+use crate::schemas::fields::check_maybe_fields;
+use crate::schemas::input_values::check_maybe_input_fields;
+use crate::schemas::members::{
+    check_maybe_enum_values, check_maybe_implements, check_maybe_members,
+};
+use graphql_reading::limits::Limits;
+use graphql_reading::parser::{Parser, Reading};
+use graphql_schemas::types::{Word, expect_part, read_word};
+
+/// `ConstDirectives?`; an extension has them.
+fn check_scalar_rest(parser: &mut Parser, limits: Limits, extend: bool) -> Reading<()>
+    ensures { Checks result parser.old parser.new (scalar_rest_at extend limits) }
+{
+    let is_there = parser.is_at_punct("@");
+    expect_part(extend, is_there)?;
+    check_const_directives(parser, limits)
+}
+
+/// `Implements? ConstDirectives? Fields?`
+fn check_field_parts(parser: &mut Parser, limits: Limits) -> Reading<()>
+    ensures { Checks result parser.old parser.new (field_parts_at limits) }
+{
+    check_maybe_implements(parser, limits)?;
+    check_const_directives(parser, limits)?;
+    check_maybe_fields(parser, limits)
+}
+
+/// The same; an extension has at least one of them.
+fn check_object_rest(parser: &mut Parser, limits: Limits, extend: bool) -> Reading<()>
+    ensures { Checks result parser.old parser.new (some_field_parts_at extend limits) }
+{
+    let is_there = parser.is_at_keyword("implements")
+        || parser.is_at_punct("@")
+        || parser.is_at_punct("{");
+    expect_part(extend, is_there)?;
+    check_field_parts(parser, limits)
+}
+
+/// Whether directives are in hand, or what begins with this punctuator.
+fn is_at_part(parser: &Parser, opening: &str) -> bool
+    ensures { result ≡ part_first (punct_of opening.now) parser.now.hand.bare }
+{
+    parser.is_at_punct("@") || parser.is_at_punct(opening)
+}
+
+/// `ConstDirectives? Members?`; an extension has at least one of them.
+fn check_union_rest(parser: &mut Parser, limits: Limits, extend: bool) -> Reading<()>
+    ensures { Checks result parser.old parser.new (some_parts_at extend limits (punct "=") members_at) }
+{
+    expect_part(extend, is_at_part(parser, "="))?;
+    check_const_directives(parser, limits)?;
+    check_maybe_members(parser, limits)
+}
+
+/// `ConstDirectives? EnumValues?`; an extension has at least one of them.
+fn check_enum_rest(parser: &mut Parser, limits: Limits, extend: bool) -> Reading<()>
+    ensures { Checks result parser.old parser.new (some_parts_at extend limits (punct "{") (enum_values_at limits)) }
+{
+    expect_part(extend, is_at_part(parser, "{"))?;
+    check_const_directives(parser, limits)?;
+    check_maybe_enum_values(parser, limits)
+}
+
+/// `ConstDirectives? InputFields?`; an extension has at least one of them.
+fn check_input_rest(parser: &mut Parser, limits: Limits, extend: bool) -> Reading<()>
+    ensures { Checks result parser.old parser.new (some_parts_at extend limits (punct "{") (input_fields_at limits)) }
+{
+    expect_part(extend, is_at_part(parser, "{"))?;
+    check_const_directives(parser, limits)?;
+    check_maybe_input_fields(parser, limits)
+}
+
+/// What stands after the name, by the keyword.
+fn check_rest(parser: &mut Parser, limits: Limits, word: Word, extend: bool) -> Reading<()>
+    ensures { Checks result parser.old parser.new (rest_at extend limits word) }
+{
+    match word {
+        Word::Scalar => check_scalar_rest(parser, limits, extend),
+        Word::Type | Word::Interface => check_object_rest(parser, limits, extend),
+        Word::Union => check_union_rest(parser, limits, extend),
+        Word::Enum => check_enum_rest(parser, limits, extend),
+        Word::Input => check_input_rest(parser, limits, extend),
+    }
+}
+
+/// A definition of a type after its description, or an extension after its `extend`:
+///
+/// ```text
+/// Body : 'scalar' Name ConstDirectives?
+///   | 'type' Name Implements? ConstDirectives? Fields?
+///   | 'interface' Name Implements? ConstDirectives? Fields?
+///   | 'union' Name ConstDirectives? Members?
+///   | 'enum' Name ConstDirectives? EnumValues?
+///   | 'input' Name ConstDirectives? InputFields?
+/// ```
+/// In an extension at least one of the optional parts is there (GraphQL October 2021, sections 3.4 and 3.4.3).
+pub fn check_body(parser: &mut Parser, limits: Limits, extend: bool) -> Reading<()>
+    ensures { Checks result parser.old parser.new (body_by_word_at extend limits) }
+{
+    let (_, word) = read_word(parser)?;
+    parser.expect_name()?;
+    check_rest(parser, limits, word, extend)
+}

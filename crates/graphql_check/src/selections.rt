@@ -1,0 +1,36 @@
+//! Readers of selection sets that make no tree: one loop that counts the sets that are open.
+ghost use Rattle.graphql_check.specs.Checked.{Checks};
+ghost use Rattle.graphql_requests.specs.reading.Request.{own_set_at};
+
+mod heads;
+
+use graphql_reading::limits::Limits;
+use graphql_reading::parser::{Parser, Reading};
+use heads::{check_head, is_at_selection};
+pub use heads::{check_type_condition, is_at_fragment_name};
+
+/// The selection set of a definition, whose own nesting isn't counted.
+///
+/// `SelectionSet : '{' Selection+ '}'` (GraphQL October 2021, section 2.4)
+pub fn check_selection_set(parser: &mut Parser, limits: Limits) -> Reading<()>
+    ensures { Checks result parser.old parser.new (own_set_at limits) }
+{
+    parser.expect_punct("{")?;
+    // How many sets are open around the innermost one, and whether a selection has to follow in that.
+    let mut outer = 0;
+    let mut is_wanted = true;
+    loop {
+        if is_wanted || is_at_selection(parser) {
+            is_wanted = check_head(parser, limits, outer < limits.selections())?;
+            if is_wanted {
+                outer += 1;
+            }
+        } else {
+            parser.expect_punct("}")?;
+            if outer == 0 {
+                return Ok(());
+            }
+            outer -= 1;
+        }
+    }
+}

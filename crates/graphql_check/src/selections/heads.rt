@@ -1,0 +1,148 @@
+//! Readers of selections up to their sets, that make no tree.
+ghost use Rattle.std.specs.Prelude.{◌≡◌, is_some};
+ghost use Rattle.graphql_check.specs.Checked.{Checks};
+ghost use Rattle.graphql_check.specs.Heads.{entered_at};
+ghost use Rattle.graphql_reading.specs.grammar.Places.{nowhere};
+ghost use Rattle.graphql_reading.specs.reading.Given.{Gives};
+ghost use Rattle.graphql_reading.specs.reading.Outcome.{mapped_at};
+ghost use Rattle.graphql_requests.specs.grammar.Selections.{fragment_name};
+ghost use Rattle.graphql_requests.specs.reading.SelectionSteps.{names_at, maybe_brace_at, maybe_condition_at, field_head_at, inline_head_at, behind_dots_at, head_at};
+ghost use Rattle.graphql_requests.specs.reading.Selections.{type_condition_at, inline_first, selection_first};
+
+use crate::arguments::{check_directives, check_maybe_arguments};
+use graphql_reading::limits::Limits;
+use graphql_reading::parser::{Parser, Reading, Refusal};
+
+/// Whether the name of a fragment is in hand: any name but `on`.
+#[inline(always)]
+pub fn is_at_fragment_name(parser: &Parser) -> bool
+    ensures { result ≡ fragment_name parser.now.hand.bare }
+{
+    parser.is_at_name() && !parser.is_at_keyword("on")
+}
+
+#[inline(always)]
+fn is_at_inline(parser: &Parser) -> bool
+    ensures { result ≡ inline_first parser.now.hand.bare }
+{
+    parser.is_at_keyword("on") || parser.is_at_punct("@") || parser.is_at_punct("{")
+}
+
+#[inline(always)]
+pub(super) fn is_at_selection(parser: &Parser) -> bool
+    ensures { result ≡ selection_first parser.now.hand.bare }
+{
+    parser.is_at_name() || parser.is_at_punct("...")
+}
+
+/// An alias, if there is one, and a name.
+///
+/// `(Name ':')? Name`
+#[inline(always)]
+fn check_names(parser: &mut Parser) -> Reading<()>
+    ensures { Checks result parser.old parser.new names_at }
+{
+    parser.expect_name()?;
+    if !parser.is_at_punct(":") {
+        return Ok(());
+    }
+    parser.advance();
+    parser.expect_name()?;
+    Ok(())
+}
+
+/// The `{` of a set, if one follows.
+#[inline(always)]
+fn take_brace(parser: &mut Parser, nests: bool) -> Reading<bool>
+    ensures { Gives (λ follows. follows) result parser.old parser.new (mapped_at is_some (maybe_brace_at nests)) }
+{
+    if !parser.is_at_punct("{") {
+        return Ok(false);
+    }
+    if !nests {
+        return Err(Refusal::Limit);
+    }
+    parser.advance();
+    Ok(true)
+}
+
+/// A field up to its set.
+///
+/// `Field : (Name ':')? Name Arguments? Directives? SelectionSet?` (GraphQL October 2021, section 2.5)
+fn check_field(parser: &mut Parser, limits: Limits, nests: bool) -> Reading<bool>
+    ensures { Gives (λ follows. follows) result parser.old parser.new (entered_at (field_head_at limits.values nests)) }
+{
+    check_names(parser)?;
+    check_maybe_arguments(parser, limits)?;
+    check_directives(parser, limits)?;
+    take_brace(parser, nests)
+}
+
+/// `on` and the name of a type.
+///
+/// `TypeCondition : 'on' Name` (GraphQL October 2021, section 2.8)
+pub fn check_type_condition(parser: &mut Parser) -> Reading<()>
+    ensures { Checks result parser.old parser.new type_condition_at }
+{
+    parser.expect_keyword("on")?;
+    parser.expect_name()?;
+    Ok(())
+}
+
+/// `TypeCondition?`
+fn check_maybe_condition(parser: &mut Parser) -> Reading<()>
+    ensures { Checks result parser.old parser.new maybe_condition_at }
+{
+    if !parser.is_at_keyword("on") {
+        return Ok(());
+    }
+    check_type_condition(parser)
+}
+
+/// An inline fragment up to its set, after its `...`.
+///
+/// `Inline : '...' TypeCondition? Directives? SelectionSet` (GraphQL October 2021, section 2.8)
+fn check_inline(parser: &mut Parser, limits: Limits) -> Reading<()>
+    ensures { Checks result parser.old parser.new (inline_head_at limits.values nowhere) }
+{
+    check_maybe_condition(parser)?;
+    check_directives(parser, limits)?;
+    parser.expect_punct("{")?;
+    Ok(())
+}
+
+/// The rest of a spread or of an inline fragment after its `...`, up to its set: whether that follows.
+///
+/// `FragmentName Directives? | TypeCondition? Directives? SelectionSet`
+fn check_behind_dots(parser: &mut Parser, limits: Limits, nests: bool) -> Reading<bool>
+    ensures { Gives (λ follows. follows) result parser.old parser.new (entered_at (behind_dots_at limits.values nests nowhere)) }
+{
+    if is_at_fragment_name(parser) {
+        parser.advance();
+        check_directives(parser, limits)?;
+        return Ok(false);
+    }
+    if !nests {
+        return Err(if is_at_inline(parser) {
+            Refusal::Limit
+        } else {
+            Refusal::Syntax
+        });
+    }
+    check_inline(parser, limits)?;
+    Ok(true)
+}
+
+/// Reads a selection up to its set, and tells whether that follows. Its `{` is then read.
+///
+/// `Selection : Field | Spread | Inline` (GraphQL October 2021, section 2.4)
+pub(super) fn check_head(parser: &mut Parser, limits: Limits, nests: bool) -> Reading<bool>
+    ensures { Gives (λ follows. follows) result parser.old parser.new (entered_at (head_at limits.values nests)) }
+{
+    if parser.is_at_punct("...") {
+        parser.advance();
+        check_behind_dots(parser, limits, nests)
+    } else {
+        check_field(parser, limits, nests)
+    }
+}

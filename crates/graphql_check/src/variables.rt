@@ -1,0 +1,64 @@
+//! Readers of variable definitions that make no tree, by GraphQL October 2021, section 2.10.
+ghost use Rattle.graphql_check.specs.Checked.{Checks};
+ghost use Rattle.graphql_tokens.specs.declared.pos.Positioned.{Positioned};
+ghost use Rattle.graphql_request_trees.specs.trees.Request as request;
+ghost use Rattle.graphql_reading.specs.grammar.Tests.{punct};
+ghost use Rattle.graphql_reading.specs.reading.Outcome.{opt_at};
+ghost use Rattle.graphql_requests.specs.reading.Variables.{default_and_directives_at, variable_definition_at, variable_definitions_at};
+
+use crate::arguments::{check_directives, check_maybe_default};
+use crate::production::{Phrase, check_bracketed};
+use crate::types::check_type;
+use graphql_reading::limits::Limits;
+use graphql_reading::parser::{Parser, Reading};
+
+/// A default value and directives, in either order.
+///
+/// `Default? Directives? | Directives Default`
+fn check_default_and_directives(parser: &mut Parser, limits: Limits) -> Reading<()>
+    ensures { Checks result parser.old parser.new (default_and_directives_at limits.values) }
+{
+    if parser.is_at_punct("=") {
+        check_maybe_default(parser, limits)?;
+        return check_directives(parser, limits);
+    }
+    check_directives(parser, limits)?;
+    check_maybe_default(parser, limits)
+}
+
+/// `'$' Name ':' Type (Default? Directives? | Directives Default)`.
+struct VariablePhrase;
+
+impl Phrase for VariablePhrase {
+    ghost Tree = { Positioned request.VariableDefinition };
+
+    ghost first = { punct "$" };
+
+    ghost reader = { λ limits. variable_definition_at limits.values limits.types };
+
+    #[inline(always)]
+    fn is_next(parser: &Parser) -> bool {
+        parser.is_at_punct("$")
+    }
+
+    fn check(parser: &mut Parser, limits: Limits) -> Reading<()> {
+        parser.expect_punct("$")?;
+        parser.expect_name()?;
+        parser.expect_punct(":")?;
+        check_type(parser, limits)?;
+        check_default_and_directives(parser, limits)
+    }
+}
+
+/// Reads variable definitions with their brackets, where a `(` is in hand; else there are none.
+///
+/// `VariableDefinitions? : ('(' VariableDefinition+ ')')?` (GraphQL October 2021, section 2.10)
+#[tactic(auto, unfolding(graphql_reading::specs::reading::Outcome::opt_at))]
+pub fn check_maybe_variable_definitions(parser: &mut Parser, limits: Limits) -> Reading<()>
+    ensures { Checks result parser.old parser.new (opt_at (punct "(") (variable_definitions_at limits.values limits.types)) }
+{
+    if !parser.is_at_punct("(") {
+        return Ok(());
+    }
+    check_bracketed::<VariablePhrase>(parser, "(", ")", limits)
+}
