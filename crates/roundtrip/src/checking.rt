@@ -69,11 +69,6 @@ pub fn failure<L: Language>(
     if is_meant && seen.kind != Kind::Accepted && seen.kind != Kind::BreaksRule {
         return told(alloc, "a text of the grammar is refused", text, seen, seen);
     }
-    for form in [Form::Plain, Form::Limited, Form::FromTokens, Form::Shallow] {
-        if !language.is_checked_alike(alloc, form, text) {
-            return told(alloc, "the check differs", text, seen, seen);
-        }
-    }
     for form in [Form::Limited, Form::FromTokens] {
         let other = language.seen(alloc, form, text)?;
         if other.placed != seen.placed {

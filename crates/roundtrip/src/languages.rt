@@ -4,9 +4,8 @@ use example_printer::{print_request, print_schema};
 use graphql_parser::lexer::Tokens;
 use graphql_parser::types::{ExecutableDocument, ServiceDocument};
 use graphql_parser::{
-    Error, Limits, Result as Answer, check_query, check_query_from, check_query_limited,
-    check_schema, check_schema_from, check_schema_limited, parse_query, parse_query_from,
-    parse_query_limited, parse_schema, parse_schema_from, parse_schema_limited,
+    Error, Limits, Result as Answer, parse_query, parse_query_from, parse_query_limited,
+    parse_schema, parse_schema_from, parse_schema_limited,
 };
 use rows::Shown;
 use std::alloc::{AllocError, Global};
@@ -54,11 +53,6 @@ pub trait Language {
 
     /// What its parser answers.
     fn seen(&self, alloc: Global, form: Form, text: &str) -> Result<Seen, AllocError>;
-
-    /// Whether its check answers the same, less the tree, where it has one.
-    fn is_checked_alike(&self, _alloc: Global, _form: Form, _text: &str) -> bool {
-        true
-    }
 }
 
 /// Requests.
@@ -79,17 +73,13 @@ impl Language for Requests {
     }
 
     fn seen(&self, alloc: Global, form: Form, text: &str) -> Result<Seen, AllocError> {
-        of_request(alloc, read_request(alloc, form, text))
-    }
-
-    fn is_checked_alike(&self, alloc: Global, form: Form, text: &str) -> bool {
-        let check = match form {
-            Form::Plain => check_query(alloc, text),
-            Form::Limited => check_query_limited(alloc, text, Limits::default()),
-            Form::FromTokens => check_query_from(alloc, &mut Tokens::new(text)),
-            Form::Shallow => check_query_limited(alloc, text, narrow()),
+        let answer = match form {
+            Form::Plain => parse_query(alloc, text),
+            Form::Limited => parse_query_limited(alloc, text, Limits::default()),
+            Form::FromTokens => parse_query_from(alloc, &mut Tokens::new(text)),
+            Form::Shallow => parse_query_limited(alloc, text, narrow()),
         };
-        read_request(alloc, form, text).err() == check.err()
+        of_request(alloc, answer)
     }
 }
 
@@ -99,35 +89,13 @@ impl Language for Schemas {
     }
 
     fn seen(&self, alloc: Global, form: Form, text: &str) -> Result<Seen, AllocError> {
-        of_file(alloc, read_file(alloc, form, text))
-    }
-
-    fn is_checked_alike(&self, alloc: Global, form: Form, text: &str) -> bool {
-        let check = match form {
-            Form::Plain => check_schema(alloc, text),
-            Form::Limited => check_schema_limited(alloc, text, Limits::default()),
-            Form::FromTokens => check_schema_from(alloc, &mut Tokens::new(text)),
-            Form::Shallow => check_schema_limited(alloc, text, narrow()),
+        let answer = match form {
+            Form::Plain => parse_schema(alloc, text),
+            Form::Limited => parse_schema_limited(alloc, text, Limits::default()),
+            Form::FromTokens => parse_schema_from(alloc, &mut Tokens::new(text)),
+            Form::Shallow => parse_schema_limited(alloc, text, narrow()),
         };
-        read_file(alloc, form, text).err() == check.err()
-    }
-}
-
-fn read_request(alloc: Global, form: Form, text: &str) -> Answer<ExecutableDocument> {
-    match form {
-        Form::Plain => parse_query(alloc, text),
-        Form::Limited => parse_query_limited(alloc, text, Limits::default()),
-        Form::FromTokens => parse_query_from(alloc, &mut Tokens::new(text)),
-        Form::Shallow => parse_query_limited(alloc, text, narrow()),
-    }
-}
-
-fn read_file(alloc: Global, form: Form, text: &str) -> Answer<ServiceDocument> {
-    match form {
-        Form::Plain => parse_schema(alloc, text),
-        Form::Limited => parse_schema_limited(alloc, text, Limits::default()),
-        Form::FromTokens => parse_schema_from(alloc, &mut Tokens::new(text)),
-        Form::Shallow => parse_schema_limited(alloc, text, narrow()),
+        of_file(alloc, answer)
     }
 }
 

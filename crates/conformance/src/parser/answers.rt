@@ -4,9 +4,8 @@ use super::views::View;
 use graphql_parser::lexer::Tokens;
 use graphql_parser::types::{ExecutableDocument, ServiceDocument};
 use graphql_parser::{
-    Limits, Result as Answer, check_query, check_query_from, check_query_limited, check_schema,
-    check_schema_from, check_schema_limited, parse_query, parse_query_from, parse_query_limited,
-    parse_schema, parse_schema_from, parse_schema_limited,
+    Limits, Result as Answer, parse_query, parse_query_from, parse_query_limited, parse_schema,
+    parse_schema_from, parse_schema_limited,
 };
 use std::alloc::{AllocError, Global};
 
@@ -65,7 +64,7 @@ impl Parser {
     }
 
     /// What is seen of the answer to a text. The call with limits, at the default, and the one over fresh tokens have
-    /// to give the same, and each check the same error.
+    /// to give the same.
     pub fn of_each_call(self, alloc: Global, view: View, text: &str) -> Result<String, AllocError> {
         let answer = self.of_text(alloc, view, "", text)?;
         let limited = self.limited(alloc, view, text, Limits::default())?;
@@ -73,28 +72,7 @@ impl Parser {
         if limited.as_str() != answer.as_str() || from.as_str() != answer.as_str() {
             return format!(in alloc; "{answer}, limited {limited}, from tokens {from}");
         }
-        if !self.is_checked_alike(alloc, text) {
-            return format!(in alloc; "{answer}, but not for a check");
-        }
         Ok(answer)
-    }
-
-    // Whether the checks give the error that the parser gives, or none where it gives none.
-    fn is_checked_alike(self, alloc: Global, text: &str) -> bool {
-        match self {
-            Parser::Query => {
-                let answer = parse_query(alloc, text).err();
-                answer == check_query(alloc, text).err()
-                    && answer == check_query_limited(alloc, text, Limits::default()).err()
-                    && answer == check_query_from(alloc, &mut Tokens::new(text)).err()
-            }
-            Parser::Schema => {
-                let answer = parse_schema(alloc, text).err();
-                answer == check_schema(alloc, text).err()
-                    && answer == check_schema_limited(alloc, text, Limits::default()).err()
-                    && answer == check_schema_from(alloc, &mut Tokens::new(text)).err()
-            }
-        }
     }
 
     /// The word `accepted`, or the error.
