@@ -49,11 +49,15 @@ of_spec 𝓤 𝓛 𝓜 𝓡 wired =
     let c = clauses 𝓛 𝓜.mem 𝓡.returns in
     let kept = (ended).kept in
     let stays : Stays (ended).signature.params kept =
-        (stay_dropped (plain (λ _. u32)) kept.0, (stay_dropped (plain (λ _. places.the_row)) kept.1.0, (stay_dropped (plain (λ _. room.the_row)) kept.1.1.0, (stay_dropped (plain (λ _. lent.the_row)) kept.1.1.1.0, tt)))) in
+    (stay_dropped (plain (λ _. u32)) kept.0, (stay_dropped (plain (λ _. places.the_row)) kept.1.0, (stay_dropped (plain (λ _. room.the_row)) kept.1.1.0, (stay_dropped (plain (λ _. lent.the_row)) kept.1.1.1.0, tt)))) in
     let 𝓣 = tables 𝓤 𝓛.H 𝓜 𝓡 𝓡.env in
-    proved_at 𝓛 ended stays c 𝓜 𝓡
-    (Goes-dropped 𝓛 0 (plain (λ _. u32)) kept.0 (λ κs x f. refl), (Goes-dropped 𝓛 0 (plain (λ _. places.the_row)) kept.1.0 (λ κs x f. refl),
-    (Goes-dropped 𝓛 0 (plain (λ _. room.the_row)) kept.1.1.0 (λ κs x f. refl), (Goes-dropped 𝓛 0 (plain (λ _. lent.the_row)) kept.1.1.1.0 (λ κs x f. refl), tt))))
+    proved_at 𝓛 ended stays c 𝓜 𝓡 (
+      Goes-dropped 𝓛 0 (plain (λ _. u32)) kept.0 (λ κs x f. refl),
+      (
+        Goes-dropped 𝓛 0 (plain (λ _. places.the_row)) kept.1.0 (λ κs x f. refl),
+        (Goes-dropped 𝓛 0 (plain (λ _. room.the_row)) kept.1.1.0 (λ κs x f. refl), (Goes-dropped 𝓛 0 (plain (λ _. lent.the_row)) kept.1.1.1.0 (λ κs x f. refl), tt)),
+      ),
+    )
     key code.function (code.unfolded 𝓤 𝓛.H 𝓜 𝓡 wired) (λ z are.
     let Post : Val → SProp 𝓤 = (walk_of 𝓛 ended stays c).post z in
     let n = z.0.3.0 in let new = z.0.3.1.0 in let at = z.0.3.1.1.0.at in let from = z.0.3.1.1.1.0 in
@@ -68,10 +72,10 @@ of_spec 𝓤 𝓛 𝓜 𝓡 wired =
     let Told : Type 0 = (n ≡ n) × (new ≡ new) × (at ≡ at) × (from.life ≡ from.life) in
     -- [the places; the token; the tokens of the call]
     let out : Sq 𝓛 (‵ (places_lie_at at new) ∷ ‵ (flft (from.life ∷ []) full_share) ∷ raw (alive 𝓛 (ended).signature z.0.0 z.0.1) ∷ []) (prop (Post v)) =
-        move ! (1 ∷ 0 ∷ []) $ fjoin ! $ use0 𝓛 (‵ (number_owns n (v ∷ []))) (number_made 𝓛 n fits) $ fjoin ! $
-        use0 𝓛 (raw (fact 𝓤 Told)) (fact_i 𝓤 Told (emp 𝓤) (refl, refl, refl, refl)) $
-        nothing ! $ nothing ! $ fjoin ! $ nothing ! $ fjoin ! $ nothing ! $ fjoin ! $ nothing ! $ fjoin ! $
-        move ! (3 ∷ 0 ∷ 2 ∷ 1 ∷ []) $ by ! (leaves 𝓛 ended stays c z v x (tt, (tt, (tt, (tt, tt)))) (tt, (tt, (tt, (tt, tt))))) in
+    move ! (1 ∷ 0 ∷ []) $ fjoin ! $ use0 𝓛 (‵ (number_owns n (v ∷ []))) (number_made 𝓛 n fits) $ fjoin ! $
+    use0 𝓛 (raw (fact 𝓤 Told)) (fact_i 𝓤 Told (emp 𝓤) (refl, refl, refl, refl)) $
+    nothing ! $ nothing ! $ fjoin ! $ nothing ! $ fjoin ! $ nothing ! $ fjoin ! $ nothing ! $ fjoin ! $
+    move ! (3 ∷ 0 ∷ 2 ∷ 1 ∷ []) $ by ! (leaves 𝓛 ended stays c z v x (tt, (tt, (tt, (tt, tt)))) (tt, (tt, (tt, (tt, tt))))) in
     qed 𝓛 ((raw (alive 𝓛 (ended).signature z.0.0 z.0.1) ⊛ ‵ (owns (types_at (ended).signature.params z.0.0) z.0.3 z.0.4)) ∷ ‵ ftrue ∷ []) ∵
     move ! (1 ∷ []) $ drop ! $ split ! $ move ! (1 ∷ []) $ fsplit ! $ drop ! $ fsplit ! $ move ! (1 ∷ []) $ fsplit ! $ fsplit ! $ drop ! $ move ! (1 ∷ []) $ fsplit ! $ fsplit ! $ drop ! $ fsplit ! $
     -- [the token; the bytes; nothing; the room; the places' value; the tokens of the call]
