@@ -4,9 +4,9 @@
 //! parse tells the same, and hands over the tree, or the error, as JSON. `bindings/graphql_parser.h` declares the four
 //! functions and says what a caller owes; `bindings/README.md` says how to link them.
 //!
-//! Proved of each call, for every text, at null too where it has no bytes, and for all limits: its status and its places are those of the parser's one answer
-//! for that text, as `graphql_parser` promises it, or the status says that a limit is too large or that the text isn't
-//! UTF-8, exactly where that is so. Where the status says something of the text, what a parse hands over is the JSON of
+//! Proved of each call, for every text, at null too where it has no bytes, and for all limits: its status and its places are
+//! those of the parser's one answer for that text, as `graphql_parser` promises it, or the status says that a limit is too
+//! large or that the text isn't UTF-8, exactly where that is so. Where the status says something of the text, what a parse hands over is the JSON of
 //! that answer's tree or error, as `graphql_json` defines it, and these bytes lie where the pointer says; else null is
 //! handed over, with no bytes. What was there before makes no difference. The places are written where the caller's
 //! pointer isn't null, and the text is the caller's own again after the call. That the JSON lies in a block that `free` takes

@@ -17,8 +17,8 @@
 //! Proved of it, unless memory runs out: `is_front` answers true exactly where the tokens of a text are a viable front, in
 //! both languages and at all limits; what is expected is exactly those of the samples, in their order, that can stand
 //! after the text before the refused token, a keyword only where a name can't, and the end of the text where that text is a
-//! whole document; a report begins with the place of the error and its message, and a finding stands at that place; and every call is safe and ends. What a
-//! report says in words besides is tested, in `conformance_reports`.
+//! whole document; a report begins with the place of the error and its message, and a finding stands at that place; and
+//! every call is safe and ends. What a report says in words besides is tested, in `conformance_reports`.
 #![tactic(auto)]
 
 mod definitions;
