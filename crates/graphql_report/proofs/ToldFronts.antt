@@ -26,6 +26,7 @@ use Rattle.graphql_grammar.specs.answers.Language.{Language, grammar}
 use Rattle.graphql_grammar.specs.declared.error.Error.{Error}
 use Rattle.graphql_grammar.specs.declared.error.Error.TheVariants.{Syntax, MultipleRoots, MissingQueryRoot, MultipleOperations, OperationDuplicated, FragmentDuplicated, MissingOperation, RecursionLimitExceeded, OutOfMemory}
 use Rattle.graphql_grammar.proofs.Languages.{IsRead, ends-well}
+use Rattle.graphql_check.specs.Checking.{checked}
 use Rattle.graphql_report.specs.fronts.Front.{LastIsLineFeed, IsFront}
 use Rattle.graphql_report.specs.inner.Told.{TellsFront}
 use Rattle.graphql_report.proofs.Lines.{is-lined, StandsIn, each-stands}
@@ -158,3 +159,22 @@ refused-right language reader read limits text end utf8 lined place error means 
 
 pub accepted-right : {D Document : Type 0} (language : Language D Document) (limits : Limits) (text : List ℕ) → IsUtf8 text → (document : Document) → ((ts : List Token) → IsCutInto text ts → Answers language limits ts (Ok document)) → IsRight language limits text true
 accepted-right language limits text utf8 document answers = λ ts cut. told-tree language limits ts (answers ts cut).0 (cuts_proper [] (chars text) ts (text_scalars text utf8) cut) (answers ts cut).1.within true refl
+
+-- ---- checks
+
+pub checks-read : {D Document : Type 0} (language : Language D Document) (reader : Limits → Reader (List D)) → IsRead language reader → IsRead (checked language) reader
+checks-read language reader read = record { has_phrase = read.has_phrase; ignores_places = read.ignores_places; reads_exactly = read.reads_exactly; includes = read.includes }
+
+of-checked : {D Document : Type 0} (language : Language D Document) (limits : Limits) (ts : List Token) → IsFront (checked language) limits ts → IsFront language limits ts
+of-checked language limits ts f = record { front = f.front; last = f.last; split = f.split; ends = f.ends; viable = f.viable }
+
+to-checked : {D Document : Type 0} (language : Language D Document) (limits : Limits) (ts : List Token) → IsFront language limits ts → IsFront (checked language) limits ts
+to-checked language limits ts f = record { front = f.front; last = f.last; split = f.split; ends = f.ends; viable = f.viable }
+
+-- what a check tells is right of the parser's language
+pub right-of-checked : {D Document : Type 0} (language : Language D Document) (limits : Limits) (text : List ℕ) (b : Bool) → IsRight (checked language) limits text b → IsRight language limits text b
+right-of-checked language limits text b h = λ ts cut. (λ t. of-checked language limits ts ((h ts cut).0 t), λ f. (h ts cut).1 (to-checked language limits ts f))
+
+pub told-by-check : {D Document : Type 0} (language : Language D Document) (limits : Limits) (text : List ℕ) (result : Result Bool AllocError) → IfOk result (IsRight (checked language) limits text) → IfOk result (IsRight language limits text)
+told-by-check language limits text (Err refused) h = tt
+told-by-check language limits text (Ok b) h = right-of-checked language limits text b h

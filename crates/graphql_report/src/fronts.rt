@@ -1,4 +1,4 @@
-//! Whether some document goes on from a text: asked of the parsers.
+//! Whether some document goes on from a text: asked of the checks.
 ghost use Rattle.std.specs.Prelude.{◌≡◌, ◌↔◌, IsTrue, IfOk, List};
 ghost use Rattle.std.specs.Str.{chars};
 ghost use Rattle.graphql_tokens.specs.tokens.Cuts.{IsCutInto};
@@ -11,7 +11,7 @@ ghost use Rattle.graphql_report.specs.inner.Expected.{HasTree, TellsTreeOf};
 ghost use Rattle.graphql_report.specs.inner.Told.{TellsFront, TellsTree};
 
 use graphql_parser::pos::PositionCalculator;
-use graphql_parser::{Error, Limits, Pos, parse_query_limited, parse_schema_limited};
+use graphql_parser::{Error, Limits, Pos, check_query_limited, check_schema_limited};
 use std::alloc::{AllocError, Global};
 
 /// What a text is read as.
@@ -27,7 +27,7 @@ pub enum Language {
 /// with a fault is none (this project's own call).
 ///
 /// The text ends in a line feed, which the caller owes: so the place of its end is the place of no token. It takes one
-/// parse of the text. An error says that memory was refused.
+/// check of the text. An error says that memory was refused.
 pub fn is_front(
     alloc: Global,
     language: Language,
@@ -48,7 +48,7 @@ fn is_request_front(alloc: Global, text: &str, limits: Limits) -> Result<bool, A
     ensures { IfOk result (λ answer. (tokens : List SpecToken) → IsCutInto text.now tokens → IsTrue answer ↔ IsFront requests limits tokens) }
 {
     let end = end_of(text);
-    match parse_query_limited(alloc, text, limits) {
+    match check_query_limited(alloc, text, limits) {
         Ok(_) => Ok(true),
         Err(error) => goes_on(&error, end),
     }
@@ -59,7 +59,7 @@ fn is_schema_front(alloc: Global, text: &str, limits: Limits) -> Result<bool, Al
     ensures { IfOk result (λ answer. (tokens : List SpecToken) → IsCutInto text.now tokens → IsTrue answer ↔ IsFront schemas limits tokens) }
 {
     let end = end_of(text);
-    match parse_schema_limited(alloc, text, limits) {
+    match check_schema_limited(alloc, text, limits) {
         Ok(_) => Ok(true),
         Err(error) => goes_on(&error, end),
     }
@@ -83,7 +83,7 @@ pub fn is_whole(
 fn is_whole_request(alloc: Global, text: &str, limits: Limits) -> Result<bool, AllocError>
     ensures { IfOk result (λ answer. (tokens : List SpecToken) → IsCutInto text.now tokens → IsTrue answer ↔ HasTree requests limits tokens) }
 {
-    match parse_query_limited(alloc, text, limits) {
+    match check_query_limited(alloc, text, limits) {
         Ok(_) => Ok(true),
         Err(error) => has_tree(&error),
     }
@@ -92,7 +92,7 @@ fn is_whole_request(alloc: Global, text: &str, limits: Limits) -> Result<bool, A
 fn is_whole_schema(alloc: Global, text: &str, limits: Limits) -> Result<bool, AllocError>
     ensures { IfOk result (λ answer. (tokens : List SpecToken) → IsCutInto text.now tokens → IsTrue answer ↔ HasTree schemas limits tokens) }
 {
-    match parse_schema_limited(alloc, text, limits) {
+    match check_schema_limited(alloc, text, limits) {
         Ok(_) => Ok(true),
         Err(error) => has_tree(&error),
     }

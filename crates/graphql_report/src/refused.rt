@@ -5,7 +5,7 @@ use crate::fronts::{Language, is_front};
 use crate::probes::{line_of, takes};
 use crate::samples::NUMBER_TEXT;
 use graphql_parser::lexer::{Token, Tokens};
-use graphql_parser::{Error, Limits, Pos, parse_query_from, parse_schema_from};
+use graphql_parser::{Error, Limits, Pos, check_query_from, check_schema_from};
 use std::alloc::{AllocError, Global};
 
 /// The parts of `text` before this offset and from it on; the whole text and nothing where the offset is none of its.
@@ -33,8 +33,8 @@ pub fn after(text: &str, offset: usize) -> &str {
 /// The refused token of a text that `error` refuses: the first token such that no document within the limits begins with
 /// the tokens up to it, itself included.
 ///
-/// Where the error names a place at which one token stands, it is that one, and nothing is parsed. At the default limits
-/// one parse counts the tokens up to it. Else it is found by halving. (This project's own call.)
+/// Where the error names a place at which one token stands, it is that one, and nothing is read. At the default limits
+/// one check counts the tokens up to it. Else it is found by halving. (This project's own call.)
 pub fn refused_token<'a>(
     alloc: Global,
     language: Language,
@@ -73,8 +73,8 @@ fn only_token_at(text: &str, place: Pos) -> Option<Token<'_>> {
 fn tokens_taken(alloc: Global, language: Language, text: &str) -> Result<usize, AllocError> {
     let mut tokens = Tokens::new(text);
     let error = match language {
-        Language::Requests => parse_query_from(alloc, &mut tokens).err(),
-        Language::Schemas => parse_schema_from(alloc, &mut tokens).err(),
+        Language::Requests => check_query_from(alloc, &mut tokens).err(),
+        Language::Schemas => check_schema_from(alloc, &mut tokens).err(),
     };
     match error {
         Some(Error::OutOfMemory) => Err(AllocError),

@@ -1,11 +1,12 @@
+use Rattle.graphql_check.specs.Checking.{checked}
 use Rattle.graphql_requests.specs.grammar.Requests.{requests}
 use Rattle.graphql_requests.specs.reading.Request.{definitions_at}
 use Rattle.graphql_requests.proofs.RequestProductions.{requests-are-read}
-use Rattle.graphql_report.proofs.ToldFronts.{refused-right, accepted-right}
+use Rattle.graphql_report.proofs.ToldFronts.{checks-read, refused-right, accepted-right, right-of-checked, told-by-check}
 use Rattle.graphql_report.proofs.fronts.is_request_front.Goals as goal
 
 pub returns-in-Ok : goal.returns-in-Ok
-returns-in-Ok c = accepted-right requests c.args.limits c.args.text.now c.utf8.text c.in-Ok.field-0 c.in-Ok.ensures.answer
+returns-in-Ok c = right-of-checked requests c.args.limits c.args.text.now _ (accepted-right (checked requests) c.args.limits c.args.text.now c.utf8.text c.in-Ok.field-0 c.in-Ok.ensures.answer)
 
-pub returns : goal.returns
-returns c = refused-right requests definitions_at requests-are-read c.args.limits c.args.text.now c.end_of-end.result c.utf8.text c.requires c.end_of-end.ensures c.in-Err.error c.in-Err.ensures.answer c.goes_on.result c.goes_on.ensures
+pub returns-in-Err : goal.returns-in-Err
+returns-in-Err c = told-by-check requests c.args.limits c.args.text.now c.goes_on.result (refused-right (checked requests) definitions_at (checks-read requests definitions_at requests-are-read) c.args.limits c.args.text.now c.end_of-end.result c.utf8.text c.requires c.end_of-end.ensures c.in-Err.error c.in-Err.ensures.answer c.goes_on.result c.goes_on.ensures)
