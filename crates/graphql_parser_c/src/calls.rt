@@ -1,5 +1,6 @@
 //! The calls of both languages, over what a caller lends.
 ghost use Rattle.std.specs.Prelude.{◌≡◌};
+ghost use Rattle.graphql_parser.specs.Checking.{checked};
 ghost use Rattle.graphql_parser_c.specs.Handing.{IsAnswered, places_asked};
 ghost use Rattle.graphql_parser_c.specs.Telling.{IsBack, IsTold, limits_of};
 
@@ -19,7 +20,7 @@ pub fn check_text<D: Document>(
     types: usize,
     room: Room,
 ) -> Told
-    ensures told { IsTold D.language (limits_of selections values types) text.bytes result.number result.places }
+    ensures told { IsTold (checked D.language) (limits_of selections values types) text.bytes result.number result.places }
     ensures back { IsBack text room result }
 {
     let (lent, count) = text.lent();

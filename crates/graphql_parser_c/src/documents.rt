@@ -5,6 +5,7 @@ ghost use Rattle.graphql_json.specs.nodes.Requests.{request_value};
 ghost use Rattle.graphql_json.specs.nodes.Schemas.{schema_value};
 ghost use Rattle.graphql_parser.specs.answers.Answers.{Answers};
 ghost use Rattle.graphql_parser.specs.answers.Language.{Language};
+ghost use Rattle.graphql_parser.specs.Checking.{checked};
 ghost use Rattle.graphql_parser.specs.requests.Request.{Definition as RequestDefinition};
 ghost use Rattle.graphql_parser.specs.requests.Requests.{requests};
 ghost use Rattle.graphql_parser.specs.schemas.SchemaFile.{Definition as SchemaDefinition};
@@ -16,7 +17,10 @@ ghost use Rattle.graphql_parser.specs.trees.SchemaViews.{schema_document_tree};
 
 use graphql_json::{Places, request_json, schema_json};
 use graphql_parser::types::{ExecutableDocument, ServiceDocument};
-use graphql_parser::{Limits, Result, parse_query_limited, parse_schema_limited};
+use graphql_parser::{
+    Limits, Result, check_query_limited, check_schema_limited, parse_query_limited,
+    parse_schema_limited,
+};
 use std::alloc::{AllocError, Global};
 
 /// The documents of a language: how a text is read, and its tree written.
@@ -36,6 +40,10 @@ pub trait Document: Drop {
     fn read(alloc: Global, text: &str, limits: Limits) -> Result<Self>
         ensures { (tokens : List Token) → IsCutInto text.now tokens → Answers Self.language limits tokens result };
 
+    /// Checks a text: the same, without a tree.
+    fn check(alloc: Global, text: &str, limits: Limits) -> Result<()>
+        ensures { (tokens : List Token) → IsCutInto text.now tokens → Answers (checked Self.language) limits tokens result };
+
     /// The tree as JSON.
     fn json(&self, alloc: Global, places: Places) -> std::result::Result<Vec<u8>, AllocError>
         ensures { IfOk result (λ json. json.items ≡ json_text (Self.value places self.now)) };
@@ -52,6 +60,10 @@ impl Document for ExecutableDocument {
         parse_query_limited(alloc, text, limits)
     }
 
+    fn check(alloc: Global, text: &str, limits: Limits) -> Result<()> {
+        check_query_limited(alloc, text, limits)
+    }
+
     fn json(&self, alloc: Global, places: Places) -> std::result::Result<Vec<u8>, AllocError> {
         request_json(alloc, self, places)
     }
@@ -66,6 +78,10 @@ impl Document for ServiceDocument {
 
     fn read(alloc: Global, text: &str, limits: Limits) -> Result<ServiceDocument> {
         parse_schema_limited(alloc, text, limits)
+    }
+
+    fn check(alloc: Global, text: &str, limits: Limits) -> Result<()> {
+        check_schema_limited(alloc, text, limits)
     }
 
     fn json(&self, alloc: Global, places: Places) -> std::result::Result<Vec<u8>, AllocError> {

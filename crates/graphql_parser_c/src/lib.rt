@@ -14,6 +14,7 @@
 #![tactic(auto)]
 
 ghost use Rattle.std.specs.Prelude.{◌≡◌};
+ghost use Rattle.graphql_parser.specs.Checking.{checked};
 ghost use Rattle.graphql_parser.specs.requests.Requests.{requests};
 ghost use Rattle.graphql_parser.specs.schemas.Schemas.{schemas};
 ghost use Rattle.graphql_json.specs.nodes.Requests.{request_value};
@@ -49,8 +50,8 @@ pub extern "C" fn graphql_parser_version() -> u32
 /// Tells whether a text is a request: gives the number of a `Status`, and writes the places that it is about.
 ///
 /// `text` is in UTF-8. `selections`, `values` and `types` say how deep selection sets, values and types may nest, each at
-/// most 256. `places`, if it isn't null, is written on every call: 0:0 stands where there is no place. It takes memory for
-/// the tree, and gives it back.
+/// most 256. `places`, if it isn't null, is written on every call: 0:0 stands where there is no place. No tree is
+/// made.
 #[unsafe(no_mangle)]
 pub extern "C" fn graphql_parser_check_query(
     alloc: Global,
@@ -60,7 +61,7 @@ pub extern "C" fn graphql_parser_check_query(
     types: usize,
     places: Room,
 ) -> Told
-    ensures told { IsTold requests (limits_of selections values types) text.bytes result.number result.places }
+    ensures told { IsTold (checked requests) (limits_of selections values types) text.bytes result.number result.places }
     ensures back { IsBack text places result }
 {
     check_text::<ExecutableDocument>(alloc, text, selections, values, types, places)
@@ -78,7 +79,7 @@ pub extern "C" fn graphql_parser_check_schema(
     types: usize,
     places: Room,
 ) -> Told
-    ensures told { IsTold schemas (limits_of selections values types) text.bytes result.number result.places }
+    ensures told { IsTold (checked schemas) (limits_of selections values types) text.bytes result.number result.places }
     ensures back { IsBack text places result }
 {
     check_text::<ServiceDocument>(alloc, text, selections, values, types, places)

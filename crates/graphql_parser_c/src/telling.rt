@@ -1,6 +1,7 @@
 //! How an answer is told: its status and its places.
 ghost use Rattle.std.specs.Prelude.{◌≡◌, MatchResult};
 ghost use Rattle.std.specs.Str.{IsUtf8};
+ghost use Rattle.graphql_parser.specs.Checking.{checked};
 ghost use Rattle.graphql_parser.specs.notation.Limits.{IsAllowed};
 ghost use Rattle.graphql_parser_c.specs.Statuses.{status_of};
 ghost use Rattle.graphql_parser_c.specs.Telling.{IsTold, IsUnread, limits_of, nowhere, place_of, places_of};
@@ -107,9 +108,9 @@ pub fn tell<D>(answer: &Result<D>, places: &mut Places) -> Status
     }
 }
 
-/// Reads a text and tells the answer, without its tree.
+/// Checks a text and tells the answer.
 pub fn check<D: Document>(alloc: Global, question: &Question<'_>, places: &mut Places) -> u32
-    ensures { IsTold D.language (limits_of question.now.selections question.now.values question.now.types) question.now.text.now result places.new }
+    ensures { IsTold (checked D.language) (limits_of question.now.selections question.now.values question.now.types) question.now.text.now result places.new }
 {
     let ReadableText { text, limits } = match question.readable() {
         Ok(readable) => readable,
@@ -118,6 +119,6 @@ pub fn check<D: Document>(alloc: Global, question: &Question<'_>, places: &mut P
             return status.number();
         }
     };
-    let answer = D::read(alloc, text, limits);
+    let answer = D::check(alloc, text, limits);
     tell(&answer, places).number()
 }
