@@ -8,11 +8,11 @@
 //! [`finding_of`] gives the same in parts, for a program that shows it in its own way: the place, where the refused token
 //! ends, the name of the error's status, and the message. [`refused_token`] gives the refused token itself.
 //!
-//! The parsers give all of this themselves. A sample is expected where the text before the refused token, with the sample
-//! after it, is a viable front, and one parse of these tells that ([`is_front`]). So a report of a refused text costs some
-//! twenty parses of the text before the refused token, or some forty where no name can stand there; each is linear, and one
+//! The checks give all of this themselves. A sample is expected where the text before the refused token, with the sample
+//! after it, is a viable front, and one check of these tells that ([`is_front`]). So a report of a refused text costs some
+//! twenty checks of the text before the refused token, or some forty where no name can stand there; each is linear, and one
 //! copy of the text is kept at a time. Of an error that names a place the refused token is found by that; at a limit it
-//! takes one parse more, or some twenty where the limits aren't the default ones.
+//! takes one check more, or some twenty where the limits aren't the default ones.
 //!
 //! Proved of it, unless memory runs out: `is_front` answers true exactly where the tokens of a text are a viable front, in
 //! both languages and at all limits; what is expected is exactly those of the samples, in their order, that can stand
