@@ -8,7 +8,7 @@ use crate::language::read_as;
 use crate::output::shown_name;
 use crate::telling::{Reading, Told, tell_all, tell_unread};
 use crate::texts::{Texts, Unread};
-use graphql_parser::{Error, Limits, parse_query_limited, parse_schema_limited};
+use graphql_parser::{Error, Limits, check_query_limited, check_schema_limited};
 use graphql_report::{Language, Style};
 use std::alloc::{AllocError, Global};
 use std::io::Write;
@@ -62,12 +62,12 @@ pub fn error_of(
     ensures { (result ≡ Ok None) → IsGoodText takes_fragments language limits text.now }
 {
     let error = match language {
-        Language::Requests => match parse_query_limited(alloc, text, limits) {
+        Language::Requests => match check_query_limited(alloc, text, limits) {
             Ok(_) => return Ok(None),
             Err(Error::MissingOperation) if takes_fragments => return Ok(None),
             Err(error) => error,
         },
-        Language::Schemas => match parse_schema_limited(alloc, text, limits) {
+        Language::Schemas => match check_schema_limited(alloc, text, limits) {
             Ok(_) => return Ok(None),
             Err(error) => error,
         },
