@@ -79,8 +79,7 @@ fn tell_rest<E: Write>(
         let Some(next) = rest_after(alloc, reading, rest.as_str(), &error)? else {
             break;
         };
-        rest.clear();
-        rest.push_str(next.as_str())?;
+        rest = next;
     }
     Ok(count)
 }
