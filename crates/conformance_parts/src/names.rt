@@ -49,15 +49,15 @@ pub fn ordered(alloc: Global, one: &Name, other: &Name) -> Result<String, AllocE
 
 /// Texts, and what their names print.
 pub const NAMES: &str = r#"
--- Any text is a name. One of at most 16 bytes takes no memory.
+-- Any text is a name. One of at most 22 bytes takes no memory.
 abc ⇒ 'abc' 'abc' '␠␠␠abc' Name("abc") in place
  ⇒ '' '' '␠␠␠␠␠␠' Name("") in place
 0 é␊ ⇒ '0 é␊' '0 é␊' '␠␠0 é␊' Name("0 é\n") in place
 query ⇒ 'query' 'query' ' query' Name("query") in place
-abcdefghijklmnop ⇒ 'abcdefghijklmnop' 'abcdefghijklmnop' 'abcdefghijklmnop' Name("abcdefghijklmnop") in place
-abcdefghijklmnopq ⇒ 'abcdefghijklmnopq' 'abcdefghijklmnopq' 'abcdefghijklmnopq' Name("abcdefghijklmnopq")
-éééééééé ⇒ 'éééééééé' 'éééééééé' 'éééééééé' Name("éééééééé") in place
-aéééééééé ⇒ 'aéééééééé' 'aéééééééé' 'aéééééééé' Name("aéééééééé")
+abcdefghijklmnopqrstuv ⇒ 'abcdefghijklmnopqrstuv' 'abcdefghijklmnopqrstuv' 'abcdefghijklmnopqrstuv' Name("abcdefghijklmnopqrstuv") in place
+abcdefghijklmnopqrstuvw ⇒ 'abcdefghijklmnopqrstuvw' 'abcdefghijklmnopqrstuvw' 'abcdefghijklmnopqrstuvw' Name("abcdefghijklmnopqrstuvw")
+ééééééééééé ⇒ 'ééééééééééé' 'ééééééééééé' 'ééééééééééé' Name("ééééééééééé") in place
+aééééééééééé ⇒ 'aééééééééééé' 'aééééééééééé' 'aééééééééééé' Name("aééééééééééé")
 "#;
 
 /// Pairs of names, and how they are ordered.
@@ -71,9 +71,9 @@ a0 and a_ ⇒ less
 z and é ⇒ less
 é and z ⇒ more
 a and a ⇒ equal
-abcdefghijklmnop and abcdefghijklmnopq ⇒ less
-abcdefghijklmnopq and abcdefghijklmnop ⇒ more
-abcdefghijklmnopq and abcdefghijklmnopr ⇒ less
-abcdefghijklmnopq and abcdefghijklmnopq ⇒ equal
-b and abcdefghijklmnopq ⇒ more
+abcdefghijklmnopqrstuv and abcdefghijklmnopqrstuvw ⇒ less
+abcdefghijklmnopqrstuvw and abcdefghijklmnopqrstuv ⇒ more
+abcdefghijklmnopqrstuvw and abcdefghijklmnopqrstuvx ⇒ less
+abcdefghijklmnopqrstuvw and abcdefghijklmnopqrstuvw ⇒ equal
+b and abcdefghijklmnopqrstuvw ⇒ more
 ";

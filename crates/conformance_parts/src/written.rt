@@ -24,8 +24,8 @@ fn serde_writes_and_reads(rt: HostRuntime) -> Result<(), Fail> {
     assert!(rt; is_written(alloc, &place, r#"{"line":1,"column":5}"#)?);
     let name = Name::new(alloc, r#"a "b""#)?;
     assert!(rt; is_written(alloc, &name, r#""a \"b\"""#)?);
-    let long = Name::new(alloc, "abcdefghijklmnopq")?;
-    assert!(rt; is_written(alloc, &long, r#""abcdefghijklmnopq""#)?);
+    let long = Name::new(alloc, "abcdefghijklmnopqrstuvw")?;
+    assert!(rt; is_written(alloc, &long, r#""abcdefghijklmnopqrstuvw""#)?);
     let kind = OperationType::Subscription;
     assert!(rt; is_written(alloc, &kind, r#""Subscription""#)?);
     let list = Type::new(alloc, "[B!]")?.ok_or("no type")?;

@@ -55,7 +55,7 @@ impl<V: Literal> Production for ArgumentPhrase<V> {
 
     fn read(parser: &mut Parser, limits: Limits) -> Reading<(Positioned<Name>, Positioned<V>)> {
         let token = parser.expect_name()?;
-        let name = name_in(parser.alloc(), token)?;
+        let name = name_in(parser, token)?;
         parser.expect_punct(":")?;
         let value = read_value(parser, limits)?;
         Ok((name, value))
@@ -95,7 +95,7 @@ fn read_directive_of<V: Literal>(parser: &mut Parser, limits: Limits) -> Reading
 {
     let sign = parser.expect_punct("@")?;
     let token = parser.expect_name()?;
-    let name = name_in(parser.alloc(), token)?;
+    let name = name_in(parser, token)?;
     let arguments = read_maybe_arguments(parser, limits)?;
     Ok(DirectiveOf {
         pos: sign.pos,

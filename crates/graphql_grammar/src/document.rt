@@ -52,6 +52,8 @@ fn read_whole<D: Definition>(parser: &mut Parser, limits: Limits) -> Reading<Vec
 }
 
 /// Reads the tokens that are left as a document.
+// Never inlined: the readers below it then are, also where a program has several callers.
+#[inline(never)]
 pub fn read_document<D: Definition>(
     alloc: Global,
     tokens: &mut Tokens<'_>,

@@ -11,7 +11,6 @@ use graphql_reading::limits::Limits;
 use graphql_reading::parser::{Parser, Reading, Refusal};
 use graphql_syntax::pos::Positioned;
 use graphql_syntax::types::{BaseType, Type};
-use graphql_syntax::value::Name;
 
 /// How many lists are open, and how many may be.
 #[derive(Clone, Copy)]
@@ -76,7 +75,7 @@ fn read_named(parser: &mut Parser) -> Reading<Type>
     ensures { Gives type_tree result parser.old parser.new named_at }
 {
     let token = parser.expect_name()?;
-    let name = Name::new(parser.alloc(), token.text)?;
+    let name = parser.name(token)?;
     let nullable = read_nullable(parser);
     Ok(Type {
         base: BaseType::Named(name),

@@ -2,6 +2,7 @@
 ghost use Rattle.std.specs.Prelude.{◌≡◌, ℕ, List, IfOk};
 ghost use Rattle.graphql_tokens.specs.declared.pos.Positioned as model;
 ghost use Rattle.graphql_tokens.specs.tokens.Seen.{seen};
+ghost use Rattle.graphql_tokens.specs.tokens.Within.{StandsIn};
 ghost use Rattle.graphql_reading.specs.grammar.Places.{name_of};
 ghost use Rattle.graphql_reading.specs.grammar.Tests.{any_name};
 ghost use Rattle.graphql_reading.specs.reading.Given.{Gives};
@@ -13,14 +14,15 @@ use crate::production::Production;
 use graphql_tokens::lexer::Token;
 use graphql_tokens::name::Name;
 use graphql_tokens::pos::Positioned;
-use std::alloc::{AllocError, Global};
+use std::alloc::AllocError;
 
-/// The name that a token spells, at its place. Fails only where memory was refused.
+/// The name that a token of the text spells, at its place. Fails only where memory was refused.
 #[inline(always)]
-pub fn name_in(alloc: Global, token: Token) -> Result<Positioned<Name>, AllocError>
+pub fn name_in(parser: &Parser, token: Token) -> Result<Positioned<Name>, AllocError>
+    requires { StandsIn parser.now.text (seen token) }
     ensures { IfOk result (λ name. name ≡ name_of (seen token.entry)) }
 {
-    Ok(Positioned::new(Name::new(alloc, token.text)?, token.pos))
+    Ok(Positioned::new(parser.name(token)?, token.pos))
 }
 
 /// Reads a name (GraphQL October 2021, section 2.1.9).
@@ -31,7 +33,7 @@ pub fn read_name(parser: &mut Parser) -> Reading<Positioned<Name>>
     ensures { Gives (λ name. name) result parser.old parser.new (mapped_at name_of (one_at any_name)) }
 {
     let token = parser.expect_name()?;
-    let name = name_in(parser.alloc(), token)?;
+    let name = name_in(parser, token)?;
     Ok(name)
 }
 

@@ -1,18 +1,22 @@
 //! Reading a text token by token, with one token in hand.
-ghost use Rattle.std.specs.Prelude.{◌≡◌, ◌≢◌, ◌≤◌, ◌+◌, length, ◌&&◌, false, [], Ok};
-ghost use Rattle.std.specs.Str.{bytes_eq};
+ghost use Rattle.std.specs.Prelude.{◌≡◌, ◌≢◌, ◌≤◌, ◌+◌, length, ◌&&◌, false, [], Ok, IfOk};
 ghost use Rattle.graphql_tokens.specs.tokens.Cuts.{is_last, EndsOnce};
 ghost use Rattle.graphql_tokens.specs.tokens.Proper.{AreProperButFaults, IsProper};
 ghost use Rattle.graphql_tokens.specs.tokens.Seen.{seen};
+ghost use Rattle.graphql_tokens.specs.tokens.Numbers.{IsNumber};
 ghost use Rattle.graphql_tokens.specs.tokens.Token.{left};
+ghost use Rattle.graphql_tokens.specs.tokens.Within.{StandsIn};
 ghost use Rattle.graphql_reading.specs.declared.parser.Refusal.TheVariants.{Memory};
 ghost use Rattle.graphql_reading.specs.grammar.Tests as tests;
 ghost use Rattle.graphql_reading.specs.reading.Ahead.{tokens as ahead};
 ghost use Rattle.graphql_reading.specs.reading.Given.{Gives, GivesWhole};
 ghost use Rattle.graphql_reading.specs.reading.Outcome.{one_at, take_at};
+ghost use Rattle.graphql_reading.specs.reading.Parser.{mark};
 ghost use Rattle.graphql_reading.specs.reading.Spelled.{keyword_of, punct_of};
 
-use graphql_tokens::lexer::{Token, Tokens};
+use graphql_tokens::lexer::{Token, TokenKind, Tokens};
+use graphql_tokens::name::Name;
+use graphql_tokens::number::Number;
 use std::alloc::{AllocError, AllocFailed, Global};
 use std::marker::Model;
 
@@ -47,17 +51,16 @@ impl<T: Drop> From<AllocFailed<T>> for Refusal {
     }
 }
 
-// Whether two texts are the same. Where the other is one byte long, as most punctuators are, that byte is compared.
+// The byte of a punctuator of one byte, as most are; 0 for any other token.
 #[inline(always)]
-fn is_same(text: &str, other: &str) -> bool
-    ensures { result ≡ bytes_eq text.now other.now }
+fn mark_of(kind: TokenKind, text: &str) -> u8
+    ensures { result ≡ mark (record { kind = kind; spelling = text.now }) }
 {
     let bytes = text.as_bytes();
-    let others = other.as_bytes();
-    if others.len() == 1 {
-        return bytes.len() == 1 && bytes[0] == others[0];
+    if kind.is_punct() && bytes.len() == 1 {
+        return bytes[0];
     }
-    text == other
+    0
 }
 
 /// Reads one text: the tokens that are still to come, of which the first is in hand, and who takes memory. The tokens after the first are taken from the lexer one by one, each when the one before it is used up.
@@ -65,6 +68,8 @@ fn is_same(text: &str, other: &str) -> bool
 pub struct Parser<'a> {
     tokens: Tokens<'a>,
     hand: Token<'a>,
+    // By which a test for a punctuator is one compare.
+    mark: u8,
     alloc: Global,
 }
 
@@ -91,9 +96,11 @@ impl<'a> Parser<'a> {
         ensures proper { AreProperButFaults (left tokens.entry) }
     {
         let hand = tokens.next_token();
+        let mark = mark_of(hand.kind, hand.text);
         Parser {
             tokens,
             hand,
+            mark,
             alloc,
         }
     }
@@ -122,12 +129,14 @@ impl<'a> Parser<'a> {
         ensures left { ahead self.new ≡ self.old.behind }
         ensures taken { self.new.taken ≡ self.old.taken + 1 }
         ensures whole { self.new.whole ≡ self.old.whole }
+        ensures text { self.new.text ≡ self.old.text }
     {
         let next = self.tokens.next_token();
         self.hand.kind = next.kind;
         self.hand.text = next.text;
         self.hand.start = next.start;
         self.hand.pos = next.pos;
+        self.mark = mark_of(next.kind, next.text);
     }
 
     /// The token in hand.
@@ -135,8 +144,28 @@ impl<'a> Parser<'a> {
     pub fn hand(&self) -> Token<'a>
         ensures token { seen result ≡ self.now.hand }
         ensures proper { is_last self.now.hand.bare.kind ≡ false → IsProper self.now.hand }
+        ensures stands { StandsIn self.now.text (seen result) }
     {
         self.hand
+    }
+
+    /// The name that a token of the text spells. Fails only where it is longer than 22 bytes and memory was refused.
+    #[inline(always)]
+    pub fn name(&self, token: Token) -> Result<Name, AllocError>
+        requires { StandsIn self.now.text (seen token) }
+        ensures { IfOk result (λ name. name ≡ token.entry.text.now) }
+    {
+        Name::new_within(self.alloc, token.text, self.tokens.text(), token.start)
+    }
+
+    /// The number that a token of the text spells. Fails only where it is longer than 22 bytes and memory was refused.
+    #[inline(always)]
+    pub fn number(&self, token: Token) -> Result<Number, AllocError>
+        requires number { IsNumber token.text.now }
+        requires stands { StandsIn self.now.text (seen token) }
+        ensures { IfOk result (λ number. number ≡ token.entry.text.now) }
+    {
+        Number::of_literal_within(self.alloc, token.text, self.tokens.text(), token.start)
     }
 
     /// Gives the token in hand and takes the next. The caller owes that it isn't the last one.
@@ -147,6 +176,7 @@ impl<'a> Parser<'a> {
         ensures left { ahead self.new ≡ self.old.behind }
         ensures taken { self.new.taken ≡ self.old.taken + 1 }
         ensures whole { self.new.whole ≡ self.old.whole }
+        ensures stands { StandsIn self.new.text (seen result) }
     {
         let token = self.hand;
         self.advance();
@@ -158,7 +188,11 @@ impl<'a> Parser<'a> {
     pub fn is_at_punct(&self, text: &str) -> bool
         ensures { result ≡ punct_of text.now self.now.hand.bare }
     {
-        self.hand.kind.is_punct() && is_same(self.hand.text, text)
+        let bytes = text.as_bytes();
+        if bytes.len() == 1 && bytes[0] != 0 {
+            return self.mark == bytes[0];
+        }
+        self.hand.kind.is_punct() && self.hand.text == text
     }
 
     /// Whether a name is in hand.
@@ -178,6 +212,7 @@ impl<'a> Parser<'a> {
     }
 
     /// Uses up this punctuator, where it is in hand, and tells whether it was.
+    #[inline(always)]
     pub fn take_punct(&mut self, text: &str) -> bool
         ensures { Gives (λ taken. taken) (Ok result) self.old self.new (take_at (punct_of text.now)) }
     {
@@ -202,7 +237,8 @@ impl<'a> Parser<'a> {
     /// Uses up a name and gives it; anything else in hand is refused with `Syntax`.
     #[inline(always)]
     pub fn expect_name(&mut self) -> Reading<Token<'a>>
-        ensures { Gives seen result self.old self.new (one_at tests.any_name) }
+        ensures name { Gives seen result self.old self.new (one_at tests.any_name) }
+        ensures stands { IfOk result (λ token. StandsIn self.new.text (seen token)) }
     {
         if !self.is_at_name() {
             return Err(Refusal::Syntax);

@@ -78,7 +78,7 @@ impl<'a> Model for OperationsIter<'a> {
 impl ExecutableDocument {
     /// The fragment of this name; None where there is none.
     ///
-    /// A name of at most 16 bytes is found through the map, at once. For a longer one the fragments are walked from the
+    /// A name of at most 22 bytes is found through the map, at once. For a longer one the fragments are walked from the
     /// first on; `fragments.get` takes a [`Name`], as that of a spread, and finds each at once.
     pub fn fragment(&self, name: &str) -> Option<&Positioned<FragmentDefinition>>
         ensures { option_map (λ f. f.now) result ≡ named name.now self.now.fragments.entries }
@@ -101,7 +101,7 @@ impl DocumentOperations {
 
     /// The operation of this name; None where there is none, and always for `Single`.
     ///
-    /// A name of at most 16 bytes is found through the map, at once. For a longer one the operations are walked from
+    /// A name of at most 22 bytes is found through the map, at once. For a longer one the operations are walked from
     /// the first on.
     pub fn get(&self, name: &str) -> Option<&Positioned<OperationDefinition>>
         ensures { option_map (λ o. o.now) result ≡ operation_named name.now self.now }

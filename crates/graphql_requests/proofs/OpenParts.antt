@@ -141,8 +141,8 @@ reads {values} {selections} {start} {now} {next} {n} {own} {xs} {nests} ys may h
 pub again : {values selections most : ℕ} {start now : Ahead} {n : Nest} {own : OpenSet} {xs : Trees} → selection_first now.hand.bare ≡ true → Behind values selections most start now n own xs → Wanted values selections start now n own xs
 again e w = record { kept = sets.again e w.kept; within = omega (arith, w.waits.0); waits = w.waits.1 }
 
-pub ends : {values selections most : ℕ} {start now next : Ahead} {n : Nest} {own : OpenSet} {xs : Trees} {set : Set} (t : Token) → selection_first now.hand.bare ≡ false → (one_at (punct "}") (tokens now) ≡ Read t (tokens next)) × GoesOn now next → n.outer ≡ [] → set ≡ closed (part own xs) → Behind values selections most start now n own xs → (selection_set_at values selections (tokens start) ≡ Read set (tokens next)) × GoesOn start next
-ends t e h alone is w = rw is (sets.ends t e h (rw alone at w.kept))
+pub ends : {values selections most : ℕ} {start now : Ahead} {n : Nest} {own : OpenSet} {xs : Trees} {set : Set} (next : Ahead) (t : Token) → selection_first now.hand.bare ≡ false → (one_at (punct "}") (tokens now) ≡ Read t (tokens next)) × GoesOn now next → n.outer ≡ [] → set ≡ closed (part own xs) → Behind values selections most start now n own xs → (selection_set_at values selections (tokens start) ≡ Read set (tokens next)) × GoesOn start next
+ends next t e h alone is w = rw is (sets.ends next t e h (rw alone at w.kept))
 
 pub leaves : {values selections most : ℕ} {start now next : Ahead} {n around : Nest} {own : OpenSet} {xs ys zs : Trees} {set : Set} (outer : OpenSet) (t : Token) → selection_first now.hand.bare ≡ false → (one_at (punct "}") (tokens now) ≡ Read t (tokens next)) × GoesOn now next → (n.outer ≡ outer ∷ around.outer) × (around.left ≡ suc n.left) → set ≡ closed (part own xs) → ys ≡ take own.first xs → zs ≡ fill_last ys set → Behind values selections most start now n own xs → Behind values selections most start next around outer zs
 leaves {n = n} {around = around} {own = own} {xs = xs} {ys = ys} {set = set} outer t e h popped is cut made w =

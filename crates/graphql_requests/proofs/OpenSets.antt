@@ -111,8 +111,8 @@ close-told {values} {now = now} {left = left} {os = os} {own = own} read e h kep
     ∙ ap (resume values left os) (behind-closed values left own now.hand now.behind e
     ∙ ap (λ (o : Outcome Token). o >>= λ _ rest. Read (closed own) rest) h)
 
-pub ends : {values selections most : ℕ} {start now next : Ahead} {left : ℕ} {own : Opened} (t : Token) → selection_first now.hand.bare ≡ false → (one_at (punct "}") (tokens now) ≡ Read t (tokens next)) × GoesOn now next → Behind values selections most start now left [] own → (selection_set_at values selections (tokens start) ≡ Read (closed own) (tokens next)) × GoesOn start next
-ends {start = start} {now = now} {next = next} t e h kept = (
+pub ends : {values selections most : ℕ} {start now : Ahead} {left : ℕ} {own : Opened} (next : Ahead) (t : Token) → selection_first now.hand.bare ≡ false → (one_at (punct "}") (tokens now) ≡ Read t (tokens next)) × GoesOn now next → Behind values selections most start now left [] own → (selection_set_at values selections (tokens start) ≡ Read (closed own) (tokens next)) × GoesOn start next
+ends {start = start} {now = now} next t e h kept = (
   close-told (Read t (tokens next)) e h.0 kept,
   go-on start now next kept.on h.1,
 )

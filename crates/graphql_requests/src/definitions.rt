@@ -1,6 +1,7 @@
 //! Readers of operations, fragments and requests.
-ghost use Rattle.std.specs.Prelude.{◌≡◌};
+ghost use Rattle.std.specs.Prelude.{◌≡◌, IfOk};
 ghost use Rattle.graphql_tokens.specs.tokens.Seen.{seen};
+ghost use Rattle.graphql_tokens.specs.tokens.Within.{StandsIn};
 ghost use Rattle.graphql_requests.specs.grammar.Request.{Definition as SpecDefinition};
 ghost use Rattle.graphql_requests.specs.grammar.Selections.{fragment_name};
 ghost use Rattle.graphql_requests.specs.reading.Definitions.{definition_tree, in_definitions, maybe_name_at, worded_at};
@@ -41,7 +42,8 @@ fn is_at_definition(parser: &Parser) -> bool
 }
 
 fn expect_fragment_name<'a>(parser: &mut Parser<'a>) -> Reading<Token<'a>>
-    ensures { Gives seen result parser.old parser.new (one_at fragment_name) }
+    ensures name { Gives seen result parser.old parser.new (one_at fragment_name) }
+    ensures stands { IfOk result (λ token. StandsIn parser.new.text (seen token)) }
 {
     if !is_at_fragment_name(parser) {
         return Err(Refusal::Syntax);
@@ -73,7 +75,7 @@ fn read_maybe_name(parser: &mut Parser) -> Reading<Option<Name>>
         return Ok(None);
     }
     let token = parser.take();
-    let name = Name::new(parser.alloc(), token.text)?;
+    let name = parser.name(token)?;
     Ok(Some(name))
 }
 
@@ -103,7 +105,7 @@ fn read_fragment(parser: &mut Parser, limits: Limits) -> Reading<Definition>
 {
     let word = parser.expect_keyword("fragment")?;
     let name = expect_fragment_name(parser)?;
-    let name = Name::new(parser.alloc(), name.text)?;
+    let name = parser.name(name)?;
     let type_condition = read_type_condition(parser)?;
     let directives = read_directives(parser, limits)?;
     let selection_set = read_selection_set(parser, limits)?;

@@ -65,7 +65,7 @@ impl Production for VariablePhrase {
     fn read(parser: &mut Parser, limits: Limits) -> Reading<Positioned<VariableDefinition>> {
         let dollar = parser.expect_punct("$")?;
         let token = parser.expect_name()?;
-        let name = name_in(parser.alloc(), token)?;
+        let name = name_in(parser, token)?;
         parser.expect_punct(":")?;
         let var_type = read_type(parser, limits)?;
         let (default_value, directives) = read_default_and_directives(parser, limits)?;

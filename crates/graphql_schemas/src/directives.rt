@@ -121,7 +121,7 @@ pub fn read_directive_definition(
     let pos = place_of(&description, word);
     parser.expect_punct("@")?;
     let token = parser.expect_name()?;
-    let name = name_in(parser.alloc(), token)?;
+    let name = name_in(parser, token)?;
     let arguments = read_maybe_arguments_definition(parser, limits)?;
     let is_repeatable = read_is_repeatable(parser);
     let locations = read_locations(parser, limits)?;

@@ -43,7 +43,7 @@ impl Production for FieldPhrase {
         let description = read_maybe_description(parser)?;
         let token = parser.expect_name()?;
         let pos = place_of(&description, token);
-        let name = name_in(parser.alloc(), token)?;
+        let name = name_in(parser, token)?;
         let arguments = read_maybe_arguments_definition(parser, limits)?;
         parser.expect_punct(":")?;
         let ty = read_type(parser, limits)?;

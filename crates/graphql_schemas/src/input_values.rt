@@ -51,7 +51,7 @@ impl Production for InputValuePhrase {
         let description = read_maybe_description(parser)?;
         let token = parser.expect_name()?;
         let pos = place_of(&description, token);
-        let name = name_in(parser.alloc(), token)?;
+        let name = name_in(parser, token)?;
         parser.expect_punct(":")?;
         let ty = read_type(parser, limits)?;
         let default_value = read_maybe_default(parser, limits)?;

@@ -1,8 +1,9 @@
 //! Readers of the interfaces of a type, the types of a union and the values of an enum, by GraphQL October 2021,
 //! sections 3.6, 3.8 and 3.9.
-ghost use Rattle.std.specs.Prelude.{◌≡◌};
+ghost use Rattle.std.specs.Prelude.{◌≡◌, IfOk};
 ghost use Rattle.graphql_tokens.specs.declared.pos.Positioned.{Positioned};
 ghost use Rattle.graphql_tokens.specs.tokens.Seen.{seen};
+ghost use Rattle.graphql_tokens.specs.tokens.Within.{StandsIn};
 ghost use Rattle.graphql_syntax.specs.trees.Parts.{placed};
 ghost use Rattle.graphql_schema_trees.specs.trees.Schema as trees;
 ghost use Rattle.graphql_schema_trees.specs.trees.SchemaViews.{enum_value_tree};
@@ -76,7 +77,8 @@ pub fn is_at_enum_name(parser: &Parser) -> bool
 
 /// `EnumName : a Name other than 'true', 'false', 'null'`
 pub fn expect_enum_name<'a>(parser: &mut Parser<'a>) -> Reading<Token<'a>>
-    ensures { Gives seen result parser.old parser.new (one_at enum_name) }
+    ensures name { Gives seen result parser.old parser.new (one_at enum_name) }
+    ensures stands { IfOk result (λ token. StandsIn parser.new.text (seen token)) }
 {
     if !is_at_enum_name(parser) {
         return Err(Refusal::Syntax);
@@ -109,7 +111,7 @@ impl Production for EnumValuePhrase {
         let description = read_maybe_description(parser)?;
         let token = expect_enum_name(parser)?;
         let pos = place_of(&description, token);
-        let value = name_in(parser.alloc(), token)?;
+        let value = name_in(parser, token)?;
         let directives = read_const_directives(parser, limits)?;
         let definition = EnumValueDefinition {
             description,

@@ -71,7 +71,7 @@ impl Production for RootPhrase {
         let (word, kind) = read_operation_type(parser)?;
         parser.expect_punct(":")?;
         let token = parser.expect_name()?;
-        let name = name_in(parser.alloc(), token)?;
+        let name = name_in(parser, token)?;
         Ok(Root {
             kind,
             pos: word.pos,

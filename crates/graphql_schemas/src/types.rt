@@ -233,7 +233,7 @@ fn read_body<'a>(parser: &mut Parser<'a>, limits: Limits, extend: bool) -> Readi
 {
     let (token, word) = read_word(parser)?;
     let name = parser.expect_name()?;
-    let name = name_in(parser.alloc(), name)?;
+    let name = name_in(parser, name)?;
     let Rest { directives, kind } = read_rest(parser, limits, word, extend)?;
     Ok(Body {
         word: token,

@@ -32,4 +32,5 @@ pub mod Running
 pub mod Runs
 pub mod Scan
 pub mod Skips
+pub mod SmallTexts
 pub mod StringTokens

@@ -4,10 +4,10 @@ pub mod ByteClasses
 pub mod CountedPlace
 pub mod Lexer
 pub mod Lexing
-pub mod NameText
 pub mod Numbers
 pub mod Numerals
 pub mod Quoted
 pub mod Reading
 pub mod Running
+pub mod SmallText
 pub mod TextWalk

@@ -14,3 +14,4 @@ pub mod Seen
 pub mod Spelling
 pub mod Strings
 pub mod Token
+pub mod Within

@@ -243,6 +243,7 @@ impl<'a> Tokens<'a> {
     ghost use Rattle.graphql_tokens.specs.tokens.Cuts.{Cuts, IsCutInto, EndsOnce, HasNoFault};
     ghost use Rattle.graphql_tokens.specs.tokens.Proper.{AreProperButFaults};
     ghost use Rattle.graphql_tokens.specs.tokens.Seen.{seen};
+    ghost use Rattle.graphql_tokens.specs.tokens.Within.{StandsIn};
 
     /// The tokens of `text`. Characters between tokens that are ignored are tabs, spaces, commas, line
     /// feeds, carriage returns, U+FEFF and comments. Control characters and those past U+FFFF may
@@ -260,6 +261,7 @@ impl<'a> Tokens<'a> {
         ensures proper { AreProperButFaults (left result) }
         ensures short { length (left result) ≤ length (chars text.entry.now) + 1 }
         ensures none { result.taken ≡ 0 }
+        ensures text { result.text ≡ text.entry.now }
     {
         Tokens {
             text,
@@ -276,6 +278,8 @@ impl<'a> Tokens<'a> {
         ensures token { left self.old ≡ seen result ∷ left self.new }
         ensures taken { self.new.taken ≡ self.old.taken + 1 }
         ensures whole { self.new.whole ≡ self.old.whole }
+        ensures text { self.new.text ≡ self.old.text }
+        ensures stands { StandsIn self.old.text (seen result) }
         // It has given no more tokens than there are.
         ensures within { self.new.taken ≤ length self.new.whole }
         // Of those that were left, one is an end or a fault, and it is the last.
@@ -300,6 +304,14 @@ impl<'a> Tokens<'a> {
             start,
             pos,
         }
+    }
+
+    /// The text.
+    #[inline(always)]
+    pub fn text(&self) -> &'a str
+        ensures { result.now ≡ self.now.text }
+    {
+        self.text
     }
 
     /// How many tokens it has given.

@@ -13,4 +13,5 @@ pub mod lexer;
 pub mod name;
 pub mod number;
 pub mod pos;
+mod small_text;
 pub mod text;

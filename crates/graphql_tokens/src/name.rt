@@ -8,7 +8,7 @@ ghost use Rattle.std.specs.Cmp.{partial_equiv_from_equiv};
 ghost use Rattle.std.specs.Cmp.Rules.{hashing};
 ghost use Rattle.std.proofs.Common.{rules};
 
-use arrayvec::ArrayString;
+use crate::small_text::SmallText;
 use serde::{Described, Deserialize, Deserializer, Format, Serialize, Serializer};
 use std::alloc::{AllocError, Global};
 use std::cmp::Ordering;
@@ -16,59 +16,62 @@ use std::fmt;
 use std::hash::{Hash, Hasher};
 use std::marker::Model;
 
-// Most names are short. Those lie in the name itself, and only the others take memory.
-#[derive(Drop)]
-enum Text {
-    Short(ArrayString<16>),
-    Long(String),
-}
-
 /// A name of a document: of a field, a type, an argument, a variable and the like.
 ///
 /// It owns its text, and a contract sees it as the bytes of that text in UTF-8. Names are equal
 /// where their texts are, ordered by the bytes of their texts, and hashed as texts, so they are
 /// lawful keys of ordered and hashed maps. Serde writes and reads a name as a string. A name of at
-/// most 16 bytes takes no memory but its own.
+/// most 22 bytes takes no memory but its own.
 #[derive(Drop)]
-pub struct Name(Text);
+pub struct Name(SmallText);
 
 impl Model for Name {
     ghost use Rattle.std.specs.Prelude.{ℕ, List};
-    ghost use Rattle.graphql_tokens.specs.inner.NameText.{text_bytes, IsPlacedByLength};
 
     ghost Value = { List ℕ };
 
-    ghost view = { λ n. text_bytes n.0 };
-
-    ghost invariant = { λ n. IsPlacedByLength n.0 };
+    ghost view = { λ n. n.0 };
 }
 
 impl Name {
     ghost use Rattle.std.specs.Prelude.{◌≤◌, length, IsOk, IfSome, IsSome};
+    ghost use Rattle.graphql_tokens.specs.tokens.Within.{StandsAt};
 
-    /// The name with this text, if it is at most 16 bytes long, and so takes no memory; None where it is longer.
+    /// The name with this text, if it is at most 22 bytes long, and so takes no memory; None where it is longer.
     #[inline]
     pub fn in_place(text: &str) -> Option<Name>
         ensures name { IfSome result (λ name. name ≡ text.now) }
-        ensures room { length text.now ≤ 16 → IsSome result }
-        ensures fits { IsSome result → length text.now ≤ 16 }
+        ensures room { length text.now ≤ 22 → IsSome result }
+        ensures fits { IsSome result → length text.now ≤ 22 }
     {
-        let text = ArrayString::from(text).ok()?;
-        Some(Name(Text::Short(text)))
+        Some(Name(SmallText::in_place(text)?))
     }
 
     /// The name with this text, whatever the text is: it isn't held against the grammar of names.
     ///
-    /// Fails only where the text is longer than 16 bytes and no memory is left for it.
+    /// Fails only where the text is longer than 22 bytes and no memory is left for it.
     #[inline]
     pub fn new(alloc: Global, text: &str) -> Result<Name, AllocError>
         ensures name { IfOk result (λ name. name ≡ text.now) }
-        ensures short { length text.now ≤ 16 → IsOk result }
+        ensures short { length text.now ≤ 22 → IsOk result }
     {
-        match Name::in_place(text) {
-            Some(name) => Ok(name),
-            None => Ok(Name(Text::Long(String::from_str(alloc, text)?))),
-        }
+        Ok(Name(SmallText::new(alloc, text)?))
+    }
+
+    /// The name with this text, which stands in `whole` from this offset on: as `new`, and quicker, as it may copy what
+    /// follows the text in `whole` along.
+    #[inline(always)]
+    pub fn new_within(
+        alloc: Global,
+        text: &str,
+        whole: &str,
+        start: usize,
+    ) -> Result<Name, AllocError>
+        requires { StandsAt text.now whole.now start }
+        ensures name { IfOk result (λ name. name ≡ text.now) }
+        ensures short { length text.now ≤ 22 → IsOk result }
+    {
+        Ok(Name(SmallText::new_within(alloc, text, whole, start)?))
     }
 
     /// The name's text, borrowed.
@@ -76,27 +79,21 @@ impl Name {
     pub fn as_str(&self) -> &str
         ensures { result.now ≡ self.now }
     {
-        match &self.0 {
-            Text::Short(text) => text.as_str(),
-            Text::Long(text) => text.as_str(),
-        }
+        self.0.as_str()
     }
 }
 
-/// A clone of a name of at most 16 bytes never fails; that of a longer one fails where no memory is left for its
+/// A clone of a name of at most 22 bytes never fails; that of a longer one fails where no memory is left for its
 /// text.
 impl Clone for Name {
     ghost use Rattle.std.specs.Prelude.{◌≤◌, length};
 
     ghost is_clone = { λ name copy. copy ≡ name };
 
-    ghost is_infallible = { λ name. length name ≤ 16 };
+    ghost is_infallible = { λ name. length name ≤ 22 };
 
     fn clone(&self) -> Result<Name, AllocError> {
-        match &self.0 {
-            Text::Short(text) => Ok(Name(Text::Short(*text))),
-            Text::Long(text) => Ok(Name(Text::Long(text.clone()?))),
-        }
+        Ok(Name(self.0.clone()?))
     }
 }
 
@@ -181,9 +178,9 @@ impl<'de> Deserialize<'de> for Name {
         from: &mut Deserializer<'de, '_, F>,
     ) -> Result<Name, F::Error> {
         let text = String::deserialize(alloc, from)?;
-        match Name::in_place(text.as_str()) {
-            Some(name) => Ok(name),
-            None => Ok(Name(Text::Long(text))),
+        match Name::new(alloc, text.as_str()) {
+            Ok(name) => Ok(name),
+            Err(_) => Err(from.no_memory()),
         }
     }
 }

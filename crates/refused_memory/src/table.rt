@@ -235,6 +235,11 @@ pub const TABLES: &[Table] = &[
         rows: CLONE_NAME_WITHOUT_MEMORY,
     },
     Table {
+        call: Call::CloneNumber,
+        is_free: true,
+        rows: CLONE_NUMBER_WITHOUT_MEMORY,
+    },
+    Table {
         call: Call::Tokens,
         is_free: true,
         rows: TOKENS,
@@ -380,14 +385,11 @@ const NEW_TYPE: &str = r"
 ";
 
 const NEW_NUMBER: &str = r"
--1.5e3 ⇒ -1.5e3 none none
--0 ⇒ -0 0 0
-18446744073709551615 ⇒ 18446744073709551615 none 18446744073709551615
-1.0 ⇒ 1.0 none none
+-12345678901234567.5e-3 ⇒ -12345678901234567.5e-3 none none
 ";
 
 const NEW_NAME: &str = r"
-abcdefghijklmnopq ⇒ abcdefghijklmnopq
+abcdefghijklmnopqrstuvw ⇒ abcdefghijklmnopqrstuvw
 ";
 
 const INTO_CONST: &str = r#"
@@ -411,11 +413,11 @@ const INTO_DIRECTIVE: &str = r"
 ";
 
 const CLONE_NAME: &str = r"
-abcdefghijklmnopq ⇒ abcdefghijklmnopq
+abcdefghijklmnopqrstuvw ⇒ abcdefghijklmnopqrstuvw
 ";
 
 const CLONE_NUMBER: &str = r"
--1.5e3 ⇒ -1.5e3
+-12345678901234567.5e-3 ⇒ -12345678901234567.5e-3
 ";
 
 const CLONE_TYPE: &str = r"
@@ -464,12 +466,17 @@ a]b ⇒ a]b
 ";
 
 const NEW_NUMBER_WITHOUT_MEMORY: &str = r"
+-1.5e3 ⇒ -1.5e3 none none
+-0 ⇒ -0 0 0
+18446744073709551615 ⇒ 18446744073709551615 none 18446744073709551615
+1.0 ⇒ 1.0 none none
+-1234567890123456.5e-3 ⇒ -1234567890123456.5e-3 none none
 01 ⇒ none
 +1 ⇒ none
 ";
 
 const NEW_NAME_WITHOUT_MEMORY: &str = r"
-abcdefghijklmnop ⇒ abcdefghijklmnop
+abcdefghijklmnopqrstuv ⇒ abcdefghijklmnopqrstuv
 abc ⇒ abc
 ";
 
@@ -482,7 +489,11 @@ const DIRECTIVE_INTO_CONST_WITHOUT_MEMORY: &str = r"
 ";
 
 const CLONE_NAME_WITHOUT_MEMORY: &str = r"
-abcdefghijklmnop ⇒ abcdefghijklmnop
+abcdefghijklmnopqrstuv ⇒ abcdefghijklmnopqrstuv
+";
+
+const CLONE_NUMBER_WITHOUT_MEMORY: &str = r"
+-1234567890123456.5e-3 ⇒ -1234567890123456.5e-3
 ";
 
 const TOKENS: &str = r#"

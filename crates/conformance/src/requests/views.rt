@@ -65,14 +65,14 @@ F in {a} fragment F on T{a} fragment G on T{a} ⇒
 g in {a} fragment F on T{a} fragment G on T{a} ⇒
   no operation no fragment, copied no operation no fragment
 A in query A{a} fragment A on T{b} ⇒ operation 1:1 fragment 1:12, copied operation 1:1 fragment 1:12
--- Names of 16 and of 17 bytes.
-⟨16×a⟩ in query ⟨16×a⟩{a} fragment ⟨16×a⟩ on T{b} ⇒
-  operation 1:1 fragment 1:27, copied operation 1:1 fragment 1:27
-⟨17×a⟩ in query ⟨17×a⟩{a} fragment ⟨17×a⟩ on T{b} ⇒
-  operation 1:1 fragment 1:28, copied operation 1:1 fragment 1:28
-⟨16×a⟩ in query ⟨17×a⟩{a} fragment ⟨17×a⟩ on T{b} ⇒
+-- Names of 22 and of 23 bytes.
+⟨22×a⟩ in query ⟨22×a⟩{a} fragment ⟨22×a⟩ on T{b} ⇒
+  operation 1:1 fragment 1:33, copied operation 1:1 fragment 1:33
+⟨23×a⟩ in query ⟨23×a⟩{a} fragment ⟨23×a⟩ on T{b} ⇒
+  operation 1:1 fragment 1:34, copied operation 1:1 fragment 1:34
+⟨22×a⟩ in query ⟨23×a⟩{a} fragment ⟨23×a⟩ on T{b} ⇒
   no operation no fragment, copied no operation no fragment
-⟨17×a⟩ in query ⟨16×a⟩{a} fragment ⟨16×a⟩ on T{b} ⇒
+⟨23×a⟩ in query ⟨22×a⟩{a} fragment ⟨22×a⟩ on T{b} ⇒
   no operation no fragment, copied no operation no fragment
 ";
 

@@ -38,7 +38,7 @@ fn read_key(parser: &mut Parser) -> Reading<Option<Name>>
         return Ok(None);
     }
     let token = parser.expect_name()?;
-    let name = Name::new(parser.alloc(), token.text)?;
+    let name = parser.name(token)?;
     parser.expect_punct(":")?;
     Ok(Some(name))
 }

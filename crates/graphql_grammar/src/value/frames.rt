@@ -28,6 +28,17 @@ impl<V> MadeWith<Global> for Frame<V> {
     }
 }
 
+// Makes room in an empty list for one node alone: most lists and objects that hold a list or an object hold nothing else.
+#[inline(always)]
+fn make_room<T: Drop>(nodes: &mut Vec<T>) -> Result<(), AllocError>
+    ensures { nodes.new.items ≡ nodes.old.items }
+{
+    if nodes.is_empty() {
+        nodes.reserve_exact(1)?;
+    }
+    Ok(())
+}
+
 impl<V: Literal> Frame<V> {
     ghost use Rattle.graphql_grammar.specs.reading.OpenValues.{opened, waiting, add};
 
@@ -38,10 +49,12 @@ impl<V: Literal> Frame<V> {
     {
         match self {
             Frame::List(mut items) => {
+                make_room(&mut items)?;
                 add_node(&mut items, value)?;
                 Ok(Open::List(items))
             }
             Frame::Object(mut fields, name) => {
+                make_room(&mut fields)?;
                 add_node(&mut fields, (name, value))?;
                 Ok(Open::Object(fields))
             }

@@ -1,18 +1,22 @@
 //! Values that are neither lists nor objects.
 ghost use Rattle.std.specs.Prelude.{◌≡◌, IfOk};
+ghost use Rattle.graphql_tokens.specs.tokens.Seen.{seen};
+ghost use Rattle.graphql_tokens.specs.tokens.Within.{StandsIn};
 ghost use Rattle.graphql_grammar.specs.reading.OpenValues.{node_at, word_tree};
 ghost use Rattle.graphql_reading.specs.reading.Given.{Gives};
 ghost use Rattle.graphql_grammar.specs.reading.Values.{simple_at, word_at, number_at, string_at, block_at, variable_at};
 
 use crate::strings::{read_block, read_string};
 use graphql_reading::parser::{Parser, Reading, Refusal};
-use graphql_syntax::lexer::TokenKind;
-use graphql_syntax::value::{Literal, Name, Number};
-use std::alloc::{AllocError, Global};
+use graphql_syntax::lexer::{Token, TokenKind};
+use graphql_syntax::value::Literal;
+use std::alloc::AllocError;
 
-fn word_of<V: Literal>(alloc: Global, text: &str) -> Result<V, AllocError>
-    ensures { IfOk result (λ v. V.tree v ≡ word_tree text.now) }
+fn word_of<V: Literal>(parser: &Parser, token: Token) -> Result<V, AllocError>
+    requires { StandsIn parser.now.text (seen token) }
+    ensures { IfOk result (λ v. V.tree v ≡ word_tree token.entry.text.now) }
 {
+    let text = token.text;
     if text == "true" {
         return Ok(V::boolean(true));
     }
@@ -22,7 +26,7 @@ fn word_of<V: Literal>(alloc: Global, text: &str) -> Result<V, AllocError>
     if text == "null" {
         return Ok(V::null());
     }
-    Ok(V::enumeration(Name::new(alloc, text)?))
+    Ok(V::enumeration(parser.name(token)?))
 }
 
 /// `'true' | 'false' | 'null' | EnumName` (GraphQL October 2021, sections 2.9.3, 2.9.5 and 2.9.6)
@@ -30,7 +34,7 @@ fn read_word<V: Literal>(parser: &mut Parser) -> Reading<V>
     ensures { Gives V.tree result parser.old parser.new (node_at word_at) }
 {
     let token = parser.expect_name()?;
-    Ok(word_of(parser.alloc(), token.text)?)
+    Ok(word_of(parser, token)?)
 }
 
 /// `IntValue | FloatValue` (GraphQL October 2021, sections 2.9.1 and 2.9.2)
@@ -41,7 +45,7 @@ fn read_number<V: Literal>(parser: &mut Parser) -> Reading<V>
     if !token.kind.is_number() {
         return Err(Refusal::Syntax);
     }
-    let number = Number::of_literal(parser.alloc(), token.text)?;
+    let number = parser.number(token)?;
     parser.advance();
     Ok(V::number(number))
 }
@@ -71,7 +75,7 @@ fn read_variable<V: Literal>(parser: &mut Parser) -> Reading<V>
     }
     parser.advance();
     let token = parser.expect_name()?;
-    match V::variable(Name::new(parser.alloc(), token.text)?) {
+    match V::variable(parser.name(token)?) {
         Some(variable) => Ok(variable),
         None => unreachable!(),
     }

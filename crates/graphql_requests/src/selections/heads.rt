@@ -4,6 +4,7 @@ ghost use Rattle.graphql_syntax.specs.trees.Parts.{placed};
 ghost use Rattle.graphql_syntax.specs.trees.PartViews.{arguments_tree, directives_tree};
 ghost use Rattle.graphql_request_trees.specs.trees.RequestViews.{selection_tree, selection_trees, type_condition_tree};
 ghost use Rattle.graphql_tokens.specs.tokens.Seen.{seen};
+ghost use Rattle.graphql_tokens.specs.tokens.Within.{StandsIn};
 ghost use Rattle.graphql_requests.specs.grammar.Selections.{fragment_name};
 ghost use Rattle.graphql_requests.specs.reading.SelectionSteps.{names_at, maybe_brace_at, bare_field, bare_inline, onto, field_head_at, spread_at, inline_head_at, maybe_condition_at, behind_dots_at, head_at};
 ghost use Rattle.graphql_reading.specs.reading.Given.{Gives};
@@ -147,9 +148,10 @@ fn read_spread(
     name: Token,
     items: &mut Selections,
 ) -> Reading<Option<Pos>>
+    requires { StandsIn parser.old.text (seen name) }
     ensures { Gives (λ place. (selection_trees items.new.items, place)) result parser.old parser.new (onto (selection_trees items.old.items) (spread_at limits.values dots (seen name.entry))) }
 {
-    let fragment_name = name_in(parser.alloc(), name)?;
+    let fragment_name = name_in(parser, name)?;
     let directives = read_directives(parser, limits)?;
     let spread = FragmentSpread {
         fragment_name,

@@ -11,7 +11,7 @@ abbrev pub tokens_at : List ℕ → ℕ → List Token
 tokens_at bytes at = tokens (chars (take at bytes)) (chars (drop at bytes))
 
 abbrev pub shown : Inside → Lexing
-shown a = record { whole = tokens_at a.text.now 0; taken = a.taken }
+shown a = record { text = a.text.now; whole = tokens_at a.text.now 0; taken = a.taken }
 
 pub record IsLexing (a : Inside) : Type 0 where
   pub runs : RunsOver a.text.now a.places

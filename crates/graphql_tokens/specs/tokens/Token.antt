@@ -14,8 +14,9 @@ pub record Token : Type 0 where
   pub start : ℕ
   pub pos : Pos
 
--- what a lexer shows: the tokens of its text, and how many it has given
+-- what a lexer shows: its text, the tokens of that, and how many it has given
 pub record Lexing : Type 0 where
+  pub text : List ℕ
   pub whole : List Token
   pub taken : ℕ
 

@@ -69,7 +69,7 @@ returns-in_err-set c =
     rw (p.1, p.2) (tt, go-on c.args.parser.now c.loop-nests.parser c.expect_punct-in-loop-nests.new.self c.loop-nests.invariant.kept.on c.in_ok-expect_punct.ensures.1)
 
 pub returns-in-None : goal.returns-in-None
-returns-in-None c = ends (seen c.in_ok-expect_punct.field-0) (sym c.is_at_selection.ensures ∙ c.loop-nests-test.true) c.in_ok-expect_punct.ensures c.in-None.ensures c.in_ok-set.ensures.set c.loop-nests.invariant
+returns-in-None c = ends c.expect_punct-in-loop-nests.new.self (seen c.in_ok-expect_punct.field-0) (sym c.is_at_selection.ensures ∙ c.loop-nests-test.true) c.in_ok-expect_punct.ensures c.in-None.ensures c.in_ok-set.ensures.set c.loop-nests.invariant
 
 pub loop-nests-smaller : goal.loop-nests-smaller
 loop-nests-smaller c =

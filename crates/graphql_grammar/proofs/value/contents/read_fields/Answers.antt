@@ -46,14 +46,14 @@ loop-name-preserved g c =
     let pair : List ℕ × g.row.V.Denot = (c.in-Some.name, c.in_ok-read_simple.field-0) in
     let items : c.push.new.self.items ≡ held ++ pair ∷ [] = search rules in
     let pushed : map (field_tree tree) c.push.new.self.items ≡ map (field_tree tree) held ++ (c.in-Some.name, t) ∷ [] = ap (map (field_tree tree)) items ∙ map_push (field_tree tree) held (c.in-Some.name, c.in_ok-read_simple.field-0) in
-    adds c.loop-name.invariant wants record { none = none.0; on = none.1 } t c.read_simple.new.parser (map (field_tree tree) c.push.new.self.items) c.in_ok-read_simple.ensures.0 c.in_ok-read_simple.ensures.1 (ap (λ (l : List Field). object_rest vars c.args.left l (tokens c.read_simple.new.parser)) (sym pushed))
+    adds c.loop-name.invariant wants {alone = c.enter.new.parser} record { none = none.0; on = none.1 } t c.read_simple.new.parser (map (field_tree tree) c.push.new.self.items) c.in_ok-read_simple.ensures.0 c.in_ok-read_simple.ensures.1 (ap (λ (l : List Field). object_rest vars c.args.left l (tokens c.read_simple.new.parser)) (sym pushed))
 
 pub loop-name-smaller : goal.loop-name-smaller
 loop-name-smaller g c =
     let key = rw c.in-Some.is at c.in_ok-name.ensures in
     let wants = wants-field g.V.Literal.VARIABLES c.args.left (map (field_tree g.V.Literal.tree) c.loop-name.fields.items) c.loop-name.parser c.read_key.new.parser c.in-Some.name key in
     let none = rw c.in_default-2.is at c.in_ok-inner.ensures in
-    falls c.loop-name.invariant wants record { none = none.0; on = none.1 } (g.V.Literal.tree c.in_ok-read_simple.field-0) c.read_simple.new.parser c.in_ok-read_simple.ensures.0
+    falls c.loop-name.invariant wants {alone = c.enter.new.parser} record { none = none.0; on = none.1 } (g.V.Literal.tree c.in_ok-read_simple.field-0) c.read_simple.new.parser c.in_ok-read_simple.ensures.0
 
 pub returns : goal.returns
 returns g c =

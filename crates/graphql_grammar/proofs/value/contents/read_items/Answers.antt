@@ -35,13 +35,13 @@ loop-parser-preserved g c =
     let none = rw c.in_default.is at c.in_ok-inner.ensures in
     let t : Tree = tree c.in_ok-read_simple.field-0 in
     let pushed : map tree c.push.new.self.items ≡ map tree held ++ t ∷ [] = ap (map tree) c.in_ok-push.ensures.items ∙ map_push tree held c.in_ok-read_simple.field-0 in
-    adds c.loop-parser.invariant wants record { none = none.0; on = none.1 } t c.read_simple.new.parser (map tree c.push.new.self.items) c.in_ok-read_simple.ensures.0 c.in_ok-read_simple.ensures.1 (ap (λ (l : List Tree). list_rest vars c.args.left l (tokens c.read_simple.new.parser)) (sym pushed))
+    adds c.loop-parser.invariant wants {alone = c.enter.new.parser} record { none = none.0; on = none.1 } t c.read_simple.new.parser (map tree c.push.new.self.items) c.in_ok-read_simple.ensures.0 c.in_ok-read_simple.ensures.1 (ap (λ (l : List Tree). list_rest vars c.args.left l (tokens c.read_simple.new.parser)) (sym pushed))
 
 pub loop-parser-smaller : goal.loop-parser-smaller
 loop-parser-smaller g c =
     let wants = wants-item g.V.Literal.VARIABLES c.args.left (map g.V.Literal.tree c.loop-parser.items.items) c.loop-parser.parser c.take_punct.new.self c.loop-parser-test.ensures in
     let none = rw c.in_default.is at c.in_ok-inner.ensures in
-    falls c.loop-parser.invariant wants record { none = none.0; on = none.1 } (g.V.Literal.tree c.in_ok-read_simple.field-0) c.read_simple.new.parser c.in_ok-read_simple.ensures.0
+    falls c.loop-parser.invariant wants {alone = c.enter.new.parser} record { none = none.0; on = none.1 } (g.V.Literal.tree c.in_ok-read_simple.field-0) c.read_simple.new.parser c.in_ok-read_simple.ensures.0
 
 pub returns : goal.returns
 returns g c = ends-list g.V.Literal.VARIABLES c.args.left c.args.parser.now c.loop-parser.parser c.take_punct.new.self (map g.V.Literal.tree c.args.items.now.items) (map g.V.Literal.tree c.loop-parser.items.items) c.loop-parser.invariant c.loop-parser-test.ensures

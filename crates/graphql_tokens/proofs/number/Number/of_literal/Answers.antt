@@ -4,4 +4,4 @@ use Rattle.graphql_tokens.proofs.Numerals.{is_numeral-is}
 use Rattle.graphql_tokens.proofs.number.Number.of_literal.Goals as goal
 
 pub invariant_of-result : goal.invariant_of-result
-invariant_of-result c = subst (λ text. IsTrue (is_numeral text)) (sym c.in_ok-from_str.ensures.ok) ((is_numeral-is c.args.literal.now).1 c.requires)
+invariant_of-result c = subst (λ text. IsTrue (is_numeral text)) (sym c.in_ok-new.ensures.text) ((is_numeral-is c.args.literal.now).1 c.requires)
