@@ -71,7 +71,7 @@ impl<'a> Kept<'a> for SmallVec<Head<'a>, 1> {
 /// Checks a request (GraphQL October 2021, section 2): whether `parse_query` reads it, and else the error that it gives.
 /// No tree is made. Selection sets, values and types may nest 64 deep each, as [`Limits`] counts them.
 ///
-/// Memory is taken for places by name where there are two definitions or more, for a name of more than 16 bytes that is
+/// Memory is taken for places by name where there are two definitions or more, for a name of more than 22 bytes that is
 /// given twice, and for the message of a `Syntax`.
 ///
 /// Errors:
