@@ -426,8 +426,8 @@ fragment F on T{a} fragment G on T{b} ⇒ document does not contain an operation
 query A{a} query B{b} {c} ⇒ document contains multiple operations 1:23 1:1
 query A{a} query A{b} ⇒ operation A is defined twice 1:12 1:1
 fragment F on T {a} fragment F on T {b} ⇒ fragment F is defined twice 1:21 1:1
--- A name of more than 16 bytes.
-query abcdefghijklmnopq{a} query abcdefghijklmnopq{b} ⇒ operation abcdefghijklmnopq is defined twice 1:28 1:1
+-- A name that has no room in place.
+query abcdefghijklmnopqrstuvwxyz{a} query abcdefghijklmnopqrstuvwxyz{b} ⇒ operation abcdefghijklmnopqrstuvwxyz is defined twice 1:37 1:1
 "#;
 
 const CHECK_QUERY_LIMITED: &str = r"
