@@ -1,4 +1,5 @@
-//! The answers of the parsers, and their errors, as text; and what the rows of a table ask of a parser.
+//! The answers of the parsers, and their errors, as text; and what the rows of a table ask of a parser. Whatever is asked of
+//! a parser is asked of its check too, and where that answers otherwise, the row fails.
 mod answers;
 mod asked;
 mod chosen;
@@ -8,7 +9,7 @@ mod sizes;
 mod taken;
 mod views;
 
-pub use answers::Parser;
+pub use answers::{OTHERWISE, Parser, are_alike};
 pub use asked::{Asked, Call};
 pub use chosen::limits;
 pub use errors::shown;

@@ -1,12 +1,16 @@
 //! What the tables are about.
 use crate::{limits, messages, places, requests, schemas};
-use graphql_parser::{Error, Limits, parse_query_limited, parse_schema_limited};
+use graphql_parser::{
+    Error, Limits, check_query_limited, check_schema_limited, parse_query_limited,
+    parse_schema_limited,
+};
 use graphql_report::{Language, explain, finding_of, is_front};
 use rows::{Subject, failures};
 use std::alloc::{AllocError, Global};
 use std::test::Fail;
 
-/// The report of a text that is read so, at these limits, whose first line is told by the finding too.
+/// The report of a text that is read so, at these limits, whose first line is told by the finding too. The check of the text
+/// gives the same error, or accepts it as well.
 #[derive(Clone, Copy)]
 pub struct Report {
     pub language: Language,
@@ -18,6 +22,14 @@ fn error_of(alloc: Global, language: Language, text: &str, limits: Limits) -> Op
     match language {
         Language::Requests => parse_query_limited(alloc, text, limits).err(),
         Language::Schemas => parse_schema_limited(alloc, text, limits).err(),
+    }
+}
+
+// The same of its check.
+fn error_of_check(alloc: Global, language: Language, text: &str, limits: Limits) -> Option<Error> {
+    match language {
+        Language::Requests => check_query_limited(alloc, text, limits).err(),
+        Language::Schemas => check_schema_limited(alloc, text, limits).err(),
     }
 }
 
@@ -39,7 +51,11 @@ impl Subject for Report {
     fn answer(&self, alloc: Global, text: &str) -> Result<String, Fail> {
         let (sets, values, types) = self.limits;
         let limits = Limits::new(sets, values, types).ok_or("no limits")?;
-        let Some(error) = error_of(alloc, self.language, text, limits) else {
+        let error = error_of(alloc, self.language, text, limits);
+        if error_of_check(alloc, self.language, text, limits) != error {
+            return Ok(String::from_str(alloc, "checked otherwise")?);
+        }
+        let Some(error) = error else {
             return Ok(String::from_str(alloc, "accepted")?);
         };
         let report = explain(alloc, self.language, "f", text, limits, &error)?;

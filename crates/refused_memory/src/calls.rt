@@ -6,8 +6,9 @@ use graphql_parser::text::{block_string_value, string_value};
 use graphql_parser::types::{ExecutableDocument, Field, Selection, ServiceDocument, Type};
 use graphql_parser::value::{Name, Number};
 use graphql_parser::{
-    Error, Limits, Result as Answer, parse_query, parse_query_from, parse_query_limited,
-    parse_schema, parse_schema_from, parse_schema_limited,
+    Error, Limits, Result as Answer, check_query, check_query_from, check_query_limited,
+    check_schema, check_schema_from, check_schema_limited, parse_query, parse_query_from,
+    parse_query_limited, parse_schema, parse_schema_from, parse_schema_limited,
 };
 use rows::Shown;
 use std::alloc::{AllocError, Global};
@@ -27,6 +28,14 @@ pub enum Call {
     SchemaLimited,
     /// As `QueryFrom`.
     SchemaFrom,
+    CheckQuery,
+    CheckQueryLimited,
+    /// As `QueryFrom`.
+    CheckQueryFrom,
+    CheckSchema,
+    CheckSchemaLimited,
+    /// As `QueryFrom`.
+    CheckSchemaFrom,
     StringValue,
     BlockStringValue,
     NewType,
@@ -120,14 +129,6 @@ impl Call {
     // The same, where the call is given nothing but a text.
     fn of_text(self, alloc: Global, text: &str, shown: &mut Shown) -> Answered {
         match self {
-            Call::Query => show_request(shown, parse_query(alloc, text)),
-            Call::QueryDepth => show_depth(shown, parse_query(alloc, text)),
-            Call::QueryLimited => {
-                show_request(shown, parse_query_limited(alloc, text, narrow()))
-            }
-            Call::Schema => show_file(shown, parse_schema(alloc, text)),
-            Call::SchemaLimited => { show_file(shown, parse_schema_limited(alloc, text, narrow())) }
-            Call::QueryFrom | Call::SchemaFrom => self.of_tokens(alloc, text, shown),
             Call::StringValue => show_option(shown, string_value(alloc, text)?),
             Call::BlockStringValue => {
                 shown.item("", &block_string_value(alloc, text)?);
@@ -145,10 +146,33 @@ impl Call {
                 free::show_places(alloc, shown, text);
                 Ok(())
             }
-            _ => {
+            Call::Tokens => {
                 free::show_tokens(shown, text);
                 Ok(())
             }
+            _ => self.of_document(alloc, text, shown),
+        }
+    }
+
+    // The same, where the text is that of a document.
+    fn of_document(self, alloc: Global, text: &str, shown: &mut Shown) -> Answered {
+        match self {
+            Call::Query => show_request(shown, parse_query(alloc, text)),
+            Call::QueryDepth => show_depth(shown, parse_query(alloc, text)),
+            Call::QueryLimited => {
+                show_request(shown, parse_query_limited(alloc, text, narrow()))
+            }
+            Call::Schema => show_file(shown, parse_schema(alloc, text)),
+            Call::SchemaLimited => { show_file(shown, parse_schema_limited(alloc, text, narrow())) }
+            Call::CheckQuery => show_checked(shown, check_query(alloc, text)),
+            Call::CheckQueryLimited => {
+                show_checked(shown, check_query_limited(alloc, text, narrow()))
+            }
+            Call::CheckSchema => show_checked(shown, check_schema(alloc, text)),
+            Call::CheckSchemaLimited => {
+                show_checked(shown, check_schema_limited(alloc, text, narrow()))
+            }
+            _ => self.of_tokens(alloc, text, shown),
         }
     }
 
@@ -177,6 +201,8 @@ impl Call {
         }
         let answered = match self {
             Call::SchemaFrom => show_file(shown, parse_schema_from(alloc, &mut tokens)),
+            Call::CheckQueryFrom => show_checked(shown, check_query_from(alloc, &mut tokens)),
+            Call::CheckSchemaFrom => show_checked(shown, check_schema_from(alloc, &mut tokens)),
             _ => show_request(shown, parse_query_from(alloc, &mut tokens)),
         };
         let taken = tokens.taken();
@@ -239,6 +265,14 @@ fn show_innermost(shown: &mut Shown, field: &Field, depth: usize) {
 fn show_file(shown: &mut Shown, answer: Answer<ServiceDocument>) -> Answered {
     match answer {
         Ok(document) => write_file(shown, &document),
+        Err(error) => show_error(shown, &error)?,
+    }
+    Ok(())
+}
+
+fn show_checked(shown: &mut Shown, answer: Answer<()>) -> Answered {
+    match answer {
+        Ok(()) => shown.word("accepted"),
         Err(error) => show_error(shown, &error)?,
     }
     Ok(())

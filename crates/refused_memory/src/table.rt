@@ -66,7 +66,8 @@ impl Row {
     fn when_refused(&self) -> &str {
         match self.call {
             Call::CloneRequest | Call::CloneFile => self.answer.as_str(),
-            Call::QueryFrom | Call::SchemaFrom => "taken within",
+            Call::QueryFrom | Call::SchemaFrom | Call::CheckQueryFrom | Call::CheckSchemaFrom =>
+                "taken within",
             _ => "",
         }
     }
@@ -113,6 +114,36 @@ pub const TABLES: &[Table] = &[
         call: Call::SchemaFrom,
         is_free: false,
         rows: SCHEMA_FROM,
+    },
+    Table {
+        call: Call::CheckQuery,
+        is_free: false,
+        rows: CHECK_QUERY,
+    },
+    Table {
+        call: Call::CheckQueryLimited,
+        is_free: false,
+        rows: CHECK_QUERY_LIMITED,
+    },
+    Table {
+        call: Call::CheckQueryFrom,
+        is_free: false,
+        rows: CHECK_QUERY_FROM,
+    },
+    Table {
+        call: Call::CheckSchema,
+        is_free: false,
+        rows: CHECK_SCHEMA,
+    },
+    Table {
+        call: Call::CheckSchemaLimited,
+        is_free: false,
+        rows: CHECK_SCHEMA_LIMITED,
+    },
+    Table {
+        call: Call::CheckSchemaFrom,
+        is_free: false,
+        rows: CHECK_SCHEMA_FROM,
     },
     Table {
         call: Call::StringValue,
@@ -198,6 +229,36 @@ pub const TABLES: &[Table] = &[
         call: Call::WriteType,
         is_free: false,
         rows: WRITE_TYPE,
+    },
+    Table {
+        call: Call::CheckQuery,
+        is_free: true,
+        rows: CHECK_QUERY_WITHOUT_MEMORY,
+    },
+    Table {
+        call: Call::CheckQueryLimited,
+        is_free: true,
+        rows: CHECK_QUERY_LIMITED_WITHOUT_MEMORY,
+    },
+    Table {
+        call: Call::CheckQueryFrom,
+        is_free: true,
+        rows: CHECK_QUERY_FROM_WITHOUT_MEMORY,
+    },
+    Table {
+        call: Call::CheckSchema,
+        is_free: true,
+        rows: CHECK_SCHEMA_WITHOUT_MEMORY,
+    },
+    Table {
+        call: Call::CheckSchemaLimited,
+        is_free: true,
+        rows: CHECK_SCHEMA_LIMITED_WITHOUT_MEMORY,
+    },
+    Table {
+        call: Call::CheckSchemaFrom,
+        is_free: true,
+        rows: CHECK_SCHEMA_FROM_WITHOUT_MEMORY,
     },
     Table {
         call: Call::BlockStringValue,
@@ -361,6 +422,45 @@ union U=A|B ) type C ⇒ syntax error at 1:13 1:13, taken 7
 3 in x y z type A ⇒ file (type 1:7 A@1:12), taken 6
 ";
 
+const CHECK_QUERY: &str = r#"
+{a ?} ⇒ syntax error at 1:4 1:4
+{a(b:"c) ⇒ syntax error at 1:6 1:6
+query A{a} fragment F on T{b} ⇒ accepted
+fragment F on T{a} fragment G on T{b} ⇒ document does not contain an operation
+{a} {b} ⇒ document contains multiple operations 1:5 1:1
+query A{a} query B{b} {c} ⇒ document contains multiple operations 1:23 1:1
+query A{a} query A{b} ⇒ operation A is defined twice 1:12 1:1
+fragment F on T {a} fragment F on T {b} ⇒ fragment F is defined twice 1:21 1:1
+-- A name that has no room in place.
+query abcdefghijklmnopqrstuvwxyz{a} query abcdefghijklmnopqrstuvwxyz{b} ⇒ operation abcdefghijklmnopqrstuvwxyz is defined twice 1:37 1:1
+"#;
+
+const CHECK_QUERY_LIMITED: &str = r"
+{a{b}} {c{d}} ⇒ document contains multiple operations 1:8 1:1
+{a{b}} ? ⇒ syntax error at 1:8 1:8
+";
+
+const CHECK_QUERY_FROM: &str = r"
+{a b}} c ⇒ syntax error at 1:6 1:6, taken 5
+query A{a} query A{b} {c} ⇒ operation A is defined twice 1:12 1:1, taken 14
+-- After as many tokens.
+3 in x y z {a} ? ⇒ syntax error at 1:11 1:11, taken 7
+";
+
+const CHECK_SCHEMA: &str = r"
+extend type A {} ⇒ syntax error at 1:16 1:16
+type A{a:B} ? ⇒ syntax error at 1:13 1:13
+";
+
+const CHECK_SCHEMA_LIMITED: &str = r"
+type A{a:[B]} ? ⇒ syntax error at 1:15 1:15
+";
+
+const CHECK_SCHEMA_FROM: &str = r"
+union U=A|B ) type C ⇒ syntax error at 1:13 1:13, taken 7
+3 in x y z {a} ⇒ syntax error at 1:7 1:7, taken 4
+";
+
 const STRING_VALUE: &str = r#"
 \u{1F600} a long text ⇒ 😀 a long text
 \x ⇒ none
@@ -445,6 +545,44 @@ const WRITE_PLACES: &str = r#"
 const WRITE_TYPE: &str = r#"
 [a]! ⇒ {"base":{"List":{"base":{"Named":"a"},"nullable":true}},"nullable":false}
 "#;
+
+const CHECK_QUERY_WITHOUT_MEMORY: &str = r#"
+{a} ⇒ accepted
+query Q($v: [Int!] = [3 "s"] @d) @e { x: f(a: $v b: {c: """d""" e: [{}]}) @g ...F ... on T { h } } ⇒ accepted
+fragment F on T{a} ⇒ document does not contain an operation
+-- Sets, values and types that nest deep, and too deep.
+query($v:⟨64×[⟩T⟨64×]⟩){⟨64×a{⟩b(c:⟨64×[⟩⟨64×]⟩)⟨65×}⟩ ⇒ accepted
+{⟨65×a{⟩b⟨66×}⟩ ⇒ recursion limit exceeded.
+{a(b:⟨65×[⟩ ⇒ recursion limit exceeded.
+"#;
+
+const CHECK_QUERY_LIMITED_WITHOUT_MEMORY: &str = r"
+{a{b(c:[1])}} ⇒ accepted
+{a{b{c}}} ⇒ recursion limit exceeded.
+";
+
+const CHECK_QUERY_FROM_WITHOUT_MEMORY: &str = r"
+{a b} ⇒ accepted, taken 5
+3 in x y z {a} ⇒ accepted, taken 7
+";
+
+const CHECK_SCHEMA_WITHOUT_MEMORY: &str = r#"
+schema{query:Q}␊extend type Q@k␊directive @d on FIELD ⇒ accepted
+"d" type A implements & I & J @k { "e" f(x: Int = 1): [B!]! } ⇒ accepted
+schema{query:Q query:R} ⇒ multiple query roots in schema definition 1:16 1:1
+schema { mutation: M } ⇒ schema definition is missing query root 1:1
+type A{a:⟨65×[⟩ ⇒ recursion limit exceeded.
+"#;
+
+const CHECK_SCHEMA_LIMITED_WITHOUT_MEMORY: &str = r"
+type A{a:[B]} ⇒ accepted
+type A{a:[[B]]} ⇒ recursion limit exceeded.
+";
+
+const CHECK_SCHEMA_FROM_WITHOUT_MEMORY: &str = r"
+scalar A ⇒ accepted, taken 3
+3 in x y z type A ⇒ accepted, taken 6
+";
 
 const BLOCK_STRING_VALUE_WITHOUT_MEMORY: &str = r"
 ␠␊␠ ⇒

@@ -1,6 +1,6 @@
 //! The check of one text, and runs over many.
 use crate::grammars;
-use crate::languages::{Form, Kind, Language, Seen};
+use crate::languages::{Form, Kind, Language, Seen, asked};
 use crate::texts::Source;
 use graphql_parser::lexer::{TokenKind, Tokens};
 use rows::Shown;
@@ -44,7 +44,7 @@ pub fn run<L: Language>(
     for _ in 0..count {
         let made = source.next_text(alloc)?;
         let text = made.text.as_str();
-        let seen = language.seen(alloc, Form::Plain, text)?;
+        let seen = asked(alloc, language, Form::Plain, text)?;
         match seen.kind {
             Kind::Accepted => tally.accepted = tally.accepted.wrapping_add(1),
             Kind::BreaksRule => tally.broke_rules = tally.broke_rules.wrapping_add(1),
@@ -66,27 +66,35 @@ pub fn failure<L: Language>(
     is_meant: bool,
     seen: &Seen,
 ) -> Result<Option<String>, AllocError> {
+    if seen.kind == Kind::CheckedOtherwise {
+        return told(alloc, "the check differs", text, seen, seen);
+    }
     if is_meant && seen.kind != Kind::Accepted && seen.kind != Kind::BreaksRule {
         return told(alloc, "a text of the grammar is refused", text, seen, seen);
     }
     for form in [Form::Limited, Form::FromTokens] {
-        let other = language.seen(alloc, form, text)?;
+        let other = asked(alloc, language, form, text)?;
         if other.placed != seen.placed {
             return told(alloc, "two calls differ", text, seen, &other);
         }
     }
-    let other = language.seen(alloc, Form::Shallow, text)?;
+    let other = asked(alloc, language, Form::Shallow, text)?;
     if other.placed != seen.placed && other.kind != Kind::Limit {
         return told(alloc, "narrow limits differ", text, seen, &other);
     }
-    let other = language.seen(alloc, Form::Plain, in_lines(alloc, text)?.as_str())?;
+    let other = asked(
+        alloc,
+        language,
+        Form::Plain,
+        in_lines(alloc, text)?.as_str(),
+    )?;
     if other.placeless != seen.placeless {
         return told(alloc, "a token a line differs", text, seen, &other);
     }
     if seen.kind != Kind::Accepted {
         return Ok(None);
     }
-    let other = language.seen(alloc, Form::Plain, seen.printed.as_str())?;
+    let other = asked(alloc, language, Form::Plain, seen.printed.as_str())?;
     if other.placeless != seen.placeless || other.printed != seen.printed {
         return told(alloc, "the printed text differs", text, seen, &other);
     }

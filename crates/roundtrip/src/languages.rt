@@ -1,17 +1,18 @@
-//! The two languages: their grammars, and what their calls answer.
+//! The two languages: their grammars, and what their parsers and checks answer.
 use crate::grammars;
 use example_printer::{print_request, print_schema};
 use graphql_parser::lexer::Tokens;
 use graphql_parser::types::{ExecutableDocument, ServiceDocument};
 use graphql_parser::{
-    Error, Limits, Result as Answer, parse_query, parse_query_from, parse_query_limited,
-    parse_schema, parse_schema_from, parse_schema_limited,
+    Error, Limits, Result as Answer, check_query, check_query_from, check_query_limited,
+    check_schema, check_schema_from, check_schema_limited, parse_query, parse_query_from,
+    parse_query_limited, parse_schema, parse_schema_from, parse_schema_limited,
 };
 use rows::Shown;
 use std::alloc::{AllocError, Global};
 use tree_text::{write_file, write_request};
 
-/// A form of a call.
+/// A form of a call, of a parser and of its check.
 #[derive(Clone, Copy, PartialEq)]
 pub enum Form {
     /// Over a text.
@@ -44,15 +45,45 @@ pub enum Kind {
     Syntax,
     Limit,
     NoMemory,
+    /// The check answers otherwise than the parser.
+    CheckedOtherwise,
 }
 
-/// A language: a grammar and a parser.
+/// A language: a grammar, a parser and its check.
 pub trait Language {
     /// The grammar of its texts.
     fn grammar(&self) -> &'static str;
 
     /// What its parser answers.
     fn seen(&self, alloc: Global, form: Form, text: &str) -> Result<Seen, AllocError>;
+
+    /// What its check answers.
+    fn checked(&self, alloc: Global, form: Form, text: &str) -> Answer<()>;
+}
+
+/// What the parser of a language answers, if its check answers the same: both accept, or both give the same error.
+pub fn asked<L: Language>(
+    alloc: Global,
+    language: &L,
+    form: Form,
+    text: &str,
+) -> Result<Seen, AllocError> {
+    let seen = language.seen(alloc, form, text)?;
+    let checked = match language.checked(alloc, form, text) {
+        Ok(()) if seen.kind == Kind::Accepted => return Ok(seen),
+        Ok(()) => String::from_str(alloc, "accepted")?,
+        Err(error) => format!(in alloc; "{error:?}")?,
+    };
+    if checked == seen.placed {
+        return Ok(seen);
+    }
+    let placed = format!(in alloc; "{}, checked {checked}", seen.placed)?;
+    Ok(Seen {
+        kind: Kind::CheckedOtherwise,
+        placeless: placed.clone()?,
+        placed,
+        printed: seen.printed,
+    })
 }
 
 /// Requests.
@@ -81,6 +112,15 @@ impl Language for Requests {
         };
         of_request(alloc, answer)
     }
+
+    fn checked(&self, alloc: Global, form: Form, text: &str) -> Answer<()> {
+        match form {
+            Form::Plain => check_query(alloc, text),
+            Form::Limited => check_query_limited(alloc, text, Limits::default()),
+            Form::FromTokens => check_query_from(alloc, &mut Tokens::new(text)),
+            Form::Shallow => check_query_limited(alloc, text, narrow()),
+        }
+    }
 }
 
 impl Language for Schemas {
@@ -96,6 +136,15 @@ impl Language for Schemas {
             Form::Shallow => parse_schema_limited(alloc, text, narrow()),
         };
         of_file(alloc, answer)
+    }
+
+    fn checked(&self, alloc: Global, form: Form, text: &str) -> Answer<()> {
+        match form {
+            Form::Plain => check_schema(alloc, text),
+            Form::Limited => check_schema_limited(alloc, text, Limits::default()),
+            Form::FromTokens => check_schema_from(alloc, &mut Tokens::new(text)),
+            Form::Shallow => check_schema_limited(alloc, text, narrow()),
+        }
     }
 }
 

@@ -2,6 +2,7 @@
 use crate::checking::run;
 use crate::languages::{Form, Language, Requests, Schemas, Seen};
 use crate::values::run_values;
+use graphql_parser::Result as Answer;
 use std::alloc::{AllocError, Global};
 
 // A language whose printer forgets some characters.
@@ -25,13 +26,18 @@ impl<L: Language> Language for Forgetful<L> {
             placeless: seen.placeless,
         })
     }
+
+    fn checked(&self, alloc: Global, form: Form, text: &str) -> Answer<()> {
+        self.language.checked(alloc, form, text)
+    }
 }
 
-// A language one of whose forms answers as if a text went on.
+// A language one of whose forms, of the parser or of the check, answers as if a text went on.
 #[derive(Clone, Copy)]
 struct Astray<L> {
     language: L,
     form: Form,
+    is_check: bool,
 }
 
 impl<L: Language> Language for Astray<L> {
@@ -40,16 +46,24 @@ impl<L: Language> Language for Astray<L> {
     }
 
     fn seen(&self, alloc: Global, form: Form, text: &str) -> Result<Seen, AllocError> {
-        if form == self.form {
+        if form == self.form && !self.is_check {
             let longer = format!(in alloc; "{text} )")?;
             return self.language.seen(alloc, form, longer.as_str());
         }
         self.language.seen(alloc, form, text)
     }
+
+    fn checked(&self, alloc: Global, form: Form, text: &str) -> Answer<()> {
+        if form == self.form && self.is_check {
+            let longer = format!(in alloc; "{text} )")?;
+            return self.language.checked(alloc, form, longer.as_str());
+        }
+        self.language.checked(alloc, form, text)
+    }
 }
 
-/// How many mistakes are not found by so many texts or values from a seed on: of printers of trees, of forms of a call, and of
-/// printers of values. A schema file has no `$`, so that forgetting it is none there.
+/// How many mistakes are not found by so many texts or values from a seed on: of printers of trees, of forms of a parser and of
+/// its check, and of printers of values. A schema file has no `$`, so that forgetting it is none there.
 pub fn overlooked(alloc: Global, seed: u64, count: u64) -> Result<usize, AllocError> {
     let mut overlooked = 0usize;
     for forgotten in ["!", "@", "$", "\\", "="] {
@@ -67,17 +81,23 @@ pub fn overlooked(alloc: Global, seed: u64, count: u64) -> Result<usize, AllocEr
             overlooked = overlooked.wrapping_add(1);
         }
     }
-    for form in [Form::Limited, Form::FromTokens, Form::Shallow] {
-        let requests = Astray {
-            language: Requests,
-            form,
-        };
-        let schemas = Astray {
-            language: Schemas,
-            form,
-        };
-        if !is_found(alloc, &requests, seed, count)? || !is_found(alloc, &schemas, seed, count)? {
-            overlooked = overlooked.wrapping_add(1);
+    for form in [Form::Plain, Form::Limited, Form::FromTokens, Form::Shallow] {
+        for is_check in [false, true] {
+            let requests = Astray {
+                language: Requests,
+                form,
+                is_check,
+            };
+            let schemas = Astray {
+                language: Schemas,
+                form,
+                is_check,
+            };
+            if !is_found(alloc, &requests, seed, count)?
+                || !is_found(alloc, &schemas, seed, count)?
+            {
+                overlooked = overlooked.wrapping_add(1);
+            }
         }
     }
     for forgotten in ["\\", "\"", "$", "-", "[]", "{}", "😀"] {

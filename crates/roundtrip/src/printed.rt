@@ -1,6 +1,5 @@
 //! Texts and their canonical forms, worked out by hand from the rules of `example_printer`.
-use example_printer::{print_request, print_schema};
-use graphql_parser::{parse_query, parse_schema};
+use crate::languages::{Form, Kind, Language, Requests, Schemas, asked};
 use std::alloc::{AllocError, Global};
 
 /// Requests, and what is printed of them.
@@ -77,31 +76,21 @@ const SCHEMAS: [(&str, &str); 4] = [
 
 /// How many of these texts are printed otherwise.
 pub fn printed_otherwise(alloc: Global) -> Result<usize, AllocError> {
+    let requests = otherwise(alloc, &Requests, &REQUESTS)?;
+    Ok(requests.wrapping_add(otherwise(alloc, &Schemas, &SCHEMAS)?))
+}
+
+fn otherwise<L: Language>(
+    alloc: Global,
+    language: &L,
+    rows: &[(&str, &str)],
+) -> Result<usize, AllocError> {
     let mut count = 0usize;
-    for (text, printed) in REQUESTS {
-        if request_printed(alloc, text)?.as_str() != printed {
-            count = count.wrapping_add(1);
-        }
-    }
-    for (text, printed) in SCHEMAS {
-        if schema_printed(alloc, text)?.as_str() != printed {
+    for (text, printed) in rows {
+        let seen = asked(alloc, language, Form::Plain, text)?;
+        if seen.kind != Kind::Accepted || seen.printed.as_str() != *printed {
             count = count.wrapping_add(1);
         }
     }
     Ok(count)
-}
-
-// What is printed of a request, or its error.
-fn request_printed(alloc: Global, text: &str) -> Result<String, AllocError> {
-    match parse_query(alloc, text) {
-        Ok(document) => print_request(alloc, &document),
-        Err(error) => format!(in alloc; "{error}"),
-    }
-}
-
-fn schema_printed(alloc: Global, text: &str) -> Result<String, AllocError> {
-    match parse_schema(alloc, text) {
-        Ok(document) => print_schema(alloc, &document),
-        Err(error) => format!(in alloc; "{error}"),
-    }
 }

@@ -1,8 +1,8 @@
 //! Random values as trees, and whether their texts are read as them again.
 use crate::random::Random;
-use graphql_parser::parse_query;
-use graphql_parser::types::{DocumentOperations, Selection};
+use graphql_parser::types::{DocumentOperations, ExecutableDocument, Selection};
 use graphql_parser::value::{ConstValue, Name, Number, Value};
+use graphql_parser::{check_query, parse_query};
 use std::alloc::{AllocError, Global};
 
 // A value is made in so many steps at most, each of which makes one that can hold earlier ones.
@@ -224,10 +224,16 @@ pub fn run_values(
     Ok(tally)
 }
 
+// The tree of a request that its check accepts too.
+fn accepted(alloc: Global, text: &str) -> Option<ExecutableDocument> {
+    check_query(alloc, text).ok()?;
+    parse_query(alloc, text).ok()
+}
+
 /// Whether a text is read as this value where it stands for an argument.
 pub fn is_argument(alloc: Global, text: &str, value: &Value) -> Result<bool, AllocError> {
     let request = format!(in alloc; "{{f(a: {text})}}")?;
-    let Ok(document) = parse_query(alloc, request.as_str()) else {
+    let Some(document) = accepted(alloc, request.as_str()) else {
         return Ok(false);
     };
     let DocumentOperations::Single(operation) = &document.operations else {
@@ -244,7 +250,7 @@ pub fn is_argument(alloc: Global, text: &str, value: &Value) -> Result<bool, All
 /// Whether a text is read as this value where it stands for the default of a variable.
 pub fn is_default(alloc: Global, text: &str, value: &ConstValue) -> Result<bool, AllocError> {
     let request = format!(in alloc; "query($v: T = {text}){{f}}")?;
-    let Ok(document) = parse_query(alloc, request.as_str()) else {
+    let Some(document) = accepted(alloc, request.as_str()) else {
         return Ok(false);
     };
     let DocumentOperations::Single(operation) = &document.operations else {

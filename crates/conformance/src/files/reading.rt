@@ -1,8 +1,8 @@
 //! What is read of a file: a line for each definition, and the tree.
 use super::kept::FILES;
 use super::written::WRITTEN;
-use graphql_parser::parse_schema;
 use graphql_parser::types::{ServiceDocument, TypeSystemDefinition};
+use graphql_parser::{check_schema, parse_schema};
 use rows::Shown;
 use std::alloc::{AllocError, Global};
 use std::test::Fail;
@@ -57,6 +57,7 @@ fn files_are_read(rt: HostRuntime) -> Result<(), Fail> {
     for files in [FILES, WRITTEN] {
         for (name, text, lines, parts) in files {
             let document = parse_schema(alloc, text).ok().ok_or(*name)?;
+            assert!(rt; check_schema(alloc, text).is_ok(), "check of {name}");
             let found = schema_lines(alloc, &document)?;
             assert_eq!(rt;
                 found.as_str().trim_ascii(),
@@ -87,6 +88,7 @@ fn a_long_file_is_read(rt: HostRuntime) -> Result<(), Fail> {
         writeln!(lines, "enum E{index} {second}:1")?;
     }
     let document = parse_schema(alloc, text.as_str()).ok().ok_or("refused")?;
+    assert!(rt; check_schema(alloc, text.as_str()).is_ok());
     assert_eq!(rt; document.definitions.len(), 2000);
     assert_eq!(rt; schema_lines(alloc, &document)?.as_str(), lines.as_str());
     Ok(())

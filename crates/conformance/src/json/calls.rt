@@ -1,7 +1,8 @@
 //! The calls that the tables are about.
 use super::{errors, requests, schemas, values};
+use crate::parser::{OTHERWISE, are_alike};
 use graphql_json::{Places, error_json, request_json, schema_json};
-use graphql_parser::{parse_query, parse_schema};
+use graphql_parser::{check_query, check_schema, parse_query, parse_schema};
 use rows::{Subject, failures};
 use std::alloc::{AllocError, Global};
 use std::test::Fail;
@@ -9,37 +10,22 @@ use std::test::Fail;
 /// What the rows of a table are, and the JSON that they show.
 #[derive(Clone, Copy)]
 pub enum Part {
-    /// Requests: the definitions of the `Document`.
+    /// Requests: the definitions of the `Document`, or the error.
     Request(Places),
-    /// Schema files: the definitions of the `Document`.
+    /// Schema files: the same.
     Schema(Places),
     /// Parts of a request: what stands around them in its text, and in its definitions without places.
     Inside(&'static str, &'static str, &'static str, &'static str),
-    /// Requests that are refused: the error.
-    RefusedRequest,
-    /// Schema files that are refused: the error.
-    RefusedSchema,
 }
 
 impl Subject for Part {
     fn answer(&self, alloc: Global, text: &str) -> Result<String, Fail> {
         let json = match self {
             Part::Request(places) => request(alloc, text, *places)?,
-            Part::Schema(places) => {
-                let document = parse_schema(alloc, text).ok().ok_or("refused")?;
-                text_of(schema_json(alloc, &document, *places)?)?
-            }
+            Part::Schema(places) => schema(alloc, text, *places)?,
             Part::Inside(before, after, _, _) => {
                 let text = format!(in alloc; "{before}{text}{after}")?;
                 request(alloc, text.as_str(), Places::LeftOut)?
-            }
-            Part::RefusedRequest => {
-                let error = parse_query(alloc, text).err().ok_or("accepted")?;
-                text_of(error_json(alloc, &error)?)?
-            }
-            Part::RefusedSchema => {
-                let error = parse_schema(alloc, text).err().ok_or("accepted")?;
-                text_of(error_json(alloc, &error)?)?
             }
         };
         Ok(spaced(alloc, self.part_of(json.as_str()))?)
@@ -52,14 +38,32 @@ impl Part {
         match self {
             Part::Request(_) | Part::Schema(_) => definitions(json),
             Part::Inside(_, _, before, after) => between(definitions(json), before, after),
-            Part::RefusedRequest | Part::RefusedSchema => json,
         }
     }
 }
 
+// The JSON of a request, or of its error.
 fn request(alloc: Global, text: &str, places: Places) -> Result<String, Fail> {
-    let document = parse_query(alloc, text).ok().ok_or("refused")?;
-    text_of(request_json(alloc, &document, places)?)
+    let answer = parse_query(alloc, text);
+    if !are_alike(&answer, &check_query(alloc, text)) {
+        return Ok(String::from_str(alloc, OTHERWISE)?);
+    }
+    text_of(match answer {
+        Ok(document) => request_json(alloc, &document, places)?,
+        Err(error) => error_json(alloc, &error)?,
+    })
+}
+
+// The JSON of a schema file, or of its error.
+fn schema(alloc: Global, text: &str, places: Places) -> Result<String, Fail> {
+    let answer = parse_schema(alloc, text);
+    if !are_alike(&answer, &check_schema(alloc, text)) {
+        return Ok(String::from_str(alloc, OTHERWISE)?);
+    }
+    text_of(match answer {
+        Ok(document) => schema_json(alloc, &document, places)?,
+        Err(error) => error_json(alloc, &error)?,
+    })
 }
 
 /// The JSON as text.
@@ -111,8 +115,8 @@ fn trees_and_errors_are_written(rt: HostRuntime) -> Result<(), Fail> {
         (Part::Schema(Places::LeftOut), schemas::EXTENSIONS),
         (Part::Schema(Places::LeftOut), schemas::PARTS),
         (Part::Schema(Places::Written), schemas::PLACES),
-        (Part::RefusedRequest, errors::REQUESTS),
-        (Part::RefusedSchema, errors::SCHEMAS),
+        (Part::Request(Places::LeftOut), errors::REQUESTS),
+        (Part::Schema(Places::LeftOut), errors::SCHEMAS),
     ];
     let failures = failures(rt.alloc(), &tables)?;
     assert_eq!(rt; failures.as_str(), "");

@@ -1,7 +1,7 @@
 //! Long texts, whose JSON another reader of JSON takes.
 use super::calls::text_of;
 use graphql_json::{Places, request_json, schema_json};
-use graphql_parser::{parse_query, parse_schema};
+use graphql_parser::{check_query, check_schema, parse_query, parse_schema};
 use serde_json::Value;
 use std::alloc::Global;
 use std::test::Fail;
@@ -51,6 +51,7 @@ fn a_long_request_is_written(rt: HostRuntime) -> Result<(), Fail> {
         "/definitions/999/selectionSet/selections/0/selectionSet/selections/0/selectionSet/selections/0/name/value",
     ];
     let document = parse_query(alloc, text.as_str()).ok().ok_or("refused")?;
+    assert!(rt; check_query(alloc, text.as_str()).is_ok());
     for places in PLACES {
         let json = text_of(request_json(alloc, &document, places)?)?;
         let found = found(alloc, json.as_str(), &paths)?;
@@ -82,6 +83,7 @@ fn a_long_schema_file_is_written(rt: HostRuntime) -> Result<(), Fail> {
         "/definitions/999/values/1/directives/0/arguments/0/value/fields/0/value/kind",
     ];
     let document = parse_schema(alloc, text.as_str()).ok().ok_or("refused")?;
+    assert!(rt; check_schema(alloc, text.as_str()).is_ok());
     for places in PLACES {
         let json = text_of(schema_json(alloc, &document, places)?)?;
         let found = found(alloc, json.as_str(), &paths)?;

@@ -1,15 +1,19 @@
-//! The answers of the two parsers, as text.
+//! The answers of the two parsers and of their checks, as text.
 use super::errors::shown;
 use super::views::View;
 use graphql_parser::lexer::Tokens;
 use graphql_parser::types::{ExecutableDocument, ServiceDocument};
 use graphql_parser::{
-    Limits, Result as Answer, parse_query, parse_query_from, parse_query_limited, parse_schema,
-    parse_schema_from, parse_schema_limited,
+    Limits, Result as Answer, check_query, check_query_from, check_query_limited, check_schema,
+    check_schema_from, check_schema_limited, parse_query, parse_query_from, parse_query_limited,
+    parse_schema, parse_schema_from, parse_schema_limited,
 };
 use std::alloc::{AllocError, Global};
 
-/// A parser, with its three calls.
+/// What is seen of an answer if the check answers otherwise.
+pub const OTHERWISE: &str = "checked otherwise";
+
+/// A parser, with its three calls and those of its check.
 #[derive(Clone, Copy)]
 pub enum Parser {
     /// The parser of requests.
@@ -19,7 +23,8 @@ pub enum Parser {
 }
 
 impl Parser {
-    /// What is seen of the answer to a text; `asked` is the name that is looked up in a request.
+    /// What is seen of the answer to a text, unless the check answers otherwise; `asked` is the name that is looked up in
+    /// a request.
     pub fn of_text(
         self,
         alloc: Global,
@@ -28,8 +33,14 @@ impl Parser {
         text: &str,
     ) -> Result<String, AllocError> {
         match self {
-            Parser::Query => of_request(alloc, view, asked, parse_query(alloc, text)),
-            Parser::Schema => of_file(alloc, view, parse_schema(alloc, text)),
+            Parser::Query => {
+                let checked = check_query(alloc, text);
+                of_request(alloc, view, asked, parse_query(alloc, text), &checked)
+            }
+            Parser::Schema => {
+                let checked = check_schema(alloc, text);
+                of_file(alloc, view, parse_schema(alloc, text), &checked)
+            }
         }
     }
 
@@ -42,25 +53,49 @@ impl Parser {
         limits: Limits,
     ) -> Result<String, AllocError> {
         match self {
-            Parser::Query => of_request(alloc, view, "", parse_query_limited(alloc, text, limits)),
-            Parser::Schema => of_file(alloc, view, parse_schema_limited(alloc, text, limits)),
+            Parser::Query => {
+                let checked = check_query_limited(alloc, text, limits);
+                let answer = parse_query_limited(alloc, text, limits);
+                of_request(alloc, view, "", answer, &checked)
+            }
+            Parser::Schema => {
+                let checked = check_schema_limited(alloc, text, limits);
+                of_file(
+                    alloc,
+                    view,
+                    parse_schema_limited(alloc, text, limits),
+                    &checked,
+                )
+            }
         }
     }
 
-    /// The same over the tokens that are left. Where none is, nothing is seen.
+    /// The same over the tokens that are left. Where none is, nothing is seen. The check goes over those of `others`, and
+    /// has to take as many.
     pub fn of_tokens(
         self,
         alloc: Global,
         view: View,
         tokens: &mut Tokens<'_>,
+        others: &mut Tokens<'_>,
     ) -> Result<String, AllocError> {
-        if tokens.is_ended() {
+        if tokens.is_ended() || others.is_ended() {
             return Ok(String::new(alloc));
         }
-        match self {
-            Parser::Query => of_request(alloc, view, "", parse_query_from(alloc, tokens)),
-            Parser::Schema => of_file(alloc, view, parse_schema_from(alloc, tokens)),
+        let seen = match self {
+            Parser::Query => {
+                let checked = check_query_from(alloc, others);
+                of_request(alloc, view, "", parse_query_from(alloc, tokens), &checked)?
+            }
+            Parser::Schema => {
+                let checked = check_schema_from(alloc, others);
+                of_file(alloc, view, parse_schema_from(alloc, tokens), &checked)?
+            }
+        };
+        if others.taken() != tokens.taken() {
+            return String::from_str(alloc, OTHERWISE);
         }
+        Ok(seen)
     }
 
     /// What is seen of the answer to a text. The call with limits, at the default, and the one over fresh tokens have
@@ -68,7 +103,8 @@ impl Parser {
     pub fn of_each_call(self, alloc: Global, view: View, text: &str) -> Result<String, AllocError> {
         let answer = self.of_text(alloc, view, "", text)?;
         let limited = self.limited(alloc, view, text, Limits::default())?;
-        let from = self.of_tokens(alloc, view, &mut Tokens::new(text))?;
+        let (tokens, others) = (&mut Tokens::new(text), &mut Tokens::new(text));
+        let from = self.of_tokens(alloc, view, tokens, others)?;
         if limited.as_str() != answer.as_str() || from.as_str() != answer.as_str() {
             return format!(in alloc; "{answer}, limited {limited}, from tokens {from}");
         }
@@ -81,12 +117,25 @@ impl Parser {
     }
 }
 
+/// Whether a check answers as the parser: both accept, or both give the same error.
+pub fn are_alike<T>(answer: &Answer<T>, checked: &Answer<()>) -> bool {
+    match (answer, checked) {
+        (Ok(_), Ok(())) => true,
+        (Err(error), Err(other)) => error == other,
+        _ => false,
+    }
+}
+
 fn of_request(
     alloc: Global,
     view: View,
     asked: &str,
     answer: Answer<ExecutableDocument>,
+    checked: &Answer<()>,
 ) -> Result<String, AllocError> {
+    if !are_alike(&answer, checked) {
+        return String::from_str(alloc, OTHERWISE);
+    }
     match answer {
         Ok(document) => view.of_document(alloc, asked, document),
         Err(error) => shown(alloc, !matches!(view, View::Placeless), &error),
@@ -97,7 +146,11 @@ fn of_file(
     alloc: Global,
     view: View,
     answer: Answer<ServiceDocument>,
+    checked: &Answer<()>,
 ) -> Result<String, AllocError> {
+    if !are_alike(&answer, checked) {
+        return String::from_str(alloc, OTHERWISE);
+    }
     match answer {
         Ok(document) => view.of_file(alloc, &document),
         Err(error) => shown(alloc, !matches!(view, View::Placeless), &error),

@@ -1,4 +1,5 @@
-//! How many tokens a parser takes of those that it is handed, and what is left of them.
+//! How many tokens a parser takes of those that it is handed, and what is left of them. Its check has a list of them of its
+//! own, and takes as many.
 use super::answers::Parser;
 use super::views::View;
 use graphql_parser::lexer::Tokens;
@@ -12,7 +13,8 @@ pub fn counted(
     view: View,
     text: &str,
 ) -> Result<String, AllocError> {
-    told(alloc, parser, view, &mut Tokens::new(text))
+    let (tokens, others) = (&mut Tokens::new(text), &mut Tokens::new(text));
+    told(alloc, parser, view, tokens, others)
 }
 
 fn told(
@@ -20,8 +22,9 @@ fn told(
     parser: Parser,
     view: View,
     tokens: &mut Tokens<'_>,
+    others: &mut Tokens<'_>,
 ) -> Result<String, AllocError> {
-    let answer = parser.of_tokens(alloc, view, tokens)?;
+    let answer = parser.of_tokens(alloc, view, tokens, others)?;
     let taken = tokens.taken();
     format!(in alloc; "{answer}, taken {taken}")
 }
@@ -33,14 +36,15 @@ pub fn in_turn(
     passed: usize,
     text: &str,
 ) -> Result<String, AllocError> {
-    let mut tokens = Tokens::new(text);
+    let (mut tokens, mut others) = (Tokens::new(text), Tokens::new(text));
     for _ in 0..passed {
         tokens.next();
+        others.next();
     }
     let mut shown = Shown::new(alloc, true);
     for _ in 0..=text.len() {
         if !tokens.is_ended() {
-            let answer = told(alloc, parser, View::Whole, &mut tokens)?;
+            let answer = told(alloc, parser, View::Whole, &mut tokens, &mut others)?;
             shown.item("", &answer);
             shown.word("; ");
         }
