@@ -164,6 +164,42 @@ fn reports_end_in_a_line_feed(rt: HostRuntime) -> Result<(), Fail> {
     Ok(())
 }
 
+// The report of a text without a file's name.
+fn unnamed(alloc: Global, language: Language, text: &str) -> Result<String, Fail> {
+    let limits = Limits::default();
+    let error = error_of(alloc, language, text, limits).ok_or("accepted")?;
+    Ok(explain(alloc, language, "", text, limits, &error)?)
+}
+
+#[test]
+fn a_file_may_have_no_name(rt: HostRuntime) -> Result<(), Fail> {
+    for (language, text, report) in [
+        (
+            Language::Requests,
+            "{a()}",
+            "1:4: syntax error: found \")\", expected a name\n 1 | {a()}\n   |    ^\n",
+        ),
+        (
+            Language::Requests,
+            "fragment F on T{a}",
+            "document does not contain an operation\n",
+        ),
+        (
+            Language::Schemas,
+            "schema{query:A query:B}",
+            "1:16: multiple query roots in schema definition\n 1 | schema{query:A query:B}\n   |                ^\n\
+             1:1: the schema begins here\n 1 | schema{query:A query:B}\n   | ^\n",
+        ),
+    ] {
+        assert_eq!(rt;
+            unnamed(rt.alloc(), language, text)?.as_str(),
+            report,
+            "{text}"
+        );
+    }
+    Ok(())
+}
+
 // Whether some document goes on from a text.
 fn is_viable(
     alloc: Global,

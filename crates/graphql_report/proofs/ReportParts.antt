@@ -9,14 +9,15 @@ use Rattle.graphql_tokens.specs.declared.pos.Pos.{Pos}
 use Rattle.graphql_report.specs.declared.style.Style.{Style}
 use Rattle.graphql_report.specs.declared.style.Part.TheVariants.{Place}
 use Rattle.graphql_tokens.specs.tokens.Place.{place_behind}
-use Rattle.graphql_report.specs.reports.Reports.{styled, place_text, Tells, TellsLimit, TellsPlaces, IsPlaceIn, IsToldAt}
+use Rattle.graphql_report.specs.reports.Reports.{styled, named, place_text, Tells, TellsLimit, TellsPlaces, IsPlaceIn, IsToldAt}
 
-pub place-shown : (file : List ℕ) (place : Pos) (shown : List ℕ) → shown ≡ file ++ 58 ∷ (decimal place.line ++ (58 ∷ []) ++ decimal place.column ++ (58 ∷ [])) → shown ≡ place_text file place
-place-shown file place shown e = e ∙ sym (
-    ap (λ (l : List ℕ). l ++ decimal place.column ++ (58 ∷ [])) (append_assoc (file ++ 58 ∷ []) (decimal place.line) (58 ∷ []))
-    ∙ ap (λ (l : List ℕ). l ++ (58 ∷ [])) (append_assoc (file ++ 58 ∷ []) (decimal place.line ++ (58 ∷ [])) (decimal place.column))
-    ∙ append_assoc (file ++ 58 ∷ []) (decimal place.line ++ (58 ∷ []) ++ decimal place.column) (58 ∷ [])
-    ∙ append_assoc file (58 ∷ []) (decimal place.line ++ (58 ∷ []) ++ decimal place.column ++ (58 ∷ [])))
+pub place-shown : (file : List ℕ) (place : Pos) (shown front : List ℕ) → shown ≡ front ++ (decimal place.line ++ (58 ∷ []) ++ decimal place.column ++ (58 ∷ [])) → front ≡ named file (58 ∷ []) → shown ≡ place_text file place
+place-shown file place shown front e named_front =
+    let back : List ℕ = decimal place.line ++ (58 ∷ []) ++ decimal place.column ++ (58 ∷ []) in
+    e ∙ ap (λ (l : List ℕ). l ++ back) named_front ∙ sym (
+    ap (λ (l : List ℕ). l ++ decimal place.column ++ (58 ∷ [])) (append_assoc (named file (58 ∷ [])) (decimal place.line) (58 ∷ []))
+    ∙ ap (λ (l : List ℕ). l ++ (58 ∷ [])) (append_assoc (named file (58 ∷ [])) (decimal place.line ++ (58 ∷ [])) (decimal place.column))
+    ∙ append_assoc (named file (58 ∷ [])) (decimal place.line ++ (58 ∷ []) ++ decimal place.column) (58 ∷ []))
 
 -- two parts, one after the other
 pub two-parts : (style : Style) (file message : List ℕ) (place second : Pos) (first other remark report : List ℕ) → Tells style file place message first → Tells style file second remark other → report ≡ first ++ other → TellsPlaces style file message (place ∷ second ∷ []) report

@@ -2,7 +2,7 @@
 ghost use Rattle.std.specs.Prelude.{◌≡◌, ◌∷◌, ◌++◌, [], IfOk, string_bytes};
 ghost use Rattle.graphql_grammar.specs.errors.Errors.{error_text};
 ghost use Rattle.graphql_report.specs.declared.style.Style.TheVariants.{Plain};
-ghost use Rattle.graphql_report.specs.reports.Reports.{IsReport, IsToldAt, TellsSyntax, TellsLimit, Tells, TellsPlaces};
+ghost use Rattle.graphql_report.specs.reports.Reports.{IsReport, IsToldAt, TellsSyntax, TellsLimit, Tells, TellsPlaces, named as named_by};
 
 use crate::definitions::offsets_of;
 use crate::excerpt::{excerpt_of, shown};
@@ -44,7 +44,7 @@ const OF_NAMESAKES: Remarks = Remarks {
 /// follows, with a caret under it; and where the error has two places, the second follows in the same way. For a `Syntax`
 /// error the message tells what was found, or what is wrong where no token begins, and what was expected; its place is the
 /// error's, but for a bad escape in a string, where it is that of the escape. An error without a place has the one line
-/// `FILE: ` and the message. (This project's own call.)
+/// `FILE: ` and the message. Where `file_name` is empty, `FILE:` is left out everywhere. (This project's own call.)
 ///
 /// `limits` are those that the parser was given, `Limits::default()` for the calls without limits. What was expected is
 /// found by some twenty to forty parses of the text before the refused token, and the place of `RecursionLimitExceeded` by
@@ -127,8 +127,9 @@ fn told_at(
 ) -> Result<String, AllocError>
     ensures { IfOk result (λ part. Tells source.now.style source.now.file_name.now place message.now (string_bytes part)) }
 {
-    let file_name = source.file_name;
-    let shown_place = format!(in alloc; "{file_name}:{place}:")?;
+    let file = named(alloc, source.file_name, ":")?;
+    let file = file.as_str();
+    let shown_place = format!(in alloc; "{file}{place}:")?;
     let excerpt = excerpt_of(alloc, source.style, source.text, place.line, offset)?;
     let rest = format!(in alloc; "{more}\n{excerpt}")?;
     let mut out = String::new(alloc);
@@ -141,12 +142,22 @@ fn told_at(
     Ok(out)
 }
 
+// The name of a file and a mark after it; nothing where the file has no name.
+fn named(alloc: Global, file_name: &str, mark: &str) -> Result<String, AllocError>
+    ensures { IfOk result (λ shown. string_bytes shown ≡ named_by file_name.now mark.now) }
+{
+    if file_name.is_empty() {
+        return Ok(String::new(alloc));
+    }
+    format!(in alloc; "{file_name}{mark}")
+}
+
 // An error without a place.
 fn explain_plain(alloc: Global, file_name: &str, error: &Error) -> Result<String, AllocError>
     ensures { IfOk result (λ report. TellsPlaces Plain file_name.now (error_text error.now) [] (string_bytes report)) }
 {
     let message = format!(in alloc; "{error}")?;
-    let mut out = format!(in alloc; "{file_name}: ")?;
+    let mut out = named(alloc, file_name, ": ")?;
     out.push_str(message.as_str())?;
     out.push_str("\n")?;
     Ok(out)

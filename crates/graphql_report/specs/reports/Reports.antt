@@ -28,18 +28,23 @@ styled Coloured part text = code_of part ++ text ++ (27 ∷ codes "[0m")
 
 -- ---- what is told
 
--- a place in a file, `FILE:LINE:COL:`
+-- the name of a file and a mark after it; nothing where the file has no name
+abbrev pub named : List ℕ → List ℕ → List ℕ
+named [] mark = []
+named (letter ∷ letters) mark = letter ∷ letters ++ mark
+
+-- a place in a file, `FILE:LINE:COL:`, or `LINE:COL:` where the file has no name
 abbrev pub place_text : List ℕ → Pos → List ℕ
-place_text file place = file ++ codes ":" ++ decimal place.line ++ codes ":" ++ decimal place.column ++ codes ":"
+place_text file place = named file (codes ":") ++ decimal place.line ++ codes ":" ++ decimal place.column ++ codes ":"
 
 -- the report begins with the place, a blank and the message
 abbrev pub Tells : Style → List ℕ → Pos → List ℕ → List ℕ → Type 0
 Tells style file place message report = (rest : List ℕ) × (report ≡ styled style Place (place_text file place) ++ codes " " ++ message ++ rest)
 
 -- The report begins with the first place and the message, and tells the second place further on; where there is no place,
--- it is one line of the file and the message.
+-- it is one line of the file, if that has a name, and the message.
 abbrev pub TellsPlaces : Style → List ℕ → List ℕ → List Pos → List ℕ → Type 0
-TellsPlaces style file message [] report = report ≡ file ++ codes ": " ++ message ++ 10 ∷ []
+TellsPlaces style file message [] report = report ≡ named file (codes ": ") ++ message ++ 10 ∷ []
 TellsPlaces style file message (place ∷ []) report = Tells style file place message report
 TellsPlaces style file message (place ∷ second ∷ more) report =
     (middle rest : List ℕ)

@@ -7,7 +7,7 @@ use Rattle.graphql_report.proofs.report.told_at.Goals as goal
 
 pub returns : goal.returns
 returns c =
-    let shown : c.as_str.result.now ≡ place_text c.args.source.now.file_name.now c.args.place = c.as_str.ensures.value ∙ place-shown _ _ _ c.in_ok-shown_place.ensures.ok in
+    let shown : c.as_str.result.now ≡ place_text c.args.source.now.file_name.now c.args.place = c.as_str.ensures.value ∙ place-shown _ _ _ _ c.in_ok-shown_place.ensures.ok (c.as_str-file.ensures.value ∙ c.in_ok-file.ensures) in
     let place : string_bytes c.push.new.out ≡ styled c.args.source.now.style Place (place_text c.args.source.now.file_name.now c.args.place) =
     c.in_ok-push.ensures ∙ ap (λ (l : List ℕ). l ++ styled c.args.source.now.style Place c.as_str.result.now) c.new-out.ensures.bytes ∙ ap (styled c.args.source.now.style Place) shown in
     let blank = c.in_ok-push_str.ensures.bytes ∙ ap (λ (l : List ℕ). l ++ 32 ∷ []) place in
