@@ -1,9 +1,11 @@
 /* graphql_parser: a parser of GraphQL requests and schema files whose every function is proved.
  *
- * Two calls for each language. A check tells by a status, and by up to two places, whether a text is a request or a
- * schema file. A parse tells the same, and hands over the tree, or the error, as JSON.
+ * Three calls for each language. A check tells by a status, and by up to two places, whether a text is a request or a
+ * schema file. A parse tells the same, and hands over the tree, or the error, as JSON. An explanation tells the same, and
+ * hands over a report of the error for people.
  *
- * After every call of a parse, whatever it tells and whatever stood in its `json` before, `free(json.start)` is right.
+ * After every parse, whatever it tells and whatever stood in its `json` before, `free(json.start)` is right, and so is
+ * `free(report.start)` after every explanation.
  *
  * Needs Linux on x86-64-v2 (Intel from Nehalem on, AMD from Bulldozer on). Of the C library it calls `malloc`, `realloc`,
  * `free`, `memcpy`, `memmove` and `memset`, and nothing else. README.md, beside this file, says how to link it.
@@ -107,22 +109,28 @@ typedef struct {
     graphql_parser_place second;
 } graphql_parser_places;
 
-/* A text of JSON, in UTF-8, or nothing: null, and the length 0. It does not end with a zero byte: `length` is its length in
- * bytes.
+/* A text that a call hands over, in UTF-8, or nothing: null, and the length 0. It does not end with a zero byte: `length` is
+ * its length in bytes.
  *
- * A parse writes it on every call and doesn't look at what stood there, so it needs no first value. The block at `start`
- * is yours then: give it back, once and before the next call into the same `json`, by `free(json.start)`, of the same C
+ * A call writes it every time and doesn't look at what stood there, so it needs no first value. The block at `start` is
+ * yours then: give it back, once and before the next call into the same place, by `free(json.start)`, of the same C
  * library (or of what took its place) whose `malloc` the program has. */
 typedef struct {
     uint8_t *start;
     size_t length;
-} graphql_parser_json;
+} graphql_parser_block;
+
+/* What a parse hands over: JSON. */
+typedef graphql_parser_block graphql_parser_json;
+
+/* What an explanation hands over: lines for people, each of which ends in a line feed. */
+typedef graphql_parser_block graphql_parser_report;
 
 /* Nothing. */
 #define GRAPHQL_PARSER_NO_JSON { NULL, 0 }
 
-/* Gives back the block of a parse; null is allowed. It is the `free` that goes with the library's `malloc`, for languages
- * that can't name the program's own. */
+/* Gives back what a parse or an explanation handed over; null is allowed. It is the `free` that goes with the library's
+ * `malloc`, for languages that can't name the program's own. */
 void graphql_parser_free(void *block);
 
 /* Tells whether a text is a request, or a schema file.
@@ -165,6 +173,28 @@ uint32_t graphql_parser_parse_query(
 uint32_t graphql_parser_parse_schema(
     const uint8_t *text, size_t length, size_t selections, size_t values, size_t types, bool with_places,
     graphql_parser_places *places, graphql_parser_json *json);
+
+/* The same as a check, and hands over a report for people, such as
+ *
+ *     1:4: syntax error: found ")", expected a name
+ *      1 | {a()}
+ *        |    ^
+ *
+ * report                   is written on every call; what stood there isn't read. After GRAPHQL_PARSER_ACCEPTED,
+ *                          GRAPHQL_PARSER_OUT_OF_MEMORY, GRAPHQL_PARSER_NOT_UTF8 and GRAPHQL_PARSER_LIMIT_TOO_LARGE it is
+ *                          null, and its length 0. After any other status it says what is wrong, after the place where that
+ *                          has one, with the line of the place and a caret under it; a second place follows in the same
+ *                          way. A refused token is told with what was expected in its place. At a bad escape in a string
+ *                          the report begins with the place of the escape, and `places` has that of the string.
+ *
+ * The words of a report may change with any version. Explaining a refused text takes as long as some twenty to forty checks
+ * of the text before the refused token. `text`, `places` and `report` don't overlap. */
+uint32_t graphql_parser_explain_query(
+    const uint8_t *text, size_t length, size_t selections, size_t values, size_t types, graphql_parser_places *places,
+    graphql_parser_report *report);
+uint32_t graphql_parser_explain_schema(
+    const uint8_t *text, size_t length, size_t selections, size_t values, size_t types, graphql_parser_places *places,
+    graphql_parser_report *report);
 
 #ifdef __cplusplus
 }

@@ -28,6 +28,70 @@ static const char *fault_of_parse(
     return NULL;
 }
 
+/* What is wrong with what an explanation told of a row, and handed over; null where nothing is. */
+static const char *fault_of_explanation(
+    const row *row, uint32_t status, const graphql_parser_places *places, const graphql_parser_report *report) {
+    if (status != row->status) return "status of explanation";
+    if (!are_same(places, &row->places)) return "places of explanation";
+    if (!is_explained(status)) return is_nothing(report) ? NULL : "something is explained";
+    if (!report->start || report->length < 2) return "nothing is explained";
+    if (memchr(report->start, 0, report->length)) return "a zero byte in the report";
+    if (report->start[report->length - 1] != '\n') return "the end of the report";
+    return NULL;
+}
+
+/* What is wrong with what an explanation tells of a row, first with garbage in `report`, then with what the call before
+ * handed over, given back, and then without places; null where nothing is. */
+static const char *fault_of_explaining(const row *row, const uint8_t *text, size_t length) {
+    size_t limit = row->limit;
+    graphql_parser_report report = garbage;
+    for (int round = 0; round < 3; round++) {
+        graphql_parser_places places = round < 2 ? unwritten : row->places;
+        uint32_t status = row->language->explain(text, length, limit, limit, limit, round < 2 ? &places : NULL, &report);
+        const char *wrong = fault_of_explanation(row, status, &places, &report);
+        if (round) free(report.start);
+        else graphql_parser_free(report.start);
+        if (wrong) return wrong;
+    }
+    return NULL;
+}
+
+/* Texts with the whole report of each, by the rules of docs/MESSAGES.md. */
+static const struct {
+    const language *language;
+    const char *text;
+    size_t limit;
+    const char *report;
+} explained[] = {
+    {&requests, "{a()}", 64, "1:4: syntax error: found \")\", expected a name\n 1 | {a()}\n   |    ^\n"},
+    {&requests, NULL, 64,
+     "1:1: syntax error: found the end of the text, expected \"{\", \"fragment\", \"mutation\", \"query\" or "
+     "\"subscription\"\n 1 | \n   | ^\n"},
+    {&requests, "{a{b}}", 0, "1:3: recursion limit exceeded: selection sets may nest 0 deep\n 1 | {a{b}}\n   |   ^\n"},
+    {&requests, "fragment F on T{a}", 64, "document does not contain an operation\n"},
+    {&requests, "query A{a}\nquery A{a}", 64,
+     "2:1: operation A is defined twice\n 2 | query A{a}\n   | ^\n1:1: it is first defined here\n 1 | query A{a}\n   | ^\n"},
+    {&schema_files, "schema{query:A query:B}", 64,
+     "1:16: multiple query roots in schema definition\n 1 | schema{query:A query:B}\n   |                ^\n"
+     "1:1: the schema begins here\n 1 | schema{query:A query:B}\n   | ^\n"},
+};
+
+/* What is wrong with a whole report; null where nothing is. */
+static const char *fault_of_reports(void) {
+    for (size_t i = 0; i < sizeof explained / sizeof *explained; i++) {
+        size_t limit = explained[i].limit;
+        const char *text = explained[i].text;
+        graphql_parser_report report;
+        explained[i].language->explain(
+            (const uint8_t *)text, text ? strlen(text) : 0, limit, limit, limit, NULL, &report);
+        bool is_right = report.length == strlen(explained[i].report) &&
+            !memcmp(report.start, explained[i].report, report.length);
+        free(report.start);
+        if (!is_right) return explained[i].report;
+    }
+    return NULL;
+}
+
 /* What is wrong with what the calls tell of a row; null where nothing is. Before a parse there is in `json` garbage, then
  * zeros, and then what the call before handed over, given back. */
 static const char *fault(const row *row, const uint8_t *text, size_t length) {
@@ -111,6 +175,7 @@ static size_t failures(void) {
         uint8_t *text = text_of(&rows[i], &length);
         const char *wrong = fault(&rows[i], text, length);
         if (!wrong) wrong = fault_without_places(&rows[i], text, length);
+        if (!wrong) wrong = fault_of_explaining(&rows[i], text, length);
         if (wrong) {
             printf("wrong at %.60s: %s\n", shown(&rows[i]), wrong);
             count++;
@@ -131,6 +196,7 @@ int main(void) {
     if (!wrong) wrong = fault_of_limits(&requests);
     if (!wrong) wrong = fault_of_limits(&schema_files);
     if (!wrong) wrong = fault_of_names();
+    if (!wrong) wrong = fault_of_reports();
     if (!wrong && graphql_parser_version() != GRAPHQL_PARSER_VERSION_NUMBER) wrong = "the version";
     if (wrong) {
         printf("wrong: %s\n", wrong);

@@ -53,27 +53,36 @@ void __wrap_free(void *block) {
     __real_free(head_of(block));
 }
 
+/* The calls of a language. */
+typedef enum { CHECK, PARSE, EXPLAIN, CALLS } call;
+
 /* A call on the text of a row, in which the request of this number is refused, or none where it is 0. */
 typedef struct {
     uint32_t status;
     graphql_parser_places places;
-    graphql_parser_json json;
+    graphql_parser_block block;
     bool is_refused;
     bool lacks_memory; /* whether what was refused is memory */
     long kept_blocks;
 } outcome;
 
-static outcome called(const row *row, const uint8_t *text, size_t length, bool is_parse, long refused) {
+static uint32_t made(call call, const row *row, const uint8_t *text, size_t length, outcome *outcome) {
     size_t limit = row->limit;
+    switch (call) {
+    case PARSE: return row->language->parse(text, length, limit, limit, limit, true, &outcome->places, &outcome->block);
+    case EXPLAIN: return row->language->explain(text, length, limit, limit, limit, &outcome->places, &outcome->block);
+    default: return row->language->check(text, length, limit, limit, limit, &outcome->places);
+    }
+}
+
+static outcome called(call call, const row *row, const uint8_t *text, size_t length, long refused) {
     long before = live_blocks;
     outcome outcome = {.places = {{700, 700}, {700, 700}}};
-    if (is_parse) outcome.json = garbage;
+    if (call != CHECK) outcome.block = garbage;
     requests_made = 0;
     refused_request = refused;
     was_to_shrink = false;
-    outcome.status = is_parse
-        ? row->language->parse(text, length, limit, limit, limit, true, &outcome.places, &outcome.json)
-        : row->language->check(text, length, limit, limit, limit, &outcome.places);
+    outcome.status = made(call, row, text, length, &outcome);
     refused_request = 0;
     outcome.is_refused = refused && requests_made >= refused;
     outcome.lacks_memory = outcome.is_refused && !was_to_shrink;
@@ -82,16 +91,16 @@ static outcome called(const row *row, const uint8_t *text, size_t length, bool i
 }
 
 /* Whether the call answers as if no request had been refused. */
-static bool is_whole(const row *row, const outcome *outcome, bool is_parse) {
-    bool is_handed = is_parse && is_of_the_text(row->status);
+static bool is_whole(call call, const row *row, const outcome *outcome) {
+    bool is_handed = (call == PARSE && is_of_the_text(row->status)) || (call == EXPLAIN && is_explained(row->status));
     return outcome->status == row->status && are_same(&outcome->places, &row->places) &&
-        is_nothing(&outcome->json) == !is_handed && outcome->kept_blocks == (is_handed ? 1 : 0);
+        is_nothing(&outcome->block) == !is_handed && outcome->kept_blocks == (is_handed ? 1 : 0);
 }
 
 static bool tells_refusal(const outcome *outcome) {
     static const graphql_parser_places nowhere = NOWHERE;
     return outcome->status == GRAPHQL_PARSER_OUT_OF_MEMORY && are_same(&outcome->places, &nowhere) &&
-        is_nothing(&outcome->json) && outcome->kept_blocks == 0;
+        is_nothing(&outcome->block) && outcome->kept_blocks == 0;
 }
 
 int main(void) {
@@ -99,16 +108,16 @@ int main(void) {
     for (size_t i = 0; i < ROW_COUNT; i++) {
         size_t length;
         uint8_t *text = text_of(&rows[i], &length);
-        for (int is_parse = 0; is_parse < 2; is_parse++) {
+        for (call call = CHECK; call < CALLS; call++) {
             bool goes_on = true;
             for (long number = 1; goes_on; number++) {
-                outcome outcome = called(&rows[i], text, length, is_parse, number);
+                outcome outcome = called(call, &rows[i], text, length, number);
                 goes_on = outcome.is_refused;
-                bool is_right = outcome.lacks_memory ? tells_refusal(&outcome) : is_whole(&rows[i], &outcome, is_parse);
+                bool is_right = outcome.lacks_memory ? tells_refusal(&outcome) : is_whole(call, &rows[i], &outcome);
                 if (!is_right && wrong++ < 5)
-                    printf("wrong at %.60s, request %ld refused: status %u, %ld blocks kept\n", shown(&rows[i]), number,
-                           (unsigned)outcome.status, outcome.kept_blocks);
-                free(outcome.json.start);
+                    printf("wrong at %.60s, call %d, request %ld refused: status %u, %ld blocks kept\n", shown(&rows[i]),
+                           call, number, (unsigned)outcome.status, outcome.kept_blocks);
+                free(outcome.block.start);
                 calls++;
                 refusals += goes_on;
                 shrinks += goes_on && !outcome.lacks_memory;

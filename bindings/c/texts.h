@@ -12,13 +12,19 @@ typedef uint32_t check_call(const uint8_t *, size_t, size_t, size_t, size_t, gra
 typedef uint32_t parse_call(
     const uint8_t *, size_t, size_t, size_t, size_t, bool, graphql_parser_places *, graphql_parser_json *);
 
+typedef uint32_t explain_call(
+    const uint8_t *, size_t, size_t, size_t, size_t, graphql_parser_places *, graphql_parser_report *);
+
 typedef struct {
     check_call *check;
     parse_call *parse;
+    explain_call *explain;
 } language;
 
-static const language requests = {graphql_parser_check_query, graphql_parser_parse_query};
-static const language schema_files = {graphql_parser_check_schema, graphql_parser_parse_schema};
+static const language requests = {
+    graphql_parser_check_query, graphql_parser_parse_query, graphql_parser_explain_query};
+static const language schema_files = {
+    graphql_parser_check_schema, graphql_parser_parse_schema, graphql_parser_explain_schema};
 
 /* A text of a language, and what it gives. */
 typedef struct {
@@ -128,11 +134,11 @@ static const char *shown(const row *row) {
     return row->text ? row->text : "null";
 }
 
-/* What a caller may have in a `json` before a call: no block, and no length of one. */
-static const graphql_parser_json garbage = {(uint8_t *)1, 700};
+/* What a caller may have in a `json` or a `report` before a call: no block, and no length of one. */
+static const graphql_parser_block garbage = {(uint8_t *)1, 700};
 
-static bool is_nothing(const graphql_parser_json *json) {
-    return !json->start && !json->length;
+static bool is_nothing(const graphql_parser_block *block) {
+    return !block->start && !block->length;
 }
 
 /* The text of a row, in a block of exactly its length, so that a tool that looks for reads past a block sees one; or null. */
@@ -154,6 +160,11 @@ static bool are_same(const graphql_parser_places *one, const graphql_parser_plac
 static bool is_of_the_text(uint32_t status) {
     return status != GRAPHQL_PARSER_OUT_OF_MEMORY && status != GRAPHQL_PARSER_NOT_UTF8 &&
         status != GRAPHQL_PARSER_LIMIT_TOO_LARGE;
+}
+
+/* Whether a status comes with a report. */
+static bool is_explained(uint32_t status) {
+    return is_of_the_text(status) && status != GRAPHQL_PARSER_ACCEPTED;
 }
 
 #endif

@@ -37,6 +37,7 @@ SCALAR = (
 
 REQUEST = (graphql_parser.check_query, graphql_parser.parse_query)
 SCHEMA_FILE = (graphql_parser.check_schema, graphql_parser.parse_schema)
+EXPLAIN = {REQUEST: graphql_parser.explain_query, SCHEMA_FILE: graphql_parser.explain_schema}
 
 REFUSED = [
     (REQUEST, "{a", Kind.SYNTAX, [(1, 3)]),
@@ -62,6 +63,26 @@ class Calls(unittest.TestCase):
                     call(text)
                 self.assertEqual((caught.exception.kind, caught.exception.places), (kind, places))
                 self.assertEqual(caught.exception.json is not None, call is parse)
+
+    def test_each_refused_text_is_explained(self):
+        for language, text, kind, places in REFUSED:
+            with self.subTest(text=text):
+                report = EXPLAIN[language](text)
+                if places:
+                    self.assertTrue(report.startswith("%d:%d: " % places[0]), report)
+                if kind == Kind.SYNTAX:
+                    self.assertRegex(report.splitlines()[0], ": syntax error: .*, expected ")
+                self.assertTrue(report.endswith("\n"), report)
+        self.assertEqual(
+            graphql_parser.explain_query("{\u00e9 ?}".encode()),
+            '1:2: syntax error: the character \u00e9 begins no token, expected a name or "..."\n 1 | {\u00e9 ?}\n   |  ^\n',
+        )
+        self.assertEqual(
+            graphql_parser.explain_query("{a{b}}", selections=0),
+            "1:3: recursion limit exceeded: selection sets may nest 0 deep\n 1 | {a{b}}\n   |   ^\n",
+        )
+        self.assertIsNone(graphql_parser.explain_query("{a}"))
+        self.assertIsNone(graphql_parser.explain_schema("scalar A"))
 
     def test_an_accepted_text_gives_its_tree(self):
         self.assertIsNone(graphql_parser.check_query("{a}"))
@@ -168,13 +189,13 @@ class Calls(unittest.TestCase):
         for text in (b"{a}", bytearray(b"{a}"), memoryview(b"{a}"), memoryview(b"}xax{")[::-2]):
             self.assertIsNone(graphql_parser.check_query(text))
         for text in ([123, 97, 125], 2_000_000_000, None, 1.5, object(), ("{a}",), iter(b"{a}")):
-            for call in (*REQUEST, *SCHEMA_FILE):
+            for call in (*REQUEST, *SCHEMA_FILE, *EXPLAIN.values()):
                 with self.assertRaises(TypeError):
                     call(text)
 
     def test_texts_that_are_not_utf8_are_refused(self):
         for text in (b"{a}\xff", bytearray(b"#\xed\xa0\x80"), "{a}#\ud800"):
-            for call in (*REQUEST, *SCHEMA_FILE):
+            for call in (*REQUEST, *SCHEMA_FILE, *EXPLAIN.values()):
                 with self.assertRaises(GraphQLError) as caught:
                     call(text)
                 error = caught.exception

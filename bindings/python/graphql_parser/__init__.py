@@ -7,7 +7,8 @@
     Traceback (most recent call last):
     graphql_parser.GraphQLError: syntax error at 1:7
 
-`check_query` and `check_schema` raise an error or return None. `parse_query` and `parse_schema` return the tree in the form
+`check_query` and `check_schema` raise an error or return None. `explain_query` and `explain_schema` return a report for people
+of what is wrong with a text. `parse_query` and `parse_schema` return the tree in the form
 of GraphQL.js, as dicts and lists; `query_json` and `schema_json` return it as the JSON that it is handed over in. `parse`
 stands in for `graphql.parse` of graphql-core: it returns graphql-core's nodes and raises its errors.
 
@@ -30,6 +31,8 @@ __all__ = [
     "LARGEST_LIMIT",
     "check_query",
     "check_schema",
+    "explain_query",
+    "explain_schema",
     "parse",
     "parse_query",
     "parse_schema",
@@ -51,6 +54,25 @@ def check_query(text, *, selections=64, values=64, types=64):
 def check_schema(text, *, selections=64, values=64, types=64):
     """Raises a GraphQLError where `text` isn't a schema file. It has no selection sets: `selections` makes no difference."""
     _library.check(_library.check_schema, text, (selections, values, types))
+
+
+def explain_query(text, *, selections=64, values=64, types=64):
+    """A report for people of what is wrong with a request, a str of lines; None where nothing is.
+
+    It tells what was found and what was expected, with the line of the place and a caret under it. Its words may change with any
+    version of the library. A text that isn't UTF-8 has no lines to show: it raises a GraphQLError.
+
+    >>> print(graphql_parser.explain_query("{ hero() }"), end="")
+    1:8: syntax error: found ")", expected a name
+     1 | { hero() }
+       |        ^
+    """
+    return _library.explain(_library.explain_query, text, (selections, values, types))
+
+
+def explain_schema(text, *, selections=64, values=64, types=64):
+    """A report for people of what is wrong with a schema file, as `explain_query` gives one; None where nothing is."""
+    return _library.explain(_library.explain_schema, text, (selections, values, types))
 
 
 def query_json(text, *, selections=64, values=64, types=64, places=False):

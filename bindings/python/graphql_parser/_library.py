@@ -56,10 +56,13 @@ def _call(name, arguments, result):
 library = _loaded()
 _CHECK = _TEXT + [ctypes.POINTER(Places)]
 _PARSE = _TEXT + [ctypes.c_bool, ctypes.POINTER(Places), ctypes.POINTER(Block)]
+_EXPLAIN = _TEXT + [ctypes.POINTER(Places), ctypes.POINTER(Block)]
 check_query = _call("check_query", _CHECK, ctypes.c_uint32)
 check_schema = _call("check_schema", _CHECK, ctypes.c_uint32)
 parse_query = _call("parse_query", _PARSE, ctypes.c_uint32)
 parse_schema = _call("parse_schema", _PARSE, ctypes.c_uint32)
+explain_query = _call("explain_query", _EXPLAIN, ctypes.c_uint32)
+explain_schema = _call("explain_schema", _EXPLAIN, ctypes.c_uint32)
 version = _call("version", [], ctypes.c_uint32)
 # The `free` that goes with the library's `malloc`: both are bound in the shared object. A `free` that is looked up from here
 # isn't the same one where another allocator was loaded before the C library.
@@ -115,6 +118,18 @@ def check(call, text, limits):
     status = call(*asked, ctypes.byref(places))
     if status:
         refuse(status, places, None)
+
+
+def explain(call, text, limits):
+    """The report of a text, or None where it is accepted; a GraphQLError where it isn't UTF-8."""
+    asked = _asked(text, limits)
+    places = Places()
+    block = Block()
+    status = call(*asked, ctypes.byref(places), ctypes.byref(block))
+    report = _taken(block)
+    if status and report is None:
+        refuse(status, places, None)
+    return report and report.decode()
 
 
 def parse_bytes(call, text, limits, with_places):

@@ -8,18 +8,10 @@
 //! assert!(tree.starts_with(r#"{"kind":"Document""#));
 //! # Ok::<(), graphql_parser::Error>(())
 //! ```
-use crate::raw::{self, ParseCall};
+use crate::raw::{self, Block, ParseCall};
 use crate::{refusal, Limits, Result};
-use std::ffi::c_void;
 use std::fmt;
 use std::ops::Deref;
-use std::ptr::NonNull;
-use std::slice;
-use std::str;
-
-extern "C" {
-    fn graphql_parser_free(block: *mut c_void);
-}
 
 /// Whether the nodes of a tree are written with their places, as the members `line` and `column`. The document, the names of
 /// operations and fragments, the name in a variable that is a value, the roots of a schema, and what is inside a list, an
@@ -53,45 +45,19 @@ pub fn parse_schema(text: &str, limits: Limits, places: Places) -> Result<Json> 
 // The tree of a text, as a call of the library hands it over.
 pub(crate) fn parse(call: ParseCall, text: &str, limits: Limits, places: Places) -> Result<Json> {
     let outcome = raw::parse(call, text, limits, places);
-    match (outcome.status, outcome.json) {
-        (0, Some(json)) => Ok(json),
+    match (outcome.status, outcome.block) {
+        (0, Some(json)) => Ok(Json(json)),
         (status, json) => Err(refusal(status, outcome.places, json.as_deref())),
     }
 }
 
 /// A text of JSON. It is a `str` wherever one is wanted, and lies where the parser wrote it: nothing is copied.
-pub struct Json {
-    start: NonNull<u8>,
-    length: usize,
-}
-
-// SAFETY: the block is owned, and nobody writes to it.
-unsafe impl Send for Json {}
-// SAFETY: as above; a shared `Json` only reads.
-unsafe impl Sync for Json {}
+pub struct Json(Block);
 
 impl Json {
-    /// Takes over a block; none where it is null.
-    ///
-    /// # Safety
-    ///
-    /// `start` is null, or a block of the library that nobody else gives back or writes to, whose first `length` bytes are
-    /// UTF-8.
-    pub(crate) unsafe fn from_block(start: *mut u8, length: usize) -> Option<Json> {
-        NonNull::new(start).map(|start| Json { start, length })
-    }
-
     /// The text.
     pub fn as_str(&self) -> &str {
-        // SAFETY: `from_block` was given so many bytes, which are UTF-8, and they stay until `drop`.
-        unsafe { str::from_utf8_unchecked(slice::from_raw_parts(self.start.as_ptr(), self.length)) }
-    }
-}
-
-impl Drop for Json {
-    fn drop(&mut self) {
-        // SAFETY: the block is the library's and owned, and this is the one time that it is given back.
-        unsafe { graphql_parser_free(self.start.as_ptr().cast()) }
+        &self.0
     }
 }
 

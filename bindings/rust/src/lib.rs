@@ -3,7 +3,7 @@
 //! [`parse_query`] and [`parse_schema`] give the tree of a text, in plain Rust: the types of [`types`] and [`value`], each
 //! node with its line and its column. They have the names of async-graphql-parser 7.2.1, so that a program that was
 //! written for that crate changes its imports. [`check_query`] and [`check_schema`] tell whether a text is good, and make
-//! no tree. [`json`] hands over trees as JSON.
+//! no tree. [`explain_query`] and [`explain_schema`] tell people what is wrong with a text. [`json`] hands over trees as JSON.
 //!
 //! All of them borrow the text, may be called from any number of threads, and never panic. Selection sets, values and types
 //! nest 64 deep each, unless [`Limits`] say otherwise.
@@ -41,7 +41,7 @@ pub mod value;
 pub use error::{Error, ErrorPositions, Result};
 use json::Places;
 pub use pos::{Pos, Positioned};
-use raw::{CheckCall, ParseCall};
+use raw::{CheckCall, ExplainCall, ParseCall};
 use types::{ExecutableDocument, ServiceDocument};
 
 /// How deep a text may nest: three numbers, each at most [`Limits::LARGEST`].
@@ -141,6 +141,42 @@ pub fn check_schema<T: AsRef<str>>(input: T, limits: Limits) -> Result<()> {
     )
 }
 
+/// A report for people of what is wrong with a request; None where nothing is.
+///
+/// It tells what was found and what was expected, with the line of the place and a caret under it, and with a second place
+/// where the error has two. Each line ends in a line feed. The words may change with any version of the library. It takes as
+/// long as some twenty to forty checks.
+///
+/// ```
+/// use graphql_parser::{explain_query, Limits};
+///
+/// let report = explain_query("{ hero() }", Limits::default())?;
+/// let lines = concat!(
+///     "1:8: syntax error: found \")\", expected a name\n",
+///     " 1 | { hero() }\n",
+///     "   |        ^\n",
+/// );
+/// assert_eq!(report.as_deref(), Some(lines));
+/// # Ok::<(), graphql_parser::Error>(())
+/// ```
+///
+/// # Errors
+///
+/// [`Error::OutOfMemory`], and [`Error::LimitTooLarge`]: then the text wasn't read.
+pub fn explain_query<T: AsRef<str>>(input: T, limits: Limits) -> Result<Option<String>> {
+    explain(raw::graphql_parser_explain_query, input.as_ref(), limits)
+}
+
+/// A report for people of what is wrong with a schema file, as [`explain_query`] gives one of a request; None where nothing
+/// is.
+///
+/// # Errors
+///
+/// [`Error::OutOfMemory`], and [`Error::LimitTooLarge`]: then the text wasn't read.
+pub fn explain_schema<T: AsRef<str>>(input: T, limits: Limits) -> Result<Option<String>> {
+    explain(raw::graphql_parser_explain_schema, input.as_ref(), limits)
+}
+
 /// The three numbers of the version of the library that is linked, such as 1, 0 and 0.
 #[must_use]
 pub fn version() -> (u32, u32, u32) {
@@ -157,6 +193,16 @@ fn check(call: CheckCall, parse: ParseCall, text: &str, limits: Limits) -> Resul
     match Error::of(status, places, None) {
         Some(error) => Err(error),
         None => json::parse(parse, text, limits, Places::LeftOut).map(drop),
+    }
+}
+
+// An accepted text has no report, and neither has one that couldn't be read.
+fn explain(call: ExplainCall, text: &str, limits: Limits) -> Result<Option<String>> {
+    let outcome = raw::explain(call, text, limits);
+    match (outcome.status, outcome.block) {
+        (0, _) => Ok(None),
+        (_, Some(report)) => Ok(Some(report.to_owned())),
+        (status, None) => Err(refusal(status, outcome.places, None)),
     }
 }
 

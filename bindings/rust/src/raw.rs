@@ -1,8 +1,11 @@
-//! The functions of C, as `graphql_parser.h` declares them. All that is unsafe stands here, in `json` and in
+//! The functions of C, as `graphql_parser.h` declares them, and what they hand over. All that is unsafe stands here and in
 //! `value::text`.
-use crate::json::{Json, Places};
+use crate::json::Places;
 use crate::{Limits, Pos};
-use std::ptr;
+use std::ffi::c_void;
+use std::ops::Deref;
+use std::ptr::{self, NonNull};
+use std::{slice, str};
 
 #[repr(C)]
 #[derive(Clone, Copy, Default)]
@@ -19,7 +22,7 @@ pub struct RawPlaces {
 }
 
 #[repr(C)]
-pub struct RawJson {
+pub struct RawBlock {
     start: *mut u8,
     length: usize,
 }
@@ -57,14 +60,29 @@ functions! {
         types: usize,
         with_places: bool,
         places: *mut RawPlaces,
-        json: *mut RawJson,
+        json: *mut RawBlock,
     ),
     graphql_parser_parse_query,
     graphql_parser_parse_schema
 }
 
+functions! {
+    ExplainCall: (
+        text: *const u8,
+        length: usize,
+        selections: usize,
+        values: usize,
+        types: usize,
+        places: *mut RawPlaces,
+        report: *mut RawBlock,
+    ),
+    graphql_parser_explain_query,
+    graphql_parser_explain_schema
+}
+
 extern "C" {
     fn graphql_parser_version() -> u32;
+    fn graphql_parser_free(block: *mut c_void);
 }
 
 /// The version of the library that is linked: its first number times 10000, its second times 100, and its third, together.
@@ -73,11 +91,50 @@ pub fn version() -> u32 {
     unsafe { graphql_parser_version() }
 }
 
-/// What a parse tells and hands over.
+/// A text that a call handed over, where the call wrote it: nothing is copied.
+pub struct Block {
+    start: NonNull<u8>,
+    length: usize,
+}
+
+// SAFETY: the block is owned, and nobody writes to it.
+unsafe impl Send for Block {}
+// SAFETY: as above; a shared `Block` only reads.
+unsafe impl Sync for Block {}
+
+impl Block {
+    /// Takes over a block; none where it is null.
+    ///
+    /// # Safety
+    ///
+    /// `start` is null, or a block of the library that nobody else gives back or writes to, whose first `length` bytes are
+    /// UTF-8.
+    unsafe fn of(RawBlock { start, length }: RawBlock) -> Option<Block> {
+        NonNull::new(start).map(|start| Block { start, length })
+    }
+}
+
+impl Deref for Block {
+    type Target = str;
+
+    fn deref(&self) -> &str {
+        // SAFETY: `of` was given so many bytes, which are UTF-8, and they stay until `drop`.
+        unsafe { str::from_utf8_unchecked(slice::from_raw_parts(self.start.as_ptr(), self.length)) }
+    }
+}
+
+impl Drop for Block {
+    fn drop(&mut self) {
+        // SAFETY: the block is the library's and owned, and this is the one time that it is given back.
+        unsafe { graphql_parser_free(self.start.as_ptr().cast()) }
+    }
+}
+
+/// What a call tells and hands over.
 pub struct Outcome {
     pub status: u32,
     pub places: [Option<Pos>; 2],
-    pub json: Option<Json>,
+    pub block: Option<Block>,
 }
 
 fn place(RawPlace { line, column }: RawPlace) -> Option<Pos> {
@@ -108,14 +165,11 @@ pub fn check(call: CheckCall, text: &str, limits: Limits) -> (u32, [Option<Pos>;
     })
 }
 
+/// The status of a parse, its places, and the JSON that it hands over.
 pub fn parse(call: ParseCall, text: &str, limits: Limits, places_of_nodes: Places) -> Outcome {
     let (start, length) = (text.as_ptr(), text.len());
     let with_places = places_of_nodes == Places::Written;
-    let mut json = RawJson {
-        start: ptr::null_mut(),
-        length: 0,
-    };
-    let (status, places) = told(limits, |[selections, values, types], places| {
+    handed(limits, |[selections, values, types], places, json| {
         // SAFETY: as at `check`; `json` is ours, and overlaps nothing.
         unsafe {
             call(
@@ -126,15 +180,36 @@ pub fn parse(call: ParseCall, text: &str, limits: Limits, places_of_nodes: Place
                 types,
                 with_places,
                 places,
-                &mut json,
+                json,
             )
         }
-    });
-    // SAFETY: a call sets `json` to null, or to a block of `malloc` that is now ours, whose first `length` bytes are UTF-8.
-    let json = unsafe { Json::from_block(json.start, json.length) };
+    })
+}
+
+/// The status of an explanation, its places, and the report that it hands over.
+pub fn explain(call: ExplainCall, text: &str, limits: Limits) -> Outcome {
+    let (start, length) = (text.as_ptr(), text.len());
+    handed(limits, |[selections, values, types], places, report| {
+        // SAFETY: as at `parse`.
+        unsafe { call(start, length, selections, values, types, places, report) }
+    })
+}
+
+/// Has a function called as `told` does, with room for what it hands over too.
+fn handed(
+    limits: Limits,
+    call: impl FnOnce([usize; 3], &mut RawPlaces, &mut RawBlock) -> u32,
+) -> Outcome {
+    let mut block = RawBlock {
+        start: ptr::null_mut(),
+        length: 0,
+    };
+    let (status, places) = told(limits, |limits, places| call(limits, places, &mut block));
+    // SAFETY: a call sets it to null, or to a block of `malloc` that is now ours, whose first `length` bytes are UTF-8.
+    let block = unsafe { Block::of(block) };
     Outcome {
         status,
         places,
-        json,
+        block,
     }
 }

@@ -3,8 +3,8 @@ use graphql_parser::json::{self, Places};
 use graphql_parser::types::{DocumentOperations, OperationType};
 use graphql_parser::value::Name;
 use graphql_parser::{
-    check_query, check_schema, parse_query, parse_query_limited, parse_schema,
-    parse_schema_limited, Error, Limits, Pos,
+    check_query, check_schema, explain_query, explain_schema, parse_query, parse_query_limited,
+    parse_schema, parse_schema_limited, Error, Limits, Pos,
 };
 use std::thread;
 
@@ -130,6 +130,48 @@ fn refuses_each() {
 #[test]
 fn each_error_has_its_kind_and_its_places() {
     refuses_each();
+}
+
+// What an explanation says of a text.
+fn explained(row: &Refused) -> Result<Option<String>, Error> {
+    let (text, limits) = (&row.text, limits(row.limit));
+    if row.is_request {
+        explain_query(text, limits)
+    } else {
+        explain_schema(text, limits)
+    }
+}
+
+#[test]
+fn each_refused_text_is_explained() {
+    for row in refused() {
+        match (explained(&row), &row.error) {
+            (Err(error), Error::LimitTooLarge) => assert_eq!(error, Error::LimitTooLarge),
+            (Ok(Some(report)), error) => {
+                // A syntax error is told with its place, in other words than the error's, and so is the place of a limit.
+                let begins = match error {
+                    Error::Syntax { start, .. } => format!("{start}: syntax error: "),
+                    Error::RecursionLimitExceeded => "1:".to_owned(),
+                    error => match error.positions().next() {
+                        Some(place) => format!("{place}: {error}"),
+                        None => format!("{error}"),
+                    },
+                };
+                assert!(report.starts_with(&begins), "{report}");
+                assert!(report.ends_with('\n'), "{report}");
+            }
+            (other, _) => panic!("{}: {other:?}", row.text),
+        }
+    }
+    assert_eq!(explain_query("{a}", limits(0)), Ok(None));
+    assert_eq!(explain_schema("scalar A", Limits::default()), Ok(None));
+    let report = explain_schema("type A { b: }", Limits::default()).unwrap();
+    let lines = concat!(
+        "1:13: syntax error: found \"}\", expected a name or \"[\"\n",
+        " 1 | type A { b: }\n",
+        "   |             ^\n"
+    );
+    assert_eq!(report.as_deref(), Some(lines));
 }
 
 #[test]

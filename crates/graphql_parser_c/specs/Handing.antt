@@ -2,6 +2,7 @@
 -- Source: this project's choice.
 use Rattle.std.specs.Prelude.{◌≡◌, ◌⊎◌, ℕ, List, Bool, true, false, Some, Result, Ok, Err}
 use Rattle.std.specs.Ptr.{null_ptr}
+use Rattle.std.specs.declared.alloc.AllocError.{AllocError}
 use Rattle.graphql_grammar.specs.declared.error.Error.{Error}
 use Rattle.graphql_json.specs.declared.place.Places.{Places}
 use Rattle.graphql_json.specs.declared.place.Places.TheVariants as places
@@ -36,9 +37,9 @@ answer_value value (Err error) = error_value (error_text error) (error_places er
 abbrev pub IsNothing : Block → Type 0
 IsNothing block = (block.start ≡ null_ptr) × (block.length ≡ 0)
 
--- where the status says something of the text, this JSON is handed over; else nothing is
-abbrev pub IsHanded : List ℕ → ℕ → Block → Type 0
-IsHanded text number block = (SaysNothing number → IsNothing block) × (¬ SaysNothing number → block.text ≡ Some text)
+-- where the status says something of the text, what was made is handed over; else nothing is
+abbrev pub IsHanded : Result Block AllocError → ℕ → Block → Type 0
+IsHanded made number block = (SaysNothing number → IsNothing block) × (¬ SaysNothing number → made ≡ Ok block)
 
 -- What a call hands over of a text, in a language and within limits, where `value` gives the JSON of a document: nothing, where
 -- the status says nothing of the text, and else the JSON of the parser's answer for the tokens of the text. What was there

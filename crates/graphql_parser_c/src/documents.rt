@@ -4,7 +4,7 @@ ghost use Rattle.graphql_json.specs.nodes.Nodes.{json_text};
 ghost use Rattle.graphql_json.specs.nodes.Requests.{request_value};
 ghost use Rattle.graphql_json.specs.nodes.Schemas.{schema_value};
 ghost use Rattle.graphql_parser.specs.answers.Answers.{Answers};
-ghost use Rattle.graphql_parser.specs.answers.Language.{Language};
+ghost use Rattle.graphql_parser.specs.answers.Language.{Language as DocumentLanguage};
 ghost use Rattle.graphql_parser.specs.Checking.{checked};
 ghost use Rattle.graphql_parser.specs.requests.Request.{Definition as RequestDefinition};
 ghost use Rattle.graphql_parser.specs.requests.Requests.{requests};
@@ -21,9 +21,10 @@ use graphql_parser::{
     Limits, Result, check_query_limited, check_schema_limited, parse_query_limited,
     parse_schema_limited,
 };
+use graphql_report::Language;
 use std::alloc::{AllocError, Global};
 
-/// The documents of a language: how a text is read, and its tree written.
+/// The documents of a language: how a text is read, its tree written, and an error in it explained.
 pub trait Document: Drop {
     ghost use Rattle.graphql_json.specs.declared.place.Places.{Places as WrittenPlaces};
     ghost use Rattle.json.specs.Json.{Json};
@@ -31,7 +32,10 @@ pub trait Document: Drop {
     // The tree of a definition.
     ghost Tree: { Type 0 };
 
-    ghost language: { Language Self.Tree Self };
+    ghost language: { DocumentLanguage Self.Tree Self };
+
+    /// The language, as reports have it.
+    const LANGUAGE: Language;
 
     // The JSON of a document.
     ghost value: { WrittenPlaces → Self → Json };
@@ -54,6 +58,8 @@ impl Document for ExecutableDocument {
 
     ghost language = { requests };
 
+    const LANGUAGE: Language = Language::Requests;
+
     ghost value = { λ places document. request_value places (document_tree document) };
 
     fn read(alloc: Global, text: &str, limits: Limits) -> Result<ExecutableDocument> {
@@ -73,6 +79,8 @@ impl Document for ServiceDocument {
     ghost Tree = { SchemaDefinition };
 
     ghost language = { schemas };
+
+    const LANGUAGE: Language = Language::Schemas;
 
     ghost value = { λ places document. schema_value places (schema_document_tree document) };
 

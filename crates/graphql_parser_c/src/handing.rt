@@ -1,5 +1,5 @@
 //! How a tree, or an error, is handed over as JSON.
-ghost use Rattle.std.specs.Prelude.{◌≡◌, ◌⊎◌, Err, IfOk, IsErr, Result as SpecResult};
+ghost use Rattle.std.specs.Prelude.{◌≡◌, ◌⊎◌, Err, IfOk, IsErr, Some, Result as SpecResult};
 ghost use Rattle.graphql_grammar.specs.declared.error.Error.{Error as SpecError};
 ghost use Rattle.graphql_grammar.specs.declared.error.Error.TheVariants.{OutOfMemory};
 ghost use Rattle.graphql_json.specs.nodes.Nodes.{json_text};
@@ -14,6 +14,27 @@ use crate::telling::{Places, Question, ReadableText, tell};
 use graphql_json::error_json;
 use graphql_parser::{Error, Result};
 use std::alloc::{AllocError, Global};
+
+/// Tells an answer and hands over what was made of it; or, where memory was refused to that, tells this alone and hands over
+/// nothing.
+pub fn hand_over<T>(
+    answer: &Result<T>,
+    made: std::result::Result<Block, AllocError>,
+    places: &mut Places,
+    block: &mut Block,
+) -> Status
+    requires { answer.now ≡ Err OutOfMemory → IsErr made }
+    ensures told { (told : SpecResult T SpecError) × ((told ≡ answer.now) ⊎ (told ≡ Err OutOfMemory)) × (result ≡ status_of told) × (places.new ≡ places_of told) }
+    ensures handed { IsHanded made (number_of result) block.new }
+{
+    let Ok(made) = made else {
+        *places = Places::none();
+        *block = Block::nothing();
+        return Status::OutOfMemory;
+    };
+    *block = made;
+    tell(answer, places)
+}
 
 // The JSON of an answer; an error says that memory was refused, to the parser or to the writer.
 fn written<D: Document>(
@@ -32,24 +53,17 @@ fn written<D: Document>(
     }
 }
 
-// Tells an answer and hands over its JSON; or, where memory was refused to the JSON, tells that alone and hands over nothing.
-fn hand_over<D: Document>(
+// The same, in a block.
+fn json_of<D: Document>(
     alloc: Global,
     answer: &Result<D>,
     with_places: bool,
-    places: &mut Places,
-    json: &mut Block,
-) -> Status
-    ensures told { (told : SpecResult D SpecError) × ((told ≡ answer.now) ⊎ (told ≡ Err OutOfMemory)) × (result ≡ status_of told) × (places.new ≡ places_of told) }
-    ensures handed { IsHanded (json_text (answer_value (D.value (places_asked with_places)) answer.now)) (number_of result) json.new }
+) -> std::result::Result<Block, AllocError>
+    ensures text { IfOk result (λ json. json.text ≡ Some (json_text (answer_value (D.value (places_asked with_places)) answer.now))) }
+    ensures memory { answer.now ≡ Err OutOfMemory → IsErr result }
 {
-    let Ok(bytes) = written(alloc, answer, with_places) else {
-        *places = Places::none();
-        *json = Block::nothing();
-        return Status::OutOfMemory;
-    };
-    *json = Block::of(bytes.leak());
-    tell(answer, places)
+    let json = written(alloc, answer, with_places)?;
+    Ok(Block::of(json.leak()))
 }
 
 /// Reads a text, tells the answer, and hands over its JSON; or tells why the text can't be read, and hands over nothing.
@@ -72,5 +86,6 @@ pub fn parse<D: Document>(
         }
     };
     let answer = D::read(alloc, text, limits);
-    hand_over(alloc, &answer, with_places, places, json).number()
+    let made = json_of(alloc, &answer, with_places);
+    hand_over(&answer, made, places, json).number()
 }

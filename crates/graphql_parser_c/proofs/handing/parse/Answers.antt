@@ -1,23 +1,18 @@
-use Rattle.std.proofs.Common.{◌≡◌, ◌⊎◌, ℕ, List, Result, Err, inl, inr, subst, sym, ap, ◌∙◌}
-use Rattle.graphql_grammar.specs.declared.error.Error.{Error}
-use Rattle.graphql_grammar.specs.declared.error.Error.TheVariants.{OutOfMemory}
+use Rattle.std.proofs.Common.{◌≡◌, ℕ, List, Some, subst, sym, ap, ◌∙◌}
+use Rattle.std.specs.Prelude.{IfOk}
 use Rattle.graphql_json.specs.nodes.Nodes.{json_text}
 use Rattle.graphql_parser.specs.answers.Answers.{Answers}
 use Rattle.graphql_parser.specs.tokens.Cuts.{IsCutInto}
 use Rattle.graphql_parser.specs.tokens.Token.{Token}
-use Rattle.graphql_parser_c.specs.Handing.{IsHanded, SaysNothing, answer_value, places_asked}
-use Rattle.graphql_parser_c.specs.Statuses.{number_of, status_of}
+use Rattle.graphql_parser_c.specs.Handing.{IsHanded, answer_value, places_asked}
+use Rattle.graphql_parser_c.specs.Statuses.{number_of}
+use Rattle.graphql_parser_c.proofs.Numbers.{number_told}
 use Rattle.graphql_parser_c.proofs.handing.parse.Goals as goal
-
--- where the status says something of the text, it is that of the answer
-number_told : {D : Type 0} (answer told : Result D Error) (number : ℕ) → (told ≡ answer) ⊎ (told ≡ Err OutOfMemory) → number ≡ number_of (status_of told) → ¬ SaysNothing number → number ≡ number_of (status_of answer)
-number_told answer told number (inl e) of_told says = of_told ∙ ap (λ a. number_of (status_of a)) e
-number_told answer told number (inr e) of_told says = absurd (says (inl (of_told ∙ ap (λ a. number_of (status_of a)) e)))
 
 pub returns-clause-handed : goal.returns-clause-handed
 returns-clause-handed g c =
     let text : List ℕ = json_text (answer_value (g.D.Document.value (places_asked c.args.with_places)) c.read-answer.result) in
-    let Handed : ℕ → Type 0 = λ number. IsHanded text number c.hand_over.new.json in
+    let Handed : ℕ → Type 0 = λ number. IsHanded c.json_of-made.result number c.hand_over.new.block in
     let handed = subst Handed (sym c.number-2.ensures) c.hand_over.ensures.handed in
     let told = c.hand_over.ensures.told in
     let read = λ (tokens : List Token) (cut : IsCutInto c.args.question.now.text.now tokens).
@@ -25,5 +20,10 @@ returns-clause-handed g c =
     (c.read-answer.ensures tokens (subst (λ t. IsCutInto t tokens) (sym c.in-Ok.ensures.0) cut)) in
     record {
       nothing = handed.0;
-      answer = λ says tokens cut. (c.read-answer.result, read tokens cut, number_told c.read-answer.result told.0 _ told.1 (c.number-2.ensures ∙ ap number_of told.2) says, handed.1 says);
+      answer = λ says tokens cut. (
+        c.read-answer.result,
+        read tokens cut,
+        number_told c.read-answer.result told.0 _ told.1 (c.number-2.ensures ∙ ap number_of told.2) says,
+        subst (λ made. IfOk made (λ json. json.text ≡ Some text)) (handed.1 says) c.json_of-made.ensures.text,
+      );
     }
