@@ -1,6 +1,7 @@
 /* Has each request for memory of each call refused, one after the other, until the call meets no refusal. A call must
  * tell then that memory was refused, hand nothing over, and have given back all that it took. But a request that makes a
- * block smaller asks for no memory: where it is refused, the call must answer as if nothing had been.
+ * block smaller asks for no memory: where it is refused, the call must answer as if nothing had been. So may an explanation
+ * in any case, since a list in it that may not double asks for less.
  *
  * Linked with --wrap for `malloc`, `realloc` and `free`, so that the functions below stand in their place, in the library
  * and in this program, and in nothing else. */
@@ -90,11 +91,12 @@ static outcome called(call call, const row *row, const uint8_t *text, size_t len
     return outcome;
 }
 
-/* Whether the call answers as if no request had been refused. */
-static bool is_whole(call call, const row *row, const outcome *outcome) {
+/* Whether the call answers as if no request had been refused, when it handed over what this block has. */
+static bool is_whole(call call, const row *row, const outcome *outcome, const graphql_parser_block *whole) {
     bool is_handed = (call == PARSE && is_of_the_text(row->status)) || (call == EXPLAIN && is_explained(row->status));
     return outcome->status == row->status && are_same(&outcome->places, &row->places) &&
-        is_nothing(&outcome->block) == !is_handed && outcome->kept_blocks == (is_handed ? 1 : 0);
+        is_nothing(&outcome->block) == !is_handed && outcome->kept_blocks == (is_handed ? 1 : 0) &&
+        outcome->block.length == whole->length && (!is_handed || !memcmp(outcome->block.start, whole->start, whole->length));
 }
 
 static bool tells_refusal(const outcome *outcome) {
@@ -109,11 +111,13 @@ int main(void) {
         size_t length;
         uint8_t *text = text_of(&rows[i], &length);
         for (call call = CHECK; call < CALLS; call++) {
+            graphql_parser_block whole = called(call, &rows[i], text, length, 0).block;
             bool goes_on = true;
             for (long number = 1; goes_on; number++) {
                 outcome outcome = called(call, &rows[i], text, length, number);
                 goes_on = outcome.is_refused;
-                bool is_right = outcome.lacks_memory ? tells_refusal(&outcome) : is_whole(call, &rows[i], &outcome);
+                bool is_right = outcome.lacks_memory && tells_refusal(&outcome);
+                if (!outcome.lacks_memory || call == EXPLAIN) is_right |= is_whole(call, &rows[i], &outcome, &whole);
                 if (!is_right && wrong++ < 5)
                     printf("wrong at %.60s, call %d, request %ld refused: status %u, %ld blocks kept\n", shown(&rows[i]),
                            call, number, (unsigned)outcome.status, outcome.kept_blocks);
@@ -122,6 +126,7 @@ int main(void) {
                 refusals += goes_on;
                 shrinks += goes_on && !outcome.lacks_memory;
             }
+            free(whole.start);
         }
         free(text);
     }

@@ -8,9 +8,9 @@
     graphql_parser.GraphQLError: syntax error at 1:7
 
 `check_query` and `check_schema` raise an error or return None. `explain_query` and `explain_schema` return a report for people
-of what is wrong with a text. `parse_query` and `parse_schema` return the tree in the form
-of GraphQL.js, as dicts and lists; `query_json` and `schema_json` return it as the JSON that it is handed over in. `parse`
-stands in for `graphql.parse` of graphql-core: it returns graphql-core's nodes and raises its errors.
+of what is wrong with a text. `parse_query` and `parse_schema` return the tree in the form of GraphQL.js, as dicts and lists;
+`query_json` and `schema_json` return it as the JSON that it is handed over in. `parse` stands in for `graphql.parse` of
+graphql-core: it returns graphql-core's nodes and raises its errors.
 
 A text is a str, or bytes, a bytearray or a memoryview in UTF-8; anything else is a TypeError. A text that isn't UTF-8, or a
 str with a lone surrogate, which has no UTF-8, is refused like any other, with the kind NOT_UTF8. `selections`, `values` and
@@ -62,7 +62,7 @@ def explain_query(text, *, selections=64, values=64, types=64):
     It tells what was found and what was expected, with the line of the place and a caret under it. Its words may change with any
     version of the library. A text that isn't UTF-8 has no lines to show: it raises a GraphQLError.
 
-    >>> print(graphql_parser.explain_query("{ hero() }"), end="")
+    >>> print(explain_query("{ hero() }"), end="")
     1:8: syntax error: found ")", expected a name
      1 | { hero() }
        |        ^
