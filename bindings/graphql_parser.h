@@ -2,7 +2,7 @@
  *
  * Three calls for each language. A check tells by a status, and by up to two places, whether a text is a request or a
  * schema file. A parse tells the same, and hands over the tree, or the error, as JSON. An explanation tells the same, and
- * hands over a report of the error for people.
+ * hands over a report of the error for people. A fourth, at the end, is for the wrapper in Rust.
  *
  * After every parse, whatever it tells and whatever stood in its `json` before, `free(json.start)` is right, and so is
  * `free(report.start)` after every explanation.
@@ -195,6 +195,16 @@ uint32_t graphql_parser_explain_query(
 uint32_t graphql_parser_explain_schema(
     const uint8_t *text, size_t length, size_t selections, size_t values, size_t types, graphql_parser_places *places,
     graphql_parser_report *report);
+
+/* For a wrapper that comes with this library: the same as a parse, and hands over the tree in bytes that mean something to that
+ * wrapper alone and may change with any version. `packed` is written on every call. It is null, and its length 0, after any
+ * status but GRAPHQL_PARSER_ACCEPTED. `text`, `places` and `packed` don't overlap. */
+uint32_t graphql_parser_pack_query(
+    const uint8_t *text, size_t length, size_t selections, size_t values, size_t types, graphql_parser_places *places,
+    graphql_parser_block *packed);
+uint32_t graphql_parser_pack_schema(
+    const uint8_t *text, size_t length, size_t selections, size_t values, size_t types, graphql_parser_places *places,
+    graphql_parser_block *packed);
 
 #ifdef __cplusplus
 }

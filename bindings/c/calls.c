@@ -56,6 +56,23 @@ static const char *fault_of_explaining(const row *row, const uint8_t *text, size
     return NULL;
 }
 
+/* What is wrong with what a pack tells of a row, and hands over, with places and without; null where nothing is. */
+static const char *fault_of_packing(const row *row, const uint8_t *text, size_t length) {
+    size_t limit = row->limit;
+    graphql_parser_block packed = garbage;
+    for (int round = 0; round < 2; round++) {
+        graphql_parser_places places = unwritten;
+        uint32_t status = row->language->pack(text, length, limit, limit, limit, round ? NULL : &places, &packed);
+        bool is_handed = packed.start && packed.length;
+        bool is_right = status == GRAPHQL_PARSER_ACCEPTED ? is_handed : is_nothing(&packed);
+        free(packed.start);
+        if (status != row->status) return "status of pack";
+        if (!round && !are_same(&places, &row->places)) return "places of pack";
+        if (!is_right) return "what is packed";
+    }
+    return NULL;
+}
+
 /* Texts with the whole report of each, by the rules of docs/MESSAGES.md. */
 static const struct {
     const language *language;
@@ -176,6 +193,7 @@ static size_t failures(void) {
         const char *wrong = fault(&rows[i], text, length);
         if (!wrong) wrong = fault_without_places(&rows[i], text, length);
         if (!wrong) wrong = fault_of_explaining(&rows[i], text, length);
+        if (!wrong) wrong = fault_of_packing(&rows[i], text, length);
         if (wrong) {
             printf("wrong at %.60s: %s\n", shown(&rows[i]), wrong);
             count++;

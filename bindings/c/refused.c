@@ -55,7 +55,7 @@ void __wrap_free(void *block) {
 }
 
 /* The calls of a language. */
-typedef enum { CHECK, PARSE, EXPLAIN, CALLS } call;
+typedef enum { CHECK, PARSE, EXPLAIN, PACK, CALLS } call;
 
 /* A call on the text of a row, in which the request of this number is refused, or none where it is 0. */
 typedef struct {
@@ -72,6 +72,7 @@ static uint32_t made(call call, const row *row, const uint8_t *text, size_t leng
     switch (call) {
     case PARSE: return row->language->parse(text, length, limit, limit, limit, true, &outcome->places, &outcome->block);
     case EXPLAIN: return row->language->explain(text, length, limit, limit, limit, &outcome->places, &outcome->block);
+    case PACK: return row->language->pack(text, length, limit, limit, limit, &outcome->places, &outcome->block);
     default: return row->language->check(text, length, limit, limit, limit, &outcome->places);
     }
 }
@@ -93,7 +94,8 @@ static outcome called(call call, const row *row, const uint8_t *text, size_t len
 
 /* Whether the call answers as if no request had been refused, when it handed over what this block has. */
 static bool is_whole(call call, const row *row, const outcome *outcome, const graphql_parser_block *whole) {
-    bool is_handed = (call == PARSE && is_of_the_text(row->status)) || (call == EXPLAIN && is_explained(row->status));
+    bool is_handed = (call == PARSE && is_of_the_text(row->status)) || (call == EXPLAIN && is_explained(row->status)) ||
+        (call == PACK && row->status == GRAPHQL_PARSER_ACCEPTED);
     return outcome->status == row->status && are_same(&outcome->places, &row->places) &&
         is_nothing(&outcome->block) == !is_handed && outcome->kept_blocks == (is_handed ? 1 : 0) &&
         outcome->block.length == whole->length && (!is_handed || !memcmp(outcome->block.start, whole->start, whole->length));

@@ -12,19 +12,21 @@ typedef uint32_t check_call(const uint8_t *, size_t, size_t, size_t, size_t, gra
 typedef uint32_t parse_call(
     const uint8_t *, size_t, size_t, size_t, size_t, bool, graphql_parser_places *, graphql_parser_json *);
 
-typedef uint32_t explain_call(
-    const uint8_t *, size_t, size_t, size_t, size_t, graphql_parser_places *, graphql_parser_report *);
+/* An explanation, or a pack. */
+typedef uint32_t handing_call(
+    const uint8_t *, size_t, size_t, size_t, size_t, graphql_parser_places *, graphql_parser_block *);
 
 typedef struct {
     check_call *check;
     parse_call *parse;
-    explain_call *explain;
+    handing_call *explain;
+    handing_call *pack;
 } language;
 
 static const language requests = {
-    graphql_parser_check_query, graphql_parser_parse_query, graphql_parser_explain_query};
+    graphql_parser_check_query, graphql_parser_parse_query, graphql_parser_explain_query, graphql_parser_pack_query};
 static const language schema_files = {
-    graphql_parser_check_schema, graphql_parser_parse_schema, graphql_parser_explain_schema};
+    graphql_parser_check_schema, graphql_parser_parse_schema, graphql_parser_explain_schema, graphql_parser_pack_schema};
 
 /* A text of a language, and what it gives. */
 typedef struct {

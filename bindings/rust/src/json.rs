@@ -8,7 +8,7 @@
 //! assert!(tree.starts_with(r#"{"kind":"Document""#));
 //! # Ok::<(), graphql_parser::Error>(())
 //! ```
-use crate::raw::{self, Block, ParseCall};
+use crate::raw::{self, ParseCall, Text};
 use crate::{refusal, Limits, Result};
 use std::fmt;
 use std::ops::Deref;
@@ -45,14 +45,14 @@ pub fn parse_schema(text: &str, limits: Limits, places: Places) -> Result<Json> 
 // The tree of a text, as a call of the library hands it over.
 pub(crate) fn parse(call: ParseCall, text: &str, limits: Limits, places: Places) -> Result<Json> {
     let outcome = raw::parse(call, text, limits, places);
-    match (outcome.status, outcome.block) {
+    match (outcome.status, outcome.handed) {
         (0, Some(json)) => Ok(Json(json)),
         (status, json) => Err(refusal(status, outcome.places, json.as_deref())),
     }
 }
 
 /// A text of JSON. It is a `str` wherever one is wanted, and lies where the parser wrote it: nothing is copied.
-pub struct Json(Block);
+pub struct Json(Text);
 
 impl Json {
     /// The text.

@@ -41,7 +41,7 @@ pub mod value;
 pub use error::{Error, ErrorPositions, Result};
 use json::Places;
 pub use pos::{Pos, Positioned};
-use raw::{CheckCall, ExplainCall, ParseCall};
+use raw::{Block, CheckCall, Outcome, ParseCall, Text};
 use types::{ExecutableDocument, ServiceDocument};
 
 /// How deep a text may nest: three numbers, each at most [`Limits::LARGEST`].
@@ -95,9 +95,10 @@ pub fn parse_schema<T: AsRef<str>>(input: T) -> Result<ServiceDocument> {
 ///
 /// Why the text isn't a request within the limits, or that one of them is too large.
 pub fn parse_query_limited<T: AsRef<str>>(input: T, limits: Limits) -> Result<ExecutableDocument> {
-    let call = raw::graphql_parser_parse_query;
-    let json = json::parse(call, input.as_ref(), limits, Places::Written)?;
-    read::request(&json).ok_or_else(unknown_form)
+    let text = input.as_ref();
+    let parse = raw::graphql_parser_parse_query;
+    let bytes = packed(raw::pack_query(text, limits), parse, text, limits)?;
+    read::request(&bytes).ok_or_else(unknown_form)
 }
 
 /// The tree of a schema file. It has no selection sets, so that the limit of these makes no difference.
@@ -106,9 +107,10 @@ pub fn parse_query_limited<T: AsRef<str>>(input: T, limits: Limits) -> Result<Ex
 ///
 /// Why the text isn't a schema file within the limits, or that one of them is too large.
 pub fn parse_schema_limited<T: AsRef<str>>(input: T, limits: Limits) -> Result<ServiceDocument> {
-    let call = raw::graphql_parser_parse_schema;
-    let json = json::parse(call, input.as_ref(), limits, Places::Written)?;
-    read::schema_file(&json).ok_or_else(unknown_form)
+    let text = input.as_ref();
+    let parse = raw::graphql_parser_parse_schema;
+    let bytes = packed(raw::pack_schema(text, limits), parse, text, limits)?;
+    read::schema_file(&bytes).ok_or_else(unknown_form)
 }
 
 /// Tells whether a text is a request. It makes no tree, and takes less time and memory than a parse; only an error that has
@@ -164,7 +166,7 @@ pub fn check_schema<T: AsRef<str>>(input: T, limits: Limits) -> Result<()> {
 ///
 /// [`Error::OutOfMemory`], and [`Error::LimitTooLarge`]: then the text wasn't read.
 pub fn explain_query<T: AsRef<str>>(input: T, limits: Limits) -> Result<Option<String>> {
-    explain(raw::graphql_parser_explain_query, input.as_ref(), limits)
+    explained(raw::explain_query(input.as_ref(), limits))
 }
 
 /// A report for people of what is wrong with a schema file, as [`explain_query`] gives one of a request; None where nothing
@@ -174,7 +176,7 @@ pub fn explain_query<T: AsRef<str>>(input: T, limits: Limits) -> Result<Option<S
 ///
 /// [`Error::OutOfMemory`], and [`Error::LimitTooLarge`]: then the text wasn't read.
 pub fn explain_schema<T: AsRef<str>>(input: T, limits: Limits) -> Result<Option<String>> {
-    explain(raw::graphql_parser_explain_schema, input.as_ref(), limits)
+    explained(raw::explain_schema(input.as_ref(), limits))
 }
 
 /// The three numbers of the version of the library that is linked, such as 1, 0 and 0.
@@ -190,16 +192,36 @@ fn check(call: CheckCall, parse: ParseCall, text: &str, limits: Limits) -> Resul
     if status == 0 {
         return Ok(());
     }
-    match Error::of(status, places, None) {
-        Some(error) => Err(error),
-        None => json::parse(parse, text, limits, Places::LeftOut).map(drop),
+    Err(named_error(status, places, parse, text, limits))
+}
+
+// A tree that is handed over. The name in an error is told by the parse of the same text.
+fn packed(outcome: Outcome<Block>, parse: ParseCall, text: &str, limits: Limits) -> Result<Block> {
+    match (outcome.status, outcome.handed) {
+        (0, Some(bytes)) => Ok(bytes),
+        (status, _) => Err(named_error(status, outcome.places, parse, text, limits)),
     }
 }
 
+// The error that a status other than 0 stands for. Where there is a name in it, the parse of the text tells that.
+fn named_error(
+    status: u32,
+    places: [Option<Pos>; 2],
+    parse: ParseCall,
+    text: &str,
+    limits: Limits,
+) -> Error {
+    Error::of(status, places, None).unwrap_or_else(|| {
+        match json::parse(parse, text, limits, Places::LeftOut) {
+            Ok(_) => refusal(status, places, None),
+            Err(error) => error,
+        }
+    })
+}
+
 // An accepted text has no report, and neither has one that couldn't be read.
-fn explain(call: ExplainCall, text: &str, limits: Limits) -> Result<Option<String>> {
-    let outcome = raw::explain(call, text, limits);
-    match (outcome.status, outcome.block) {
+fn explained(outcome: Outcome<Text>) -> Result<Option<String>> {
+    match (outcome.status, outcome.handed) {
         (0, _) => Ok(None),
         (_, Some(report)) => Ok(Some(report.to_owned())),
         (status, None) => Err(refusal(status, outcome.places, None)),
@@ -216,7 +238,7 @@ fn refusal(status: u32, places: [Option<Pos>; 2], json: Option<&str>) -> Error {
     })
 }
 
-// What is said of a tree in whose JSON something stands that this crate doesn't know.
+// What is said of a tree whose bytes this crate doesn't know.
 fn unknown_form() -> Error {
     Error::Other {
         status: 0,

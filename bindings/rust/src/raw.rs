@@ -67,17 +67,19 @@ functions! {
 }
 
 functions! {
-    ExplainCall: (
+    HandingCall: (
         text: *const u8,
         length: usize,
         selections: usize,
         values: usize,
         types: usize,
         places: *mut RawPlaces,
-        report: *mut RawBlock,
+        block: *mut RawBlock,
     ),
     graphql_parser_explain_query,
-    graphql_parser_explain_schema
+    graphql_parser_explain_schema,
+    graphql_parser_pack_query,
+    graphql_parser_pack_schema
 }
 
 extern "C" {
@@ -91,7 +93,7 @@ pub fn version() -> u32 {
     unsafe { graphql_parser_version() }
 }
 
-/// A text that a call handed over, where the call wrote it: nothing is copied.
+/// Bytes that a call handed over, where the call wrote them: nothing is copied.
 pub struct Block {
     start: NonNull<u8>,
     length: usize,
@@ -107,19 +109,18 @@ impl Block {
     ///
     /// # Safety
     ///
-    /// `start` is null, or a block of the library that nobody else gives back or writes to, whose first `length` bytes are
-    /// UTF-8.
+    /// `start` is null, or a block of the library that nobody else gives back or writes to, and that has `length` bytes.
     unsafe fn of(RawBlock { start, length }: RawBlock) -> Option<Block> {
         NonNull::new(start).map(|start| Block { start, length })
     }
 }
 
 impl Deref for Block {
-    type Target = str;
+    type Target = [u8];
 
-    fn deref(&self) -> &str {
-        // SAFETY: `of` was given so many bytes, which are UTF-8, and they stay until `drop`.
-        unsafe { str::from_utf8_unchecked(slice::from_raw_parts(self.start.as_ptr(), self.length)) }
+    fn deref(&self) -> &[u8] {
+        // SAFETY: `of` was given so many bytes, and they stay until `drop`.
+        unsafe { slice::from_raw_parts(self.start.as_ptr(), self.length) }
     }
 }
 
@@ -130,11 +131,23 @@ impl Drop for Block {
     }
 }
 
+/// A text that a call handed over.
+pub struct Text(Block);
+
+impl Deref for Text {
+    type Target = str;
+
+    fn deref(&self) -> &str {
+        // SAFETY: `text_of` was given a block of UTF-8.
+        unsafe { str::from_utf8_unchecked(&self.0) }
+    }
+}
+
 /// What a call tells and hands over.
-pub struct Outcome {
+pub struct Outcome<T> {
     pub status: u32,
     pub places: [Option<Pos>; 2],
-    pub block: Option<Block>,
+    pub handed: Option<T>,
 }
 
 fn place(RawPlace { line, column }: RawPlace) -> Option<Pos> {
@@ -166,50 +179,91 @@ pub fn check(call: CheckCall, text: &str, limits: Limits) -> (u32, [Option<Pos>;
 }
 
 /// The status of a parse, its places, and the JSON that it hands over.
-pub fn parse(call: ParseCall, text: &str, limits: Limits, places_of_nodes: Places) -> Outcome {
+pub fn parse(
+    call: ParseCall,
+    text: &str,
+    limits: Limits,
+    places_of_nodes: Places,
+) -> Outcome<Text> {
     let (start, length) = (text.as_ptr(), text.len());
     let with_places = places_of_nodes == Places::Written;
-    handed(limits, |[selections, values, types], places, json| {
-        // SAFETY: as at `check`; `json` is ours, and overlaps nothing.
-        unsafe {
-            call(
-                start,
-                length,
-                selections,
-                values,
-                types,
-                with_places,
-                places,
-                json,
-            )
-        }
-    })
+    text_of(handed(
+        limits,
+        |[selections, values, types], places, json| {
+            // SAFETY: as at `check`; `json` is ours, and overlaps nothing.
+            unsafe {
+                call(
+                    start,
+                    length,
+                    selections,
+                    values,
+                    types,
+                    with_places,
+                    places,
+                    json,
+                )
+            }
+        },
+    ))
 }
 
 /// The status of an explanation, its places, and the report that it hands over.
-pub fn explain(call: ExplainCall, text: &str, limits: Limits) -> Outcome {
+pub fn explain_query(text: &str, limits: Limits) -> Outcome<Text> {
+    text_of(hand(graphql_parser_explain_query, text, limits))
+}
+
+/// The same of a schema file.
+pub fn explain_schema(text: &str, limits: Limits) -> Outcome<Text> {
+    text_of(hand(graphql_parser_explain_schema, text, limits))
+}
+
+/// The status of a request, its places, and its tree as the library's own bytes, which `read` reads.
+pub fn pack_query(text: &str, limits: Limits) -> Outcome<Block> {
+    hand(graphql_parser_pack_query, text, limits)
+}
+
+/// The same of a schema file.
+pub fn pack_schema(text: &str, limits: Limits) -> Outcome<Block> {
+    hand(graphql_parser_pack_schema, text, limits)
+}
+
+fn hand(call: HandingCall, text: &str, limits: Limits) -> Outcome<Block> {
     let (start, length) = (text.as_ptr(), text.len());
-    handed(limits, |[selections, values, types], places, report| {
+    handed(limits, |[selections, values, types], places, block| {
         // SAFETY: as at `parse`.
-        unsafe { call(start, length, selections, values, types, places, report) }
+        unsafe { call(start, length, selections, values, types, places, block) }
     })
+}
+
+// What is handed over, as text: parses and explanations hand over UTF-8.
+fn text_of(outcome: Outcome<Block>) -> Outcome<Text> {
+    let Outcome {
+        status,
+        places,
+        handed,
+    } = outcome;
+    Outcome {
+        status,
+        places,
+        handed: handed.map(Text),
+    }
 }
 
 /// Has a function called as `told` does, with room for what it hands over too.
 fn handed(
     limits: Limits,
     call: impl FnOnce([usize; 3], &mut RawPlaces, &mut RawBlock) -> u32,
-) -> Outcome {
+) -> Outcome<Block> {
     let mut block = RawBlock {
         start: ptr::null_mut(),
         length: 0,
     };
     let (status, places) = told(limits, |limits, places| call(limits, places, &mut block));
-    // SAFETY: a call sets it to null, or to a block of `malloc` that is now ours, whose first `length` bytes are UTF-8.
-    let block = unsafe { Block::of(block) };
+    // SAFETY: a call sets it to null, or to a block of `malloc` of so many bytes that is now ours.
+    let handed = unsafe { Block::of(block) };
     Outcome {
         status,
         places,
-        block,
+        handed,
     }
 }

@@ -1,6 +1,6 @@
 //! The calls on good, refused and too deep texts of both languages, from one thread and from several.
 use graphql_parser::json::{self, Places};
-use graphql_parser::types::{DocumentOperations, OperationType};
+use graphql_parser::types::{DocumentOperations, OperationType, Selection};
 use graphql_parser::value::Name;
 use graphql_parser::{
     check_query, check_schema, explain_query, explain_schema, parse_query, parse_query_limited,
@@ -185,6 +185,21 @@ fn an_accepted_text_gives_its_tree() {
         parse_schema("scalar A scalar B").unwrap().definitions.len(),
         2
     );
+}
+
+#[test]
+fn a_type_condition_stands_at_its_keyword() {
+    let tree = parse_query("{...on T{a}} fragment F on U{a}").unwrap();
+    let (_, operation) = tree.operations.iter().next().unwrap();
+    let Selection::InlineFragment(inline) = &operation.node.selection_set.node.items[0].node else {
+        panic!("an inline fragment");
+    };
+    let conditions = [
+        inline.node.type_condition.as_ref().unwrap(),
+        &tree.fragments["F"].node.type_condition,
+    ];
+    let places = conditions.map(|condition| (condition.pos, condition.node.on.pos));
+    assert_eq!(places, [(pos(1, 5), pos(1, 8)), (pos(1, 25), pos(1, 28))]);
 }
 
 #[test]

@@ -3,5 +3,6 @@ pub mod Blocks
 pub mod Explaining
 pub mod Handing
 pub mod Lending
+pub mod Packing
 pub mod Statuses
 pub mod Telling

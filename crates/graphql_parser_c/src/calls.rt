@@ -3,6 +3,7 @@ ghost use Rattle.std.specs.Prelude.{◌≡◌};
 ghost use Rattle.graphql_parser.specs.Checking.{checked};
 ghost use Rattle.graphql_parser_c.specs.Explaining.{IsExplained};
 ghost use Rattle.graphql_parser_c.specs.Handing.{IsAnswered, places_asked};
+ghost use Rattle.graphql_parser_c.specs.Packing.{IsPacked};
 ghost use Rattle.graphql_parser_c.specs.Telling.{IsBack, IsTold, limits_of};
 
 use crate::block::Block;
@@ -10,6 +11,7 @@ use crate::documents::Document;
 use crate::explaining::explain;
 use crate::handing::parse;
 use crate::lending::{Room, Text, Told};
+use crate::packing::pack;
 use crate::telling::{Places, Question, check};
 use std::alloc::Global;
 
@@ -87,5 +89,31 @@ pub fn explain_text<D: Document>(
     };
     let mut places = Places::none();
     let number = explain::<D>(alloc, &question, &mut places, report);
+    Told::of(number, places, room, lent)
+}
+
+/// Parses a text, and hands over its tree as bytes for a wrapper.
+pub fn pack_text<D: Document>(
+    alloc: Global,
+    text: Text,
+    selections: usize,
+    values: usize,
+    types: usize,
+    room: Room,
+    packed: &mut Block,
+) -> Told
+    ensures told { IsTold D.language (limits_of selections values types) text.bytes result.number result.places }
+    ensures handed { IsPacked D.language (limits_of selections values types) text.bytes result.number packed.new }
+    ensures back { IsBack text room result }
+{
+    let (lent, count) = text.lent();
+    let question = Question {
+        text: lent.bytes(count),
+        selections,
+        values,
+        types,
+    };
+    let mut places = Places::none();
+    let number = pack::<D>(alloc, &question, &mut places, packed);
     Told::of(number, places, room, lent)
 }

@@ -16,6 +16,7 @@ ghost use Rattle.graphql_parser.specs.trees.RequestViews.{document_tree};
 ghost use Rattle.graphql_parser.specs.trees.SchemaViews.{schema_document_tree};
 
 use graphql_json::{Places, request_json, schema_json};
+use graphql_packed::{packed_request, packed_schema};
 use graphql_parser::types::{ExecutableDocument, ServiceDocument};
 use graphql_parser::{
     Limits, Result, check_query_limited, check_schema_limited, parse_query_limited,
@@ -24,7 +25,7 @@ use graphql_parser::{
 use graphql_report::Language;
 use std::alloc::{AllocError, Global};
 
-/// The documents of a language: how a text is read, its tree written, and an error in it explained.
+/// The documents of a language: how a text is read, its tree written and packed, and an error in it explained.
 pub trait Document: Drop {
     ghost use Rattle.graphql_json.specs.declared.place.Places.{Places as WrittenPlaces};
     ghost use Rattle.json.specs.Json.{Json};
@@ -51,6 +52,9 @@ pub trait Document: Drop {
     /// The tree as JSON.
     fn json(&self, alloc: Global, places: Places) -> std::result::Result<Vec<u8>, AllocError>
         ensures { IfOk result (λ json. json.items ≡ json_text (Self.value places self.now)) };
+
+    /// The tree as bytes for a wrapper.
+    fn packed(&self, alloc: Global) -> std::result::Result<Vec<u8>, AllocError>;
 }
 
 impl Document for ExecutableDocument {
@@ -73,6 +77,10 @@ impl Document for ExecutableDocument {
     fn json(&self, alloc: Global, places: Places) -> std::result::Result<Vec<u8>, AllocError> {
         request_json(alloc, self, places)
     }
+
+    fn packed(&self, alloc: Global) -> std::result::Result<Vec<u8>, AllocError> {
+        packed_request(alloc, self)
+    }
 }
 
 impl Document for ServiceDocument {
@@ -94,5 +102,9 @@ impl Document for ServiceDocument {
 
     fn json(&self, alloc: Global, places: Places) -> std::result::Result<Vec<u8>, AllocError> {
         schema_json(alloc, self, places)
+    }
+
+    fn packed(&self, alloc: Global) -> std::result::Result<Vec<u8>, AllocError> {
+        packed_schema(alloc, self)
     }
 }

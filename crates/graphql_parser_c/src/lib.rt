@@ -1,18 +1,20 @@
-//! `graphql_parser` for callers that are not Rattle: a static library with three functions of C for each language.
+//! `graphql_parser` for callers that are not Rattle: a static library with four functions of C for each language.
 //!
 //! A check tells whether a text is a request or a schema file, by a status and up to two places, and keeps no tree. A
-//! parse tells the same, and hands over the tree, or the error, as JSON. An explanation tells the same, and hands over a
-//! report of the error for people. `bindings/graphql_parser.h` declares the six functions and says what a caller owes;
+//! parse tells the same, and hands over the tree, or the error, as JSON. An explanation tells the same, and hands over
+//! a report of the error for people. A pack tells the same as a parse, and hands over the tree as bytes for a wrapper
+//! that makes trees of its own. `bindings/graphql_parser.h` declares the eight functions and says what a caller owes;
 //! `bindings/README.md` says how to link them.
 //!
-//! Proved of each call, for every text, at null too where it has no bytes, and for all limits: its status and its places are
-//! those of the parser's one answer for that text, as `graphql_parser` promises it, or the status says that a limit is too
-//! large or that the text isn't UTF-8, exactly where that is so. Where the status says something of the text, what a parse hands over is the JSON of
-//! that answer's tree or error, as `graphql_json` defines it, and these bytes lie where the pointer says; else null is
-//! handed over, with no bytes. Of an answer that is an error, an explanation hands over a report as `graphql_report`
-//! defines it, of a text in a file without a name; else nothing. What was there before makes no difference. The places are
-//! written where the caller's pointer isn't null, and the text is the caller's own again after the call. That what is
-//! handed over lies in a block that `free` takes is tested, by `bindings/check.sh`.
+//! Proved of each call, for every text, at null too where it has no bytes, and for all limits: its status and its
+//! places are those of the parser's one answer for that text, as `graphql_parser` promises it, or the status says that
+//! a limit is too large or that the text isn't UTF-8, exactly where that is so. Where the status says something of the
+//! text, what a parse hands over is the JSON of that answer's tree or error, as `graphql_json` defines it, and these
+//! bytes lie where the pointer says; else null is handed over, with no bytes. Of an answer that is an error, an
+//! explanation hands over a report as `graphql_report` defines it, of a text in a file without a name; else nothing. Of
+//! an accepted text a pack hands over some bytes, else nothing: what they say is tested. What was there before makes no
+//! difference. The places are written where the caller's pointer isn't null, and the text is the caller's own again
+//! after the call. That what is handed over lies in a block that `free` takes is tested, by `bindings/check.sh`.
 #![tactic(auto)]
 
 ghost use Rattle.std.specs.Prelude.{◌≡◌};
@@ -25,6 +27,7 @@ ghost use Rattle.graphql_parser.specs.trees.RequestViews.{document_tree};
 ghost use Rattle.graphql_parser.specs.trees.SchemaViews.{schema_document_tree};
 ghost use Rattle.graphql_parser_c.specs.Explaining.{IsExplained};
 ghost use Rattle.graphql_parser_c.specs.Handing.{IsAnswered, places_asked};
+ghost use Rattle.graphql_parser_c.specs.Packing.{IsPacked};
 ghost use Rattle.graphql_parser_c.specs.Telling.{IsBack, IsTold, limits_of};
 
 mod block;
@@ -33,11 +36,12 @@ mod documents;
 mod explaining;
 mod handing;
 mod lending;
+mod packing;
 mod status;
 mod telling;
 
 pub use block::Block;
-use calls::{check_text, explain_text, parse_text};
+use calls::{check_text, explain_text, pack_text, parse_text};
 use graphql_parser::types::{ExecutableDocument, ServiceDocument};
 pub use lending::{Room, Text, Told};
 use std::alloc::Global;
@@ -191,4 +195,45 @@ pub extern "C" fn graphql_parser_explain_schema(
     ensures back { IsBack text places result }
 {
     explain_text::<ServiceDocument>(alloc, text, selections, values, types, places, report)
+}
+
+/// Reads a request as [`graphql_parser_parse_query`] does, and hands over its tree as bytes for a wrapper.
+///
+/// The bytes are those of `graphql_packed`, of this version of the library alone. They are handed over in a block of the
+/// program's `malloc`, which the caller gives back by `free`. For a text that isn't accepted it is null and has no bytes.
+/// `packed` is written on every call, and what stood there isn't looked at.
+#[unsafe(no_mangle)]
+pub extern "C" fn graphql_parser_pack_query(
+    alloc: Global,
+    text: Text,
+    selections: usize,
+    values: usize,
+    types: usize,
+    places: Room,
+    packed: &mut Block,
+) -> Told
+    ensures told { IsTold requests (limits_of selections values types) text.bytes result.number result.places }
+    ensures handed { IsPacked requests (limits_of selections values types) text.bytes result.number packed.new }
+    ensures back { IsBack text places result }
+{
+    pack_text::<ExecutableDocument>(alloc, text, selections, values, types, places, packed)
+}
+
+/// Reads a schema file as [`graphql_parser_parse_schema`] does, and hands over its tree as bytes for a wrapper, as
+/// [`graphql_parser_pack_query`] does of a request.
+#[unsafe(no_mangle)]
+pub extern "C" fn graphql_parser_pack_schema(
+    alloc: Global,
+    text: Text,
+    selections: usize,
+    values: usize,
+    types: usize,
+    places: Room,
+    packed: &mut Block,
+) -> Told
+    ensures told { IsTold schemas (limits_of selections values types) text.bytes result.number result.places }
+    ensures handed { IsPacked schemas (limits_of selections values types) text.bytes result.number packed.new }
+    ensures back { IsBack text places result }
+{
+    pack_text::<ServiceDocument>(alloc, text, selections, values, types, places, packed)
 }

@@ -22,10 +22,10 @@ impl Name {
         Name(ShortText::new(name.as_ref()))
     }
 
-    // The name between two places of a text.
-    #[inline]
-    pub(crate) fn between(whole: &str, start: usize, end: usize) -> Option<Name> {
-        ShortText::between(whole, start, end).map(Name)
+    // The name that the first bytes are, of which there are so many.
+    #[inline(always)]
+    pub(crate) fn at_front(bytes: &[u8], length: usize) -> Option<Name> {
+        ShortText::at_front(bytes, length).map(Name)
     }
 
     /// The name's text, borrowed.

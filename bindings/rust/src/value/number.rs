@@ -11,10 +11,10 @@ use std::str::FromStr;
 pub struct Number(ShortText);
 
 impl Number {
-    // The number whose literal stands between two places of a text.
-    #[inline]
-    pub(crate) fn between(whole: &str, start: usize, end: usize) -> Option<Number> {
-        ShortText::between(whole, start, end).map(Number)
+    // The number whose literal the first bytes are, of which there are so many.
+    #[inline(always)]
+    pub(crate) fn at_front(bytes: &[u8], length: usize) -> Option<Number> {
+        ShortText::at_front(bytes, length).map(Number)
     }
 
     /// The shortest literal that stands for a float; None for an infinite one and for one that is no number.

@@ -29,15 +29,15 @@ impl ShortText {
         })
     }
 
-    /// The text between two places of another; none where they don't lie between characters. The bytes are copied by one
+    /// The text that the first bytes are, of which there are so many; none where they aren't UTF-8. They are copied by one
     /// move of fixed length wherever so many follow.
-    #[inline]
-    pub(crate) fn between(whole: &str, start: usize, end: usize) -> Option<ShortText> {
-        let text = whole.get(start..end)?;
-        match whole.as_bytes()[start..].first_chunk::<ROOM>() {
+    #[inline(always)]
+    pub(crate) fn at_front(bytes: &[u8], length: usize) -> Option<ShortText> {
+        let text = str::from_utf8(bytes.get(..length)?).ok()?;
+        match bytes.first_chunk::<ROOM>() {
             // What lies behind `length` is never looked at.
-            Some(bytes) if text.len() <= ROOM => Some(ShortText(Text::Short {
-                length: text.len() as u8,
+            Some(bytes) if length <= ROOM => Some(ShortText(Text::Short {
+                length: length as u8,
                 bytes: *bytes,
             })),
             _ => Some(ShortText::new(text)),

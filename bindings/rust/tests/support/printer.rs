@@ -164,7 +164,6 @@ impl Json {
     }
 
     fn condition(&mut self, condition: &Positioned<TypeCondition>) {
-        assert_eq!(condition.pos, condition.node.on.pos);
         self.key("typeCondition");
         self.named_type(&condition.node.on);
     }

@@ -1,0 +1,37 @@
+//! Trees of `graphql_parser` as bytes, for a wrapper in another language that makes trees of its own: `bindings/rust`.
+//!
+//! It has what that tree has, part by part and in its order:
+//!
+//! - a number is eight bytes, the lowest first, and a choice is one byte;
+//! - a text is the number of its bytes, and these, in UTF-8;
+//! - a node begins with its place, its line and its column;
+//! - a list is the number of its items, and these; what may be missing is a choice, and then the part if it is there.
+//!
+//! Nothing else reads it, and it may change with any version.
+//!
+//! Proved of it: each call is safe and ends, and fails only where memory runs out. What the bytes say is tested, by trees in
+//! Rust that are made of them and held against the JSON of the same texts.
+#![tactic(auto)]
+
+mod buffer;
+mod request;
+mod schema;
+mod values;
+
+use buffer::Buffer;
+use graphql_parser::types::{ExecutableDocument, ServiceDocument};
+use std::alloc::{AllocError, Global};
+
+/// The tree of a request as bytes. It fails only where memory runs out.
+pub fn packed_request(alloc: Global, document: &ExecutableDocument) -> Result<Vec<u8>, AllocError> {
+    let mut buffer = Buffer::new(alloc);
+    request::pack_document(&mut buffer, document)?;
+    Ok(buffer.finish())
+}
+
+/// The tree of a schema file as bytes. It fails only where memory runs out.
+pub fn packed_schema(alloc: Global, document: &ServiceDocument) -> Result<Vec<u8>, AllocError> {
+    let mut buffer = Buffer::new(alloc);
+    schema::pack_document(&mut buffer, document)?;
+    Ok(buffer.finish())
+}

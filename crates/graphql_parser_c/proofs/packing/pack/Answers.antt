@@ -1,0 +1,28 @@
+use Rattle.std.proofs.Common.{ℕ, List, subst, sym, ap, ◌∙◌}
+use Rattle.std.specs.Prelude.{IfOk}
+use Rattle.graphql_parser.specs.answers.Answers.{Answers}
+use Rattle.graphql_parser.specs.tokens.Cuts.{IsCutInto}
+use Rattle.graphql_parser.specs.tokens.Token.{Token}
+use Rattle.graphql_parser_c.specs.Handing.{IsHanded}
+use Rattle.graphql_parser_c.specs.Packing.{Packs}
+use Rattle.graphql_parser_c.specs.Statuses.{number_of}
+use Rattle.graphql_parser_c.proofs.Numbers.{number_told}
+use Rattle.graphql_parser_c.proofs.packing.pack.Goals as goal
+
+pub returns-clause-handed : goal.returns-clause-handed
+returns-clause-handed g c =
+    let Handed : ℕ → Type 0 = λ number. IsHanded c.packed_of-made.result number c.hand_over.new.block in
+    let handed = subst Handed (sym c.number-2.ensures) c.hand_over.ensures.handed in
+    let told = c.hand_over.ensures.told in
+    let read = λ (tokens : List Token) (cut : IsCutInto c.args.question.now.text.now tokens).
+    subst (λ limits. Answers g.D.Document.language limits tokens c.read-answer.result) c.in-Ok.ensures.1
+    (c.read-answer.ensures tokens (subst (λ t. IsCutInto t tokens) (sym c.in-Ok.ensures.0) cut)) in
+    record {
+      nothing = handed.0;
+      answer = λ says tokens cut. (
+        c.read-answer.result,
+        read tokens cut,
+        number_told c.read-answer.result told.0 _ told.1 (c.number-2.ensures ∙ ap number_of told.2) says,
+        subst (λ made. IfOk made (λ packed. Packs c.read-answer.result packed)) (handed.1 says) c.packed_of-made.ensures.bytes,
+      );
+    }
