@@ -15,7 +15,7 @@ use graphql_reading::parser::{Parser, Reading};
 use graphql_syntax::value::{ConstValue, Literal, Value};
 use std::marker::PhantomData;
 
-/// `Name ':' Value`, with values of the type `V`.
+/// `Argument : Name ':' Value`, with values of the type `V`.
 struct ArgumentPhrase<V>(PhantomData<V>);
 
 impl<V: Literal> Phrase for ArgumentPhrase<V> {
@@ -40,7 +40,7 @@ impl<V: Literal> Phrase for ArgumentPhrase<V> {
 
 /// Reads arguments with their brackets.
 ///
-/// `Arguments : '(' (Name ':' Value)+ ')'` (GraphQL October 2021, section 2.6)
+/// `Arguments : '(' Argument+ ')'` (GraphQL October 2021, section 2.6)
 #[inline(never)]
 fn check_arguments<V: Literal>(parser: &mut Parser, limits: Limits) -> Reading<()>
     ensures { Checks result parser.old parser.new (arguments_at V.VARIABLES limits.values) }
@@ -70,7 +70,7 @@ pub fn check_maybe_arguments(parser: &mut Parser, limits: Limits) -> Reading<()>
     check_maybe_arguments_of::<Value>(parser, limits)
 }
 
-/// `'@' Name Arguments?`, with values of the type `V`.
+/// `Directive : '@' Name Arguments?`, with values of the type `V`.
 struct DirectivePhrase<V>(PhantomData<V>);
 
 impl<V: Literal> Phrase for DirectivePhrase<V> {
@@ -95,7 +95,7 @@ impl<V: Literal> Phrase for DirectivePhrase<V> {
 
 /// Reads directives, as long as an `@` is in hand.
 ///
-/// `Directives? : ('@' Name Arguments?)*` (GraphQL October 2021, section 2.12)
+/// `Directives? : Directive*` (GraphQL October 2021, section 2.12)
 #[inline(always)]
 pub fn check_directives(parser: &mut Parser, limits: Limits) -> Reading<()>
     ensures { Checks result parser.old parser.new (directives_at true limits.values) }
@@ -110,7 +110,7 @@ pub fn check_const_directives(parser: &mut Parser, limits: Limits) -> Reading<()
     check_any_number::<DirectivePhrase<ConstValue>>(parser, limits)
 }
 
-/// `'=' ConstValue`.
+/// `DefaultValue : '=' Value[Const]`.
 struct DefaultPhrase;
 
 impl Phrase for DefaultPhrase {
@@ -134,7 +134,7 @@ impl Phrase for DefaultPhrase {
 
 /// Reads a default value after its `=`, where a `=` is in hand.
 ///
-/// `Default? : ('=' ConstValue)?` (GraphQL October 2021, section 2.10)
+/// `DefaultValue? : ('=' Value[Const])?` (GraphQL October 2021, section 2.10)
 pub fn check_maybe_default(parser: &mut Parser, limits: Limits) -> Reading<()>
     ensures { Checks result parser.old parser.new (maybe_default_at limits.values) }
 {

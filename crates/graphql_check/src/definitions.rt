@@ -6,17 +6,19 @@ ghost use Rattle.graphql_tokens.specs.tokens.Seen.{seen};
 ghost use Rattle.graphql_grammar.specs.reading.Arguments.{directives_at};
 ghost use Rattle.graphql_requests.specs.grammar.Request.{name_in};
 ghost use Rattle.graphql_requests.specs.grammar.Selections.{fragment_name};
-ghost use Rattle.graphql_requests.specs.reading.Request.{own_set_at, short_operation_at, full_operation_at, fragment_at, definition_first, definition_at, definitions_at};
+ghost use Rattle.graphql_requests.specs.reading.Request.{own_set_at, short_operation_at, full_operation_at, fragment_at, definition_at, definitions_at};
 ghost use Rattle.graphql_reading.specs.grammar.Tests.{any_name};
 ghost use Rattle.graphql_reading.specs.reading.Given.{Gives};
 ghost use Rattle.graphql_reading.specs.reading.Outcome.{then_at, mapped_at, one_at, opt_at};
 
 use crate::arguments::check_directives;
-use crate::selections::{check_selection_set, check_type_condition, is_at_fragment_name};
+use crate::selections::{check_selection_set, check_type_condition};
 use crate::variables::check_maybe_variable_definitions;
 use graphql_grammar::operations::read_operation_type;
 use graphql_reading::limits::Limits;
 use graphql_reading::parser::{Parser, Reading, Refusal};
+use graphql_requests::definitions::is_at_definition;
+use graphql_requests::selections::is_at_fragment_name;
 use graphql_syntax::lexer::Token;
 use graphql_syntax::pos::Pos;
 use smallvec::SmallVec;
@@ -37,19 +39,9 @@ impl Default for Head<'_> {
     }
 }
 
-fn is_at_definition(parser: &Parser) -> bool
-    ensures { result ≡ definition_first parser.now.hand.bare }
-{
-    parser.is_at_punct("{")
-        || parser.is_at_keyword("query")
-        || parser.is_at_keyword("mutation")
-        || parser.is_at_keyword("subscription")
-        || parser.is_at_keyword("fragment")
-}
-
 /// The short form of a query: its set alone.
 ///
-/// `Operation : SelectionSet` (GraphQL October 2021, section 2.3)
+/// `OperationDefinition : SelectionSet` (GraphQL October 2021, section 2.3)
 fn read_short_operation<'a>(parser: &mut Parser<'a>, limits: Limits) -> Reading<Head<'a>>
     ensures { Gives head_tree result parser.old parser.new (mapped_at head_of (short_operation_at limits)) }
 {
@@ -86,7 +78,8 @@ fn check_body(parser: &mut Parser, limits: Limits) -> Reading<()>
 
 /// An operation that begins with its keyword.
 ///
-/// `Operation : OperationType Name? VariableDefinitions? Directives? SelectionSet` (GraphQL October 2021, section 2.3)
+/// `OperationDefinition : OperationType Name? VariableDefinitions? Directives? SelectionSet` (GraphQL October 2021,
+/// section 2.3)
 fn read_operation<'a>(parser: &mut Parser<'a>, limits: Limits) -> Reading<Head<'a>>
     ensures { Gives head_tree result parser.old parser.new (mapped_at head_of (full_operation_at limits)) }
 {
@@ -106,7 +99,8 @@ fn expect_fragment_name<'a>(parser: &mut Parser<'a>) -> Reading<Token<'a>>
     Ok(parser.take())
 }
 
-/// `Fragment : 'fragment' FragmentName TypeCondition Directives? SelectionSet` (GraphQL October 2021, section 2.8)
+/// `FragmentDefinition : 'fragment' FragmentName TypeCondition Directives? SelectionSet` (GraphQL October 2021,
+/// section 2.8)
 fn read_fragment<'a>(parser: &mut Parser<'a>, limits: Limits) -> Reading<Head<'a>>
     ensures { Gives head_tree result parser.old parser.new (mapped_at head_of (fragment_at limits)) }
 {
@@ -117,7 +111,7 @@ fn read_fragment<'a>(parser: &mut Parser<'a>, limits: Limits) -> Reading<Head<'a
     Ok(Head::Fragment(name.text, word.pos))
 }
 
-/// `Definition : Operation | Fragment`
+/// `ExecutableDefinition : OperationDefinition | FragmentDefinition`
 fn read_head<'a>(parser: &mut Parser<'a>, limits: Limits) -> Reading<Head<'a>>
     ensures { Gives head_tree result parser.old parser.new (mapped_at head_of (definition_at limits)) }
 {
@@ -132,7 +126,7 @@ fn read_head<'a>(parser: &mut Parser<'a>, limits: Limits) -> Reading<Head<'a>>
 
 /// The heads of the definitions of a request, up to its end, in source order. The first lies in place.
 ///
-/// `Definition+` (GraphQL October 2021, section 2.2)
+/// `ExecutableDocument : ExecutableDefinition+` (GraphQL October 2021, section 2.2)
 pub fn read_heads<'a>(parser: &mut Parser<'a>, limits: Limits) -> Reading<SmallVec<Head<'a>, 1>>
     ensures { Gives in_heads result parser.old parser.new (mapped_at (map head_of) (definitions_at limits)) }
 {

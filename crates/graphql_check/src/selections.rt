@@ -6,8 +6,9 @@ mod heads;
 
 use graphql_reading::limits::Limits;
 use graphql_reading::parser::{Parser, Reading};
-use heads::{check_head, is_at_selection};
-pub use heads::{check_type_condition, is_at_fragment_name};
+use graphql_requests::selections::is_at_selection;
+use heads::check_head;
+pub use heads::check_type_condition;
 
 /// The selection set of a definition, whose own nesting isn't counted.
 ///

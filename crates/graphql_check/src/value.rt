@@ -143,7 +143,8 @@ fn check_open(parser: &mut Parser, vars: bool, first: bool, limit: usize) -> Rea
 
 /// Reads a value (GraphQL October 2021, section 2.9), with variables or without. It stands at its first token.
 ///
-/// `Value : Variable | Number | String | Boolean | Null | Enum | List | Object`
+/// `Value : Variable | IntValue | FloatValue | StringValue | BooleanValue | NullValue | EnumValue | ListValue |
+/// ObjectValue`
 pub fn check_value(parser: &mut Parser, vars: bool, limits: Limits) -> Reading<()>
     ensures { Checks result parser.old parser.new (value_at vars limits.values) }
 {

@@ -14,7 +14,7 @@ use graphql_reading::parser::{Parser, Reading};
 
 /// A default value and directives, in either order.
 ///
-/// `Default? Directives? | Directives Default`
+/// `DefaultValue? Directives? | Directives DefaultValue`
 fn check_default_and_directives(parser: &mut Parser, limits: Limits) -> Reading<()>
     ensures { Checks result parser.old parser.new (default_and_directives_at limits.values) }
 {
@@ -26,7 +26,7 @@ fn check_default_and_directives(parser: &mut Parser, limits: Limits) -> Reading<
     check_maybe_default(parser, limits)
 }
 
-/// `'$' Name ':' Type (Default? Directives? | Directives Default)`.
+/// `VariableDefinition : Variable ':' Type (DefaultValue? Directives? | Directives DefaultValue)`.
 struct VariablePhrase;
 
 impl Phrase for VariablePhrase {

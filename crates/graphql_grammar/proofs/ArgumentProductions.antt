@@ -13,11 +13,11 @@ use Rattle.graphql_reading.specs.grammar.Tests.{Test, punct, any_name}
 use Rattle.graphql_grammar.specs.reading.Arguments.{argument_at, arguments_at, maybe_arguments_at, directive_at, directives_at, default_at}
 use Rattle.graphql_reading.proofs.Theory.{IsSubset, outside, anything}
 use Rattle.graphql_reading.proofs.TokenTests.{punctuator, itself, punct-within, punct-inner, name-sample}
-use Rattle.graphql_reading.proofs.PunctSamples.{has-equals, has-open, has-close, has-colon, has-at}
+use Rattle.graphql_reading.proofs.PunctSamples.{has-close, has-colon, has-at}
 use Rattle.graphql_reading.proofs.ReadsExactly.{ReadsExactly, HasPhrase, BeginsWith, exact-punct, exact-name, exact-mapped, exact-next, exact-plus, begins-one, begins-mapped, begins-then, has-token, has-pair, has-map, has-star, has-plus}
 use Rattle.graphql_reading.proofs.Extra.{FirstWithin, first-star, first-opt, exact-many-ahead, exact-opt, has-opt}
 use Rattle.graphql_reading.proofs.IgnoresPlaces.{IgnoresPlaces, ignores-one, ignores-then, ignores-mapped, ignores-star, ignores-plus, ignores-opt, map-given}
-use Rattle.graphql_reading.proofs.Marks.{exact-after, begins-after, has-after, ignores-after, exact-between, begins-between, has-between, ignores-between}
+use Rattle.graphql_reading.proofs.Marks.{exact-after, begins-after, ignores-after, exact-between, begins-between, ignores-between}
 use Rattle.graphql_reading.proofs.Loop.{Takes, takes-one}
 use Rattle.graphql_grammar.proofs.ValueProductions.{exact-value, has-value, ignores-value}
 
@@ -43,9 +43,6 @@ exact-arguments vars = exact-between "(" ")" has-close (has-plus (has-argument v
 
 pub begins-arguments : (vars : Bool) → BeginsWith (λ c. arguments Current vars c.values) (punct "(")
 begins-arguments vars = begins-between (punct ")")
-
-pub has-arguments : (vars : Bool) → HasPhrase (λ c. arguments Current vars c.values)
-has-arguments vars = has-between (punct "(") (punct ")") has-open (has-plus (has-argument vars)) has-close
 
 pub ignores-arguments : (vars : Bool) → IgnoresPlaces (λ c. arguments Current vars c.values) (map placeless_argument)
 ignores-arguments vars = ignores-between (punct "(") (punct ")") (ignores-plus (ignores-argument vars))
@@ -100,9 +97,6 @@ exact-default = exact-after (punct-inner "=") (has-value false) (exact-value fal
 
 pub begins-default : BeginsWith (λ c. a_default Current c.values) (punct "=")
 begins-default = begins-after
-
-pub has-default : HasPhrase (λ c. a_default Current c.values)
-has-default = has-after (punct "=") has-equals (has-value false)
 
 pub ignores-default : IgnoresPlaces (λ c. a_default Current c.values) bare_node
 ignores-default = ignores-after (punct "=") (ignores-value false)

@@ -1,5 +1,5 @@
 -- Types are read exactly, at every budget; and their places don't matter.
-use Rattle.std.proofs.Common.{◌≡◌, ℕ, zero, suc, ◌||◌, Option, Some, None, List, [], ◌↔◌, inl, inr, refl, sym, ap, subst, option_map}
+use Rattle.std.proofs.Common.{◌≡◌, ℕ, zero, suc, Option, Some, None, List, [], ◌↔◌, inl, inr, refl, sym, ap, subst, option_map}
 use Rattle.graphql_tokens.specs.declared.pos.Positioned.{Positioned}
 use Rattle.graphql_tokens.specs.tokens.Token.{Token}
 use Rattle.graphql_syntax.specs.trees.TypeTree.{TypeTree, named, list}
@@ -14,9 +14,9 @@ use Rattle.graphql_reading.specs.reading.Outcome.{Reader, choose_at}
 use Rattle.graphql_grammar.specs.reading.Types.{mark_at, named_type_at, list_type_at, type_at}
 use Rattle.graphql_reading.proofs.Parts.{nested, below, of_types}
 use Rattle.graphql_reading.proofs.Theory.{Extends, IsSubset, outside}
-use Rattle.graphql_reading.proofs.TokenTests.{punct-within, any_name-within, name-sample}
+use Rattle.graphql_reading.proofs.TokenTests.{punct-within, name-sample}
 use Rattle.graphql_reading.proofs.PunctSamples.{has-close_list}
-use Rattle.graphql_reading.proofs.ReadsExactly.{ReadsExactly, HasPhrase, BeginsWith, exact-punct, exact-name, exact-mapped, exact-next, exact-then-some, exact-choose, exact-nested, exact-deep, exact-same, begins-one, begins-within, begins-same, begins-mapped, begins-then, begins-either, begins-nested, has-token, has-pair, has-map, has-first, extends-one}
+use Rattle.graphql_reading.proofs.ReadsExactly.{ReadsExactly, HasPhrase, BeginsWith, exact-punct, exact-name, exact-mapped, exact-next, exact-then-some, exact-choose, exact-nested, exact-deep, exact-same, begins-one, begins-within, begins-mapped, begins-then, begins-nested, has-token, has-pair, has-map, has-first, extends-one}
 use Rattle.graphql_reading.proofs.Extra.{exact-opt, has-opt}
 use Rattle.graphql_reading.proofs.IgnoresPlaces.{IgnoresPlaces, ignores-one, ignores-then, ignores-mapped, ignores-either, ignores-opt}
 
@@ -62,15 +62,8 @@ is-type c x t = go c.types
     go zero = (λ h. elim h [ inl k ↦ k | inr k ↦ absurd k ], λ h. inl h)
     go (suc n) = (λ h. h, λ h. h)
 
--- what a type begins with
-abbrev pub type_first : Test
-type_first t = any_name t || punct "[" t
-
 begins-lists : BeginsWith (nested of_types lists) (punct "[")
 begins-lists = begins-nested of_types (begins-list_type {item = types})
-
-pub begins-type : BeginsWith (λ c. type_reference c.types) type_first
-begins-type = begins-same is-type (begins-either (begins-within (any_name-within (λ spelling. refl)) begins-named_type) (begins-within (punct-within "[" refl) begins-lists))
 
 has-named_type : HasPhrase (λ c. a_named_type)
 has-named_type = has-map (has-pair (has-token name-sample) (has-opt {p = λ c. one (punct "!")}))

@@ -187,9 +187,6 @@ pub record Becomes {Y : Type 0} (r : Reader Y) (initial : Ahead) (s : Reader Y) 
 pub becomes-itself : {Y : Type 0} (r : Reader Y) (initial : Ahead) → Becomes r initial r initial
 becomes-itself r initial = record { told = refl; on = stays initial }
 
-pub opens-begin : (n : ℕ) (initial : Ahead) → Becomes (opens_at 0 n) initial (opens_at 0 (n - 0)) initial
-opens-begin n initial = let same : n ≡ n - 0 = omega arith in record { told = ap (λ (k : ℕ). opens_at 0 k (tokens initial)) same; on = stays initial }
-
 -- one more is open
 pub opens-goes : (n opened next : ℕ) (initial now after : Ahead) → Becomes (opens_at 0 n) initial (opens_at opened (n - opened)) now → next ≤ n → next ≡ opened + 1 → punct "[" now.hand.bare ≡ true → tokens after ≡ now.behind → GoesOn now after → Becomes (opens_at 0 n) initial (opens_at next (n - next)) after
 opens-goes n opened next initial now after kept within more at left on =

@@ -162,9 +162,6 @@ begins-field = begins-mapped (begins-then begins-one)
 pub exact-field : {v : Limits → Rel Value} {b : Limits} {f : Test} {r : Reader Value} → HasPhrase v → ReadsExactly v b f r → ReadsExactly (λ c. a_field (v c)) b f (field_at r)
 exact-field has h = exact-mapped (exact-next (has-pair has-colon has) exact-name (exact-next has (exact-punct ":") h))
 
-pub has-field : {v : Limits → Rel Value} → HasPhrase v → HasPhrase (λ c. a_field (v c))
-has-field has = has-map (has-pair (has-token name-sample) (has-pair has-colon has))
-
 -- a name and a tree of a value hold no places
 abbrev pub as-is : {A : Type 0} → A → A
 as-is a = a

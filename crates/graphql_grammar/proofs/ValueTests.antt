@@ -1,17 +1,14 @@
 -- Tests of the tokens that only values are made of: what passes them, and tokens that do.
-use Rattle.std.proofs.Common.{◌≡◌, ℕ, Bool, true, false, ◌&&◌, IsTrue, List, [], codes, inl, refl, sym, ap, subst}
+use Rattle.std.proofs.Common.{◌≡◌, ℕ, Bool, true, false, ◌&&◌, IsTrue, List, refl, sym, ap, subst}
 use Rattle.graphql_tokens.specs.tokens.Token.{Bare}
 use Rattle.graphql_tokens.specs.tokens.Cuts.{is_last}
-use Rattle.graphql_tokens.specs.tokens.Edition.{Current}
-use Rattle.graphql_tokens.specs.tokens.Proper.{Spells}
-use Rattle.graphql_tokens.specs.tokens.Spelling.{IsSpelling}
 use Rattle.graphql_tokens.specs.declared.lexer.TokenKind.{TokenKind}
 use Rattle.graphql_tokens.specs.declared.lexer.TokenKind.TheVariants as kinds
 use Rattle.graphql_reading.specs.grammar.Tests.{Test, punct, any_number, any_string, any_block}
 use Rattle.graphql_tokens.specs.tokens.Kinds.{is_number, is_string, is_block}
 use Rattle.graphql_grammar.specs.grammar.Values.{dollar}
 use Rattle.graphql_reading.proofs.Theory.{IsSubset, IsInner}
-use Rattle.graphql_reading.proofs.TokenTests.{punctuator, punct-is, sample, are-ascii, ascii-scalars, ascii-bytes, HasSample}
+use Rattle.graphql_reading.proofs.TokenTests.{punctuator, punct-is}
 
 -- ---- kinds
 
@@ -84,33 +81,3 @@ any_block-inner t e = ap (λ (t : Bare). is_last t.kind) (any_block-is t e)
 
 pub dollar-inner : (vars : Bool) → IsInner (dollar vars)
 dollar-inner vars t e = ap (λ (t : Bare). is_last t.kind) (dollar-is vars t e).0
-
--- ---- samples
-
--- characters below 128 are their own bytes
-spells : (kind : TokenKind) (w : List ℕ) → are-ascii w ≡ true → IsSpelling Current kind w → Spells kind w
-spells kind w e spelled = (w, ascii-scalars w e, sym (ascii-bytes w e), spelled)
-
-pub number-sample : HasSample any_number
-number-sample = record {
-  token = sample (number (codes "0"));
-  passes = refl;
-  proper = spells kinds.Number (codes "0") refl ([], codes "0", [], [], refl, inl refl, inl (refl, refl), tt, tt);
-}
-
-pub string-sample : HasSample any_string
-string-sample = record {
-  token = sample (quoted (codes "\"\""));
-  passes = refl;
-  proper = spells kinds.String (codes "\"\"") refl ([], refl, ([], ([], refl, tt)));
-}
-
-pub block-sample : HasSample any_block
-block-sample = record {
-  token = sample (block (codes "\"\"\"\"\"\""));
-  passes = refl;
-  proper = spells kinds.Block (codes "\"\"\"\"\"\"") refl ([], refl, tt);
-}
-
-pub dollar-sample : HasSample (dollar true)
-dollar-sample = record { token = sample (punctuator "$"); passes = refl; proper = spells kinds.Punct (codes "$") refl (inl (36, refl, refl)) }

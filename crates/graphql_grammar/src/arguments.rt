@@ -32,7 +32,7 @@ struct DirectiveOf<V> {
     arguments: Arguments<V>,
 }
 
-/// `Name ':' Value`, with values of the type `V`.
+/// `Argument : Name ':' Value`, with values of the type `V`.
 struct ArgumentPhrase<V>(PhantomData<V>);
 
 impl<V: Literal> Production for ArgumentPhrase<V> {
@@ -64,7 +64,7 @@ impl<V: Literal> Production for ArgumentPhrase<V> {
 
 /// Reads arguments with their brackets, in source order.
 ///
-/// `Arguments : '(' (Name ':' Value)+ ')'` (GraphQL October 2021, section 2.6)
+/// `Arguments : '(' Argument+ ')'` (GraphQL October 2021, section 2.6)
 #[inline(never)]
 pub fn read_arguments<V: Literal>(parser: &mut Parser, limits: Limits) -> Reading<Arguments<V>>
     ensures { Gives (trees_in (in_argument V.tree)) result parser.old parser.new (arguments_at V.VARIABLES limits.values) }
@@ -89,7 +89,7 @@ pub fn read_maybe_arguments<V: Literal>(
     read_arguments(parser, limits)
 }
 
-/// `'@' Name Arguments?`
+/// `Directive : '@' Name Arguments?`
 fn read_directive_of<V: Literal>(parser: &mut Parser, limits: Limits) -> Reading<DirectiveOf<V>>
     ensures { Gives (in_directive V.tree) result parser.old parser.new (directive_at V.VARIABLES limits.values) }
 {
@@ -104,7 +104,7 @@ fn read_directive_of<V: Literal>(parser: &mut Parser, limits: Limits) -> Reading
     })
 }
 
-/// `'@' Name Arguments?`, with variables in the values.
+/// `Directive : '@' Name Arguments?`, with variables in the values.
 struct DirectivePhrase;
 
 impl Production for DirectivePhrase {
@@ -138,7 +138,7 @@ impl Production for DirectivePhrase {
 
 /// Reads directives, as long as an `@` is in hand, in source order.
 ///
-/// `Directives? : ('@' Name Arguments?)*` (GraphQL October 2021, section 2.12)
+/// `Directives? : Directive*` (GraphQL October 2021, section 2.12)
 #[inline(always)]
 pub fn read_directives(parser: &mut Parser, limits: Limits) -> Reading<Vec<Positioned<Directive>>>
     ensures { Gives (trees_in (placed directive_tree)) result parser.old parser.new (directives_at true limits.values) }
@@ -146,7 +146,7 @@ pub fn read_directives(parser: &mut Parser, limits: Limits) -> Reading<Vec<Posit
     any_number::<DirectivePhrase>(parser, limits)
 }
 
-/// `'@' Name Arguments?`, without variables.
+/// `Directive : '@' Name Arguments?`, without variables.
 struct ConstDirectivePhrase;
 
 impl Production for ConstDirectivePhrase {
@@ -187,7 +187,7 @@ pub fn read_const_directives(
     any_number::<ConstDirectivePhrase>(parser, limits)
 }
 
-/// `'=' ConstValue`.
+/// `DefaultValue : '=' Value[Const]`.
 struct DefaultPhrase;
 
 impl Production for DefaultPhrase {
@@ -217,7 +217,7 @@ impl Production for DefaultPhrase {
 
 /// Reads a default value after its `=`, where a `=` is in hand.
 ///
-/// `Default? : ('=' ConstValue)?` (GraphQL October 2021, section 2.10)
+/// `DefaultValue? : ('=' Value[Const])?` (GraphQL October 2021, section 2.10)
 pub fn read_maybe_default(
     parser: &mut Parser,
     limits: Limits,

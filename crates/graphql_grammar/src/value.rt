@@ -72,9 +72,11 @@ fn read_node<V: Literal>(parser: &mut Parser, limit: usize) -> Reading<V>
     }
 }
 
-/// Reads a value (GraphQL October 2021, section 2.9), with variables where the type has them. It stands at its first token.
+/// Reads a value (GraphQL October 2021, section 2.9), with variables where the type has them. It stands at its first
+/// token.
 ///
-/// `Value : Variable | Number | String | Boolean | Null | Enum | List | Object`
+/// `Value : Variable | IntValue | FloatValue | StringValue | BooleanValue | NullValue | EnumValue | ListValue |
+/// ObjectValue`
 pub fn read_value<V: Literal>(parser: &mut Parser, limits: Limits) -> Reading<Positioned<V>>
     ensures { Gives (placed V.tree) result parser.old parser.new (value_at V.VARIABLES limits.values) }
 {

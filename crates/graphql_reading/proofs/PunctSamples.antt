@@ -5,14 +5,8 @@ use Rattle.graphql_reading.specs.grammar.Tests.{punct}
 use Rattle.graphql_reading.proofs.TokenTests.{punct-sample}
 use Rattle.graphql_reading.proofs.ReadsExactly.{HasPhrase, has-token}
 
-pub has-open : HasPhrase (λ c. one (punct "("))
-has-open = has-token (punct-sample "(" refl (inl (40, refl, refl)))
-
 pub has-close : HasPhrase (λ c. one (punct ")"))
 has-close = has-token (punct-sample ")" refl (inl (41, refl, refl)))
-
-pub has-open_list : HasPhrase (λ c. one (punct "["))
-has-open_list = has-token (punct-sample "[" refl (inl (91, refl, refl)))
 
 pub has-close_list : HasPhrase (λ c. one (punct "]"))
 has-close_list = has-token (punct-sample "]" refl (inl (93, refl, refl)))
@@ -25,9 +19,6 @@ has-close_object = has-token (punct-sample "}" refl (inl (125, refl, refl)))
 
 pub has-colon : HasPhrase (λ c. one (punct ":"))
 has-colon = has-token (punct-sample ":" refl (inl (58, refl, refl)))
-
-pub has-equals : HasPhrase (λ c. one (punct "="))
-has-equals = has-token (punct-sample "=" refl (inl (61, refl, refl)))
 
 pub has-at : HasPhrase (λ c. one (punct "@"))
 has-at = has-token (punct-sample "@" refl (inl (64, refl, refl)))

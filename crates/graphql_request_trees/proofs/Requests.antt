@@ -1,18 +1,17 @@
 -- The equations of the trees of a request, at values that code makes and takes apart.
-use Rattle.std.proofs.Common.{◌≡◌, List, [], ◌∷◌, refl, ap, sym, ◌∙◌, option_map}
+use Rattle.std.proofs.Common.{◌≡◌, ap, sym, ◌∙◌, option_map}
 use Rattle.graphql_tokens.specs.declared.pos.Positioned.{Positioned}
 use Rattle.graphql_request_trees.specs.declared.executable.Field.{Field, out-Field, roll-Field, fold-roll-Field, fold_out-Field}
-use Rattle.graphql_request_trees.specs.declared.executable.FragmentSpread.{FragmentSpread}
 use Rattle.graphql_request_trees.specs.declared.executable.InlineFragment.{InlineFragment, out-InlineFragment, roll-InlineFragment, fold-roll-InlineFragment, fold_out-InlineFragment}
 use Rattle.graphql_request_trees.specs.declared.executable.Selection.{Selection, fold-roll-Selection}
 use Rattle.graphql_request_trees.specs.declared.executable.Selection.TheOpen.{Selection-F, Field-F, InlineFragment-F, SelectionSet-F}
 use Rattle.graphql_request_trees.specs.declared.executable.Selection.TheVariants as selections
-use Rattle.graphql_request_trees.specs.declared.executable.Selection.TheViews.{rolls-Field, rolls-FragmentSpread, rolls-InlineFragment}
+use Rattle.graphql_request_trees.specs.declared.executable.Selection.TheViews.{rolls-Field, rolls-InlineFragment}
 use Rattle.graphql_request_trees.specs.declared.executable.SelectionSet.{SelectionSet, out-SelectionSet, roll-SelectionSet, fold-roll-SelectionSet, fold_out-SelectionSet}
 use Rattle.graphql_request_trees.specs.trees.Request as request
 use Rattle.graphql_syntax.specs.trees.Parts.{placed}
 use Rattle.graphql_syntax.specs.trees.PartViews.{arguments_tree, directives_tree}
-use Rattle.graphql_request_trees.specs.trees.RequestViews.{selection_step, field_step, inline_fragment_step, selection_set_step, selection_tree, field_tree, inline_fragment_tree, selection_set_tree, selection_trees, fragment_spread_tree, type_condition_tree}
+use Rattle.graphql_request_trees.specs.trees.RequestViews.{selection_step, field_step, inline_fragment_step, selection_set_step, selection_tree, field_tree, inline_fragment_tree, selection_set_tree, selection_trees, type_condition_tree}
 
 -- ---- a set: that of its items
 
@@ -29,10 +28,6 @@ set_tree_out = fold_out-SelectionSet request.Selection request.Field request.Inl
 pub tree_of_field : (f : Positioned Field) →
     selection_tree (selections.Field f) ≡ request.of_field (placed field_tree f)
 tree_of_field f = ap selection_tree (sym (rolls-Field f)) ∙ fold-roll-Selection request.Selection request.Field request.InlineFragment request.SelectionSet selection_step field_step inline_fragment_step selection_set_step (Selection-F.Field f)
-
-pub tree_of_spread : (s : Positioned FragmentSpread) →
-    selection_tree (selections.FragmentSpread s) ≡ request.fragment_spread (placed fragment_spread_tree s)
-tree_of_spread s = ap selection_tree (sym (rolls-FragmentSpread s)) ∙ fold-roll-Selection request.Selection request.Field request.InlineFragment request.SelectionSet selection_step field_step inline_fragment_step selection_set_step (Selection-F.FragmentSpread s)
 
 pub tree_of_inline_fragment : (i : Positioned InlineFragment) →
     selection_tree (selections.InlineFragment i) ≡ request.of_inline_fragment (placed inline_fragment_tree i)
@@ -57,26 +52,6 @@ pub inline_fragment_tree_roll : (i : InlineFragment-F Selection Field InlineFrag
       selection_set = placed selection_set_tree i.selection_set;
     }
 inline_fragment_tree_roll = fold-roll-InlineFragment request.Selection request.Field request.InlineFragment request.SelectionSet selection_step field_step inline_fragment_step selection_set_step
-
--- ---- a set and the list of its selections
-
-pub selections-set : (xs : List (Positioned request.Selection)) → request.selections_of (request.set_of xs) ≡ xs
-selections-set [] = refl
-selections-set (x ∷ xs) = ap (λ ys. x ∷ ys) (selections-set xs)
-
-pub set-selections : (s : request.SelectionSet) → request.set_of (request.selections_of s) ≡ s
-set-selections request.no_selections = refl
-set-selections (request.selection_and pos x s) = ap (request.selection_and pos x) (set-selections s)
-
--- ---- the selections of a set's tree are the trees of its items
-
-pub selections_of-roll : (s : SelectionSet-F Selection Field InlineFragment SelectionSet) →
-    request.selections_of (selection_set_tree (roll-SelectionSet s)) ≡ selection_trees s.items.items
-selections_of-roll s = ap request.selections_of (set_tree_roll s) ∙ selections-set (selection_trees s.items.items)
-
-pub selections_of-out : (s : SelectionSet) →
-    request.selections_of (selection_set_tree s) ≡ selection_trees (out-SelectionSet s).items.items
-selections_of-out s = ap request.selections_of (set_tree_out s) ∙ selections-set (selection_trees (out-SelectionSet s).items.items)
 
 -- ---- a value of a type, by its parts
 

@@ -22,7 +22,7 @@ use Rattle.graphql_grammar.specs.reading.Arguments.{directives_at}
 use Rattle.graphql_requests.specs.reading.Variables.{variable_definitions_at}
 use Rattle.graphql_requests.specs.reading.Request.{own_set_at, short_operation_at, full_operation_at, fragment_at, definition_first, definition_at, definitions_at}
 use Rattle.graphql_reading.proofs.Theory.{IsSubset, outside, anything}
-use Rattle.graphql_reading.proofs.TokenTests.{word_of, itself, punct-within, keyword-within, the_end-within, keyword-sample}
+use Rattle.graphql_reading.proofs.TokenTests.{word_of, itself, punct-within, keyword-within, the_end-within}
 use Rattle.graphql_reading.proofs.ReadsExactly.{ReadsExactly, HasPhrase, BeginsWith, exact-keyword, exact-name, exact-name_but, exact-mapped, exact-next, exact-then-some, exact-choose, exact-same, exact-plus, begins-one, begins-within, begins-mapped, begins-then, begins-either, has-token, has-pair, has-map, has-plus, has-first}
 use Rattle.graphql_reading.proofs.Extra.{has-opt, exact-opt, begins-opt, begins-star, either-way}
 use Rattle.graphql_reading.proofs.IgnoresPlaces.{IgnoresPlaces, ignores-one, ignores-then, ignores-mapped, ignores-either, ignores-plus, ignores-opt}
@@ -32,7 +32,7 @@ use Rattle.graphql_grammar.proofs.Languages.{IsRead, is-read-by}
 use Rattle.graphql_requests.specs.grammar.Requests.{requests}
 use Rattle.graphql_requests.proofs.FormerRequests.{includes-definitions}
 use Rattle.graphql_grammar.proofs.ArgumentProductions.{exact-directives, begins-directive, has-directives, ignores-directives}
-use Rattle.graphql_grammar.proofs.OperationKinds.{exact-operation_type, begins-operation_type, has-operation_type, without-keyword-place, ignores-operation_type}
+use Rattle.graphql_grammar.proofs.OperationKinds.{exact-operation_type, begins-operation_type, without-keyword-place, ignores-operation_type}
 use Rattle.graphql_requests.proofs.VariableProductions.{exact-variable_definitions, begins-variable_definitions, ignores-variable_definitions}
 use Rattle.graphql_requests.proofs.SelectionProductions.{exact-sets, begins-sets, has-sets, exact-type_condition, has-type_condition, fragment-sample}
 use Rattle.graphql_requests.proofs.SelectionPlaces.{ignores-sets, ignores-type_condition}
@@ -101,9 +101,6 @@ exact-full_operation =
 pub begins-full_operation : {g : Test} → IsTrue (g (word_of "query")) → IsTrue (g (word_of "mutation")) → IsTrue (g (word_of "subscription")) → BeginsWith (a_full_operation Current) g
 begins-full_operation query mutation subscription = begins-mapped {p = λ c. operation_type ⨾ opt (one any_name) ⨾ with-variables c} (begins-then (begins-operation_type query mutation subscription))
 
-pub has-full_operation : HasPhrase (a_full_operation Current)
-has-full_operation = has-map (has-pair has-operation_type (has-pair (has-opt {p = λ c. one any_name}) has-with-variables))
-
 abbrev operation-parts : Type 0
 operation-parts = (Token × OperationType) × (Option Token × (Option (List (Positioned VariableDefinition)) × (Directives × Set)))
 
@@ -126,9 +123,6 @@ exact-fragment =
 
 pub begins-fragment : BeginsWith (a_fragment Current) (keyword "fragment")
 begins-fragment = begins-mapped {p = λ c. one (keyword "fragment") ⨾ one fragment_name ⨾ a_type_condition ⨾ with-set c} (begins-then begins-one)
-
-pub has-fragment : HasPhrase (a_fragment Current)
-has-fragment = has-map (has-pair (has-token (keyword-sample "fragment" refl (refl, (refl, (refl, (refl, (refl, (refl, (refl, (refl, tt)))))))))) (has-pair (has-token fragment-sample) (has-pair has-type_condition has-with-set)))
 
 pub ignores-fragment : IgnoresPlaces (a_fragment Current) placeless_definition
 ignores-fragment = ignores-mapped {k = fragment_of} (λ x. refl) (ignores-then (ignores-one (keyword "fragment")) (ignores-then (ignores-one fragment_name) (ignores-then ignores-type_condition (ignores-then (ignores-directives true) ignores-own_set))))

@@ -1,5 +1,5 @@
 -- Selections and selection sets are read exactly at every budget, and have phrases.
-use Rattle.std.proofs.Common.{◌≡◌, ℕ, zero, suc, Bool, true, false, ◌||◌, IsTrue, ◌↔◌, codes, inl, inr, Option, Some, None, List, [], ◌∷◌, ◌++◌, refl, sym, ap, ◌∙◌, subst, append-nil}
+use Rattle.std.proofs.Common.{◌≡◌, ℕ, zero, suc, Bool, true, false, ◌||◌, IsTrue, ◌↔◌, codes, inl, Option, Some, None, List, [], ◌∷◌, ◌++◌, refl, sym, ap, ◌∙◌, subst, append-nil}
 use Rattle.graphql_tokens.specs.declared.pos.Positioned.{Positioned}
 use Rattle.graphql_tokens.specs.tokens.Edition.{Current}
 use Rattle.graphql_tokens.specs.tokens.Token.{Token}
@@ -164,9 +164,6 @@ on-sample = keyword-sample "on" refl (refl, (refl, tt))
 pub has-type_condition : HasPhrase (λ c. a_type_condition)
 has-type_condition = has-map (has-pair (has-token on-sample) (has-token name-sample))
 
-dots-sample : HasSample (punct "...")
-dots-sample = punct-sample "..." refl (inr refl)
-
 -- what follows `...` in an inline fragment
 abbrev inline : (Limits → Rel Set) → Limits → Rel Inline
 inline set c = opt a_type_condition ⨾ directives Current true c.values ⨾ set c
@@ -185,12 +182,6 @@ begins-spread = begins-mapped {p = λ c. one (punct "...") ⨾ one fragment_name
 
 pub begins-inline_fragment : {set : Limits → Rel Set} → BeginsWith (λ c. an_inline_fragment Current c.values (set c)) (punct "...")
 begins-inline_fragment {set} = begins-mapped {p = λ c. one (punct "...") ⨾ inline set c} (begins-then begins-one)
-
-pub has-spread : HasPhrase (λ c. a_spread Current c.values)
-has-spread = has-map (has-pair (has-token dots-sample) (has-pair (has-token fragment-sample) (has-directives true)))
-
-pub has-inline_fragment : {set : Limits → Rel Set} → HasPhrase set → HasPhrase (λ c. an_inline_fragment Current c.values (set c))
-has-inline_fragment {set} has = has-map (has-pair (has-token dots-sample) (has-pair (has-opt {p = λ c. a_type_condition}) (has-pair (has-directives true) has)))
 
 -- what follows `...` in either
 abbrev after-dots : (Limits → Rel Set) → Limits → Rel AfterDots

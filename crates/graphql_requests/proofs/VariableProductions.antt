@@ -18,12 +18,12 @@ use Rattle.graphql_reading.specs.reading.Outcome.{Outcome, Read, Reader, ◌>>=�
 use Rattle.graphql_reading.proofs.Parts.{none}
 use Rattle.graphql_reading.proofs.Theory.{IsSubset, outside}
 use Rattle.graphql_reading.proofs.TokenTests.{punctuator, itself, punct-within, within-both, within-first, within-second, within-either, name-sample}
-use Rattle.graphql_reading.proofs.PunctSamples.{has-open, has-close, has-colon, has-dollar}
+use Rattle.graphql_reading.proofs.PunctSamples.{has-close, has-colon, has-dollar}
 use Rattle.graphql_reading.proofs.ReadsExactly.{ReadsExactly, HasPhrase, BeginsWith, exact-punct, exact-name, exact-mapped, exact-next, exact-same, begins-one, begins-mapped, begins-then, has-token, has-pair, has-map, has-plus, has-first}
 use Rattle.graphql_reading.proofs.Extra.{FirstWithin, exact-seq, first-begins, first-opt, first-then, exact-plus-ahead, exact-opt, has-opt}
 use Rattle.graphql_reading.proofs.Optional.{exact-choose_ahead, exact-none, exact-reader, first-none, first-either, opt-left, with-some, opt-then, plus-star, star-plus}
 use Rattle.graphql_reading.proofs.IgnoresPlaces.{IgnoresPlaces, ignores-one, ignores-then, ignores-mapped, ignores-either, ignores-plus, ignores-opt}
-use Rattle.graphql_reading.proofs.Marks.{exact-between, begins-between, has-between, ignores-between}
+use Rattle.graphql_reading.proofs.Marks.{exact-between, begins-between, ignores-between}
 use Rattle.graphql_reading.proofs.Loop.{Takes, takes-one, many-plus, many-stops}
 use Rattle.graphql_grammar.proofs.TypeProductions.{exact-type, has-type, ignores-type}
 use Rattle.graphql_grammar.proofs.ArgumentProductions.{budget, exact-directive, begins-directive, exact-directives, first-directives, has-directives, ignores-directive, ignores-directives, exact-default, begins-default, ignores-default, takes-directive}
@@ -188,9 +188,6 @@ exact-variable_definitions = exact-between "(" ")" has-close (has-plus has-varia
 
 pub begins-variable_definitions : BeginsWith (λ c. variable_definitions Current c.values c.types) (punct "(")
 begins-variable_definitions = begins-between (punct ")")
-
-pub has-variable_definitions : HasPhrase (λ c. variable_definitions Current c.values c.types)
-has-variable_definitions = has-between (punct "(") (punct ")") has-open (has-plus has-variable_definition) has-close
 
 pub ignores-variable_definitions : IgnoresPlaces (λ c. variable_definitions Current c.values c.types) (map (unplaced placeless_variable))
 ignores-variable_definitions = ignores-between (punct "(") (punct ")") (ignores-plus ignores-variable_definition)

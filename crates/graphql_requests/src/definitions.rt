@@ -31,7 +31,8 @@ pub enum Definition {
     Fragment(Name, Positioned<FragmentDefinition>),
 }
 
-fn is_at_definition(parser: &Parser) -> bool
+/// Whether a definition is in hand: a `{`, the keyword of an operation, or `fragment`.
+pub fn is_at_definition(parser: &Parser) -> bool
     ensures { result ≡ definition_first parser.now.hand.bare }
 {
     parser.is_at_punct("{")
@@ -53,7 +54,7 @@ fn expect_fragment_name<'a>(parser: &mut Parser<'a>) -> Reading<Token<'a>>
 
 /// The short form of a query: its set alone.
 ///
-/// `Operation : SelectionSet` (GraphQL October 2021, section 2.3)
+/// `OperationDefinition : SelectionSet` (GraphQL October 2021, section 2.3)
 fn read_short_operation(parser: &mut Parser, limits: Limits) -> Reading<Definition>
     ensures { Gives definition_tree result parser.old parser.new (short_operation_at limits) }
 {
@@ -81,7 +82,8 @@ fn read_maybe_name(parser: &mut Parser) -> Reading<Option<Name>>
 
 /// An operation that begins with its keyword.
 ///
-/// `Operation : OperationType Name? VariableDefinitions? Directives? SelectionSet` (GraphQL October 2021, section 2.3)
+/// `OperationDefinition : OperationType Name? VariableDefinitions? Directives? SelectionSet` (GraphQL October 2021,
+/// section 2.3)
 fn read_operation(parser: &mut Parser, limits: Limits) -> Reading<Definition>
     ensures { Gives definition_tree result parser.old parser.new (worded_at limits) }
 {
@@ -99,7 +101,8 @@ fn read_operation(parser: &mut Parser, limits: Limits) -> Reading<Definition>
     Ok(Definition::Operation(name, Positioned::new(operation, word.pos)))
 }
 
-/// `Fragment : 'fragment' FragmentName TypeCondition Directives? SelectionSet` (GraphQL October 2021, section 2.8)
+/// `FragmentDefinition : 'fragment' FragmentName TypeCondition Directives? SelectionSet` (GraphQL October 2021,
+/// section 2.8)
 fn read_fragment(parser: &mut Parser, limits: Limits) -> Reading<Definition>
     ensures { Gives definition_tree result parser.old parser.new (fragment_at limits) }
 {
@@ -117,7 +120,7 @@ fn read_fragment(parser: &mut Parser, limits: Limits) -> Reading<Definition>
     Ok(Definition::Fragment(name, Positioned::new(fragment, word.pos)))
 }
 
-/// `Definition : Operation | Fragment`
+/// `ExecutableDefinition : OperationDefinition | FragmentDefinition`
 fn read_definition(parser: &mut Parser, limits: Limits) -> Reading<Definition>
     ensures { Gives definition_tree result parser.old parser.new (definition_at limits) }
 {
@@ -154,7 +157,7 @@ impl Production for Definition {
 
 /// The definitions of a request, up to its end.
 ///
-/// `Definition+` (GraphQL October 2021, section 2.2)
+/// `ExecutableDocument : ExecutableDefinition+` (GraphQL October 2021, section 2.2)
 pub fn read_definitions(parser: &mut Parser, limits: Limits) -> Reading<Vec<Definition>>
     ensures { Gives in_definitions result parser.old parser.new (definitions_at limits) }
 {

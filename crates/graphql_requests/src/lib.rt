@@ -29,9 +29,9 @@ ghost use Rattle.graphql_requests.specs.reading.Definitions.{definition_tree};
 ghost use Rattle.graphql_requests.specs.reading.Request.{definitions_at};
 ghost use Rattle.graphql_requests.specs.reading.Sorting.{definition_trees};
 
-mod definitions;
+pub mod definitions;
 mod rules;
-mod selections;
+pub mod selections;
 mod variables;
 
 use definitions::{Definition, read_definitions};

@@ -12,7 +12,7 @@ use graphql_reading::limits::Limits;
 use graphql_reading::parser::{Parser, Reading};
 use graphql_request_trees::SelectionSet;
 use graphql_syntax::pos::Positioned;
-pub use heads::{is_at_fragment_name, read_type_condition};
+pub use heads::{is_at_fragment_name, is_at_inline, is_at_selection, read_type_condition};
 
 /// The selection set of a definition, whose own nesting isn't counted.
 ///
@@ -40,7 +40,7 @@ pub fn read_selection_set(parser: &mut Parser, limits: Limits) -> Reading<Positi
             continue;
         }
         // Each set that ends here is given to the selection that waits for it.
-        while !heads::is_at_selection(parser) {
+        while !is_at_selection(parser) {
             parser.expect_punct("}")?;
             let set = own.close(&mut items)?;
             match frames.leave() {

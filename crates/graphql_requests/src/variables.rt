@@ -24,7 +24,7 @@ use graphql_syntax::value::ConstValue;
 
 /// A default value and directives, in either order.
 ///
-/// `Default? Directives? | Directives Default`
+/// `DefaultValue? Directives? | Directives DefaultValue`
 fn read_default_and_directives(
     parser: &mut Parser,
     limits: Limits,
@@ -41,7 +41,7 @@ fn read_default_and_directives(
     Ok((default_value, directives))
 }
 
-/// `'$' Name ':' Type (Default? Directives? | Directives Default)`.
+/// `VariableDefinition : Variable ':' Type (DefaultValue? Directives? | Directives DefaultValue)`.
 struct VariablePhrase;
 
 impl Production for VariablePhrase {

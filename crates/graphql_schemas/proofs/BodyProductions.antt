@@ -126,9 +126,6 @@ exact-body {b} {f} ends apart =
 pub begins-body : BeginsWith (body Current) body_first
 begins-body = begins-bodies
 
-pub has-body : HasPhrase (body Current)
-has-body = has-bodies (has-map (has-directives false))
-
 pub ignores-body : IgnoresPlaces (body Current) placeless-body
 ignores-body =
     ignores-bodies (ignores-mapped (λ x. refl) (ignores-directives false))
@@ -158,9 +155,6 @@ exact-extended_body {b} {f} ends apart =
 
 pub begins-extended_body : BeginsWith (extended_body Current) body_first
 begins-extended_body = begins-bodies
-
-pub has-extended_body : HasPhrase (extended_body Current)
-has-extended_body = has-bodies (has-map (has-plus (has-directive false)))
 
 pub ignores-extended_body : IgnoresPlaces (extended_body Current) placeless-body
 ignores-extended_body =

@@ -81,9 +81,6 @@ maybe-arguments c = opt (arguments_definition Current c)
 abbrev pub directive-rest : Limits → Rel DirectiveRest
 directive-rest c = one (keyword "directive") ⨾ one (punct "@") ⨾ one any_name ⨾ opt (arguments_definition Current c) ⨾ opt (one (keyword "repeatable")) ⨾ after (keyword "on") (separated (punct "|") a_location)
 
-directive-sample : HasSample (keyword "directive")
-directive-sample = keyword-sample "directive" refl (refl, (refl, (refl, (refl, (refl, (refl, (refl, (refl, (refl, tt)))))))))
-
 has-after-name : HasPhrase (λ c. maybe-arguments c ⨾ repeatable-and-locations c)
 has-after-name = has-pair has-maybe_arguments_definition has-repeatable-and-locations
 
@@ -97,9 +94,6 @@ exact-directive-rest ends =
 
 pub begins-directive-rest : BeginsWith directive-rest (keyword "directive")
 begins-directive-rest = begins-then begins-one
-
-pub has-directive-rest : HasPhrase directive-rest
-has-directive-rest = has-pair (has-token directive-sample) (has-pair has-at (has-pair (has-token name-sample) has-after-name))
 
 pub ignores-directive-rest : IgnoresPlaces directive-rest placeless-directive-rest
 ignores-directive-rest = ignores-then (ignores-one (keyword "directive")) (ignores-then (ignores-one (punct "@")) (ignores-then (ignores-one any_name) (ignores-then ignores-maybe_arguments_definition (ignores-then (ignores-opt (ignores-one (keyword "repeatable"))) ignores-locations))))

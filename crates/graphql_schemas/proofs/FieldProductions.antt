@@ -15,11 +15,11 @@ use Rattle.graphql_reading.specs.grammar.Relations.{Rel, one, ◌⨾◌}
 use Rattle.graphql_reading.specs.grammar.Tests.{Test, punct, any_name}
 use Rattle.graphql_reading.proofs.Theory.{IsSubset, outside}
 use Rattle.graphql_reading.proofs.TokenTests.{itself, punct-within, name-sample}
-use Rattle.graphql_reading.proofs.PunctSamples.{has-open_object, has-close_object, has-colon}
+use Rattle.graphql_reading.proofs.PunctSamples.{has-close_object, has-colon}
 use Rattle.graphql_reading.proofs.ReadsExactly.{ReadsExactly, HasPhrase, BeginsWith, exact-punct, exact-name, exact-mapped, exact-next, exact-then-some, begins-one, begins-mapped, begins-then, has-token, has-pair, has-map, has-plus}
 use Rattle.graphql_reading.proofs.Extra.{exact-seq, exact-plus-ahead}
 use Rattle.graphql_reading.proofs.IgnoresPlaces.{IgnoresPlaces, ignores-one, ignores-then, ignores-mapped, ignores-plus, map-given}
-use Rattle.graphql_reading.proofs.Marks.{exact-between, begins-between, has-between, ignores-between}
+use Rattle.graphql_reading.proofs.Marks.{exact-between, begins-between, ignores-between}
 use Rattle.graphql_reading.proofs.Loop.{Takes, takes-one}
 use Rattle.graphql_grammar.proofs.TypeProductions.{exact-type, has-type, ignores-type}
 use Rattle.graphql_grammar.proofs.ArgumentProductions.{exact-directives, first-directives, has-directives, ignores-directives}
@@ -75,9 +75,6 @@ exact-fields = exact-between "{" "}" has-close_object (has-plus has-field_defini
 
 pub begins-fields : BeginsWith (fields Current) (punct "{")
 begins-fields = begins-between (punct "}")
-
-pub has-fields : HasPhrase (fields Current)
-has-fields = has-between (punct "{") (punct "}") has-open_object (has-plus has-field_definition) has-close_object
 
 pub ignores-fields : IgnoresPlaces (fields Current) (map (unplaced placeless_field))
 ignores-fields = ignores-between (punct "{") (punct "}") (ignores-plus ignores-field_definition)

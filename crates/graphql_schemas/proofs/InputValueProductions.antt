@@ -8,16 +8,16 @@ use Rattle.graphql_grammar.specs.grammar.Placeless.{unplaced}
 use Rattle.graphql_grammar.specs.grammar.Types.{type_reference}
 use Rattle.graphql_grammar.specs.grammar.Values.{Value}
 use Rattle.graphql_reading.specs.grammar.Limits.{Limits}
-use Rattle.graphql_reading.specs.grammar.Relations.{Rel, ◌⨾◌, mapped, plus, opt, given}
+use Rattle.graphql_reading.specs.grammar.Relations.{Rel, ◌⨾◌, plus, opt}
 use Rattle.graphql_reading.specs.grammar.Tests.{Test, punct, any_name}
 use Rattle.graphql_reading.specs.reading.Outcome.{opt_at, plus_at}
 use Rattle.graphql_reading.proofs.Theory.{IsSubset, outside}
 use Rattle.graphql_reading.proofs.TokenTests.{punctuator, named, itself, punct-within, any_name-within, within-either, name-sample}
-use Rattle.graphql_reading.proofs.PunctSamples.{has-open, has-close, has-open_object, has-close_object, has-colon}
+use Rattle.graphql_reading.proofs.PunctSamples.{has-close, has-close_object, has-colon}
 use Rattle.graphql_reading.proofs.ReadsExactly.{ReadsExactly, HasPhrase, BeginsWith, exact-punct, exact-name, exact-mapped, exact-next, exact-then-some, begins-one, begins-within, begins-mapped, begins-then, has-token, has-pair, has-map, has-plus}
 use Rattle.graphql_reading.proofs.Extra.{FirstWithin, exact-seq, first-opt, first-then, exact-plus-ahead, exact-opt, has-opt, begins-opt}
-use Rattle.graphql_reading.proofs.IgnoresPlaces.{IgnoresPlaces, ignores-one, ignores-then, ignores-mapped, ignores-plus, ignores-opt, map-given}
-use Rattle.graphql_reading.proofs.Marks.{exact-between, begins-between, has-between, ignores-between}
+use Rattle.graphql_reading.proofs.IgnoresPlaces.{IgnoresPlaces, ignores-one, ignores-then, ignores-mapped, ignores-plus, ignores-opt}
+use Rattle.graphql_reading.proofs.Marks.{exact-between, begins-between, ignores-between}
 use Rattle.graphql_reading.proofs.Loop.{Takes, takes-one}
 use Rattle.graphql_grammar.proofs.TypeProductions.{exact-type, has-type, ignores-type}
 use Rattle.graphql_grammar.proofs.ArgumentProductions.{exact-directives, first-directives, has-directives, ignores-directives, exact-default, begins-default, ignores-default}
@@ -26,7 +26,7 @@ use Rattle.graphql_schemas.specs.grammar.Descriptions.{a_description}
 use Rattle.graphql_schemas.specs.grammar.InputValues.{input_value_of, an_input_value, arguments_definition, input_fields}
 use Rattle.graphql_schemas.specs.grammar.Placeless.{placeless_input_value, placeless_input_values}
 use Rattle.graphql_schemas.specs.reading.Descriptions.{is_text}
-use Rattle.graphql_schemas.specs.reading.InputValues.{member_first, input_value_at, arguments_definition_at, given_arguments_at, input_fields_at}
+use Rattle.graphql_schemas.specs.reading.InputValues.{member_first, input_value_at, arguments_definition_at, input_fields_at}
 use Rattle.graphql_schemas.proofs.DescriptionProductions.{text-within, name-no-text, begins-description, exact-maybe_description, has-maybe_description, ignores-maybe_description, described-nowhere}
 use Prim.Native.String.{String}
 
@@ -110,9 +110,6 @@ exact-arguments_definition = exact-between "(" ")" has-close (has-plus has-input
 pub begins-arguments_definition : BeginsWith (arguments_definition Current) (punct "(")
 begins-arguments_definition = begins-between (punct ")")
 
-pub has-arguments_definition : HasPhrase (arguments_definition Current)
-has-arguments_definition = has-between (punct "(") (punct ")") has-open (has-plus has-input_value) has-close
-
 pub ignores-arguments_definition : IgnoresPlaces (arguments_definition Current) placeless_input_values
 ignores-arguments_definition = ignores-between (punct "(") (punct ")") (ignores-plus ignores-input_value)
 
@@ -132,12 +129,6 @@ ignores-maybe_arguments_definition = ignores-opt ignores-arguments_definition
 
 -- a list of them, which may be empty
 
-pub exact-given_arguments : {b : Limits} {f : Test} → IsSubset f (outside (punct "(")) → ReadsExactly (λ c. mapped given (opt (arguments_definition Current c))) b f (given_arguments_at b)
-exact-given_arguments away = exact-mapped (exact-maybe_arguments_definition away)
-
-pub ignores-given_arguments : IgnoresPlaces (λ c. mapped given (opt (arguments_definition Current c))) placeless_input_values
-ignores-given_arguments = ignores-mapped (map-given (unplaced placeless_input_value)) ignores-maybe_arguments_definition
-
 -- ---- fields of input objects
 
 pub exact-input_fields : {b : Limits} {f : Test} → ReadsExactly (input_fields Current) b f (input_fields_at b)
@@ -145,9 +136,6 @@ exact-input_fields = exact-between "{" "}" has-close_object (has-plus has-input_
 
 pub begins-input_fields : BeginsWith (input_fields Current) (punct "{")
 begins-input_fields = begins-between (punct "}")
-
-pub has-input_fields : HasPhrase (input_fields Current)
-has-input_fields = has-between (punct "{") (punct "}") has-open_object (has-plus has-input_value) has-close_object
 
 pub ignores-input_fields : IgnoresPlaces (input_fields Current) placeless_input_values
 ignores-input_fields = ignores-between (punct "{") (punct "}") (ignores-plus ignores-input_value)

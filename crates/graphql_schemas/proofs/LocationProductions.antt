@@ -10,10 +10,7 @@ use Rattle.graphql_reading.proofs.Meaning.{Decides, exact-meaning, begins-meanin
 use Rattle.graphql_reading.proofs.TokenTests.{any_name-inner, sample, word_of, HasSample, name-spells}
 use Rattle.graphql_reading.proofs.ReadsExactly.{ReadsExactly, HasPhrase, BeginsWith, exact-mapped, begins-mapped, has-map}
 use Rattle.graphql_reading.proofs.IgnoresPlaces.{IgnoresPlaces, ignores-mapped}
-use Rattle.graphql_reading.proofs.Loop.{Takes, takes-one}
-use Rattle.graphql_reading.proofs.Theory.{anything}
 use Rattle.graphql_grammar.specs.grammar.Placeless.{bare_node}
-use Rattle.graphql_grammar.proofs.ArgumentProductions.{budget}
 use Rattle.graphql_schema_trees.specs.calls.Locations.{location_word}
 use Rattle.graphql_schemas.specs.grammar.Directives.{IsLocation, a_location}
 use Rattle.graphql_schemas.specs.reading.Directives.{all_locations, location_among, location_named, location_at}
@@ -68,6 +65,3 @@ has-location = has-map (has-meaning IsLocation field-sample locations.Field refl
 
 pub ignores-location : IgnoresPlaces (λ c. a_location) bare_node
 ignores-location = ignores-mapped (λ x. refl) (ignores-meaning any_name IsLocation)
-
-pub takes-location : Takes location_at
-takes-location = takes-one {b = budget 0 0} {f = anything} exact-location begins-location

@@ -9,9 +9,9 @@ use Rattle.graphql_reading.specs.grammar.Relations.{one, ◌⨾◌}
 use Rattle.graphql_reading.specs.grammar.Tests.{Test, is_among, punct, keyword, any_name}
 use Rattle.graphql_reading.proofs.Theory.{IsSubset, outside}
 use Rattle.graphql_reading.proofs.TokenTests.{any_name-within, punct-inner, keyword-inner, keyword-sample, punctuator, named, word_of, sample, punct-within, name_but-within, within-either, HasSample, name-spells, name-sample}
-use Rattle.graphql_reading.proofs.PunctSamples.{has-equals, has-open_object, has-close_object}
+use Rattle.graphql_reading.proofs.PunctSamples.{has-close_object}
 use Rattle.graphql_reading.proofs.ReadsExactly.{ReadsExactly, HasPhrase, BeginsWith, exact-name, exact-name_but, exact-mapped, exact-next, exact-then-some, begins-one, begins-within, begins-mapped, begins-then, has-token, has-pair, has-map, has-plus}
-use Rattle.graphql_reading.proofs.Marks.{exact-after, begins-after, has-after, ignores-after, exact-separated, has-separated, ignores-separated, exact-between, begins-between, has-between, ignores-between}
+use Rattle.graphql_reading.proofs.Marks.{exact-after, begins-after, has-after, ignores-after, exact-separated, has-separated, ignores-separated, exact-between, begins-between, ignores-between}
 use Rattle.graphql_reading.proofs.Extra.{exact-plus-ahead, begins-opt}
 use Rattle.graphql_reading.proofs.IgnoresPlaces.{IgnoresPlaces, ignores-one, ignores-then, ignores-mapped, ignores-plus}
 use Rattle.graphql_reading.proofs.Loop.{Takes, takes-one}
@@ -65,9 +65,6 @@ exact-members away = exact-after (punct-inner "=") (has-separated (punct "|") ha
 
 pub begins-members : BeginsWith (λ c. members) (punct "=")
 begins-members = begins-after
-
-pub has-members : HasPhrase (λ c. members)
-has-members = has-after (punct "=") has-equals (has-separated (punct "|") has-placed_name)
 
 pub ignores-members : IgnoresPlaces (λ c. members) placeless_names
 ignores-members = ignores-after (punct "=") (ignores-separated (punct "|") ignores-placed_name)
@@ -130,9 +127,6 @@ exact-enum_values = exact-between "{" "}" has-close_object (has-plus has-enum_va
 
 pub begins-enum_values : BeginsWith (enum_values Current) (punct "{")
 begins-enum_values = begins-between (punct "}")
-
-pub has-enum_values : HasPhrase (enum_values Current)
-has-enum_values = has-between (punct "{") (punct "}") has-open_object (has-plus has-enum_value) has-close_object
 
 pub ignores-enum_values : IgnoresPlaces (enum_values Current) (map (unplaced placeless_enum_value))
 ignores-enum_values = ignores-between (punct "{") (punct "}") (ignores-plus ignores-enum_value)

@@ -49,7 +49,7 @@ pub fn is_at_definition(parser: &Parser) -> bool
         || is_at_body(parser)
 }
 
-/// `SchemaExt | TypeExt`
+/// `TypeSystemExtension : SchemaExtension | TypeExtension`
 fn read_extension(parser: &mut Parser, limits: Limits) -> Reading<Definition>
     ensures { Gives definition_tree result parser.old parser.new (extension_at limits) }
 {
@@ -62,7 +62,7 @@ fn read_extension(parser: &mut Parser, limits: Limits) -> Reading<Definition>
     Ok(Definition::TypeDef(extension))
 }
 
-/// `Schema | TypeDef | DirectiveDef`: each may have a description.
+/// `TypeSystemDefinition : SchemaDefinition | TypeDefinition | DirectiveDefinition`: each may have a description.
 fn read_described(parser: &mut Parser, limits: Limits) -> Reading<Definition>
     ensures { Gives definition_tree result parser.old parser.new (described_at limits) }
 {
@@ -96,7 +96,7 @@ impl Production for Definition {
         is_at_definition(parser)
     }
 
-    /// `Definition : Schema | SchemaExt | TypeDef | TypeExt | DirectiveDef`
+    /// `TypeSystemDefinitionOrExtension : TypeSystemDefinition | TypeSystemExtension`
     fn read(parser: &mut Parser, limits: Limits) -> Reading<Definition> {
         if parser.is_at_keyword("extend") {
             return read_extension(parser, limits);
@@ -107,7 +107,7 @@ impl Production for Definition {
 
 /// The definitions of a schema file, up to its end.
 ///
-/// `Definition+` (GraphQL October 2021, section 3.1)
+/// `TypeSystemExtensionDocument : TypeSystemDefinitionOrExtension+` (GraphQL October 2021, section 3.1)
 pub fn read_definitions(parser: &mut Parser, limits: Limits) -> Reading<Vec<Definition>>
     ensures { Gives in_definitions result parser.old parser.new (definitions_at limits) }
 {

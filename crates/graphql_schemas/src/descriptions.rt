@@ -21,7 +21,7 @@ pub fn is_at_description(parser: &Parser) -> bool
     kind.is_string() || kind.is_block()
 }
 
-/// `Description : String | Block`
+/// `Description : StringValue`
 fn read_description(parser: &mut Parser) -> Reading<Positioned<String>>
     ensures { Gives (placed string_bytes) result parser.old parser.new description_at }
 {

@@ -47,7 +47,7 @@ pub fn location_of(word: &str) -> Option<DirectiveLocation>
     }
 }
 
-/// `Location`: a name that is one of the 19 words.
+/// `DirectiveLocation`: a name that is one of the 19 words.
 struct LocationPhrase;
 
 impl Production for LocationPhrase {
@@ -81,7 +81,7 @@ impl Production for LocationPhrase {
     }
 }
 
-/// `'on' '|'? Location ('|' Location)*`
+/// `'on' DirectiveLocations`, where `DirectiveLocations : '|'? DirectiveLocation ('|' DirectiveLocation)*`
 fn read_locations(
     parser: &mut Parser,
     limits: Limits,
@@ -108,7 +108,7 @@ fn read_is_repeatable(parser: &mut Parser) -> bool
 
 /// Reads the definition of a directive after its description.
 ///
-/// `DirectiveDef : Description? 'directive' '@' Name ArgumentsDef? 'repeatable'? 'on' '|'? Location ('|' Location)*`
+/// `DirectiveDefinition : Description? 'directive' '@' Name ArgumentsDefinition? 'repeatable'? 'on' DirectiveLocations`
 /// (GraphQL October 2021, section 3.13)
 pub fn read_directive_definition(
     parser: &mut Parser,

@@ -18,7 +18,7 @@ use graphql_reading::production::{Production, maybe_bracketed};
 use graphql_schema_trees::FieldDefinition;
 use graphql_syntax::pos::Positioned;
 
-/// `Description? Name ArgumentsDef? ':' Type ConstDirectives?`
+/// `FieldDefinition : Description? Name ArgumentsDefinition? ':' Type Directives[Const]?`
 struct FieldPhrase;
 
 impl Production for FieldPhrase {
@@ -61,7 +61,7 @@ impl Production for FieldPhrase {
 
 /// Reads fields with their brackets, where a `{` is in hand; else there are none.
 ///
-/// `Fields? : ('{' FieldDef+ '}')?` (GraphQL October 2021, section 3.6)
+/// `FieldsDefinition? : ('{' FieldDefinition+ '}')?` (GraphQL October 2021, section 3.6)
 pub fn read_maybe_fields(
     parser: &mut Parser,
     limits: Limits,

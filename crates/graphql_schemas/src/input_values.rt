@@ -26,7 +26,7 @@ pub fn is_at_member(parser: &Parser) -> bool
     is_at_description(parser) || parser.is_at_name()
 }
 
-/// `Description? Name ':' Type Default? ConstDirectives?`
+/// `InputValueDefinition : Description? Name ':' Type DefaultValue? Directives[Const]?`
 struct InputValuePhrase;
 
 impl Production for InputValuePhrase {
@@ -69,7 +69,7 @@ impl Production for InputValuePhrase {
 
 /// Reads the definitions of arguments with their brackets, where a `(` is in hand; else there are none.
 ///
-/// `ArgumentsDef? : ('(' InputValue+ ')')?` (GraphQL October 2021, section 3.6.1)
+/// `ArgumentsDefinition? : ('(' InputValueDefinition+ ')')?` (GraphQL October 2021, section 3.6.1)
 pub fn read_maybe_arguments_definition(
     parser: &mut Parser,
     limits: Limits,
@@ -81,7 +81,7 @@ pub fn read_maybe_arguments_definition(
 
 /// Reads the fields of an input object with their brackets, where a `{` is in hand; else there are none.
 ///
-/// `InputFields? : ('{' InputValue+ '}')?` (GraphQL October 2021, section 3.10)
+/// `InputFieldsDefinition? : ('{' InputValueDefinition+ '}')?` (GraphQL October 2021, section 3.10)
 pub fn read_maybe_input_fields(
     parser: &mut Parser,
     limits: Limits,

@@ -23,7 +23,7 @@ use graphql_syntax::lexer::Token;
 use graphql_syntax::pos::Positioned;
 use graphql_syntax::value::Name;
 
-/// `Implements : 'implements' '&'? Name ('&' Name)*`
+/// `ImplementsInterfaces : 'implements' '&'? Name ('&' Name)*`
 fn read_implements(parser: &mut Parser, limits: Limits) -> Reading<Vec<Positioned<Name>>>
     ensures { Gives (λ names. names.items) result parser.old parser.new implements_at }
 {
@@ -33,7 +33,7 @@ fn read_implements(parser: &mut Parser, limits: Limits) -> Reading<Vec<Positione
 
 /// Reads the interfaces that a type implements, where `implements` is in hand; else there are none.
 ///
-/// `Implements?` (GraphQL October 2021, section 3.6)
+/// `ImplementsInterfaces?` (GraphQL October 2021, section 3.6)
 #[tactic(auto, unfolding(graphql_reading::specs::reading::Outcome::opt_at))]
 pub fn read_maybe_implements(parser: &mut Parser, limits: Limits) -> Reading<Vec<Positioned<Name>>>
     ensures { Gives (λ names. names.items) result parser.old parser.new given_implements_at }
@@ -44,7 +44,7 @@ pub fn read_maybe_implements(parser: &mut Parser, limits: Limits) -> Reading<Vec
     read_implements(parser, limits)
 }
 
-/// `Members : '=' '|'? Name ('|' Name)*`
+/// `UnionMemberTypes : '=' '|'? Name ('|' Name)*`
 fn read_members(parser: &mut Parser, limits: Limits) -> Reading<Vec<Positioned<Name>>>
     ensures { Gives (λ names. names.items) result parser.old parser.new members_at }
 {
@@ -54,7 +54,7 @@ fn read_members(parser: &mut Parser, limits: Limits) -> Reading<Vec<Positioned<N
 
 /// Reads the types of a union, where a `=` is in hand; else there are none.
 ///
-/// `Members?` (GraphQL October 2021, section 3.8)
+/// `UnionMemberTypes?` (GraphQL October 2021, section 3.8)
 #[tactic(auto, unfolding(graphql_reading::specs::reading::Outcome::opt_at))]
 pub fn read_maybe_members(parser: &mut Parser, limits: Limits) -> Reading<Vec<Positioned<Name>>>
     ensures { Gives (λ names. names.items) result parser.old parser.new given_members_at }
@@ -75,7 +75,7 @@ pub fn is_at_enum_name(parser: &Parser) -> bool
             || parser.is_at_keyword("null"))
 }
 
-/// `EnumName : a Name other than 'true', 'false', 'null'`
+/// `EnumValue : a Name other than 'true', 'false', 'null'`
 pub fn expect_enum_name<'a>(parser: &mut Parser<'a>) -> Reading<Token<'a>>
     ensures name { Gives seen result parser.old parser.new (one_at enum_name) }
     ensures stands { IfOk result (λ token. StandsIn parser.new.text (seen token)) }
@@ -86,7 +86,7 @@ pub fn expect_enum_name<'a>(parser: &mut Parser<'a>) -> Reading<Token<'a>>
     Ok(parser.take())
 }
 
-/// `Description? EnumName ConstDirectives?`
+/// `EnumValueDefinition : Description? EnumValue Directives[Const]?`
 struct EnumValuePhrase;
 
 impl Production for EnumValuePhrase {
@@ -124,7 +124,7 @@ impl Production for EnumValuePhrase {
 
 /// Reads the values of an enum with their brackets, where a `{` is in hand; else there are none.
 ///
-/// `EnumValues? : ('{' (Description? EnumName ConstDirectives?)+ '}')?` (GraphQL October 2021, section 3.9)
+/// `EnumValuesDefinition? : ('{' EnumValueDefinition+ '}')?` (GraphQL October 2021, section 3.9)
 pub fn read_maybe_enum_values(
     parser: &mut Parser,
     limits: Limits,

@@ -45,7 +45,7 @@ pub struct Schema {
     pub roots: Vec<Root>,
 }
 
-/// `OperationType ':' Name`
+/// `RootOperationTypeDefinition : OperationType ':' Name`
 struct RootPhrase;
 
 impl Production for RootPhrase {
@@ -80,7 +80,7 @@ impl Production for RootPhrase {
     }
 }
 
-/// `Roots : '{' (OperationType ':' Name)+ '}'`
+/// `Roots : '{' RootOperationTypeDefinition+ '}'`
 fn read_roots(parser: &mut Parser, limits: Limits) -> Reading<Vec<Root>>
     ensures { Gives (trees_in root_tree) result parser.old parser.new roots_at }
 {
@@ -89,7 +89,7 @@ fn read_roots(parser: &mut Parser, limits: Limits) -> Reading<Vec<Root>>
 
 /// Reads the definition of a schema after its description.
 ///
-/// `Schema : Description? 'schema' ConstDirectives? Roots` (GraphQL October 2021, section 3.3)
+/// `SchemaDefinition : Description? 'schema' Directives[Const]? Roots` (GraphQL October 2021, section 3.3)
 pub fn read_schema(
     parser: &mut Parser,
     limits: Limits,
@@ -112,8 +112,8 @@ pub fn read_schema(
 
 /// Reads the extension of a schema after this `extend`.
 ///
-/// `SchemaExt : 'extend' 'schema' ConstDirectives Roots? | 'extend' 'schema' Roots` (GraphQL October 2021, section
-/// 3.3.2)
+/// `SchemaExtension : 'extend' 'schema' Directives[Const] Roots? | 'extend' 'schema' Roots` (GraphQL October 2021,
+/// section 3.3.2)
 pub fn read_schema_extension(
     parser: &mut Parser,
     limits: Limits,

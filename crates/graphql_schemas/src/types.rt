@@ -95,7 +95,7 @@ pub fn expect_part(extend: bool, is_there: bool) -> Reading<()>
     Ok(())
 }
 
-/// `Implements? ConstDirectives? Fields?`
+/// `ImplementsInterfaces? Directives[Const]? FieldsDefinition?`
 fn read_members(parser: &mut Parser, limits: Limits) -> Reading<Members>
     ensures { Gives in_members result parser.old parser.new (members_by_part_at limits) }
 {
@@ -150,7 +150,7 @@ fn read_interface_rest(parser: &mut Parser, limits: Limits, extend: bool) -> Rea
     })
 }
 
-/// `ConstDirectives?`; an extension has them.
+/// `Directives[Const]?`; an extension has them.
 fn read_scalar_rest(parser: &mut Parser, limits: Limits, extend: bool) -> Reading<Rest>
     ensures { Gives in_rest result parser.old parser.new (scalar_rest_at extend limits) }
 {
@@ -163,7 +163,7 @@ fn read_scalar_rest(parser: &mut Parser, limits: Limits, extend: bool) -> Readin
     })
 }
 
-/// `ConstDirectives? Members?`; an extension has at least one of them.
+/// `Directives[Const]? UnionMemberTypes?`; an extension has at least one of them.
 fn read_union_rest(parser: &mut Parser, limits: Limits, extend: bool) -> Reading<Rest>
     ensures { Gives in_rest result parser.old parser.new (union_rest_at extend limits) }
 {
@@ -177,7 +177,7 @@ fn read_union_rest(parser: &mut Parser, limits: Limits, extend: bool) -> Reading
     })
 }
 
-/// `ConstDirectives? EnumValues?`; an extension has at least one of them.
+/// `Directives[Const]? EnumValuesDefinition?`; an extension has at least one of them.
 fn read_enum_rest(parser: &mut Parser, limits: Limits, extend: bool) -> Reading<Rest>
     ensures { Gives in_rest result parser.old parser.new (enum_rest_at extend limits) }
 {
@@ -191,7 +191,7 @@ fn read_enum_rest(parser: &mut Parser, limits: Limits, extend: bool) -> Reading<
     })
 }
 
-/// `ConstDirectives? InputFields?`; an extension has at least one of them.
+/// `Directives[Const]? InputFieldsDefinition?`; an extension has at least one of them.
 fn read_input_rest(parser: &mut Parser, limits: Limits, extend: bool) -> Reading<Rest>
     ensures { Gives in_rest result parser.old parser.new (input_rest_at extend limits) }
 {
@@ -220,12 +220,12 @@ fn read_rest(parser: &mut Parser, limits: Limits, word: Word, extend: bool) -> R
 }
 
 /// ```text
-/// Body : 'scalar' Name ConstDirectives?
-///   | 'type' Name Implements? ConstDirectives? Fields?
-///   | 'interface' Name Implements? ConstDirectives? Fields?
-///   | 'union' Name ConstDirectives? Members?
-///   | 'enum' Name ConstDirectives? EnumValues?
-///   | 'input' Name ConstDirectives? InputFields?
+/// TypeBody : 'scalar' Name Directives[Const]?
+///   | 'type' Name ImplementsInterfaces? Directives[Const]? FieldsDefinition?
+///   | 'interface' Name ImplementsInterfaces? Directives[Const]? FieldsDefinition?
+///   | 'union' Name Directives[Const]? UnionMemberTypes?
+///   | 'enum' Name Directives[Const]? EnumValuesDefinition?
+///   | 'input' Name Directives[Const]? InputFieldsDefinition?
 /// ```
 /// In an extension at least one of the optional parts is there.
 fn read_body<'a>(parser: &mut Parser<'a>, limits: Limits, extend: bool) -> Reading<Body<'a>>
@@ -245,7 +245,7 @@ fn read_body<'a>(parser: &mut Parser<'a>, limits: Limits, extend: bool) -> Readi
 
 /// Reads the definition of a type after its description.
 ///
-/// `TypeDef : Description? Body` (GraphQL October 2021, section 3.4)
+/// `TypeDefinition : Description? TypeBody` (GraphQL October 2021, section 3.4)
 pub fn read_type_definition(
     parser: &mut Parser,
     limits: Limits,
@@ -272,7 +272,7 @@ pub fn read_type_definition(
 
 /// Reads the extension of a type after this `extend`.
 ///
-/// `TypeExt : 'extend' Body`, with at least one of the optional parts (GraphQL October 2021, section 3.4.3)
+/// `TypeExtension : 'extend' TypeBody`, with at least one of the optional parts (GraphQL October 2021, section 3.4.3)
 pub fn read_type_extension(
     parser: &mut Parser,
     limits: Limits,

@@ -6,7 +6,6 @@ use Rattle.graphql_tokens.specs.tokens.Place.{is_line_end, is_in_line}
 use Rattle.graphql_tokens.specs.tokens.Classes.{is_ignored, is_punct, is_name_start}
 use Rattle.graphql_tokens.specs.tokens.Cuts.{is_last}
 use Rattle.graphql_tokens.specs.inner.Reading.{skip, past_line, past_name_chars, past_dots, found, quoted, next}
-use Rattle.graphql_tokens.specs.inner.Running.{BeginsInAscii}
 use Rattle.graphql_tokens.specs.inner.Lexing.{IsFirstByte, rest_if}
 use Rattle.graphql_tokens.specs.declared.lexer.TokenKind.{TokenKind}
 use Rattle.graphql_tokens.specs.declared.lexer.TokenKind.TheVariants.{Punct, Name, Number, Fault, End}
@@ -42,13 +41,6 @@ first_not b c d text rest f is l n = by (subst (IsFirstByte b) is f)
     by : IsFirstByte b (c ∷ rest) → eqb c d ≡ false
     by (inl x) = let other : c ≢ d = λ e. n (sym x.1 ∙ e) in grind (arith, nat_tests)
     by (inr x) = let wide : 128 ≤ c = x.2 in grind (arith, nat_tests)
-
--- an ASCII byte that ends no line
-pub low_ascii : (b : ℕ) (text : List ℕ) → IsFirstByte b text → b < 128 → is_in_line b ≡ true → BeginsInAscii text
-low_ascii b [] f l h = absurd f
-low_ascii b (c ∷ rest) f l h =
-    let same = first_low b c (c ∷ rest) rest f refl l in
-    (omega (arith, same, l), ap is_in_line same ∙ h)
 
 -- ---- ignored text
 
@@ -120,12 +112,6 @@ name_low b t = (grind (arith, nat_tests), grind (arith, nat_tests), grind (arith
 
 punct_low : (b : ℕ) → is_punct b ≡ true → (b < 128) × (is_in_line b ≡ true)
 punct_low b t = (grind (arith, nat_tests), grind (arith, nat_tests))
-
-pub name_ascii : (b : ℕ) (text : List ℕ) → IsFirstByte b text → is_name_start b ≡ true → BeginsInAscii text
-name_ascii b text f t = let n = name_low b t in low_ascii b text f n.0 n.1
-
-pub punct_ascii : (b : ℕ) (text : List ℕ) → IsFirstByte b text → is_punct b ≡ true → BeginsInAscii text
-punct_ascii b text f t = let n = punct_low b t in low_ascii b text f n.0 n.1
 
 pub next_end : (text : List ℕ) → text ≡ [] → next text ≡ (End, [])
 unfolding next

@@ -88,14 +88,6 @@ line_before bs at end e l =
     ∙ ap (λ x. take (end - at) (drop at bs) ∷ lines_of (drop (end_len x) x)) rest
     ∙ ap (λ x. take (end - at) (drop at bs) ∷ lines_of x) (drop-drop (end_len (drop end bs)) end bs ∙ ap (λ i. drop i bs) (let a : end + end_len (drop end bs) ≡ end + end_len (drop end bs) = refl in a))
 
-pub end_len_some : (t : List ℕ) → 1 ≤ end_len t
-end_len_some t = by (eqb (get_or t 0 0) 13) (eqb (get_or t 1 0) 10)
-  where
-    by : (a b : Bool) → 1 ≤ cond a (cond b 2 1) 1
-    by true true = omega arith
-    by true false = omega arith
-    by false b = omega arith
-
 pub lines_some : (t : List ℕ) → (line : List ℕ) × (lines : List (List ℕ)) × (lines_of t ≡ line ∷ lines)
 lines_some t = by (cases_lt (in_line_len t) (length t))
   where
@@ -107,9 +99,6 @@ lines_some t = by (cases_lt (in_line_len t) (length t))
 
 blank_in_line : (c : ℕ) → is_blank_char c ≡ true → is_in_line c ≡ true
 blank_in_line c h = grind (arith, nat_tests)
-
-pub end_not_blank : (c : ℕ) → is_in_line c ≡ false → is_blank_char c ≡ false
-end_not_blank c h = grind (arith, nat_tests)
 
 blanks_le : (t : List ℕ) → prefix_len is_blank_char t ≤ in_line_len t
 blanks_le [] = omega arith

@@ -1,5 +1,5 @@
 -- What searches for bytes find in the raw text of a block string.
-use Rattle.std.proofs.Common.{◌≡◌, ◌≢◌, ℕ, ◌+◌, ◌-◌, ◌≤◌, ◌<◌, Bool, true, false, eqb, ◌&&◌, ◌⊎◌, List, length, take, drop, get_or, refl, sym, ap, ◌∙◌, inl, inr, arith, length-drop}
+use Rattle.std.proofs.Common.{◌≡◌, ℕ, ◌+◌, ◌-◌, ◌≤◌, ◌<◌, Bool, true, false, eqb, ◌&&◌, ◌⊎◌, List, length, take, drop, get_or, refl, sym, ap, ◌∙◌, inl, inr, arith, length-drop}
 use Rattle.std.proofs.lemmas.Bool.{cases_lt}
 use Rattle.std.proofs.lemmas.Bool.Decides.{nat_tests}
 use Rattle.std.proofs.lemmas.List.{get_or-drop, take_rest}
@@ -8,7 +8,7 @@ use Rattle.std.specs.List.{prefix_len}
 use Rattle.memchr.specs.Find.{Passes, Nowhere, NoneBefore, is_byte, is_byte2}
 use Rattle.graphql_tokens.specs.tokens.Place.{is_in_line}
 use Rattle.graphql_tokens.specs.tokens.BlockText.{begins_quotes}
-use Rattle.graphql_tokens.specs.inner.Blocks.{IsPlainBetween, IsUnquotedBetween}
+use Rattle.graphql_tokens.specs.inner.Blocks.{IsUnquotedBetween}
 use Rattle.graphql_tokens.proofs.Scan.{get_or-drop_0}
 
 -- ---- the end of a line
@@ -41,12 +41,6 @@ no_slash bs k n =
     by : (b : Bool) → eqb (get_or bs k 0) 92 ≡ b → (b && eqb (get_or (drop k bs) 1 0) 34 && eqb (get_or (drop k bs) 2 0) 34 && eqb (get_or (drop k bs) 3 0) 34) ≡ false
     by true e = absurd (n e)
     by false e = refl
-
-no_return : (c : ℕ) → (is_byte2 92 13 c ≡ true → ⊥) → (c ≢ 13) × (eqb c 92 ≡ true → ⊥)
-no_return c n = (λ e. n (ap (is_byte2 92 13) e), λ e. n (grind (arith, nat_tests)))
-
-pub plain_all : (bs : List ℕ) → Nowhere (Passes (is_byte2 92 13) bs) 0 (length bs) → IsPlainBetween bs 0 (length bs)
-plain_all bs n k l m = let r = no_return (get_or bs k 0) (n k l m) in (r.0, no_slash bs k r.1)
 
 -- the text from a place on, as the code cuts it
 abbrev from : List ℕ → ℕ → List ℕ

@@ -4,7 +4,7 @@ use Rattle.std.proofs.Common.{◌≡◌, ℕ, zero, suc, ◌≤◌, Bool, true, 
 use Rattle.std.proofs.Math.Seq.{drop-append_seam}
 use Rattle.std.specs.List.{concat}
 use Rattle.graphql_tokens.specs.tokens.Edition.{Current}
-use Rattle.graphql_tokens.specs.tokens.Strings.{is_plain, UnitMeans, UnitsMean, StringMeans, IsContent}
+use Rattle.graphql_tokens.specs.tokens.Strings.{is_plain, UnitMeans, UnitsMean, StringMeans}
 use Rattle.graphql_tokens.specs.calls.Escapes.{escape_at}
 use Rattle.graphql_tokens.specs.calls.Contents.{onto, with_escape, content_from, content_value}
 use Rattle.graphql_tokens.proofs.EscapeUnits.{EscapeMeans, escape_reads, escape_found}
@@ -88,11 +88,3 @@ pub means_content : (content value : List ℕ) → StringMeans Current content v
 unfolding content_value
 means_content content value m =
     ap (λ t. content_from (length t) t) m.1 ∙ from_units (length (concat m.0)) m.0 value m.2 (omega arith)
-
--- where the content has no meaning, none is given
-pub content_none : (content : List ℕ) → ¬ IsContent Current content → content_value content ≡ None
-content_none content none = by (content_value content) refl
-  where
-    by : (o : Option (List ℕ)) → content_value content ≡ o → o ≡ None
-    by None e = refl
-    by (Some value) e = absurd (none (value, content_means content value e))

@@ -1,7 +1,7 @@
 -- The place after one character more.
 use Rattle.std.proofs.Common.{◌≡◌, ℕ, ◌+◌, ◌≤◌, Bool, true, false, cond, List, [], ◌∷◌, ◌++◌, length, refl, arith}
 use Rattle.std.proofs.lemmas.List.{reverse-append}
-use Rattle.std.proofs.lemmas.List.Sums.{sum_by_push, count_by-le-length, suffix_len-le-length}
+use Rattle.std.proofs.lemmas.List.Sums.{sum_by_push, count_by-le-length}
 use Rattle.std.specs.List.{count_by, suffix_len}
 use Rattle.graphql_tokens.specs.tokens.Place.{place_behind, is_line_feed, is_in_line}
 
@@ -23,6 +23,3 @@ column_push front c = rw (suffix_len_push is_in_line front c) (one_more (is_in_l
 
 pub line_bound : (front : List ℕ) → (place_behind front).line ≤ 1 + length front
 line_bound front = omega (arith, count_by-le-length is_line_feed front)
-
-pub column_bound : (front : List ℕ) → (place_behind front).column ≤ 1 + length front
-column_bound front = omega (arith, suffix_len-le-length is_in_line front)

@@ -139,7 +139,3 @@ running_bound a r =
     let bs = a.walk.text.now in
     let k = r.reading in
     omega (arith, r.line, line_bound (chars (take a.walk.offset bs)), length-chars (take a.walk.offset bs) (IsUtf8-take bs a.walk.offset k.utf8 k.boundary), length-take a.walk.offset bs, k.bound)
-
--- the column of the place is at least one, so that the number of characters before the line isn't above the count
-pub before_bound : (a : RunningPlace) → IsRunning a → a.before ≤ a.walk.count
-before_bound a r = omega (arith, r.column)

@@ -117,9 +117,6 @@ run_skipped p f skips (c ∷ cs) = by (p c) refl (run_skipped p f skips cs)
 abbrev pub is_within_line : ℕ → Bool
 is_within_line c = is_in_line c && ltb c 128
 
-pub line_inner : IsWithinLines is_within_line
-line_inner c h = (grind (arith, nat_tests), grind (arith, nat_tests))
-
 pub line_run : (text : List ℕ) → past_line (drop (prefix_len is_within_line text) text) ≡ past_line text
 line_run = run_skipped is_within_line past_line (λ c cs t. ap (λ b. cond b cs (past_line cs)) (goes_on c t))
   where
@@ -143,9 +140,6 @@ past_digits (c ∷ cs) = by (is_ascii_digit c) (past_digits cs)
 
 abbrev pub is_space : ℕ → Bool
 is_space c = eqb c 32
-
-pub space_inner : IsWithinLines is_space
-space_inner c h = (grind (arith, nat_tests), grind (arith, nat_tests))
 
 pub space_run : (text : List ℕ) → skip (drop (prefix_len is_space text) text) ≡ skip text
 space_run = run_skipped is_space skip (λ c cs t. skip_goes c cs (ignored c t))

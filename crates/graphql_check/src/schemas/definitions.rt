@@ -15,7 +15,7 @@ use graphql_reading::limits::Limits;
 use graphql_reading::parser::{Parser, Reading};
 use graphql_schemas::definitions::is_at_definition;
 
-/// `SchemaExt | TypeExt`: the rule that it breaks, if it breaks one.
+/// `TypeSystemExtension : SchemaExtension | TypeExtension`: the rule that it breaks, if it breaks one.
 fn check_extension(parser: &mut Parser, limits: Limits) -> Reading<Option<Error>>
     ensures { Gives (λ breach. breach) result parser.old parser.new (mapped_at (breach_of []) (extension_at limits)) }
 {
@@ -28,7 +28,8 @@ fn check_extension(parser: &mut Parser, limits: Limits) -> Reading<Option<Error>
     Ok(None)
 }
 
-/// `Schema | TypeDef | DirectiveDef`, each of which may have a description: the rule that it breaks, if it breaks one.
+/// `TypeSystemDefinition : SchemaDefinition | TypeDefinition | DirectiveDefinition`, each of which may have a
+/// description: the rule that it breaks, if it breaks one.
 fn check_described(parser: &mut Parser, limits: Limits) -> Reading<Option<Error>>
     ensures { Gives (λ breach. breach) result parser.old parser.new (mapped_at (breach_of []) (described_at limits)) }
 {
@@ -46,7 +47,8 @@ fn check_described(parser: &mut Parser, limits: Limits) -> Reading<Option<Error>
     Ok(None)
 }
 
-/// `Definition : Schema | SchemaExt | TypeDef | TypeExt | DirectiveDef`: the rule that it breaks, if it breaks one.
+/// `TypeSystemDefinitionOrExtension : TypeSystemDefinition | TypeSystemExtension`: the rule that it breaks, if it
+/// breaks one.
 fn check_definition(parser: &mut Parser, limits: Limits) -> Reading<Option<Error>>
     ensures { Gives (λ breach. breach) result parser.old parser.new (mapped_at (breach_of []) (definition_at limits)) }
 {
@@ -56,7 +58,8 @@ fn check_definition(parser: &mut Parser, limits: Limits) -> Reading<Option<Error
     check_described(parser, limits)
 }
 
-/// `Definition+` (GraphQL October 2021, section 3.1): the first rule that one of them breaks, if one breaks a rule.
+/// `TypeSystemExtensionDocument : TypeSystemDefinitionOrExtension+` (GraphQL October 2021, section 3.1): the first rule
+/// that one of them breaks, if one breaks a rule.
 pub fn check_definitions(parser: &mut Parser, limits: Limits) -> Reading<Option<Error>>
     ensures { Gives (λ breach. breach) result parser.old parser.new (mapped_at first_breach (definitions_at limits)) }
 {

@@ -6,7 +6,7 @@ use crate::value::simple::{check_block, check_string};
 use graphql_reading::parser::{Parser, Reading};
 use graphql_schemas::descriptions::is_at_description;
 
-/// `Description : String | Block`
+/// `Description : StringValue`
 fn check_description(parser: &mut Parser) -> Reading<()>
     ensures { Checks result parser.old parser.new description_at }
 {

@@ -14,7 +14,7 @@ use graphql_reading::limits::Limits;
 use graphql_reading::parser::{Parser, Reading, Refusal};
 use graphql_schemas::directives::location_of;
 
-/// `Location`: a name that is one of the 19 words.
+/// `DirectiveLocation`: a name that is one of the 19 words.
 struct LocationPhrase;
 
 impl Phrase for LocationPhrase {
@@ -38,7 +38,7 @@ impl Phrase for LocationPhrase {
     }
 }
 
-/// `'on' '|'? Location ('|' Location)*`
+/// `'on' DirectiveLocations`, where `DirectiveLocations : '|'? DirectiveLocation ('|' DirectiveLocation)*`
 fn check_locations(parser: &mut Parser, limits: Limits) -> Reading<()>
     ensures { Checks result parser.old parser.new locations_at }
 {
@@ -57,7 +57,7 @@ fn pass_repeatable(parser: &mut Parser)
 }
 
 /// The definition of a directive after its description:
-/// `'directive' '@' Name ArgumentsDef? 'repeatable'? 'on' '|'? Location ('|' Location)*`
+/// `'directive' '@' Name ArgumentsDefinition? 'repeatable'? 'on' DirectiveLocations`
 /// (GraphQL October 2021, section 3.13)
 pub fn check_directive_definition(parser: &mut Parser, limits: Limits) -> Reading<()>
     ensures { Checks result parser.old parser.new (directive_rest_at limits) }

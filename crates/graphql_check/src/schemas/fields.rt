@@ -16,7 +16,7 @@ use graphql_reading::limits::Limits;
 use graphql_reading::parser::{Parser, Reading};
 use graphql_schemas::input_values::is_at_member;
 
-/// `Description? Name ArgumentsDef? ':' Type ConstDirectives?`
+/// `FieldDefinition : Description? Name ArgumentsDefinition? ':' Type Directives[Const]?`
 struct FieldPhrase;
 
 impl Phrase for FieldPhrase {
@@ -40,7 +40,7 @@ impl Phrase for FieldPhrase {
     }
 }
 
-/// `Fields? : ('{' FieldDef+ '}')?` (GraphQL October 2021, section 3.6)
+/// `FieldsDefinition? : ('{' FieldDefinition+ '}')?` (GraphQL October 2021, section 3.6)
 #[tactic(auto, unfolding(graphql_reading::specs::reading::Outcome::opt_at))]
 pub fn check_maybe_fields(parser: &mut Parser, limits: Limits) -> Reading<()>
     ensures { Checks result parser.old parser.new (opt_at (punct "{") (fields_at limits)) }

@@ -14,7 +14,7 @@ use graphql_reading::limits::Limits;
 use graphql_reading::parser::{Parser, Reading};
 use graphql_schemas::input_values::is_at_member;
 
-/// `Description? Name ':' Type Default? ConstDirectives?`
+/// `InputValueDefinition : Description? Name ':' Type DefaultValue? Directives[Const]?`
 struct InputValuePhrase;
 
 impl Phrase for InputValuePhrase {
@@ -38,7 +38,7 @@ impl Phrase for InputValuePhrase {
     }
 }
 
-/// `ArgumentsDef? : ('(' InputValue+ ')')?` (GraphQL October 2021, section 3.6.1)
+/// `ArgumentsDefinition? : ('(' InputValueDefinition+ ')')?` (GraphQL October 2021, section 3.6.1)
 #[tactic(auto, unfolding(graphql_reading::specs::reading::Outcome::opt_at))]
 pub fn check_maybe_arguments_definition(parser: &mut Parser, limits: Limits) -> Reading<()>
     ensures { Checks result parser.old parser.new (opt_at (punct "(") (arguments_definition_at limits)) }
@@ -49,7 +49,7 @@ pub fn check_maybe_arguments_definition(parser: &mut Parser, limits: Limits) -> 
     check_bracketed::<InputValuePhrase>(parser, "(", ")", limits)
 }
 
-/// `InputFields? : ('{' InputValue+ '}')?` (GraphQL October 2021, section 3.10)
+/// `InputFieldsDefinition? : ('{' InputValueDefinition+ '}')?` (GraphQL October 2021, section 3.10)
 #[tactic(auto, unfolding(graphql_reading::specs::reading::Outcome::opt_at))]
 pub fn check_maybe_input_fields(parser: &mut Parser, limits: Limits) -> Reading<()>
     ensures { Checks result parser.old parser.new (opt_at (punct "{") (input_fields_at limits)) }

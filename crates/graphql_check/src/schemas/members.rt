@@ -37,7 +37,7 @@ impl Phrase for NamePhrase {
     }
 }
 
-/// `Implements : 'implements' '&'? Name ('&' Name)*`
+/// `ImplementsInterfaces : 'implements' '&'? Name ('&' Name)*`
 fn check_implements(parser: &mut Parser, limits: Limits) -> Reading<()>
     ensures { Checks result parser.old parser.new implements_at }
 {
@@ -45,7 +45,7 @@ fn check_implements(parser: &mut Parser, limits: Limits) -> Reading<()>
     check_separated::<NamePhrase>(parser, "&", limits)
 }
 
-/// `Implements?` (GraphQL October 2021, section 3.6)
+/// `ImplementsInterfaces?` (GraphQL October 2021, section 3.6)
 #[tactic(auto, unfolding(graphql_reading::specs::reading::Outcome::opt_at))]
 pub fn check_maybe_implements(parser: &mut Parser, limits: Limits) -> Reading<()>
     ensures { Checks result parser.old parser.new (opt_at (keyword "implements") implements_at) }
@@ -56,7 +56,7 @@ pub fn check_maybe_implements(parser: &mut Parser, limits: Limits) -> Reading<()
     check_implements(parser, limits)
 }
 
-/// `Members : '=' '|'? Name ('|' Name)*`
+/// `UnionMemberTypes : '=' '|'? Name ('|' Name)*`
 fn check_members(parser: &mut Parser, limits: Limits) -> Reading<()>
     ensures { Checks result parser.old parser.new members_at }
 {
@@ -64,7 +64,7 @@ fn check_members(parser: &mut Parser, limits: Limits) -> Reading<()>
     check_separated::<NamePhrase>(parser, "|", limits)
 }
 
-/// `Members?` (GraphQL October 2021, section 3.8)
+/// `UnionMemberTypes?` (GraphQL October 2021, section 3.8)
 #[tactic(auto, unfolding(graphql_reading::specs::reading::Outcome::opt_at))]
 pub fn check_maybe_members(parser: &mut Parser, limits: Limits) -> Reading<()>
     ensures { Checks result parser.old parser.new (opt_at (punct "=") members_at) }
@@ -75,7 +75,7 @@ pub fn check_maybe_members(parser: &mut Parser, limits: Limits) -> Reading<()>
     check_members(parser, limits)
 }
 
-/// `Description? EnumName ConstDirectives?`
+/// `EnumValueDefinition : Description? EnumValue Directives[Const]?`
 struct EnumValuePhrase;
 
 impl Phrase for EnumValuePhrase {
@@ -96,7 +96,7 @@ impl Phrase for EnumValuePhrase {
     }
 }
 
-/// `EnumValues? : ('{' (Description? EnumName ConstDirectives?)+ '}')?` (GraphQL October 2021, section 3.9)
+/// `EnumValuesDefinition? : ('{' EnumValueDefinition+ '}')?` (GraphQL October 2021, section 3.9)
 #[tactic(auto, unfolding(graphql_reading::specs::reading::Outcome::opt_at))]
 pub fn check_maybe_enum_values(parser: &mut Parser, limits: Limits) -> Reading<()>
     ensures { Checks result parser.old parser.new (opt_at (punct "{") (enum_values_at limits)) }

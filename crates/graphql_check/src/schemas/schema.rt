@@ -21,7 +21,7 @@ fn is_at_root(parser: &Parser) -> bool
         || parser.is_at_keyword("subscription")
 }
 
-/// `OperationType ':' Name`
+/// `RootOperationTypeDefinition : OperationType ':' Name`
 fn check_root(parser: &mut Parser) -> Reading<Root>
     ensures { Gives (λ root. root) result parser.old parser.new (mapped_at head_of root_at) }
 {
@@ -34,7 +34,7 @@ fn check_root(parser: &mut Parser) -> Reading<Root>
     })
 }
 
-/// `(OperationType ':' Name)+`
+/// `RootOperationTypeDefinition+`
 fn check_root_list(parser: &mut Parser) -> Reading<Roots>
     ensures { Gives (λ roots. roots) result parser.old parser.new (mapped_at roots_of (plus_at root_first root_at)) }
 {
@@ -47,7 +47,7 @@ fn check_root_list(parser: &mut Parser) -> Reading<Roots>
     }
 }
 
-/// `Roots : '{' (OperationType ':' Name)+ '}'`
+/// `Roots : '{' RootOperationTypeDefinition+ '}'`
 fn check_roots(parser: &mut Parser) -> Reading<Roots>
     ensures { Gives (λ roots. roots) result parser.old parser.new (mapped_at roots_of roots_at) }
 {
@@ -68,7 +68,7 @@ fn check_maybe_roots(parser: &mut Parser) -> Reading<Roots>
     check_roots(parser)
 }
 
-/// A definition of a schema after its description: `'schema' ConstDirectives? Roots` (GraphQL October 2021, section
+/// A definition of a schema after its description: `'schema' Directives[Const]? Roots` (GraphQL October 2021, section
 /// 3.3)
 pub fn check_schema_definition(parser: &mut Parser, limits: Limits) -> Reading<Roots>
     ensures { Gives (λ roots. roots) result parser.old parser.new (mapped_at (λ rest. roots_of rest.1.1) (schema_rest_at limits)) }
@@ -78,7 +78,7 @@ pub fn check_schema_definition(parser: &mut Parser, limits: Limits) -> Reading<R
     check_roots(parser)
 }
 
-/// An extension of a schema after its `extend`: `'schema' ConstDirectives Roots? | 'schema' Roots` (GraphQL October
+/// An extension of a schema after its `extend`: `'schema' Directives[Const] Roots? | 'schema' Roots` (GraphQL October
 /// 2021, section 3.3.2)
 pub fn check_schema_extension(parser: &mut Parser, limits: Limits) -> Reading<Roots>
     ensures { Gives (λ roots. roots) result parser.old parser.new (mapped_at (λ rest. roots_of rest.1.1) (extended_schema_at limits)) }

@@ -19,7 +19,7 @@ use graphql_reading::limits::Limits;
 use graphql_reading::parser::{Parser, Reading};
 use graphql_schemas::types::{Word, expect_part, read_word};
 
-/// `ConstDirectives?`; an extension has them.
+/// `Directives[Const]?`; an extension has them.
 fn check_scalar_rest(parser: &mut Parser, limits: Limits, extend: bool) -> Reading<()>
     ensures { Checks result parser.old parser.new (scalar_rest_at extend limits) }
 {
@@ -28,7 +28,7 @@ fn check_scalar_rest(parser: &mut Parser, limits: Limits, extend: bool) -> Readi
     check_const_directives(parser, limits)
 }
 
-/// `Implements? ConstDirectives? Fields?`
+/// `ImplementsInterfaces? Directives[Const]? FieldsDefinition?`
 fn check_field_parts(parser: &mut Parser, limits: Limits) -> Reading<()>
     ensures { Checks result parser.old parser.new (field_parts_at limits) }
 {
@@ -55,7 +55,7 @@ fn is_at_part(parser: &Parser, opening: &str) -> bool
     parser.is_at_punct("@") || parser.is_at_punct(opening)
 }
 
-/// `ConstDirectives? Members?`; an extension has at least one of them.
+/// `Directives[Const]? UnionMemberTypes?`; an extension has at least one of them.
 fn check_union_rest(parser: &mut Parser, limits: Limits, extend: bool) -> Reading<()>
     ensures { Checks result parser.old parser.new (some_parts_at extend limits (punct "=") members_at) }
 {
@@ -64,7 +64,7 @@ fn check_union_rest(parser: &mut Parser, limits: Limits, extend: bool) -> Readin
     check_maybe_members(parser, limits)
 }
 
-/// `ConstDirectives? EnumValues?`; an extension has at least one of them.
+/// `Directives[Const]? EnumValuesDefinition?`; an extension has at least one of them.
 fn check_enum_rest(parser: &mut Parser, limits: Limits, extend: bool) -> Reading<()>
     ensures { Checks result parser.old parser.new (some_parts_at extend limits (punct "{") (enum_values_at limits)) }
 {
@@ -73,7 +73,7 @@ fn check_enum_rest(parser: &mut Parser, limits: Limits, extend: bool) -> Reading
     check_maybe_enum_values(parser, limits)
 }
 
-/// `ConstDirectives? InputFields?`; an extension has at least one of them.
+/// `Directives[Const]? InputFieldsDefinition?`; an extension has at least one of them.
 fn check_input_rest(parser: &mut Parser, limits: Limits, extend: bool) -> Reading<()>
     ensures { Checks result parser.old parser.new (some_parts_at extend limits (punct "{") (input_fields_at limits)) }
 {
@@ -98,12 +98,12 @@ fn check_rest(parser: &mut Parser, limits: Limits, word: Word, extend: bool) -> 
 /// A definition of a type after its description, or an extension after its `extend`:
 ///
 /// ```text
-/// Body : 'scalar' Name ConstDirectives?
-///   | 'type' Name Implements? ConstDirectives? Fields?
-///   | 'interface' Name Implements? ConstDirectives? Fields?
-///   | 'union' Name ConstDirectives? Members?
-///   | 'enum' Name ConstDirectives? EnumValues?
-///   | 'input' Name ConstDirectives? InputFields?
+/// TypeBody : 'scalar' Name Directives[Const]?
+///   | 'type' Name ImplementsInterfaces? Directives[Const]? FieldsDefinition?
+///   | 'interface' Name ImplementsInterfaces? Directives[Const]? FieldsDefinition?
+///   | 'union' Name Directives[Const]? UnionMemberTypes?
+///   | 'enum' Name Directives[Const]? EnumValuesDefinition?
+///   | 'input' Name Directives[Const]? InputFieldsDefinition?
 /// ```
 /// In an extension at least one of the optional parts is there (GraphQL October 2021, sections 3.4 and 3.4.3).
 pub fn check_body(parser: &mut Parser, limits: Limits, extend: bool) -> Reading<()>

@@ -1,43 +1,21 @@
 //! Readers of selections up to their sets, that make no tree.
-ghost use Rattle.std.specs.Prelude.{◌≡◌, is_some};
+ghost use Rattle.std.specs.Prelude.{is_some};
 ghost use Rattle.graphql_check.specs.Checked.{Checks};
 ghost use Rattle.graphql_check.specs.Heads.{entered_at};
 ghost use Rattle.graphql_reading.specs.grammar.Places.{nowhere};
 ghost use Rattle.graphql_reading.specs.reading.Given.{Gives};
 ghost use Rattle.graphql_reading.specs.reading.Outcome.{mapped_at};
-ghost use Rattle.graphql_requests.specs.grammar.Selections.{fragment_name};
 ghost use Rattle.graphql_requests.specs.reading.SelectionSteps.{names_at, maybe_brace_at, maybe_condition_at, field_head_at, inline_head_at, behind_dots_at, head_at};
-ghost use Rattle.graphql_requests.specs.reading.Selections.{type_condition_at, inline_first, selection_first};
+ghost use Rattle.graphql_requests.specs.reading.Selections.{type_condition_at};
 
 use crate::arguments::{check_directives, check_maybe_arguments};
 use graphql_reading::limits::Limits;
 use graphql_reading::parser::{Parser, Reading, Refusal};
-
-/// Whether the name of a fragment is in hand: any name but `on`.
-#[inline(always)]
-pub fn is_at_fragment_name(parser: &Parser) -> bool
-    ensures { result ≡ fragment_name parser.now.hand.bare }
-{
-    parser.is_at_name() && !parser.is_at_keyword("on")
-}
-
-#[inline(always)]
-fn is_at_inline(parser: &Parser) -> bool
-    ensures { result ≡ inline_first parser.now.hand.bare }
-{
-    parser.is_at_keyword("on") || parser.is_at_punct("@") || parser.is_at_punct("{")
-}
-
-#[inline(always)]
-pub(super) fn is_at_selection(parser: &Parser) -> bool
-    ensures { result ≡ selection_first parser.now.hand.bare }
-{
-    parser.is_at_name() || parser.is_at_punct("...")
-}
+use graphql_requests::selections::{is_at_fragment_name, is_at_inline};
 
 /// An alias, if there is one, and a name.
 ///
-/// `(Name ':')? Name`
+/// `Alias? Name`, where `Alias : Name ':'`
 #[inline(always)]
 fn check_names(parser: &mut Parser) -> Reading<()>
     ensures { Checks result parser.old parser.new names_at }
@@ -68,7 +46,7 @@ fn take_brace(parser: &mut Parser, nests: bool) -> Reading<bool>
 
 /// A field up to its set.
 ///
-/// `Field : (Name ':')? Name Arguments? Directives? SelectionSet?` (GraphQL October 2021, section 2.5)
+/// `Field : Alias? Name Arguments? Directives? SelectionSet?` (GraphQL October 2021, section 2.5)
 fn check_field(parser: &mut Parser, limits: Limits, nests: bool) -> Reading<bool>
     ensures { Gives (λ follows. follows) result parser.old parser.new (entered_at (field_head_at limits.values nests)) }
 {
@@ -101,7 +79,7 @@ fn check_maybe_condition(parser: &mut Parser) -> Reading<()>
 
 /// An inline fragment up to its set, after its `...`.
 ///
-/// `Inline : '...' TypeCondition? Directives? SelectionSet` (GraphQL October 2021, section 2.8)
+/// `InlineFragment : '...' TypeCondition? Directives? SelectionSet` (GraphQL October 2021, section 2.8)
 fn check_inline(parser: &mut Parser, limits: Limits) -> Reading<()>
     ensures { Checks result parser.old parser.new (inline_head_at limits.values nowhere) }
 {
@@ -135,7 +113,7 @@ fn check_behind_dots(parser: &mut Parser, limits: Limits, nests: bool) -> Readin
 
 /// Reads a selection up to its set, and tells whether that follows. Its `{` is then read.
 ///
-/// `Selection : Field | Spread | Inline` (GraphQL October 2021, section 2.4)
+/// `Selection : Field | FragmentSpread | InlineFragment` (GraphQL October 2021, section 2.4)
 pub(super) fn check_head(parser: &mut Parser, limits: Limits, nests: bool) -> Reading<bool>
     ensures { Gives (λ follows. follows) result parser.old parser.new (entered_at (head_at limits.values nests)) }
 {

@@ -5,7 +5,7 @@ ghost use Rattle.graphql_grammar.specs.reading.Values.{simple_at, word_at, numbe
 use graphql_reading::parser::{Parser, Reading, Refusal};
 use graphql_syntax::lexer::TokenKind;
 
-/// `'true' | 'false' | 'null' | EnumName` (GraphQL October 2021, sections 2.9.3, 2.9.5 and 2.9.6)
+/// `'true' | 'false' | 'null' | EnumValue` (GraphQL October 2021, sections 2.9.3, 2.9.5 and 2.9.6)
 fn check_word(parser: &mut Parser) -> Reading<()>
     ensures { Checks result parser.old parser.new word_at }
 {
@@ -51,7 +51,7 @@ pub fn check_block(parser: &mut Parser) -> Reading<()>
     Ok(())
 }
 
-/// `'$' Name` (GraphQL October 2021, section 2.10)
+/// `Variable : '$' Name` (GraphQL October 2021, section 2.10)
 fn check_variable(parser: &mut Parser, vars: bool) -> Reading<()>
     ensures { Checks result parser.old parser.new (variable_at vars) }
 {
@@ -65,7 +65,7 @@ fn check_variable(parser: &mut Parser, vars: bool) -> Reading<()>
 
 /// A value that is neither a list nor an object.
 ///
-/// `Variable | Number | String | Boolean | Null | Enum`
+/// `Variable | IntValue | FloatValue | StringValue | BooleanValue | NullValue | EnumValue`
 pub fn check_simple(parser: &mut Parser, vars: bool) -> Reading<()>
     ensures { Checks result parser.old parser.new (simple_at vars) }
 {

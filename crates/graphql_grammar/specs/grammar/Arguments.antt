@@ -15,11 +15,11 @@ use Rattle.graphql_reading.specs.grammar.Tests.{punct, any_name}
 abbrev pub argument_of : Token × (Token × Value) → Argument
 argument_of (name, (colon, value)) = (name_of name, value)
 
--- Name ':' Value
+-- Argument : Name ':' Value
 abbrev pub an_argument : Edition → Bool → ℕ → Rel Argument
 an_argument edition vars values = mapped argument_of (one any_name ⨾ one (punct ":") ⨾ value edition vars values)
 
--- Arguments : '(' (Name ':' Value)+ ')'
+-- Arguments : '(' Argument+ ')'
 abbrev pub arguments : Edition → Bool → ℕ → Rel trees.Arguments
 arguments edition vars values = between (punct "(") (plus (an_argument edition vars values)) (punct ")")
 
@@ -28,17 +28,17 @@ arguments edition vars values = between (punct "(") (plus (an_argument edition v
 abbrev pub directive_of : Token × (Token × Option trees.Arguments) → Positioned Directive
 directive_of (sign, (name, arguments)) = at sign (record { name = name_of name; arguments = given arguments })
 
--- '@' Name Arguments?
+-- Directive : '@' Name Arguments?
 abbrev pub a_directive : Edition → Bool → ℕ → Rel (Positioned Directive)
 a_directive edition vars values = mapped directive_of (one (punct "@") ⨾ one any_name ⨾ opt (arguments edition vars values))
 
--- Directives? : ('@' Name Arguments?)*
+-- Directives? : Directive*
 abbrev pub directives : Edition → Bool → ℕ → Rel Directives
 directives edition vars values = star (a_directive edition vars values)
 
 -- ---- default values
 
--- Default : '=' ConstValue
+-- DefaultValue : '=' Value[Const]
 -- It stands at the value.
 abbrev pub a_default : Edition → ℕ → Rel Value
 a_default edition values = after (punct "=") (value edition false values)

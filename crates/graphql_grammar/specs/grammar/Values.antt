@@ -29,8 +29,8 @@ null_of t = at t null
 abbrev pub enumeration_of : Token → Value
 enumeration_of t = at t (enumeration t.bare.spelling)
 
--- 'true' | 'false' | 'null' | EnumName
--- EnumName : a Name other than 'true', 'false', 'null'
+-- 'true' | 'false' | 'null' | EnumValue
+-- EnumValue : a Name other than 'true', 'false', 'null'
 abbrev pub a_word : Rel Value
 a_word =
     mapped true_of (one (keyword "true"))
@@ -77,7 +77,7 @@ dollar vars t = punct "$" t && vars
 abbrev pub variable_of : Token × Token → Value
 variable_of (sign, name) = at sign (variable name.bare.spelling)
 
--- '$' Name
+-- Variable : '$' Name
 abbrev pub a_variable : Bool → Rel Value
 a_variable vars = mapped variable_of (one (dollar vars) ⨾ one any_name)
 
@@ -86,21 +86,21 @@ a_variable vars = mapped variable_of (one (dollar vars) ⨾ one any_name)
 abbrev pub list_of : Token × (List Value × Token) → Value
 list_of (opening, (values, closing)) = at opening (list (trees_of (map (λ v. v.node) values)))
 
--- '[' Value* ']'
+-- ListValue : '[' Value* ']'
 abbrev pub a_list : Rel Value → Rel Value
 a_list value = mapped list_of (one (punct "[") ⨾ star value ⨾ one (punct "]"))
 
 abbrev pub object_field_of : Token × (Token × Value) → List ℕ × Tree
 object_field_of (name, (colon, value)) = (name.bare.spelling, value.node)
 
--- Name ':' Value
+-- ObjectField : Name ':' Value
 abbrev pub a_field : Rel Value → Rel (List ℕ × Tree)
 a_field value = mapped object_field_of (one any_name ⨾ one (punct ":") ⨾ value)
 
 abbrev pub object_of : Token × (List (List ℕ × Tree) × Token) → Value
 object_of (opening, (fields, closing)) = at opening (object (fields_of (merged fields)))
 
--- '{' (Name ':' Value)* '}'
+-- ObjectValue : '{' ObjectField* '}'
 abbrev pub an_object : Rel Value → Rel Value
 an_object value = mapped object_of (one (punct "{") ⨾ star (a_field value) ⨾ one (punct "}"))
 

@@ -45,7 +45,7 @@ fn read_key(parser: &mut Parser) -> Reading<Option<Name>>
 
 /// Gives what begins inside the list, or None at its end.
 ///
-/// `List : '[' Value* ']'` (GraphQL October 2021, section 2.9.7)
+/// `ListValue : '[' Value* ']'` (GraphQL October 2021, section 2.9.7)
 pub fn read_items<V: Literal>(
     parser: &mut Parser,
     items: &mut Vec<V>,
@@ -64,7 +64,7 @@ pub fn read_items<V: Literal>(
 
 /// Gives what begins inside the object, with its name, or None at its end.
 ///
-/// `Object : '{' (Name ':' Value)* '}'` (GraphQL October 2021, section 2.9.8)
+/// `ObjectValue : '{' ObjectField* '}'` (GraphQL October 2021, section 2.9.8)
 pub fn read_fields<V: Literal>(
     parser: &mut Parser,
     fields: &mut Vec<(Name, V)>,

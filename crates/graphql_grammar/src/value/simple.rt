@@ -29,7 +29,7 @@ fn word_of<V: Literal>(parser: &Parser, token: Token) -> Result<V, AllocError>
     Ok(V::enumeration(parser.name(token)?))
 }
 
-/// `'true' | 'false' | 'null' | EnumName` (GraphQL October 2021, sections 2.9.3, 2.9.5 and 2.9.6)
+/// `'true' | 'false' | 'null' | EnumValue` (GraphQL October 2021, sections 2.9.3, 2.9.5 and 2.9.6)
 fn read_word<V: Literal>(parser: &mut Parser) -> Reading<V>
     ensures { Gives V.tree result parser.old parser.new (node_at word_at) }
 {
@@ -66,7 +66,7 @@ fn read_block_node<V: Literal>(parser: &mut Parser) -> Reading<V>
     Ok(V::string(text))
 }
 
-/// `'$' Name` (GraphQL October 2021, section 2.10)
+/// `Variable : '$' Name` (GraphQL October 2021, section 2.10)
 fn read_variable<V: Literal>(parser: &mut Parser) -> Reading<V>
     ensures { Gives V.tree result parser.old parser.new (node_at (variable_at V.VARIABLES)) }
 {
@@ -83,7 +83,7 @@ fn read_variable<V: Literal>(parser: &mut Parser) -> Reading<V>
 
 /// A value that is neither a list nor an object.
 ///
-/// `Variable | Number | String | Boolean | Null | Enum`
+/// `Variable | IntValue | FloatValue | StringValue | BooleanValue | NullValue | EnumValue`
 pub fn read_simple<V: Literal>(parser: &mut Parser) -> Reading<V>
     ensures { Gives V.tree result parser.old parser.new (node_at (simple_at V.VARIABLES)) }
 {

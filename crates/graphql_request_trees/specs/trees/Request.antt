@@ -55,11 +55,6 @@ abbrev pub set_of : List (Positioned Selection) → SelectionSet
 set_of [] = no_selections
 set_of (x ∷ xs) = selection_and x.pos x.node (set_of xs)
 
--- the list of a set's selections
-abbrev pub selections_of : SelectionSet → List (Positioned Selection)
-selections_of no_selections = []
-selections_of (selection_and pos x xs) = record { pos = pos; node = x } ∷ selections_of xs
-
 pub record Field : Type 0 where
   pub alias : Option (Positioned Name)
   pub name : Positioned Name

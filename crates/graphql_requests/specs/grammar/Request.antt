@@ -32,7 +32,7 @@ own_set edition limits = selection_set edition limits.values limits.selections
 abbrev pub query_of : Set → Definition
 query_of set = operation None (record { pos = set.pos; node = record { ty = Query; variable_definitions = []; directives = []; selection_set = set } })
 
--- Operation : SelectionSet
+-- OperationDefinition : SelectionSet
 abbrev pub a_short_operation : Edition → Grammar Definition
 a_short_operation edition limits = mapped query_of (own_set edition limits)
 
@@ -48,7 +48,7 @@ operation_of ((word, ty), (name, (variables, (directives, set)))) = operation (n
   selection_set = set;
 }))
 
--- Operation : OperationType Name? VariableDefinitions? Directives? SelectionSet
+-- OperationDefinition : OperationType Name? VariableDefinitions? Directives? SelectionSet
 -- It stands at its keyword.
 abbrev pub a_full_operation : Edition → Grammar Definition
 a_full_operation edition limits =
@@ -60,7 +60,7 @@ abbrev pub fragment_of : Token × (Token × (Positioned TypeCondition × (Direct
 fragment_of (word, (name, (condition, (directives, set)))) =
     fragment name.bare.spelling (at word (record { type_condition = condition; directives = directives; selection_set = set }))
 
--- Fragment : 'fragment' FragmentName TypeCondition Directives? SelectionSet
+-- FragmentDefinition : 'fragment' FragmentName TypeCondition Directives? SelectionSet
 -- It stands at its keyword.
 abbrev pub a_fragment : Edition → Grammar Definition
 a_fragment edition limits =
@@ -68,11 +68,11 @@ a_fragment edition limits =
 
 -- ---- documents
 
--- Definition : Operation | Fragment
+-- ExecutableDefinition : OperationDefinition | FragmentDefinition
 abbrev pub a_definition : Edition → Grammar Definition
 a_definition edition limits = a_short_operation edition limits ∪ a_full_operation edition limits ∪ a_fragment edition limits
 
--- Document : Definition+ End
+-- ExecutableDocument : ExecutableDefinition+ End
 -- The end of the text is put to the definitions where answers are defined.
 abbrev pub definitions : Edition → Grammar (List Definition)
 definitions edition limits = plus (a_definition edition limits)

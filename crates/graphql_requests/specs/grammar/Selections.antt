@@ -20,7 +20,8 @@ Set = Positioned SelectionSet
 abbrev pub alias_name : Token × Token → Token
 alias_name (name, colon) = name
 
--- (Name ':')? Name
+-- Alias? Name
+-- Alias : Name ':'
 abbrev pub aliased : Rel (Option Token × Token)
 aliased = opt (mapped alias_name (one any_name ⨾ one (punct ":"))) ⨾ one any_name
 
@@ -44,7 +45,7 @@ field_of ((alias, name), (arguments, (directives, set))) = record {
   node = field (field_place (alias, name)) (alias_of alias) (name_of name) (given arguments) directives (set_or_none set).pos (set_or_none set).node;
 }
 
--- Field : (Name ':')? Name Arguments? Directives? SelectionSet?
+-- Field : Alias? Name Arguments? Directives? SelectionSet?
 abbrev pub a_field : Edition → ℕ → Rel Set → Rel (Positioned Selection)
 a_field edition values set = mapped field_of (aliased ⨾ opt (arguments edition true values) ⨾ directives edition true values ⨾ opt set)
 
@@ -57,7 +58,7 @@ fragment_name = name_but ("on" ∷ [])
 abbrev pub spread_of : Token × (Token × Directives) → Positioned Selection
 spread_of (dots, (name, directives)) = at dots (fragment_spread (at dots (record { fragment_name = name_of name; directives = directives })))
 
--- Spread : '...' FragmentName Directives?
+-- FragmentSpread : '...' FragmentName Directives?
 abbrev pub a_spread : Edition → ℕ → Rel (Positioned Selection)
 a_spread edition values = mapped spread_of (one (punct "...") ⨾ one fragment_name ⨾ directives edition true values)
 
@@ -73,13 +74,13 @@ a_type_condition = mapped condition_of (one (keyword "on") ⨾ one any_name)
 abbrev pub inline_of : Token × (Option (Positioned TypeCondition) × (Directives × Set)) → Positioned Selection
 inline_of (dots, (condition, (directives, set))) = at dots (inline_fragment dots.pos condition directives set.pos set.node)
 
--- Inline : '...' TypeCondition? Directives? SelectionSet
+-- InlineFragment : '...' TypeCondition? Directives? SelectionSet
 abbrev pub an_inline_fragment : Edition → ℕ → Rel Set → Rel (Positioned Selection)
 an_inline_fragment edition values set = mapped inline_of (one (punct "...") ⨾ opt a_type_condition ⨾ directives edition true values ⨾ set)
 
 -- ---- sets
 
--- Selection : Field | Spread | Inline
+-- Selection : Field | FragmentSpread | InlineFragment
 abbrev pub a_selection : Edition → ℕ → Rel Set → Rel (Positioned Selection)
 a_selection edition values set = a_field edition values set ∪ a_spread edition values ∪ an_inline_fragment edition values set
 

@@ -27,7 +27,7 @@ abbrev pub variable_definition_of : Token × (Token × (Token × (Positioned Typ
 variable_definition_of (dollar, (name, (colon, (ty, (default, directives))))) =
     at dollar (record { name = name_of name; var_type = ty; directives = directives; default_value = default })
 
--- VariableDefinition : '$' Name ':' Type (Default? Directives? | Directives Default)
+-- VariableDefinition : Variable ':' Type (DefaultValue? Directives? | Directives DefaultValue)
 -- It stands at `$`, and its name at the name.
 abbrev pub a_variable_definition : Edition → ℕ → ℕ → Rel (Positioned VariableDefinition)
 a_variable_definition edition values types =

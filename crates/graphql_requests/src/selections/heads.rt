@@ -33,6 +33,7 @@ type Arguments = Vec<(Positioned<Name>, Positioned<Value>)>;
 
 type Selections = Vec<Positioned<Selection>>;
 
+/// Whether the name of a fragment is in hand: any name but `on`.
 #[inline(always)]
 pub fn is_at_fragment_name(parser: &Parser) -> bool
     ensures { result ≡ fragment_name parser.now.hand.bare }
@@ -40,15 +41,17 @@ pub fn is_at_fragment_name(parser: &Parser) -> bool
     parser.is_at_name() && !parser.is_at_keyword("on")
 }
 
+/// Whether an inline fragment may go on with the token in hand, after its `...`: `on`, `@` or `{`.
 #[inline(always)]
-fn is_at_inline(parser: &Parser) -> bool
+pub fn is_at_inline(parser: &Parser) -> bool
     ensures { result ≡ inline_first parser.now.hand.bare }
 {
     parser.is_at_keyword("on") || parser.is_at_punct("@") || parser.is_at_punct("{")
 }
 
+/// Whether a selection is in hand: a name or `...`.
 #[inline(always)]
-pub(super) fn is_at_selection(parser: &Parser) -> bool
+pub fn is_at_selection(parser: &Parser) -> bool
     ensures { result ≡ selection_first parser.now.hand.bare }
 {
     parser.is_at_name() || parser.is_at_punct("...")
@@ -63,7 +66,7 @@ fn add_selection(items: &mut Selections, selection: Positioned<Selection>) -> Re
 
 /// An alias, if there is one, and a name.
 ///
-/// `(Name ':')? Name`
+/// `Alias? Name`, where `Alias : Name ':'`
 #[inline(always)]
 fn read_names(parser: &mut Parser) -> Reading<Names>
     ensures { Gives (λ names. names) result parser.old parser.new names_at }
@@ -118,7 +121,7 @@ fn bare_field(
 
 /// A field up to its set.
 ///
-/// `Field : (Name ':')? Name Arguments? Directives? SelectionSet?` (GraphQL October 2021, section 2.5)
+/// `Field : Alias? Name Arguments? Directives? SelectionSet?` (GraphQL October 2021, section 2.5)
 fn read_field(
     parser: &mut Parser,
     limits: Limits,
@@ -140,7 +143,7 @@ fn read_field(
 
 /// The rest of a spread after its name. It has no set.
 ///
-/// `Spread : '...' FragmentName Directives?` (GraphQL October 2021, section 2.8)
+/// `FragmentSpread : '...' FragmentName Directives?` (GraphQL October 2021, section 2.8)
 fn read_spread(
     parser: &mut Parser,
     limits: Limits,
@@ -205,7 +208,7 @@ fn bare_inline(
 
 /// An inline fragment up to its set, after its `...`.
 ///
-/// `Inline : '...' TypeCondition? Directives? SelectionSet` (GraphQL October 2021, section 2.8)
+/// `InlineFragment : '...' TypeCondition? Directives? SelectionSet` (GraphQL October 2021, section 2.8)
 fn read_inline(
     parser: &mut Parser,
     limits: Limits,
@@ -254,7 +257,7 @@ fn read_behind_dots(
 /// Puts a selection after the others, without its set. If that follows, it gives the place of its `{`,
 /// which is read.
 ///
-/// `Selection : Field | Spread | Inline` (GraphQL October 2021, section 2.4)
+/// `Selection : Field | FragmentSpread | InlineFragment` (GraphQL October 2021, section 2.4)
 pub(super) fn read_head(
     parser: &mut Parser,
     limits: Limits,

@@ -16,7 +16,7 @@ Text = Positioned (List ℕ)
 abbrev pub text_of : Token × List ℕ → Text
 text_of (t, bytes) = at t bytes
 
--- Description : String | Block
+-- Description : StringValue
 -- It stands at its opening quote.
 abbrev pub a_description : Edition → Rel Text
 a_description edition = mapped text_of (meaning any_string (StringStands edition)) ∪ mapped text_of (meaning any_block BlockStands)

@@ -22,7 +22,7 @@ IsLocation t location = t.spelling ≡ codes (location_word location)
 abbrev pub location_of : Token × DirectiveLocation → Positioned DirectiveLocation
 location_of (t, location) = at t location
 
--- Location : one of the 19 words
+-- DirectiveLocation : one of the 19 words
 abbrev pub a_location : Rel (Positioned DirectiveLocation)
 a_location = mapped location_of (meaning any_name IsLocation)
 
@@ -41,7 +41,8 @@ directive_definition_of (description, (word, (sign, (name, (arguments, (repeatab
   locations = locations;
 })
 
--- DirectiveDef : Description? 'directive' '@' Name ArgumentsDef? 'repeatable'? 'on' '|'? Location ('|' Location)*
+-- DirectiveDefinition : Description? 'directive' '@' Name ArgumentsDefinition? 'repeatable'? 'on' DirectiveLocations
+-- DirectiveLocations : '|'? DirectiveLocation ('|' DirectiveLocation)*
 abbrev pub a_directive_definition : Edition → Grammar (Positioned DirectiveDefinition)
 a_directive_definition edition limits =
     mapped directive_definition_of (opt (a_description edition) ⨾ one (keyword "directive") ⨾ one (punct "@") ⨾ one any_name ⨾ opt (arguments_definition edition limits) ⨾ opt (one (keyword "repeatable")) ⨾ after (keyword "on") (separated (punct "|") a_location))

@@ -24,11 +24,11 @@ field_definition_of (description, (name, (arguments, (colon, (ty, directives))))
   directives = directives;
 })
 
--- FieldDef : Description? Name ArgumentsDef? ':' Type ConstDirectives?
+-- FieldDefinition : Description? Name ArgumentsDefinition? ':' Type Directives[Const]?
 abbrev pub a_field_definition : Edition → Grammar (Positioned FieldDefinition)
 a_field_definition edition limits =
     mapped field_definition_of (opt (a_description edition) ⨾ one any_name ⨾ opt (arguments_definition edition limits) ⨾ one (punct ":") ⨾ type_reference limits.types ⨾ directives edition false limits.values)
 
--- Fields : '{' FieldDef+ '}'
+-- FieldsDefinition : '{' FieldDefinition+ '}'
 abbrev pub fields : Edition → Grammar (List (Positioned FieldDefinition))
 fields edition limits = between (punct "{") (plus (a_field_definition edition limits)) (punct "}")

@@ -25,15 +25,15 @@ input_value_of (description, (name, (colon, (ty, (default, directives))))) = des
   directives = directives;
 })
 
--- InputValue : Description? Name ':' Type Default? ConstDirectives?
+-- InputValueDefinition : Description? Name ':' Type DefaultValue? Directives[Const]?
 abbrev pub an_input_value : Edition → Grammar (Positioned InputValueDefinition)
 an_input_value edition limits =
     mapped input_value_of (opt (a_description edition) ⨾ one any_name ⨾ one (punct ":") ⨾ type_reference limits.types ⨾ opt (a_default edition limits.values) ⨾ directives edition false limits.values)
 
--- ArgumentsDef : '(' InputValue+ ')'
+-- ArgumentsDefinition : '(' InputValueDefinition+ ')'
 abbrev pub arguments_definition : Edition → Grammar InputValues
 arguments_definition edition limits = between (punct "(") (plus (an_input_value edition limits)) (punct ")")
 
--- InputFields : '{' InputValue+ '}'
+-- InputFieldsDefinition : '{' InputValueDefinition+ '}'
 abbrev pub input_fields : Edition → Grammar InputValues
 input_fields edition limits = between (punct "{") (plus (an_input_value edition limits)) (punct "}")

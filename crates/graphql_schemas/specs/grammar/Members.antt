@@ -17,17 +17,17 @@ use Rattle.graphql_schemas.specs.grammar.Descriptions.{a_description, described}
 abbrev pub a_name : Rel (Positioned Name)
 a_name = mapped name_of (one any_name)
 
--- Implements : 'implements' '&'? Name ('&' Name)*
+-- ImplementsInterfaces : 'implements' '&'? Name ('&' Name)*
 abbrev pub implements : Rel Names
 implements = after (keyword "implements") (separated (punct "&") a_name)
 
--- Members : '=' '|'? Name ('|' Name)*
+-- UnionMemberTypes : '=' '|'? Name ('|' Name)*
 abbrev pub members : Rel Names
 members = after (punct "=") (separated (punct "|") a_name)
 
 -- ---- values of an enum
 
--- EnumName : a Name other than 'true', 'false', 'null'
+-- EnumValue : a Name other than 'true', 'false', 'null'
 abbrev pub enum_name : Test
 enum_name = name_but ("true" ∷ "false" ∷ "null" ∷ [])
 
@@ -38,10 +38,10 @@ enum_value_of (description, (name, directives)) = described description name (re
   directives = directives;
 })
 
--- EnumValue : Description? EnumName ConstDirectives?
+-- EnumValueDefinition : Description? EnumValue Directives[Const]?
 abbrev pub an_enum_value : Edition → Grammar (Positioned EnumValueDefinition)
 an_enum_value edition limits = mapped enum_value_of (opt (a_description edition) ⨾ one enum_name ⨾ directives edition false limits.values)
 
--- EnumValues : '{' EnumValue+ '}'
+-- EnumValuesDefinition : '{' EnumValueDefinition+ '}'
 abbrev pub enum_values : Edition → Grammar (List (Positioned EnumValueDefinition))
 enum_values edition limits = between (punct "{") (plus (an_enum_value edition limits)) (punct "}")

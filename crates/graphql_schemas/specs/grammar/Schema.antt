@@ -27,11 +27,11 @@ pub record Root : Type 0 where
 abbrev pub root_of : (Token × OperationType) × (Token × Token) → Root
 root_of ((word, kind), (colon, name)) = record { kind = kind; pos = word.pos; name = name_of name }
 
--- OperationType ':' Name
+-- RootOperationTypeDefinition : OperationType ':' Name
 abbrev pub a_root : Rel Root
 a_root = mapped root_of (operation_type ⨾ one (punct ":") ⨾ one any_name)
 
--- Roots : '{' (OperationType ':' Name)+ '}'
+-- Roots : '{' RootOperationTypeDefinition+ '}'
 abbrev pub roots : Rel (List Root)
 roots = between (punct "{") (plus a_root) (punct "}")
 
@@ -53,7 +53,7 @@ abbrev pub schema_of : Description × (Token × (Directives × List Root)) → P
 schema_of (description, (word, (directives, roots))) =
     described description word (record { description = description; extend = false; directives = directives; roots = roots })
 
--- Schema : Description? 'schema' ConstDirectives? Roots
+-- SchemaDefinition : Description? 'schema' Directives[Const]? Roots
 abbrev pub a_schema : Edition → Grammar (Positioned Schema)
 a_schema edition limits = mapped schema_of (opt (schema_description edition) ⨾ one (keyword "schema") ⨾ directives edition false limits.values ⨾ roots)
 
@@ -61,7 +61,7 @@ abbrev pub schema_extension_of : Token × (Token × (Directives × List Root)) �
 schema_extension_of (extend, (word, (directives, roots))) =
     at extend (record { description = None; extend = true; directives = directives; roots = roots })
 
--- SchemaExt : 'extend' 'schema' ConstDirectives Roots? | 'extend' 'schema' Roots
+-- SchemaExtension : 'extend' 'schema' Directives[Const] Roots? | 'extend' 'schema' Roots
 -- It stands at 'extend'.
 abbrev pub a_schema_extension : Edition → Grammar (Positioned Schema)
 a_schema_extension edition limits = mapped schema_extension_of (one (keyword "extend") ⨾ one (keyword "schema") ⨾ some_parts edition limits roots)

@@ -16,7 +16,8 @@ pub data Definition : Type 0 where
   type_def : Positioned TypeDefinition → Definition
   directive : Positioned DirectiveDefinition → Definition
 
--- Definition : Schema | SchemaExt | TypeDef | TypeExt | DirectiveDef
+-- TypeSystemDefinitionOrExtension :
+--   SchemaDefinition | SchemaExtension | TypeDefinition | TypeExtension | DirectiveDefinition
 abbrev pub a_definition : Edition → Grammar Definition
 a_definition edition limits =
     mapped schema (a_schema edition limits)
@@ -25,7 +26,7 @@ a_definition edition limits =
     ∪ mapped type_def (a_type_extension edition limits)
     ∪ mapped directive (a_directive_definition edition limits)
 
--- Document : Definition+ End
+-- TypeSystemExtensionDocument : TypeSystemDefinitionOrExtension+ End
 -- The end of the text is put to the definitions where answers are defined.
 abbrev pub definitions : Edition → Grammar (List Definition)
 definitions edition limits = plus (a_definition edition limits)

@@ -23,14 +23,14 @@ use Prim.Native.String.{String}
 abbrev pub parts_of : {A : Type 0} → Directives × Option (List A) → Directives × List A
 parts_of (directives, list) = (directives, given list)
 
--- ConstDirectives? P?
+-- Directives[Const]? P?
 abbrev pub parts : {A : Type 0} → Edition → Limits → Rel (List A) → Rel (Directives × List A)
 parts edition limits p = mapped parts_of (directives edition false limits.values ⨾ opt p)
 
 abbrev pub list_alone : {A : Type 0} → List A → Directives × List A
 list_alone list = ([], list)
 
--- The same with one part at least, by the first that is there: ConstDirectives P? | P
+-- The same with one part at least, by the first that is there: Directives[Const] P? | P
 abbrev pub some_parts : {A : Type 0} → Edition → Limits → Rel (List A) → Rel (Directives × List A)
 some_parts edition limits p = mapped parts_of (plus (a_directive edition false limits.values) ⨾ opt p) ∪ mapped list_alone p
 
@@ -41,7 +41,7 @@ Members = Names × (Directives × List (Positioned FieldDefinition))
 abbrev pub members_of : Option Names × (Directives × List (Positioned FieldDefinition)) → Members
 members_of (interfaces, parts) = (given interfaces, parts)
 
--- Implements? ConstDirectives? Fields?
+-- ImplementsInterfaces? Directives[Const]? FieldsDefinition?
 abbrev pub field_parts : Edition → Grammar Members
 field_parts edition limits = mapped members_of (opt implements ⨾ parts edition limits (fields edition limits))
 
@@ -49,7 +49,7 @@ abbrev pub no_interfaces : Directives × List (Positioned FieldDefinition) → M
 no_interfaces parts = ([], parts)
 
 -- The same with one part at least, by the first that is there:
--- Implements ConstDirectives? Fields? | ConstDirectives Fields? | Fields
+-- ImplementsInterfaces Directives[Const]? FieldsDefinition? | Directives[Const] FieldsDefinition? | FieldsDefinition
 abbrev pub some_field_parts : Edition → Grammar Members
 some_field_parts edition limits = (implements ⨾ parts edition limits (fields edition limits)) ∪ mapped no_interfaces (some_parts edition limits (fields edition limits))
 
@@ -79,12 +79,12 @@ fields_rest kind (interfaces, (directives, fields)) = (directives, kind (record 
 abbrev pub list_rest : {A : Type 0} → (List A → TypeKind) → Directives × List A → Rest
 list_rest kind (directives, list) = (directives, kind list)
 
--- Body : 'scalar' Name ConstDirectives?
---   | 'type' Name Implements? ConstDirectives? Fields?
---   | 'interface' Name Implements? ConstDirectives? Fields?
---   | 'union' Name ConstDirectives? Members?
---   | 'enum' Name ConstDirectives? EnumValues?
---   | 'input' Name ConstDirectives? InputFields?
+-- TypeBody : 'scalar' Name Directives[Const]?
+--   | 'type' Name ImplementsInterfaces? Directives[Const]? FieldsDefinition?
+--   | 'interface' Name ImplementsInterfaces? Directives[Const]? FieldsDefinition?
+--   | 'union' Name Directives[Const]? UnionMemberTypes?
+--   | 'enum' Name Directives[Const]? EnumValuesDefinition?
+--   | 'input' Name Directives[Const]? InputFieldsDefinition?
 abbrev pub body : Edition → Grammar Body
 body edition limits =
     a_body "scalar" (mapped scalar_rest (directives edition false limits.values))
@@ -115,7 +115,7 @@ type_definition_of (description, (word, (name, (directives, kind)))) = described
   kind = kind;
 })
 
--- TypeDef : Description? Body
+-- TypeDefinition : Description? TypeBody
 abbrev pub a_type_definition : Edition → Grammar (Positioned TypeDefinition)
 a_type_definition edition limits = mapped type_definition_of (opt (a_description edition) ⨾ body edition limits)
 
@@ -128,7 +128,7 @@ type_extension_of (extend, (word, (name, (directives, kind)))) = at extend (reco
   kind = kind;
 })
 
--- TypeExt : 'extend' Body, with at least one of the optional parts of the Body's line
+-- TypeExtension : 'extend' TypeBody, with at least one of the optional parts of the TypeBody's line
 -- It stands at 'extend'.
 abbrev pub a_type_extension : Edition → Grammar (Positioned TypeDefinition)
 a_type_extension edition limits = mapped type_extension_of (one (keyword "extend") ⨾ extended_body edition limits)

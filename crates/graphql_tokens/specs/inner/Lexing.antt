@@ -13,12 +13,6 @@ abbrev pub IsFirstByte : ℕ → List ℕ → Type 0
 IsFirstByte b [] = ⊥
 IsFirstByte b (c ∷ cs) = ((b < 128) × (c ≡ b)) ⊎ ((128 ≤ b) × (b < 256) × (128 ≤ c))
 
--- from the one place to the other, in the same text
-pub record Goes (old new : RunningPlace) : Type 0 where
-  pub running : IsRunning new
-  pub same : new.walk.text.now ≡ old.walk.text.now
-  pub forward : old.walk.offset ≤ new.walk.offset
-
 -- The new place is where the reader leaves off, and the result tells whether it does.
 abbrev pub rest_if : Bool → List ℕ → Option (List ℕ)
 rest_if b rest = if b then Some rest else None

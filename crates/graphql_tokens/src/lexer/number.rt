@@ -12,7 +12,7 @@ use super::reading::{pass_char, pass_class, peek};
 use crate::pos::running::RunningPlace;
 use crate::text::runs::Digits;
 
-// Passes all digits that follow.
+// Passes `Digit*`.
 #[inline(always)]
 fn pass_any_digits(bytes: &[u8], places: &mut RunningPlace)
     requires { RunsOver bytes.now places.old }
@@ -23,7 +23,7 @@ fn pass_any_digits(bytes: &[u8], places: &mut RunningPlace)
     pass_class::<Digits>(bytes, places);
 }
 
-// Passes one digit or more, and tells whether there was one.
+// Passes `Digit+`, and tells whether there was one.
 #[inline(always)]
 fn pass_some_digits(bytes: &[u8], places: &mut RunningPlace) -> bool
     requires { RunsOver bytes.now places.old }
@@ -42,7 +42,7 @@ fn pass_some_digits(bytes: &[u8], places: &mut RunningPlace) -> bool
     true
 }
 
-// Passes an optional sign.
+// Passes `Sign?`, where `Sign : '+' | '-'`.
 #[inline(always)]
 fn pass_sign(bytes: &[u8], places: &mut RunningPlace)
     requires { RunsOver bytes.now places.old }
@@ -55,7 +55,7 @@ fn pass_sign(bytes: &[u8], places: &mut RunningPlace)
     }
 }
 
-// Passes `0`, or digits that begin with another one, and tells whether they were there.
+// Passes the digits of an `IntegerPart`, `'0' | NonZeroDigit Digit*`, and tells whether they were there.
 #[inline(always)]
 fn pass_whole(bytes: &[u8], places: &mut RunningPlace) -> bool
     requires { RunsOver bytes.now places.old }
@@ -69,7 +69,7 @@ fn pass_whole(bytes: &[u8], places: &mut RunningPlace) -> bool
     pass_some_digits(bytes, places)
 }
 
-// Passes an optional fraction, and tells whether its digits were there.
+// Passes `FractionalPart?`, where `FractionalPart : '.' Digit+`, and tells whether its digits were there.
 #[inline(always)]
 fn pass_fraction(bytes: &[u8], places: &mut RunningPlace) -> bool
     requires { RunsOver bytes.now places.old }
@@ -83,7 +83,7 @@ fn pass_fraction(bytes: &[u8], places: &mut RunningPlace) -> bool
     pass_some_digits(bytes, places)
 }
 
-// Passes an optional exponent, and tells whether its digits were there.
+// Passes `ExponentPart?`, where `ExponentPart : ('e' | 'E') Sign? Digit+`, and tells whether its digits were there.
 #[inline(always)]
 fn pass_exponent(bytes: &[u8], places: &mut RunningPlace) -> bool
     requires { RunsOver bytes.now places.old }
@@ -112,7 +112,8 @@ fn may_end(bytes: &[u8], places: &RunningPlace) -> bool
     !(is_name_char(b) || b == b'.')
 }
 
-// Passes a number literal, and tells whether it was there and may end where it does.
+// Passes an `IntValue` or a `FloatValue`, `'-'? ('0' | NonZeroDigit Digit*) FractionalPart? ExponentPart?` (GraphQL
+// October 2021, sections 2.9.1 and 2.9.2), and tells whether it was there and may end where it does.
 #[inline(always)]
 pub fn pass_number(bytes: &[u8], places: &mut RunningPlace) -> bool
     requires { RunsOver bytes.now places.old }

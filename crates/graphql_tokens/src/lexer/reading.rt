@@ -50,7 +50,7 @@ pub fn pass_class<C: ByteClass>(bytes: &[u8], places: &mut RunningPlace)
     places.pass_run(end - start);
 }
 
-// Goes past the rest of the line and the character that ends it.
+// Goes past a `Comment`, or what is left of it, and the character that ends its line.
 #[inline(always)]
 fn pass_line(bytes: &[u8], places: &mut RunningPlace)
     requires { RunsOver bytes.now places.old }
@@ -67,7 +67,7 @@ fn pass_line(bytes: &[u8], places: &mut RunningPlace)
     }
 }
 
-// Goes past the ignored text.
+// Goes past `Ignored*`, where `Ignored : UnicodeBOM | WhiteSpace | LineTerminator | Comment | Comma`.
 #[inline(always)]
 pub fn pass_ignored(bytes: &[u8], places: &mut RunningPlace)
     requires { RunsOver bytes.now places.old }
