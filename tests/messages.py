@@ -14,13 +14,14 @@ SCHEMA = graphql.build_schema("type Query { a: Int }")
 
 HEAD = """# Messages
 
-What `gql check --executable` says of a request, and after `core:` graphql-core {version}, the port of GraphQL.js to Python
-(single quotes for double ones, without `Syntax Error: `). `tests/messages.py` makes this page of the tested rows of
-`crates/conformance_reports/src/messages.rt` and of graphql-core's parser and its three rules on names. Where that is silent
-it accepts the text: it has no limit of depth, reads type definitions too, and asks for no operation. A text that the report
-cuts is above it.
+A request, what `gql check --executable` says of it, and after `core:` what graphql-core {version} says, the port of GraphQL.js
+to Python: single quotes for double ones, without `Syntax Error: `, at our first place unless it gives another. Where it is
+silent it accepts the text: it has no limit of depth, reads type definitions too, and asks for no operation. Each line of ours
+comes after the file's name and, if it has a place, before [the text's line with a caret](../README.md#try-it).
 
-```"""
+`tests/messages.py` makes this page of the tested rows of `crates/conformance_reports/src/messages.rt` and of graphql-core's
+parser and its three rules on names."""
+SYNTAX = "syntax error: "
 
 
 def meant(text):
@@ -33,34 +34,33 @@ def meant(text):
 
 
 def report(lines):
-    """The lines of our report: those that begin with `·`, and the messages, which may go on over lines."""
+    """The places of our report with their messages, which may go on over lines: no file's name, and no excerpt."""
     told = []
     for line in lines:
-        if line.startswith(("·", "f:")) or not told:
-            told.append(line)
-        else:
+        if line.startswith("f:"):
+            told.append(line.removeprefix("f:").strip())
+        elif not line.startswith("·"):
             told[-1] += " " + line
-    return [meant(line) if line.startswith("·") else line for line in told]
+    return told
 
 
-def core(text):
-    """The messages of graphql-core, with their places."""
+def core(text, place):
+    """The messages of graphql-core, with their places unless that is the place given."""
     try:
         errors = graphql.validate(SCHEMA, graphql.parse(text), RULES)
     except graphql.GraphQLError as error:
         errors = [error]
-    return [
-        error.message + "".join(f" ({place.line}:{place.column})" for place in error.locations or [])
-        for error in errors
-    ] or ["(silent)"]
+    told = []
+    for error in errors:
+        places = [f"{place.line}:{place.column}" for place in error.locations or []]
+        message = error.message.removeprefix("Syntax Error: ")
+        told.append(message + "".join(f" ({there})" for there in places if places != [place]))
+    return told or ["(silent)"]
 
 
-def shown_above(text, told):
-    """The lines of a text that the report leaves out or cuts."""
-    lines = text.split("\n")
-    if all(any(line.endswith(" | " + part) for line in told) for part in lines):
-        return []
-    return [line if len(line) < 100 else line[:20] + "..." + line[-10:] for line in lines]
+def shown(text):
+    """The lines of a text, long ones cut."""
+    return [line if len(line) < 100 else line[:20] + "..." + line[-10:] for line in text.split("\n")]
 
 
 def cases(table):
@@ -79,13 +79,18 @@ def cases(table):
 
 
 def main():
-    print(HEAD.format(version=graphql.version))
     table = re.search(r'r#"\n(.*?)"#', ROWS.read_text(), re.S)[1]
+    syntax, others = [], []
     for title, text, told in cases(table):
         text, told = meant(text), report(told)
-        says = [f"core: {line.removeprefix('Syntax Error: ')}" for line in core(text)]
-        print("\n".join([f"# {title}", *shown_above(text, told), *told, *says, ""]))
-    print("```")
+        place = told[0].partition(": ")[0]
+        says = [f"core: {line}" for line in core(text, place)]
+        (syntax if SYNTAX in told[0] else others).append(
+            "\n".join([f"# {title}", *shown(text), *(line.replace(SYNTAX, "") for line in told), *says])
+        )
+    print(HEAD.format(version=graphql.version))
+    for heading, entries in [(f"Syntax errors, which begin `{SYNTAX.strip()}`", syntax), ("Other errors", others)]:
+        print(f"\n## {heading}\n\n```\n" + "\n\n".join(entries) + "\n```")
 
 
 main()
