@@ -1,5 +1,5 @@
 #!/usr/bin/env python3
-"""Makes docs/MESSAGES.md: each text of crates/conformance_reports/src/messages.rt with our report, which stands there,
+"""Makes docs/MESSAGES.md: each text of crates/conformance_reports/src/messages.rt with our messages, which it has,
 and the message of graphql-core, the port of GraphQL.js to Python. `tests/messages.py > docs/MESSAGES.md`."""
 import re
 from pathlib import Path
@@ -14,13 +14,13 @@ SCHEMA = graphql.build_schema("type Query { a: Int }")
 
 HEAD = """# Messages
 
-A request, what `gql check --executable` says of it, and after `core:` what graphql-core {version} says, the port of GraphQL.js
-to Python: single quotes for double ones, without `Syntax Error: `, at our first place unless it gives another. Where it is
-silent it accepts the text: it has no limit of depth, reads type definitions too, and asks for no operation. Each line of ours
-comes after the file's name and, if it has a place, before [the text's line with a caret](../README.md#try-it).
+What `gql check --executable` says of a request, and after `core:` graphql-core {version}, the port of GraphQL.js to Python: single
+quotes for double ones, without `Syntax Error: `, at our first place unless it gives another. Without a `core:` it accepts the
+text: it has no limit of depth, reads type definitions too, and asks for no operation. Each line of ours comes after the file's
+name and, if it has a place, before [the text's line with a caret](../README.md#try-it).
 
-`tests/messages.py` makes this page of the tested rows of `crates/conformance_reports/src/messages.rt` and of graphql-core's
-parser and its three rules on names."""
+`tests/messages.py` makes this page of the tested rows of `crates/conformance_reports/src/messages.rt`, which also name each mistake,
+and of graphql-core's parser and its three rules on names."""
 SYNTAX = "syntax error: "
 
 
@@ -55,7 +55,7 @@ def core(text, place):
         places = [f"{place.line}:{place.column}" for place in error.locations or []]
         message = error.message.removeprefix("Syntax Error: ")
         told.append(message + "".join(f" ({there})" for there in places if places != [place]))
-    return told or ["(silent)"]
+    return told
 
 
 def shown(text):
@@ -64,29 +64,28 @@ def shown(text):
 
 
 def cases(table):
-    title, case = "", None
+    """The texts, each with the lines of its report."""
+    case = None
     for line in table.splitlines():
-        if line.startswith("-- "):
-            title = line[3:]
-        elif line.startswith("  "):
-            case[2].append(line.strip())
+        if line.startswith("  "):
+            case[1].append(line.strip())
         elif " ⇒ " in line:
             if case:
                 yield case
             text, told = line.split(" ⇒ ")
-            case = (title, text, [told])
+            case = (text, [told])
     yield case
 
 
 def main():
     table = re.search(r'r#"\n(.*?)"#', ROWS.read_text(), re.S)[1]
     syntax, others = [], []
-    for title, text, told in cases(table):
+    for text, told in cases(table):
         text, told = meant(text), report(told)
         place = told[0].partition(": ")[0]
         says = [f"core: {line}" for line in core(text, place)]
         (syntax if SYNTAX in told[0] else others).append(
-            "\n".join([f"# {title}", *shown(text), *(line.replace(SYNTAX, "") for line in told), *says])
+            "\n".join([*shown(text), *(line.replace(SYNTAX, "") for line in told), *says])
         )
     print(HEAD.format(version=graphql.version))
     for heading, entries in [(f"Syntax errors, which begin `{SYNTAX.strip()}`", syntax), ("Other errors", others)]:
