@@ -19,8 +19,8 @@ quotes for double ones, without `Syntax Error: `, at our first place unless it g
 text: it has no limit of depth, reads type definitions too, and asks for no operation. Each line of ours comes after the file's
 name and, if it has a place, before [the text's line with a caret](../README.md#try-it).
 
-`tests/messages.py` makes this page of the tested rows of `crates/conformance_reports/src/messages.rt`, which also name each mistake,
-and of graphql-core's parser and its three rules on names."""
+`tests/messages.py` makes this page of the tested rows of `crates/conformance_reports/src/messages.rt` and of graphql-core's
+parser and its three rules on names."""
 SYNTAX = "syntax error: "
 
 
