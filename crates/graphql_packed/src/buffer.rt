@@ -1,74 +1,120 @@
 //! The bytes that are being written.
+ghost use Rattle.std.specs.Prelude.{◌≡◌, [], ◌∷◌, List, map, option_map};
+ghost use Rattle.graphql_parser.specs.trees.Parts.{placed};
+ghost use Rattle.graphql_packed.specs.inner.Written.{Adds};
+ghost use Rattle.graphql_packed.specs.packed.Bytes.{choice as choice_of, flag as flag_of, list_bytes, node_bytes, number_bytes, optional_bytes, place_bytes, text_bytes};
+
 use graphql_parser::{Pos, Positioned};
 use std::alloc::{AllocError, Global};
+use std::marker::Model;
 
 // What a call that writes answers: an error says that memory was refused.
 pub type Outcome = Result<(), AllocError>;
 
-/// What is written as a node, behind its place.
+/// What is written as a node, after its place.
 pub trait Packed {
+    ghost use Rattle.graphql_packed.specs.packed.Bytes.{Bytes};
+
+    /// The tree of a node.
+    ghost Tree: { Type 0 };
+
+    ghost tree: { Self → Tree };
+
+    /// The bytes of a tree, without its place.
+    ghost bytes: { Tree → Bytes };
+
     /// Writes the node.
-    fn pack(&self, buffer: &mut Buffer) -> Outcome;
+    fn pack(&self, buffer: &mut Buffer) -> Outcome
+        ensures { Adds result buffer.old buffer.new (bytes (tree self.now)) };
 }
 
 /// Bytes that are being written.
+///
+/// A contract sees these bytes.
 #[derive(Drop)]
 pub struct Buffer {
     bytes: Vec<u8>,
 }
 
+impl Model for Buffer {
+    ghost use Rattle.std.specs.Prelude.{ℕ, List};
+
+    ghost Value = { List ℕ };
+
+    ghost view = { λ buffer. buffer.bytes.items };
+}
+
 impl Buffer {
     /// No bytes.
-    pub fn new(alloc: Global) -> Buffer {
+    pub fn new(alloc: Global) -> Buffer
+        ensures { result ≡ [] }
+    {
         Buffer {
             bytes: Vec::new(alloc),
         }
     }
 
     /// All of the bytes.
-    pub fn finish(self) -> Vec<u8> {
+    pub fn finish(self) -> Vec<u8>
+        ensures { result.items ≡ self }
+    {
         self.bytes
     }
 
     /// A choice, by its number.
     #[inline(always)]
-    pub fn choice(&mut self, number: u8) -> Outcome {
+    pub fn choice(&mut self, number: u8) -> Outcome
+        ensures { Adds result self.old self.new (choice_of number) }
+    {
         self.bytes.push(number)?;
         Ok(())
     }
 
     #[inline(always)]
-    pub fn flag(&mut self, is_so: bool) -> Outcome {
+    pub fn flag(&mut self, is_so: bool) -> Outcome
+        ensures { Adds result self.old self.new (flag_of is_so) }
+    {
         self.choice(if is_so { 1 } else { 0 })
     }
 
     #[inline(always)]
-    pub fn number(&mut self, number: usize) -> Outcome {
+    #[tactic(auto, unfolding(crate::specs::packed::Bytes::number_bytes))]
+    pub fn number(&mut self, number: usize) -> Outcome
+        ensures { Adds result self.old self.new (number_bytes number) }
+    {
         let number = number as u64;
         self.bytes.extend_from_slice(&number.to_le_bytes())
     }
 
     #[inline(always)]
-    pub fn text(&mut self, text: &str) -> Outcome {
+    pub fn text(&mut self, text: &str) -> Outcome
+        ensures { Adds result self.old self.new (text_bytes text.now) }
+    {
         self.number(text.len())?;
         self.bytes.extend_from_slice(text.as_bytes())
     }
 
     #[inline(always)]
-    pub fn place(&mut self, pos: Pos) -> Outcome {
+    pub fn place(&mut self, pos: Pos) -> Outcome
+        ensures { Adds result self.old self.new (place_bytes pos) }
+    {
         self.number(pos.line)?;
         self.number(pos.column)
     }
 
     /// A node, with its place.
     #[inline(always)]
-    pub fn node<N: Packed>(&mut self, node: &Positioned<N>) -> Outcome {
+    pub fn node<N: Packed>(&mut self, node: &Positioned<N>) -> Outcome
+        ensures { Adds result self.old self.new (node_bytes N.bytes (placed N.tree node.now)) }
+    {
         self.place(node.pos)?;
         node.node.pack(self)
     }
 
     /// A node that may be missing.
-    pub fn optional<N: Packed>(&mut self, node: &Option<Positioned<N>>) -> Outcome {
+    pub fn optional<N: Packed>(&mut self, node: &Option<Positioned<N>>) -> Outcome
+        ensures { Adds result self.old self.new (optional_bytes (node_bytes N.bytes) (option_map (placed N.tree) node.now)) }
+    {
         self.flag(node.is_some())?;
         match node {
             Some(node) => self.node(node),
@@ -77,7 +123,9 @@ impl Buffer {
     }
 
     /// A list of nodes.
-    pub fn nodes<N: Packed>(&mut self, nodes: &Vec<Positioned<N>>) -> Outcome {
+    pub fn nodes<N: Packed>(&mut self, nodes: &Vec<Positioned<N>>) -> Outcome
+        ensures { Adds result self.old self.new (list_bytes (node_bytes N.bytes) (map (placed N.tree) nodes.now.items)) }
+    {
         self.number(nodes.len())?;
         for node in nodes {
             self.node(node)?;

@@ -9,9 +9,16 @@
 //!
 //! Nothing else reads it, and it may change with any version.
 //!
-//! Proved of it: each call is safe and ends, and fails only where memory runs out. What the bytes say is tested, by trees in
-//! Rust that are made of them and held against the JSON of the same texts.
+//! Proved of it, on every tree, also those that no text has: what a call gives is the bytes that `specs/packed` defines for
+//! the tree, part by part; or it tells that memory ran out. How they are read is tested, by trees in Rust that are made of
+//! them and held against the JSON of the same texts.
 #![tactic(auto)]
+
+ghost use Rattle.std.specs.Prelude.{◌≡◌, IfOk};
+ghost use Rattle.graphql_parser.specs.trees.RequestViews.{document_tree};
+ghost use Rattle.graphql_parser.specs.trees.SchemaViews.{schema_document_tree};
+ghost use Rattle.graphql_packed.specs.packed.Requests.{request_bytes};
+ghost use Rattle.graphql_packed.specs.packed.Schemas.{schema_bytes};
 
 mod buffer;
 mod request;
@@ -23,14 +30,18 @@ use graphql_parser::types::{ExecutableDocument, ServiceDocument};
 use std::alloc::{AllocError, Global};
 
 /// The tree of a request as bytes. It fails only where memory runs out.
-pub fn packed_request(alloc: Global, document: &ExecutableDocument) -> Result<Vec<u8>, AllocError> {
+pub fn packed_request(alloc: Global, document: &ExecutableDocument) -> Result<Vec<u8>, AllocError>
+    ensures { IfOk result (λ packed. packed.items ≡ request_bytes (document_tree document.now)) }
+{
     let mut buffer = Buffer::new(alloc);
     request::pack_document(&mut buffer, document)?;
     Ok(buffer.finish())
 }
 
 /// The tree of a schema file as bytes. It fails only where memory runs out.
-pub fn packed_schema(alloc: Global, document: &ServiceDocument) -> Result<Vec<u8>, AllocError> {
+pub fn packed_schema(alloc: Global, document: &ServiceDocument) -> Result<Vec<u8>, AllocError>
+    ensures { IfOk result (λ packed. packed.items ≡ schema_bytes (schema_document_tree document.now)) }
+{
     let mut buffer = Buffer::new(alloc);
     schema::pack_document(&mut buffer, document)?;
     Ok(buffer.finish())

@@ -1,15 +1,26 @@
 //! Requests.
+ghost use Rattle.std.specs.Prelude.{◌≡◌};
+ghost use Rattle.graphql_parser.specs.trees.Parts.{placed};
+ghost use Rattle.graphql_parser.specs.trees.Request.{of_field, of_inline_fragment};
+ghost use Rattle.graphql_parser.specs.trees.RequestViews.{document_tree, field_tree, inline_fragment_tree, selection_tree, selection_set_tree};
+ghost use Rattle.graphql_packed.specs.inner.Written.{Adds, lent_name};
+ghost use Rattle.graphql_packed.specs.packed.Bytes.{node_bytes, optional_bytes, text_bytes};
+ghost use Rattle.graphql_packed.specs.packed.Requests.{operation_number as number_of_kind, request_bytes, selection_bytes, set_bytes};
+
 use crate::buffer::{Buffer, Outcome, Packed};
-use crate::values::{operation_number, pack_arguments};
+use crate::values::pack_arguments;
 use graphql_parser::Positioned;
 use graphql_parser::types::{
     ExecutableDocument, Field, FragmentDefinition, FragmentSpread, InlineFragment,
-    OperationDefinition, Selection, SelectionSet, TypeCondition, VariableDefinition,
+    OperationDefinition, OperationType, Selection, SelectionSet, TypeCondition, VariableDefinition,
 };
 use graphql_parser::value::Name;
 
 /// The tree of a request: its operations, each with its name if it has one, and its fragments.
-pub fn pack_document(buffer: &mut Buffer, document: &ExecutableDocument) -> Outcome {
+#[tactic(auto, using(crate::proofs::Operations::operations_walked))]
+pub fn pack_document(buffer: &mut Buffer, document: &ExecutableDocument) -> Outcome
+    ensures { Adds result buffer.old buffer.new (request_bytes (document_tree document.now)) }
+{
     buffer.number(document.operations.iter().len())?;
     for (name, operation) in document.operations.iter() {
         pack_optional_name(buffer, name)?;
@@ -23,7 +34,9 @@ pub fn pack_document(buffer: &mut Buffer, document: &ExecutableDocument) -> Outc
     Ok(())
 }
 
-fn pack_optional_name(buffer: &mut Buffer, name: Option<&Name>) -> Outcome {
+fn pack_optional_name(buffer: &mut Buffer, name: Option<&Name>) -> Outcome
+    ensures { Adds result buffer.old buffer.new (optional_bytes text_bytes (lent_name name.entry)) }
+{
     buffer.flag(name.is_some())?;
     match name {
         Some(name) => buffer.text(name.as_str()),
@@ -32,6 +45,16 @@ fn pack_optional_name(buffer: &mut Buffer, name: Option<&Name>) -> Outcome {
 }
 
 impl Packed for OperationDefinition {
+    ghost use Rattle.graphql_parser.specs.trees.Request.{OperationDefinition as OperationTree};
+    ghost use Rattle.graphql_parser.specs.trees.RequestViews.{operation_tree};
+    ghost use Rattle.graphql_packed.specs.packed.Requests.{operation_bytes};
+
+    ghost Tree = { OperationTree };
+
+    ghost tree = { operation_tree };
+
+    ghost bytes = { operation_bytes };
+
     fn pack(&self, buffer: &mut Buffer) -> Outcome {
         buffer.choice(operation_number(self.ty))?;
         buffer.nodes(&self.variable_definitions)?;
@@ -40,7 +63,28 @@ impl Packed for OperationDefinition {
     }
 }
 
+// The number of a kind of operation.
+fn operation_number(kind: OperationType) -> u8
+    ensures { result ≡ number_of_kind kind }
+{
+    match kind {
+        OperationType::Query => 0,
+        OperationType::Mutation => 1,
+        OperationType::Subscription => 2,
+    }
+}
+
 impl Packed for VariableDefinition {
+    ghost use Rattle.graphql_parser.specs.trees.Request.{VariableDefinition as VariableTree};
+    ghost use Rattle.graphql_parser.specs.trees.RequestViews.{variable_definition_tree};
+    ghost use Rattle.graphql_packed.specs.packed.Requests.{variable_bytes};
+
+    ghost Tree = { VariableTree };
+
+    ghost tree = { variable_definition_tree };
+
+    ghost bytes = { variable_bytes };
+
     fn pack(&self, buffer: &mut Buffer) -> Outcome {
         buffer.node(&self.name)?;
         buffer.node(&self.var_type)?;
@@ -50,6 +94,16 @@ impl Packed for VariableDefinition {
 }
 
 impl Packed for FragmentDefinition {
+    ghost use Rattle.graphql_parser.specs.trees.Request.{FragmentDefinition as FragmentTree};
+    ghost use Rattle.graphql_parser.specs.trees.RequestViews.{fragment_tree};
+    ghost use Rattle.graphql_packed.specs.packed.Requests.{fragment_bytes};
+
+    ghost Tree = { FragmentTree };
+
+    ghost tree = { fragment_tree };
+
+    ghost bytes = { fragment_bytes };
+
     fn pack(&self, buffer: &mut Buffer) -> Outcome {
         buffer.node(&self.type_condition)?;
         buffer.nodes(&self.directives)?;
@@ -58,6 +112,16 @@ impl Packed for FragmentDefinition {
 }
 
 impl Packed for TypeCondition {
+    ghost use Rattle.graphql_parser.specs.trees.Request.{TypeCondition as ConditionTree};
+    ghost use Rattle.graphql_parser.specs.trees.RequestViews.{type_condition_tree};
+    ghost use Rattle.graphql_packed.specs.packed.Requests.{condition_bytes};
+
+    ghost Tree = { ConditionTree };
+
+    ghost tree = { type_condition_tree };
+
+    ghost bytes = { condition_bytes };
+
     fn pack(&self, buffer: &mut Buffer) -> Outcome {
         buffer.node(&self.on)
     }
@@ -65,13 +129,17 @@ impl Packed for TypeCondition {
 
 // A selection set, with its place.
 #[cycle(set)]
-fn pack_set(buffer: &mut Buffer, set: &Positioned<SelectionSet>) -> Outcome {
+fn pack_set(buffer: &mut Buffer, set: &Positioned<SelectionSet>) -> Outcome
+    ensures { Adds result buffer.old buffer.new (node_bytes set_bytes (placed selection_set_tree set.now)) }
+{
     buffer.place(set.pos)?;
     pack_selections(buffer, &set.node)
 }
 
 #[cycle(set)]
-fn pack_selections(buffer: &mut Buffer, set: &SelectionSet) -> Outcome {
+fn pack_selections(buffer: &mut Buffer, set: &SelectionSet) -> Outcome
+    ensures { Adds result buffer.old buffer.new (set_bytes (selection_set_tree set.now)) }
+{
     buffer.number(set.items.len())?;
     for item in &set.items {
         pack_selection(buffer, &item.node)?;
@@ -80,7 +148,9 @@ fn pack_selections(buffer: &mut Buffer, set: &SelectionSet) -> Outcome {
 }
 
 #[cycle(set)]
-fn pack_selection(buffer: &mut Buffer, selection: &Selection) -> Outcome {
+fn pack_selection(buffer: &mut Buffer, selection: &Selection) -> Outcome
+    ensures { Adds result buffer.old buffer.new (selection_bytes (selection_tree selection.now)) }
+{
     match selection {
         Selection::Field(field) => pack_field(buffer, field),
         Selection::FragmentSpread(spread) => {
@@ -92,7 +162,9 @@ fn pack_selection(buffer: &mut Buffer, selection: &Selection) -> Outcome {
 }
 
 #[cycle(set)]
-fn pack_field(buffer: &mut Buffer, field: &Positioned<Field>) -> Outcome {
+fn pack_field(buffer: &mut Buffer, field: &Positioned<Field>) -> Outcome
+    ensures { Adds result buffer.old buffer.new (selection_bytes (of_field (placed field_tree field.now))) }
+{
     buffer.choice(0)?;
     buffer.place(field.pos)?;
     buffer.optional(&field.node.alias)?;
@@ -103,6 +175,16 @@ fn pack_field(buffer: &mut Buffer, field: &Positioned<Field>) -> Outcome {
 }
 
 impl Packed for FragmentSpread {
+    ghost use Rattle.graphql_parser.specs.trees.Request.{FragmentSpread as SpreadTree};
+    ghost use Rattle.graphql_parser.specs.trees.RequestViews.{fragment_spread_tree};
+    ghost use Rattle.graphql_packed.specs.packed.Requests.{spread_bytes};
+
+    ghost Tree = { SpreadTree };
+
+    ghost tree = { fragment_spread_tree };
+
+    ghost bytes = { spread_bytes };
+
     fn pack(&self, buffer: &mut Buffer) -> Outcome {
         buffer.node(&self.fragment_name)?;
         buffer.nodes(&self.directives)
@@ -110,7 +192,9 @@ impl Packed for FragmentSpread {
 }
 
 #[cycle(set)]
-fn pack_inline_fragment(buffer: &mut Buffer, fragment: &Positioned<InlineFragment>) -> Outcome {
+fn pack_inline_fragment(buffer: &mut Buffer, fragment: &Positioned<InlineFragment>) -> Outcome
+    ensures { Adds result buffer.old buffer.new (selection_bytes (of_inline_fragment (placed inline_fragment_tree fragment.now))) }
+{
     buffer.choice(2)?;
     buffer.place(fragment.pos)?;
     buffer.optional(&fragment.node.type_condition)?;

@@ -1,4 +1,8 @@
 //! Schema files.
+ghost use Rattle.graphql_parser.specs.trees.SchemaViews.{definition_tree, kind_tree, schema_document_tree};
+ghost use Rattle.graphql_packed.specs.inner.Written.{Adds};
+ghost use Rattle.graphql_packed.specs.packed.Schemas.{definition_bytes, kind_bytes, schema_bytes};
+
 use crate::buffer::{Buffer, Outcome, Packed};
 use graphql_parser::types::{
     DirectiveDefinition, DirectiveLocation, EnumValueDefinition, FieldDefinition,
@@ -7,7 +11,9 @@ use graphql_parser::types::{
 };
 
 /// The tree of a schema file: its definitions and extensions in their order.
-pub fn pack_document(buffer: &mut Buffer, document: &ServiceDocument) -> Outcome {
+pub fn pack_document(buffer: &mut Buffer, document: &ServiceDocument) -> Outcome
+    ensures { Adds result buffer.old buffer.new (schema_bytes (schema_document_tree document.now)) }
+{
     buffer.number(document.definitions.len())?;
     for definition in &document.definitions {
         pack_definition(buffer, definition)?;
@@ -15,7 +21,9 @@ pub fn pack_document(buffer: &mut Buffer, document: &ServiceDocument) -> Outcome
     Ok(())
 }
 
-fn pack_definition(buffer: &mut Buffer, definition: &TypeSystemDefinition) -> Outcome {
+fn pack_definition(buffer: &mut Buffer, definition: &TypeSystemDefinition) -> Outcome
+    ensures { Adds result buffer.old buffer.new (definition_bytes (definition_tree definition.now)) }
+{
     match definition {
         TypeSystemDefinition::Schema(schema) => {
             buffer.choice(0)?;
@@ -33,6 +41,16 @@ fn pack_definition(buffer: &mut Buffer, definition: &TypeSystemDefinition) -> Ou
 }
 
 impl Packed for SchemaDefinition {
+    ghost use Rattle.graphql_parser.specs.trees.Schema.{SchemaDefinition as SchemaTree};
+    ghost use Rattle.graphql_parser.specs.trees.SchemaViews.{schema_definition_tree};
+    ghost use Rattle.graphql_packed.specs.packed.Schemas.{schema_definition_bytes};
+
+    ghost Tree = { SchemaTree };
+
+    ghost tree = { schema_definition_tree };
+
+    ghost bytes = { schema_definition_bytes };
+
     fn pack(&self, buffer: &mut Buffer) -> Outcome {
         buffer.optional(&self.description)?;
         buffer.flag(self.extend)?;
@@ -44,6 +62,16 @@ impl Packed for SchemaDefinition {
 }
 
 impl Packed for TypeDefinition {
+    ghost use Rattle.graphql_parser.specs.trees.Schema.{TypeDefinition as TypeTree};
+    ghost use Rattle.graphql_parser.specs.trees.SchemaViews.{type_definition_tree};
+    ghost use Rattle.graphql_packed.specs.packed.Schemas.{type_definition_bytes};
+
+    ghost Tree = { TypeTree };
+
+    ghost tree = { type_definition_tree };
+
+    ghost bytes = { type_definition_bytes };
+
     fn pack(&self, buffer: &mut Buffer) -> Outcome {
         buffer.flag(self.extend)?;
         buffer.optional(&self.description)?;
@@ -53,7 +81,9 @@ impl Packed for TypeDefinition {
     }
 }
 
-fn pack_kind(buffer: &mut Buffer, kind: &TypeKind) -> Outcome {
+fn pack_kind(buffer: &mut Buffer, kind: &TypeKind) -> Outcome
+    ensures { Adds result buffer.old buffer.new (kind_bytes (kind_tree kind.now)) }
+{
     match kind {
         TypeKind::Scalar => buffer.choice(0),
         TypeKind::Object(object) => {
@@ -82,6 +112,16 @@ fn pack_kind(buffer: &mut Buffer, kind: &TypeKind) -> Outcome {
 }
 
 impl Packed for FieldDefinition {
+    ghost use Rattle.graphql_parser.specs.trees.Schema.{FieldDefinition as FieldTree};
+    ghost use Rattle.graphql_parser.specs.trees.SchemaViews.{field_definition_tree};
+    ghost use Rattle.graphql_packed.specs.packed.Schemas.{field_definition_bytes};
+
+    ghost Tree = { FieldTree };
+
+    ghost tree = { field_definition_tree };
+
+    ghost bytes = { field_definition_bytes };
+
     fn pack(&self, buffer: &mut Buffer) -> Outcome {
         buffer.optional(&self.description)?;
         buffer.node(&self.name)?;
@@ -92,6 +132,16 @@ impl Packed for FieldDefinition {
 }
 
 impl Packed for InputValueDefinition {
+    ghost use Rattle.graphql_parser.specs.trees.Schema.{InputValueDefinition as InputValueTree};
+    ghost use Rattle.graphql_parser.specs.trees.SchemaViews.{input_value_tree};
+    ghost use Rattle.graphql_packed.specs.packed.Schemas.{input_value_bytes};
+
+    ghost Tree = { InputValueTree };
+
+    ghost tree = { input_value_tree };
+
+    ghost bytes = { input_value_bytes };
+
     fn pack(&self, buffer: &mut Buffer) -> Outcome {
         buffer.optional(&self.description)?;
         buffer.node(&self.name)?;
@@ -102,6 +152,16 @@ impl Packed for InputValueDefinition {
 }
 
 impl Packed for EnumValueDefinition {
+    ghost use Rattle.graphql_parser.specs.trees.Schema.{EnumValueDefinition as EnumValueTree};
+    ghost use Rattle.graphql_parser.specs.trees.SchemaViews.{enum_value_tree};
+    ghost use Rattle.graphql_packed.specs.packed.Schemas.{enum_value_bytes};
+
+    ghost Tree = { EnumValueTree };
+
+    ghost tree = { enum_value_tree };
+
+    ghost bytes = { enum_value_bytes };
+
     fn pack(&self, buffer: &mut Buffer) -> Outcome {
         buffer.optional(&self.description)?;
         buffer.node(&self.value)?;
@@ -110,6 +170,16 @@ impl Packed for EnumValueDefinition {
 }
 
 impl Packed for DirectiveDefinition {
+    ghost use Rattle.graphql_parser.specs.trees.Schema.{DirectiveDefinition as DirectiveTree};
+    ghost use Rattle.graphql_parser.specs.trees.SchemaViews.{directive_definition_tree};
+    ghost use Rattle.graphql_packed.specs.packed.Schemas.{directive_definition_bytes};
+
+    ghost Tree = { DirectiveTree };
+
+    ghost tree = { directive_definition_tree };
+
+    ghost bytes = { directive_definition_bytes };
+
     fn pack(&self, buffer: &mut Buffer) -> Outcome {
         buffer.optional(&self.description)?;
         buffer.node(&self.name)?;
@@ -121,6 +191,15 @@ impl Packed for DirectiveDefinition {
 
 // Its name.
 impl Packed for DirectiveLocation {
+    ghost use Rattle.graphql_parser.specs.types.DirectiveLocation.{DirectiveLocation as Location};
+    ghost use Rattle.graphql_packed.specs.packed.Schemas.{location_bytes};
+
+    ghost Tree = { Location };
+
+    ghost tree = { λ location. location };
+
+    ghost bytes = { location_bytes };
+
     fn pack(&self, buffer: &mut Buffer) -> Outcome {
         buffer.text(self.as_str())
     }

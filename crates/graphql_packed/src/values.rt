@@ -1,10 +1,28 @@
 //! What requests and schema files share: names, values, arguments, directives and types.
+ghost use Rattle.std.specs.Prelude.{◌++◌, map};
+ghost use Rattle.graphql_parser.specs.calls.Views.{view_tree, list_items, object_fields};
+ghost use Rattle.graphql_parser.specs.trees.Parts.{placed};
+ghost use Rattle.graphql_parser.specs.trees.TypeTree.{type_tree};
+ghost use Rattle.graphql_parser.specs.trees.ValueTree.{list, object, trees_of, fields_of};
+ghost use Rattle.graphql_packed.specs.inner.Written.{Adds, argument_tree, base_bytes};
+ghost use Rattle.graphql_packed.specs.packed.Bytes.{choice as choice_of, list_bytes, node_bytes, text_bytes};
+ghost use Rattle.graphql_packed.specs.packed.Values.{argument_with, type_bytes, value_bytes};
+
 use crate::buffer::{Buffer, Outcome, Packed};
 use graphql_parser::Positioned;
-use graphql_parser::types::{BaseType, ConstDirective, Directive, OperationType, Type};
+use graphql_parser::types::{BaseType, ConstDirective, Directive, Type};
 use graphql_parser::value::{ConstValue, ListView, Name, ObjectView, Value, ValueView};
 
 impl Packed for Name {
+    ghost use Rattle.std.specs.Prelude.{ℕ, List};
+    ghost use Rattle.graphql_packed.specs.packed.Bytes.{text_bytes};
+
+    ghost Tree = { List ℕ };
+
+    ghost tree = { λ name. name };
+
+    ghost bytes = { text_bytes };
+
     #[inline(always)]
     fn pack(&self, buffer: &mut Buffer) -> Outcome {
         buffer.text(self.as_str())
@@ -12,31 +30,64 @@ impl Packed for Name {
 }
 
 impl Packed for String {
+    ghost use Rattle.std.specs.Prelude.{ℕ, List, string_bytes};
+    ghost use Rattle.graphql_packed.specs.packed.Bytes.{text_bytes};
+
+    ghost Tree = { List ℕ };
+
+    ghost tree = { string_bytes };
+
+    ghost bytes = { text_bytes };
+
     fn pack(&self, buffer: &mut Buffer) -> Outcome {
         buffer.text(self.as_str())
     }
 }
 
 impl Packed for Value {
+    ghost use Rattle.graphql_parser.specs.trees.ValueTree.{Tree as ValueTree};
+    ghost use Rattle.graphql_parser.specs.trees.ValueViews.{value_tree};
+    ghost use Rattle.graphql_packed.specs.packed.Values.{value_bytes};
+
+    ghost Tree = { ValueTree };
+
+    ghost tree = { value_tree };
+
+    ghost bytes = { value_bytes };
+
     fn pack(&self, buffer: &mut Buffer) -> Outcome {
         pack_value(buffer, &self.as_view())
     }
 }
 
 impl Packed for ConstValue {
+    ghost use Rattle.graphql_parser.specs.trees.ValueTree.{Tree as ValueTree};
+    ghost use Rattle.graphql_parser.specs.trees.ValueViews.{const_tree};
+    ghost use Rattle.graphql_packed.specs.packed.Values.{value_bytes};
+
+    ghost Tree = { ValueTree };
+
+    ghost tree = { const_tree };
+
+    ghost bytes = { value_bytes };
+
     fn pack(&self, buffer: &mut Buffer) -> Outcome {
         pack_value(buffer, &self.as_view())
     }
 }
 
 // A choice, and a text.
-fn pack_text(buffer: &mut Buffer, choice: u8, text: &str) -> Outcome {
+fn pack_text(buffer: &mut Buffer, choice: u8, text: &str) -> Outcome
+    ensures { Adds result buffer.old buffer.new (choice_of choice ++ text_bytes text.now) }
+{
     buffer.choice(choice)?;
     buffer.text(text)
 }
 
 #[cycle(value)]
-fn pack_value(buffer: &mut Buffer, value: &ValueView<'_>) -> Outcome {
+fn pack_value(buffer: &mut Buffer, value: &ValueView<'_>) -> Outcome
+    ensures { Adds result buffer.old buffer.new (value_bytes (view_tree value.now)) }
+{
     match value {
         ValueView::Variable(name) => pack_text(buffer, 0, name.as_str()),
         ValueView::Null => buffer.choice(1),
@@ -51,7 +102,9 @@ fn pack_value(buffer: &mut Buffer, value: &ValueView<'_>) -> Outcome {
 }
 
 #[cycle(value)]
-fn pack_items(buffer: &mut Buffer, items: &ListView<'_>) -> Outcome {
+fn pack_items(buffer: &mut Buffer, items: &ListView<'_>) -> Outcome
+    ensures { Adds result buffer.old buffer.new (value_bytes (list (trees_of (list_items items.now)))) }
+{
     buffer.choice(7)?;
     buffer.number(items.len())?;
     for item in items.iter() {
@@ -61,7 +114,9 @@ fn pack_items(buffer: &mut Buffer, items: &ListView<'_>) -> Outcome {
 }
 
 #[cycle(value)]
-fn pack_fields(buffer: &mut Buffer, fields: &ObjectView<'_>) -> Outcome {
+fn pack_fields(buffer: &mut Buffer, fields: &ObjectView<'_>) -> Outcome
+    ensures { Adds result buffer.old buffer.new (value_bytes (object (fields_of (object_fields fields.now)))) }
+{
     buffer.choice(8)?;
     buffer.number(fields.len())?;
     for (name, value) in fields.iter() {
@@ -75,7 +130,9 @@ fn pack_fields(buffer: &mut Buffer, fields: &ObjectView<'_>) -> Outcome {
 pub fn pack_arguments<V: Packed>(
     buffer: &mut Buffer,
     arguments: &Vec<(Positioned<Name>, Positioned<V>)>,
-) -> Outcome {
+) -> Outcome
+    ensures { Adds result buffer.old buffer.new (list_bytes (argument_with V.bytes) (map (argument_tree V.tree) arguments.now.items)) }
+{
     buffer.number(arguments.len())?;
     for argument in arguments {
         buffer.node(&argument.0)?;
@@ -84,21 +141,61 @@ pub fn pack_arguments<V: Packed>(
     Ok(())
 }
 
+// A directive: its name, and its arguments.
+#[inline(always)]
+fn pack_directive<V: Packed>(
+    buffer: &mut Buffer,
+    name: &Positioned<Name>,
+    arguments: &Vec<(Positioned<Name>, Positioned<V>)>,
+) -> Outcome
+    ensures { Adds result buffer.old buffer.new (node_bytes text_bytes name.now ++ list_bytes (argument_with V.bytes) (map (argument_tree V.tree) arguments.now.items)) }
+{
+    buffer.node(name)?;
+    pack_arguments(buffer, arguments)
+}
+
 impl Packed for Directive {
+    ghost use Rattle.graphql_parser.specs.trees.Parts.{Directive as DirectiveTree};
+    ghost use Rattle.graphql_parser.specs.trees.PartViews.{directive_tree};
+    ghost use Rattle.graphql_packed.specs.packed.Values.{directive_bytes};
+
+    ghost Tree = { DirectiveTree };
+
+    ghost tree = { directive_tree };
+
+    ghost bytes = { directive_bytes };
+
     fn pack(&self, buffer: &mut Buffer) -> Outcome {
-        buffer.node(&self.name)?;
-        pack_arguments(buffer, &self.arguments)
+        pack_directive(buffer, &self.name, &self.arguments)
     }
 }
 
 impl Packed for ConstDirective {
+    ghost use Rattle.graphql_parser.specs.trees.Parts.{Directive as DirectiveTree};
+    ghost use Rattle.graphql_parser.specs.trees.PartViews.{const_directive_tree};
+    ghost use Rattle.graphql_packed.specs.packed.Values.{directive_bytes};
+
+    ghost Tree = { DirectiveTree };
+
+    ghost tree = { const_directive_tree };
+
+    ghost bytes = { directive_bytes };
+
     fn pack(&self, buffer: &mut Buffer) -> Outcome {
-        buffer.node(&self.name)?;
-        pack_arguments(buffer, &self.arguments)
+        pack_directive(buffer, &self.name, &self.arguments)
     }
 }
 
 impl Packed for Type {
+    ghost use Rattle.graphql_parser.specs.trees.TypeTree.{TypeTree, type_tree};
+    ghost use Rattle.graphql_packed.specs.packed.Values.{type_bytes};
+
+    ghost Tree = { TypeTree };
+
+    ghost tree = { type_tree };
+
+    ghost bytes = { type_bytes };
+
     fn pack(&self, buffer: &mut Buffer) -> Outcome {
         pack_type(buffer, self)
     }
@@ -106,27 +203,22 @@ impl Packed for Type {
 
 // Whether it may be null; then the type itself, by its name or by that of its items.
 #[cycle(types)]
-fn pack_type(buffer: &mut Buffer, ty: &Type) -> Outcome {
+fn pack_type(buffer: &mut Buffer, ty: &Type) -> Outcome
+    ensures { Adds result buffer.old buffer.new (type_bytes (type_tree ty.now)) }
+{
     buffer.flag(ty.nullable)?;
     pack_base(buffer, &ty.base)
 }
 
 #[cycle(types)]
-fn pack_base(buffer: &mut Buffer, base: &BaseType) -> Outcome {
+fn pack_base(buffer: &mut Buffer, base: &BaseType) -> Outcome
+    ensures { Adds result buffer.old buffer.new (base_bytes base.now) }
+{
     match base {
         BaseType::Named(name) => pack_text(buffer, 0, name.as_str()),
         BaseType::List(inner) => {
             buffer.choice(1)?;
             pack_type(buffer, inner)
         }
-    }
-}
-
-/// The number of a kind of operation.
-pub fn operation_number(kind: OperationType) -> u8 {
-    match kind {
-        OperationType::Query => 0,
-        OperationType::Mutation => 1,
-        OperationType::Subscription => 2,
     }
 }

@@ -1,0 +1,4 @@
+-- What the answers share.
+pub mod Steps
+pub mod Counts
+pub mod Operations

@@ -1,0 +1,2 @@
+-- Inner: what is written so far.
+pub mod Written

@@ -1,0 +1,5 @@
+-- Public: the bytes of trees, part by part.
+pub mod Bytes
+pub mod Values
+pub mod Requests
+pub mod Schemas
