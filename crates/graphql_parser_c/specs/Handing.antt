@@ -41,10 +41,13 @@ IsNothing block = (block.start ≡ null_ptr) × (block.length ≡ 0)
 abbrev pub IsHanded : Result Block AllocError → ℕ → Block → Type 0
 IsHanded made number block = (SaysNothing number → IsNothing block) × (¬ SaysNothing number → made ≡ Ok block)
 
--- What a call hands over of a text, in a language and within limits, where `value` gives the JSON of a document: nothing, where
--- the status says nothing of the text, and else the JSON of the parser's answer for the tokens of the text. What was there
--- before the call makes no difference.
-pub record IsAnswered {D Document : Type 0} (language : Language D Document) (value : Document → json.Json) (limits : Limits) (text : List ℕ) (number : ℕ) (handed : Block) : Type 0 where
+-- What a call hands over of a text, in a language and within limits: nothing, where the status says nothing of the text, and
+-- else what `Hands` says of the parser's answer for the tokens of the text. What was there before the call makes no difference.
+pub record HandsOver {D Document : Type 0} (language : Language D Document) (Hands : Result Document Error → Block → Type 0) (limits : Limits) (text : List ℕ) (number : ℕ) (handed : Block) : Type 0 where
   pub nothing : SaysNothing number → IsNothing handed
   pub answer : ¬ SaysNothing number → (tokens : List Token) → IsCutInto text tokens
-      → (answer : Result Document Error) × Answers language limits tokens answer × (number ≡ number_of (status_of answer)) × (handed.text ≡ Some (json_text (answer_value value answer)))
+      → (answer : Result Document Error) × Answers language limits tokens answer × (number ≡ number_of (status_of answer)) × Hands answer handed
+
+-- the JSON of the answer is handed over, where `value` gives that of a document
+abbrev pub IsAnswered : {D Document : Type 0} → Language D Document → (Document → json.Json) → Limits → List ℕ → ℕ → Block → Type 0
+IsAnswered language value = HandsOver language (λ answer handed. handed.text ≡ Some (json_text (answer_value value answer)))

@@ -103,7 +103,7 @@ pub fn pack_text<D: Document>(
     packed: &mut Block,
 ) -> Told
     ensures told { IsTold D.language (limits_of selections values types) text.bytes result.number result.places }
-    ensures handed { IsPacked D.language (limits_of selections values types) text.bytes result.number packed.new }
+    ensures handed { IsPacked D.language D.bytes (limits_of selections values types) text.bytes result.number packed.new }
     ensures back { IsBack text room result }
 {
     let (lent, count) = text.lent();

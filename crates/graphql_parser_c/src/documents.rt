@@ -3,6 +3,8 @@ ghost use Rattle.std.specs.Prelude.{◌≡◌, List, IfOk};
 ghost use Rattle.graphql_json.specs.nodes.Nodes.{json_text};
 ghost use Rattle.graphql_json.specs.nodes.Requests.{request_value};
 ghost use Rattle.graphql_json.specs.nodes.Schemas.{schema_value};
+ghost use Rattle.graphql_packed.specs.packed.Requests.{request_bytes};
+ghost use Rattle.graphql_packed.specs.packed.Schemas.{schema_bytes};
 ghost use Rattle.graphql_parser.specs.answers.Answers.{Answers};
 ghost use Rattle.graphql_parser.specs.answers.Language.{Language as DocumentLanguage};
 ghost use Rattle.graphql_parser.specs.Checking.{checked};
@@ -28,6 +30,7 @@ use std::alloc::{AllocError, Global};
 /// The documents of a language: how a text is read, its tree written and packed, and an error in it explained.
 pub trait Document: Drop {
     ghost use Rattle.graphql_json.specs.declared.place.Places.{Places as WrittenPlaces};
+    ghost use Rattle.graphql_packed.specs.packed.Bytes.{Bytes};
     ghost use Rattle.json.specs.Json.{Json};
 
     // The tree of a definition.
@@ -40,6 +43,9 @@ pub trait Document: Drop {
 
     // The JSON of a document.
     ghost value: { WrittenPlaces → Self → Json };
+
+    // The bytes of a document.
+    ghost bytes: { Self → Bytes };
 
     /// Reads a text.
     fn read(alloc: Global, text: &str, limits: Limits) -> Result<Self>
@@ -54,7 +60,8 @@ pub trait Document: Drop {
         ensures { IfOk result (λ json. json.items ≡ json_text (Self.value places self.now)) };
 
     /// The tree as bytes for a wrapper.
-    fn packed(&self, alloc: Global) -> std::result::Result<Vec<u8>, AllocError>;
+    fn packed(&self, alloc: Global) -> std::result::Result<Vec<u8>, AllocError>
+        ensures { IfOk result (λ packed. packed.items ≡ Self.bytes self.now) };
 }
 
 impl Document for ExecutableDocument {
@@ -65,6 +72,8 @@ impl Document for ExecutableDocument {
     const LANGUAGE: Language = Language::Requests;
 
     ghost value = { λ places document. request_value places (document_tree document) };
+
+    ghost bytes = { λ document. request_bytes (document_tree document) };
 
     fn read(alloc: Global, text: &str, limits: Limits) -> Result<ExecutableDocument> {
         parse_query_limited(alloc, text, limits)
@@ -91,6 +100,8 @@ impl Document for ServiceDocument {
     const LANGUAGE: Language = Language::Schemas;
 
     ghost value = { λ places document. schema_value places (schema_document_tree document) };
+
+    ghost bytes = { λ document. schema_bytes (schema_document_tree document) };
 
     fn read(alloc: Global, text: &str, limits: Limits) -> Result<ServiceDocument> {
         parse_schema_limited(alloc, text, limits)

@@ -12,9 +12,10 @@
 //! text, what a parse hands over is the JSON of that answer's tree or error, as `graphql_json` defines it, and these
 //! bytes lie where the pointer says; else null is handed over, with no bytes. Of an answer that is an error, an
 //! explanation hands over a report as `graphql_report` defines it, of a text in a file without a name; else nothing. Of
-//! an accepted text a pack hands over some bytes, else nothing: what they say is tested. What was there before makes no
-//! difference. The places are written where the caller's pointer isn't null, and the text is the caller's own again
-//! after the call. That what is handed over lies in a block that `free` takes is tested, by `bindings/check.sh`.
+//! an accepted text a pack hands over the bytes of that answer's tree, as `graphql_packed` defines them, else nothing.
+//! What was there before makes no difference. The places are written where the caller's pointer isn't null, and the text
+//! is the caller's own again after the call. That what is handed over lies in a block that `free` takes is tested, by
+//! `bindings/check.sh`.
 #![tactic(auto)]
 
 ghost use Rattle.std.specs.Prelude.{◌≡◌};
@@ -23,6 +24,8 @@ ghost use Rattle.graphql_parser.specs.requests.Requests.{requests};
 ghost use Rattle.graphql_parser.specs.schemas.Schemas.{schemas};
 ghost use Rattle.graphql_json.specs.nodes.Requests.{request_value};
 ghost use Rattle.graphql_json.specs.nodes.Schemas.{schema_value};
+ghost use Rattle.graphql_packed.specs.packed.Requests.{request_bytes};
+ghost use Rattle.graphql_packed.specs.packed.Schemas.{schema_bytes};
 ghost use Rattle.graphql_parser.specs.trees.RequestViews.{document_tree};
 ghost use Rattle.graphql_parser.specs.trees.SchemaViews.{schema_document_tree};
 ghost use Rattle.graphql_parser_c.specs.Explaining.{IsExplained};
@@ -213,7 +216,7 @@ pub extern "C" fn graphql_parser_pack_query(
     packed: &mut Block,
 ) -> Told
     ensures told { IsTold requests (limits_of selections values types) text.bytes result.number result.places }
-    ensures handed { IsPacked requests (limits_of selections values types) text.bytes result.number packed.new }
+    ensures handed { IsPacked requests (λ document. request_bytes (document_tree document)) (limits_of selections values types) text.bytes result.number packed.new }
     ensures back { IsBack text places result }
 {
     pack_text::<ExecutableDocument>(alloc, text, selections, values, types, places, packed)
@@ -232,7 +235,7 @@ pub extern "C" fn graphql_parser_pack_schema(
     packed: &mut Block,
 ) -> Told
     ensures told { IsTold schemas (limits_of selections values types) text.bytes result.number result.places }
-    ensures handed { IsPacked schemas (limits_of selections values types) text.bytes result.number packed.new }
+    ensures handed { IsPacked schemas (λ document. schema_bytes (schema_document_tree document)) (limits_of selections values types) text.bytes result.number packed.new }
     ensures back { IsBack text places result }
 {
     pack_text::<ServiceDocument>(alloc, text, selections, values, types, places, packed)

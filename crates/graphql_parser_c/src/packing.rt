@@ -17,7 +17,7 @@ fn packed_of<D: Document>(
     alloc: Global,
     answer: &Result<D>,
 ) -> std::result::Result<Block, AllocError>
-    ensures bytes { IfOk result (λ packed. Packs answer.now packed) }
+    ensures bytes { IfOk result (λ packed. Packs D.bytes answer.now packed) }
     ensures memory { answer.now ≡ Err OutOfMemory → IsErr result }
 {
     match answer {
@@ -38,7 +38,7 @@ pub fn pack<D: Document>(
     packed: &mut Block,
 ) -> u32
     ensures told { IsTold D.language (limits_of question.now.selections question.now.values question.now.types) question.now.text.now result places.new }
-    ensures handed { IsPacked D.language (limits_of question.now.selections question.now.values question.now.types) question.now.text.now result packed.new }
+    ensures handed { IsPacked D.language D.bytes (limits_of question.now.selections question.now.values question.now.types) question.now.text.now result packed.new }
 {
     let ReadableText { text, limits } = match question.readable() {
         Ok(readable) => readable,

@@ -23,6 +23,6 @@ returns-clause-handed g c =
         c.read-answer.result,
         read tokens cut,
         number_told c.read-answer.result told.0 _ told.1 (c.number-2.ensures ∙ ap number_of told.2) says,
-        subst (λ made. IfOk made (λ packed. Packs c.read-answer.result packed)) (handed.1 says) c.packed_of-made.ensures.bytes,
+        subst (λ made. IfOk made (λ packed. Packs g.D.Document.bytes c.read-answer.result packed)) (handed.1 says) c.packed_of-made.ensures.bytes,
       );
     }
