@@ -1,6 +1,5 @@
 -- The operations of a request as they are walked, and those of its tree.
-use Rattle.std.proofs.Common.{◌≡◌, List, [], ◌∷◌, map, length, Some, refl, ap, sym, ◌∙◌, Option}
-use Rattle.std.proofs.lemmas.List.{length-map}
+use Rattle.std.proofs.Common.{◌≡◌, List, [], ◌∷◌, map, Option, Some, refl, ap}
 use Rattle.graphql_parser.specs.types.DocumentOperations.{DocumentOperations}
 use Rattle.graphql_parser.specs.types.DocumentOperations.TheVariants.{Single, Multiple}
 use Rattle.graphql_parser.specs.types.OperationDefinition.{OperationDefinition}
@@ -21,6 +20,3 @@ entries_walked (e ∷ es) = ap (λ os. (Some e.0, placed operation_tree e.1) ∷
 pub operations_walked : (os : DocumentOperations) → operation_trees (operations_list os) ≡ operations_of (operations_tree os)
 operations_walked (Single o) = refl
 operations_walked (Multiple m) = entries_walked m.entries
-
-pub operations_counted : (os : DocumentOperations) → length (operations_of (operations_tree os)) ≡ length (operations_list os)
-operations_counted os = sym (ap (λ xs. length xs) (operations_walked os)) ∙ length-map (operations_list os) (λ (o : NamedOperation). (o.0, placed operation_tree o.1))
