@@ -189,6 +189,14 @@ python_tests() {
     python_module test_graphql_parser && python_module test_package
 }
 
+# What the pages for C and Python show prints what they say.
+pages() {
+    (cd "$here" && PYTHONPATH=python python3 -m unittest --quiet test_pages) >"$out/pages.log" 2>&1 || {
+        cat "$out/pages.log"
+        return 1
+    }
+}
+
 # Compiled anew with all warnings as errors.
 python_nodes() {
     mkdir -p "$out/nodes" && rm -f "$out"/nodes/* && CFLAGS=-Werror python3 "$here/python/build_nodes.py" "$out/nodes" &&
@@ -249,6 +257,7 @@ else
         fi
         if python3 -c 'import graphql' 2>/dev/null; then
             language "Python's graphql-core" python_nodes
+            language "the pages" pages
             if ! has_nodes_in_c; then
                 skip "Python's nodes in C" "nodes.c isn't compiled: there are no headers of Python"
             fi
