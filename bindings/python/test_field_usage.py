@@ -100,6 +100,17 @@ class FieldUsage(unittest.TestCase):
             self.assertEqual(counted(log), COUNTED)
             self.assertEqual(counted(log, log), counted("--processes", "2", log, log))
 
+    def test_nobody_has_to_read_on(self):
+        with tempfile.TemporaryDirectory() as folder:
+            log = Path(folder, "log")
+            log.write_text("".join(json.dumps({"query": f"{{ a{number} }}"}) + "\n" for number in range(20_000)))
+            options = {"stdout": subprocess.PIPE, "stderr": subprocess.PIPE, "text": True, "env": ENVIRONMENT}
+            with subprocess.Popen([sys.executable, PROGRAM, log], **options) as program:
+                self.assertEqual(program.stdout.readline(), "requests\t20000\n")
+                program.stdout.close()
+                self.assertNotIn("Traceback", program.stderr.read())
+            self.assertEqual(program.returncode, 0)
+
     def test_many_processes_count_as_one_does(self):
         """And so do the workers of a Dask cluster, one of which is killed while it counts."""
         python = python_with_dask()

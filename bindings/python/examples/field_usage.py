@@ -177,7 +177,12 @@ def main():
             whole.add(usage)
             print(f"\r{done} of {len(parts)} parts", end="", file=sys.stderr, flush=True)
     print(file=sys.stderr)
-    show(whole)
+    try:
+        show(whole)
+        sys.stdout.flush()
+    except BrokenPipeError:
+        # Whoever read it has seen enough, such as `head`. Python would complain again when it closes the output.
+        os.dup2(os.open(os.devnull, os.O_WRONLY), sys.stdout.fileno())
 
 
 if __name__ == "__main__":
