@@ -31,20 +31,20 @@ pub fn shown(alloc: Global, text: &str) -> Result<String, AllocError> {
 
 /// Whether the tests of a kind answer true for this kind's own, and for no other. A fault has none.
 fn passes_its_own_test(kind: TokenKind) -> bool {
-    let passed = (
-        (kind.is_punct(), kind.is_name(), kind.is_number()),
-        (kind.is_string(), kind.is_block(), kind.is_end()),
-    );
-    let none = (false, false, false);
-    match kind {
-        TokenKind::Punct => passed == ((true, false, false), none),
-        TokenKind::Name => passed == ((false, true, false), none),
-        TokenKind::Number => passed == ((false, false, true), none),
-        TokenKind::String => passed == (none, (true, false, false)),
-        TokenKind::Block => passed == (none, (false, true, false)),
-        TokenKind::End => passed == (none, (false, false, true)),
-        TokenKind::Fault => passed == (none, none),
+    let tests = [
+        (TokenKind::Punct, kind.is_punct()),
+        (TokenKind::Name, kind.is_name()),
+        (TokenKind::Number, kind.is_number()),
+        (TokenKind::String, kind.is_string()),
+        (TokenKind::Block, kind.is_block()),
+        (TokenKind::End, kind.is_end()),
+    ];
+    for (own, passes) in tests {
+        if passes != (own == kind) {
+            return false;
+        }
     }
+    true
 }
 
 fn write_next(shown: &mut Shown, token: Option<Token<'_>>) {
