@@ -67,6 +67,7 @@ fn texts_are_answered(rt: HostRuntime) -> Result<(), Fail> {
         (query(Asked::Accepted), limits::NESTED),
         (query(Asked::Accepted), schemas::refused::REQUESTS),
         (query(Asked::Limited), chosen::LIMITED),
+        (query(Asked::Budgets), chosen::BUDGETS),
         (query(Asked::Taken), taken::TAKEN),
         (query(Asked::InTurn), taken::IN_TURN),
         (schema(Asked::Whole), schemas::roots::ROOTS),
@@ -80,6 +81,7 @@ fn texts_are_answered(rt: HostRuntime) -> Result<(), Fail> {
         (schema(Asked::Accepted), schemas::cut::CUT),
         (schema(Asked::Accepted), schemas::limits::NESTED),
         (schema(Asked::Limited), schemas::limits::LIMITED),
+        (schema(Asked::Budgets), schemas::limits::BUDGETS),
         (schema(Asked::Taken), schemas::taken::TAKEN),
         (schema(Asked::InTurn), schemas::taken::IN_TURN),
     ];

@@ -2,6 +2,7 @@
 //! a parser is asked of its check too, and where that answers otherwise, the row fails.
 mod answers;
 mod asked;
+mod budgets;
 mod chosen;
 mod errors;
 mod hostile;

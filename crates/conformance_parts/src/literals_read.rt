@@ -1,6 +1,7 @@
 //! The readers of values and arguments, at the third type.
 use graphql_grammar::arguments::read_arguments;
 use graphql_grammar::value::read_value;
+use graphql_memory::Memory;
 use graphql_reading::limits::Limits;
 use graphql_reading::parser::{Parser, Reading, Refusal};
 use graphql_tokens::lexer::Tokens;
@@ -23,7 +24,7 @@ impl Subject for ReadPlain {
             return Err(Fail::new("a limit over 256"));
         };
         let mut shown = Shown::new(alloc, true);
-        let mut parser = Parser::new(alloc, Tokens::new(text));
+        let mut parser = Parser::new(Memory::new(alloc), Tokens::new(text));
         match write_read(&mut shown, &mut parser, limits) {
             Ok(()) => shown.word("up to"),
             Err(Refusal::Syntax) => shown.word("syntax at"),

@@ -19,7 +19,7 @@ rest-mapped f (Refused v rest') rest e = absurd cc
 -- another tree is made of what is read
 pub mapped-goes : {X Y Z : Type 0} (f : Y → Z) (result : Result X Refusal) (old new : Ahead) (r : Reader Y) → Checks result old new r → Checks result old new (mapped_at f r)
 mapped-goes f (Ok x) old new r h = (rest-mapped f (r (tokens old)) (tokens new) h.0, h.1)
-mapped-goes f (Err Memory) old new r h = (tt, h.1)
+mapped-goes f (Err Memory) old new r h = h
 mapped-goes f (Err Syntax) old new r h = (ap (λ (o : Outcome _). o >>= λ a rest. Read (f a) rest) h.0, h.1)
 mapped-goes f (Err Limit) old new r h = (ap (λ (o : Outcome _). o >>= λ a rest. Read (f a) rest) h.0, h.1)
 
@@ -38,20 +38,20 @@ then-goes {X} {Y} {Z} result old mid new r s h on checks = go result checks
 
     go : (result : Result X Refusal) → Checks result mid new s → Checks result old new (then_at r s)
     go (Ok x) h = (ap rest_of same ∙ rest-mapped (λ b. (read.tree, b)) (s (tokens mid)) (tokens new) h.0, go-on old mid new on h.1)
-    go (Err Memory) h = (tt, go-on old mid new on h.1)
+    go (Err Memory) h = (h.0, go-on old mid new on h.1)
     go (Err Syntax) h = (same ∙ ap (λ (o : Outcome Z). o >>= pair) h.0, go-on old mid new on h.1)
     go (Err Limit) h = (same ∙ ap (λ (o : Outcome Z). o >>= pair) h.0, go-on old mid new on h.1)
 
 -- the first part is refused
 pub then-stops : {Y Z : Type 0} (e : Refusal) (old new : Ahead) (r : Reader Y) (s : Reader Z) → Refuses e old new r → Refuses e old new (then_at r s)
-then-stops Memory old new r s h = tt
+then-stops Memory old new r s h = h
 then-stops Syntax old new r s h = ap (λ (o : Outcome _). o >>= λ a rest. s rest >>= λ b rest'. Read (a, b) rest') h
 then-stops Limit old new r s h = ap (λ (o : Outcome _). o >>= λ a rest. s rest >>= λ b rest'. Read (a, b) rest') h
 
 -- one reader in place of another that reads the same here
 pub goes-there : {X Y : Type 0} (result : Result X Refusal) (old new : Ahead) (r s : Reader Y) → s (tokens old) ≡ r (tokens old) → Checks result old new r → Checks result old new s
 goes-there (Ok x) old new r s same h = (ap rest_of same ∙ h.0, h.1)
-goes-there (Err Memory) old new r s same h = (tt, h.1)
+goes-there (Err Memory) old new r s same h = h
 goes-there (Err Syntax) old new r s same h = (same ∙ h.0, h.1)
 goes-there (Err Limit) old new r s same h = (same ∙ h.0, h.1)
 

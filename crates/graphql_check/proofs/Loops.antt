@@ -30,7 +30,7 @@ module _ {Y : Type 0} (first : Test) (r : Reader Y) {initial now : Ahead} (kept 
           ended-refused _ v (tokens next) (kept.told ∙ ap ended now-refused)
 
       by : (e : Refusal) → Refuses e now next r → Refuses e initial next (plus_at first r)
-      by Memory h = tt
+      by Memory h = h
       by Syntax h = refused syntax h
       by Limit h = refused limit h
 
@@ -59,6 +59,6 @@ shorter r now next takes h =
 
 pub there : {X Y : Type 0} (result : Result X Refusal) (old new : Ahead) (r : Reader Y) (s : Reader Y) → r (tokens old) ≡ s (tokens old) → Checks result old new r → Checks result old new s
 there (Ok x) old new r s e h = (ap rest_of (sym e) ∙ h.0, h.1)
-there (Err Memory) old new r s e h = (tt, h.1)
+there (Err Memory) old new r s e h = h
 there (Err Syntax) old new r s e h = (sym e ∙ h.0, h.1)
 there (Err Limit) old new r s e h = (sym e ∙ h.0, h.1)

@@ -96,7 +96,7 @@ module _ {Y : Type 0} {vars : Bool} {most : ℕ} {whole : Reader Y} {initial now
         refused v h = ended-refused _ v (tokens next) (inside ∙ ap (λ (n : ℕ). step_at vars n object (tokens now) >>= went vars n object (reverse outer)) (sym left-is) ∙ ap (λ (o : Outcome Met). o >>= went vars left object (reverse outer)) h)
 
         by : (e : Refusal) → Refuses e now next (step_at vars left object) → Refuses e initial next whole
-        by Memory h = tt
+        by Memory h = h
         by Syntax h = refused syntax h
         by Limit h = refused limit h
 

@@ -23,7 +23,7 @@ goes-as {X} {Y} {Z} result old mid new p q same on checks = go result checks
 
     go : (result : Result X Refusal) → Checks result mid new q → Checks result old new p
     go (Ok x) h = (ended-read _ (tokens new) (same ∙ read (q (tokens mid)) h.0), go-on old mid new on h.1)
-    go (Err Memory) h = (tt, go-on old mid new on h.1)
+    go (Err Memory) h = (h.0, go-on old mid new on h.1)
     go (Err Syntax) h = (refused syntax h.0, go-on old mid new on h.1)
     go (Err Limit) h = (refused limit h.0, go-on old mid new on h.1)
 
@@ -32,6 +32,6 @@ pub stops-as : {Y Z : Type 0} (e : Refusal) (old mid new : Ahead) (p : Reader Y)
 stops-as {Y} {Z} e old mid new p q same on h on' = (go e h, go-on old mid new on on')
   where
     go : (e : Refusal) → Refuses e mid new q → Refuses e old new p
-    go Memory h = tt
+    go Memory h = h
     go Syntax h = ended-refused _ syntax (tokens new) (same syntax h)
     go Limit h = ended-refused _ limit (tokens new) (same limit h)

@@ -1,5 +1,5 @@
 -- The first breach of the definitions of a schema file is what the rules say of them.
-use Rattle.std.proofs.Common.{◌≡◌, Bool, true, false, cond, Option, Some, None, option_map, Ok, Err, List, [], ◌∷◌, ◌++◌, refl, sym, ap, ◌∙◌, subst}
+use Rattle.std.proofs.Common.{◌≡◌, Bool, true, false, cond, Option, Some, None, option_map, Result, Ok, Err, List, [], ◌∷◌, ◌++◌, refl, sym, ap, ◌∙◌, subst}
 use Rattle.graphql_tokens.specs.declared.pos.Positioned.{Positioned}
 use Rattle.graphql_syntax.specs.declared.types.OperationType.TheVariants.{Query}
 use Rattle.graphql_grammar.specs.answers.Answers.{AreUnbroken}
@@ -88,6 +88,13 @@ first-told ds error h =
     let first = first-here ds error h in
     breaks (checked schemas) ds first.before first.broken first.after error first.split (unbroken first.before first.none)
     (tells (breach_of first.before first.broken) error (is-rules first.broken error first.is) (sym (anywhere first.before first.broken) ∙ first.is))
+
+-- no rule says that memory ran out
+no-memory : (ds : List Definition) → first_breach ds ≡ Some errors.OutOfMemory → ⊥
+no-memory ds h = let first = first-here ds errors.OutOfMemory h in is-rules first.broken errors.OutOfMemory first.is
+
+pub no-memory-told : {P : Type 0} (ds : List Definition) (error : Error) (result : Result (Unit {0}) Error) → first_breach ds ≡ Some error → result ≡ Err error → result ≡ Err errors.OutOfMemory → P
+no-memory-told ds error result h told is = let same : error ≡ errors.OutOfMemory = cc in absurd (no-memory ds (h ∙ ap Some same))
 
 -- ---- reading
 

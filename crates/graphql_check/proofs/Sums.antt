@@ -27,7 +27,7 @@ unmade item (Read tree rest') v rest e = absurd cc
 unmade item (Refused w rest') v rest e = cc
 
 pub refuses-made : {Y X : Type 0} (item : Y → X) (r : Reader Y) (e : Refusal) (old new : Ahead) → Refuses e old new (mapped_at item r) → Refuses e old new r
-refuses-made item r Memory old new h = tt
+refuses-made item r Memory old new h = h
 refuses-made item r Syntax old new h = unmade item (r (tokens old)) syntax (tokens new) h
 refuses-made item r Limit old new h = unmade item (r (tokens old)) limit (tokens new) h
 
@@ -50,7 +50,7 @@ module _ {Y X Z : Type 0} (item : Y → X) (of : List Y → Z) (first : Test) (r
       refused v h = ap (λ (o : Outcome (List Y)). o >>= λ a rest. Read (of a) rest) (loop-stops first r _ kept.items (tokens now) v (tokens next) kept.kept.told (unmade item (r (tokens now)) v (tokens next) h))
 
       by : (e : Refusal) → Refuses e now next (mapped_at item r) → Refuses e initial next (mapped_at of (plus_at first r))
-      by Memory h = tt
+      by Memory h = h
       by Syntax h = refused syntax h
       by Limit h = refused limit h
 

@@ -22,7 +22,7 @@ begins : (vars : Bool) (b : ℕ) (ts : List Token) (o : Outcome (Option Opened))
 begins vars b ts o is = ended-mapped node_of (value_at vars b ts) ∙ ap ended (value-law vars b ts) ∙ ap (λ (p : Outcome (Option Opened)). ended (p >>= begun vars b)) is
 
 pub value-stops : (vars : Bool) (b : ℕ) (old new : Ahead) (e : Refusal) → Refuses e old new (enter_at b) → Refuses e old new (value_at vars b)
-value-stops vars b old new Memory h = tt
+value-stops vars b old new Memory h = h
 value-stops vars b old new Syntax h = ended-refused _ syntax (tokens new) (begins vars b (tokens old) _ h)
 value-stops vars b old new Limit h = ended-refused _ limit (tokens new) (begins vars b (tokens old) _ h)
 

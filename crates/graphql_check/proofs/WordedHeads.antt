@@ -39,7 +39,7 @@ no-fragment limits a b c d rest word name v e f g h =
     rw (e, f, condition.is, h) refl
 
 pub fragment-refuses : (limits : Limits) (b c : List Token) (stop : Refusal) (old now new : Ahead) (word name : Token) → one_at (keyword "fragment") (tokens old) ≡ Read word b → one_at fragment_name b ≡ Read name c → rest_of (type_condition_at c) ≡ Some (tokens now) → Refuses stop now new (body_at limits) → Refuses stop old new (mapped_at head_of (fragment_at limits))
-fragment-refuses limits b c Memory old now new word name e f g h = tt
+fragment-refuses limits b c Memory old now new word name e f g h = h
 fragment-refuses limits b c Syntax old now new word name e f g h = no-fragment limits (tokens old) b c (tokens now) (tokens new) word name syntax e f g h
 fragment-refuses limits b c Limit old now new word name e f g h = no-fragment limits (tokens old) b c (tokens now) (tokens new) word name limit e f g h
 
@@ -57,6 +57,6 @@ no-operation limits a b c d rest word name v e f g h =
     rw (e, f, variables.is, h) refl
 
 pub operation-refuses : (limits : Limits) (b c : List Token) (stop : Refusal) (old now new : Ahead) (word : Token × OperationType) (name : Option Token) → operation_type_at (tokens old) ≡ Read word b → opt_at any_name (one_at any_name) b ≡ Read name c → rest_of (opt_at (punct "(") (variable_definitions_at limits.values limits.types) c) ≡ Some (tokens now) → Refuses stop now new (body_at limits) → Refuses stop old new (mapped_at head_of (full_operation_at limits))
-operation-refuses limits b c Memory old now new word name e f g h = tt
+operation-refuses limits b c Memory old now new word name e f g h = h
 operation-refuses limits b c Syntax old now new word name e f g h = no-operation limits (tokens old) b c (tokens now) (tokens new) word name syntax e f g h
 operation-refuses limits b c Limit old now new word name e f g h = no-operation limits (tokens old) b c (tokens now) (tokens new) word name limit e f g h

@@ -130,10 +130,10 @@ fn read_head<'a>(parser: &mut Parser<'a>, limits: Limits) -> Reading<Head<'a>>
 pub fn read_heads<'a>(parser: &mut Parser<'a>, limits: Limits) -> Reading<SmallVec<Head<'a>, 1>>
     ensures { Gives in_heads result parser.old parser.new (mapped_at (map head_of) (definitions_at limits)) }
 {
-    let mut heads = SmallVec::new(parser.alloc());
+    let mut heads = SmallVec::new(parser.heap());
     loop {
         let head = read_head(parser, limits)?;
-        heads.push(head)?;
+        parser.push_small(&mut heads, head)?;
         if !is_at_definition(parser) {
             return Ok(heads);
         }

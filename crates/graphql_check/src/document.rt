@@ -1,10 +1,12 @@
 //! Documents, whichever language they are of, read without a tree: the definitions are read whole before the first
 //! rule is looked at.
-ghost use Rattle.std.specs.Prelude.{◌≡◌, ◌≢◌, ◌+◌, ℕ, List, []};
+ghost use Rattle.std.specs.Prelude.{◌≡◌, ◌≢◌, ◌+◌, ℕ, List, [], Err};
+ghost use Rattle.graphql_memory.specs.Memory.{Refused};
 ghost use Rattle.graphql_tokens.specs.tokens.Edition.{Current};
 ghost use Rattle.graphql_tokens.specs.tokens.Token.{left};
 ghost use Rattle.graphql_grammar.specs.answers.Answers.{Answers, AreTheDefinitions, HasOneTree, IsDecided, RestsOnBareTokens, TakenFor};
 ghost use Rattle.graphql_grammar.specs.answers.Language.{Language, grammar};
+ghost use Rattle.graphql_grammar.specs.declared.error.Error.TheVariants.{OutOfMemory};
 ghost use Rattle.graphql_grammar.specs.reading.DocumentOf.{IsDocumentOf};
 ghost use Rattle.graphql_grammar.specs.reading.ReadBy.{IsReadBy};
 ghost use Rattle.graphql_reading.specs.grammar.Limits.{Limits as SpecLimits};
@@ -13,10 +15,10 @@ ghost use Rattle.graphql_reading.specs.reading.Outcome.{Reader, mapped_at, whole
 
 use graphql_grammar::error::Result;
 use graphql_grammar::refusals::error_of;
+use graphql_memory::Memory;
 use graphql_reading::limits::Limits;
 use graphql_reading::parser::{Parser, Reading};
 use graphql_tokens::lexer::Tokens;
-use std::alloc::Global;
 use std::mem;
 
 /// What is kept of the definitions of a text: enough to tell the first of the rules that they break.
@@ -42,8 +44,9 @@ pub trait Kept<'a>: Drop {
         ensures { Gives Self.kept result parser.old parser.new (mapped_at Self.sum (Self.reader limits)) };
 
     /// Whether the definitions make a document, or the first of the rules that they break, in source order.
-    fn judge(self, alloc: Global) -> Result<()>
-        ensures { (ds : List Self.Tree) → Self.kept self ≡ Self.sum ds → IsDocumentOf Self.language ds result };
+    fn judge(self, memory: &mut Memory) -> Result<()>
+        ensures document { (ds : List Self.Tree) → Self.kept self ≡ Self.sum ds → IsDocumentOf Self.language ds result }
+        ensures refused { (ds : List Self.Tree) → Self.kept self ≡ Self.sum ds → result ≡ Err OutOfMemory → Refused memory.new };
 }
 
 fn read_whole<'a, K: Kept<'a>>(parser: &mut Parser<'a>, limits: Limits) -> Reading<K>
@@ -56,7 +59,7 @@ fn read_whole<'a, K: Kept<'a>>(parser: &mut Parser<'a>, limits: Limits) -> Readi
 
 /// Reads the tokens that are left as a document, of which no tree is made.
 pub fn check_document<'a, K: Kept<'a>>(
-    alloc: Global,
+    memory: &mut Memory,
     tokens: &mut Tokens<'a>,
     limits: Limits,
 ) -> Result<()>
@@ -69,12 +72,20 @@ pub fn check_document<'a, K: Kept<'a>>(
     ensures bare { RestsOnBareTokens K.language limits (left tokens.old) }
     ensures taken { (count : ℕ) × (tokens.new.taken ≡ tokens.old.taken + count) × TakenFor K.language limits (left tokens.old) result count }
     ensures whole { tokens.new.whole ≡ tokens.old.whole }
+    ensures refused { result ≡ Err OutOfMemory → Refused memory.new }
 {
-    let mut parser = Parser::new(alloc, mem::replace(tokens, Tokens::new("")));
-    let answer = match read_whole::<K>(&mut parser, limits) {
-        Ok(kept) => kept.judge(alloc),
-        Err(refusal) => Err(error_of(&parser, refusal)),
-    };
-    *tokens = parser.into_tokens();
-    answer
+    let heap = memory.heap();
+    let mut parser = Parser::new(
+        mem::replace(memory, Memory::new(heap)),
+        mem::replace(tokens, Tokens::new("")),
+    );
+    let read = read_whole::<K>(&mut parser, limits);
+    let place = parser.hand().pos;
+    let (left, given) = parser.into_parts();
+    *tokens = left;
+    *memory = given;
+    match read {
+        Ok(kept) => kept.judge(memory),
+        Err(refusal) => Err(error_of(memory, refusal, place)),
+    }
 }

@@ -7,15 +7,17 @@
 //! Users name `graphql_parser`, which gives these calls out.
 #![tactic(auto)]
 
-ghost use Rattle.std.specs.Prelude.{◌≡◌, ◌≢◌, ◌+◌, ℕ, List, [], map};
+ghost use Rattle.std.specs.Prelude.{◌≡◌, ◌≢◌, ◌+◌, ℕ, List, [], map, Err};
 ghost use Rattle.std.specs.Str.{chars};
 ghost use Rattle.graphql_check.specs.Checking.{checked};
 ghost use Rattle.graphql_check.specs.RequestHeads.{head_of, in_heads};
+ghost use Rattle.graphql_memory.specs.Memory.{Refused};
 ghost use Rattle.graphql_tokens.specs.tokens.Cuts.{Cuts, HasNoFault, IsCutInto};
 ghost use Rattle.graphql_tokens.specs.tokens.Edition.{Former};
 ghost use Rattle.graphql_tokens.specs.tokens.Token.{Token as SpecToken, left};
 ghost use Rattle.graphql_grammar.specs.answers.Answers.{Answers, AreTheDefinitions, HasOneTree, IsDecided, RestsOnBareTokens, TakenFor};
 ghost use Rattle.graphql_grammar.specs.answers.Language.{grammar};
+ghost use Rattle.graphql_grammar.specs.declared.error.Error.TheVariants.{OutOfMemory};
 ghost use Rattle.graphql_grammar.specs.reading.DocumentOf.{IsDocumentOf};
 ghost use Rattle.graphql_reading.specs.grammar.Limits.{default_limits};
 ghost use Rattle.graphql_requests.specs.grammar.Request.{Definition as SpecDefinition};
@@ -37,11 +39,12 @@ pub mod variables;
 use definitions::{Head, read_heads};
 use document::{Kept, check_document};
 use graphql_grammar::error::Result;
+use graphql_memory::Memory;
 use graphql_reading::limits::Limits;
 use graphql_reading::parser::{Parser, Reading};
 use graphql_tokens::lexer::Tokens;
 use rules::judge;
-pub use schemas::{check_schema, check_schema_from, check_schema_limited};
+pub use schemas::{check_schema, check_schema_from, check_schema_limited, check_schema_within};
 use smallvec::SmallVec;
 use std::alloc::Global;
 
@@ -63,8 +66,8 @@ impl<'a> Kept<'a> for SmallVec<Head<'a>, 1> {
         read_heads(parser, limits)
     }
 
-    fn judge(self, alloc: Global) -> Result<()> {
-        judge(alloc, self.as_slice())
+    fn judge(self, memory: &mut Memory) -> Result<()> {
+        judge(memory, self.as_slice())
     }
 }
 
@@ -105,8 +108,22 @@ pub fn check_query_limited(alloc: Global, text: &str, limits: Limits) -> Result<
     ensures decided { (tokens : List SpecToken) → IsCutInto text.now tokens → IsDecided (checked requests) limits tokens }
     ensures bare { (tokens : List SpecToken) → IsCutInto text.now tokens → RestsOnBareTokens (checked requests) limits tokens }
 {
+    check_query_within(&mut Memory::new(alloc), text, limits)
+}
+
+/// As [`check_query_limited`], with who takes memory, as a budget bounds it. `OutOfMemory` is answered only where memory was
+/// refused: where more was wanted than was left, or the heap had no more.
+pub fn check_query_within(memory: &mut Memory, text: &str, limits: Limits) -> Result<()>
+    ensures answer { (tokens : List SpecToken) → IsCutInto text.now tokens → Answers (checked requests) limits tokens result }
+    ensures former { (tokens : List SpecToken) (ds : List SpecDefinition) → Cuts Former [] (chars text.now) tokens → grammar (checked requests) Former limits tokens ds → IsCutInto text.now tokens × AreTheDefinitions (checked requests) limits tokens ds }
+    ensures former_tokens { (tokens : List SpecToken) → HasNoFault tokens → Cuts Former [] (chars text.now) tokens → Answers (checked requests) limits tokens result }
+    ensures one_tree { (tokens : List SpecToken) → IsCutInto text.now tokens → HasOneTree (checked requests) tokens }
+    ensures decided { (tokens : List SpecToken) → IsCutInto text.now tokens → IsDecided (checked requests) limits tokens }
+    ensures bare { (tokens : List SpecToken) → IsCutInto text.now tokens → RestsOnBareTokens (checked requests) limits tokens }
+    ensures refused { result ≡ Err OutOfMemory → Refused memory.new }
+{
     let mut tokens = Tokens::new(text);
-    check_document::<SmallVec<Head, 1>>(alloc, &mut tokens, limits)
+    check_document::<SmallVec<Head, 1>>(memory, &mut tokens, limits)
 }
 
 /// As [`check_query`], over the tokens that are not yet taken, with the places that they have in the whole
@@ -124,5 +141,5 @@ pub fn check_query_from(alloc: Global, tokens: &mut Tokens<'_>) -> Result<()>
     ensures taken { (count : ℕ) × (tokens.new.taken ≡ tokens.old.taken + count) × TakenFor (checked requests) default_limits (left tokens.old) result count }
     ensures whole { tokens.new.whole ≡ tokens.old.whole }
 {
-    check_document::<SmallVec<Head, 1>>(alloc, tokens, Limits::default())
+    check_document::<SmallVec<Head, 1>>(&mut Memory::new(alloc), tokens, Limits::default())
 }

@@ -1,6 +1,8 @@
 //! The rules that the definitions of a request keep, by their heads. Names are found by their order, so none take
 //! longer than others of their length.
-ghost use Rattle.std.specs.Prelude.{◌≡◌, List, [], ◌∷◌, Some, None, map};
+ghost use Rattle.std.specs.Prelude.{◌≡◌, ◌≢◌, List, [], ◌∷◌, Some, None, Err, map};
+ghost use Rattle.graphql_memory.specs.Memory.{Refused};
+ghost use Rattle.graphql_grammar.specs.declared.error.Error.TheVariants.{OutOfMemory};
 ghost use Rattle.graphql_check.specs.Checking.{checked};
 ghost use Rattle.graphql_check.specs.RequestHeads.{operation_head, fragment_head, head_tree};
 ghost use Rattle.graphql_check.specs.Sorting.{IsSorted, IsAdded};
@@ -10,6 +12,7 @@ ghost use Rattle.graphql_requests.specs.grammar.Requests.{requests};
 
 use crate::definitions::Head;
 use graphql_grammar::error::{Error, Result};
+use graphql_memory::Memory;
 use graphql_syntax::pos::Pos;
 use graphql_syntax::value::Name;
 use std::alloc::Global;
@@ -24,25 +27,24 @@ struct Sorted<'a> {
     // Where the operation, and where the fragment of a name stands.
     operations: BTreeMap<&'a str, Pos>,
     fragments: BTreeMap<&'a str, Pos>,
-    alloc: Global,
 }
 
 impl<'a> Sorted<'a> {
-    fn new(alloc: Global) -> Sorted<'a>
+    fn new(heap: Global) -> Sorted<'a>
         ensures { IsSorted [] result }
     {
         Sorted {
             first: None,
             anonymous: None,
-            operations: BTreeMap::new(alloc),
-            fragments: BTreeMap::new(alloc),
-            alloc,
+            operations: BTreeMap::new(heap),
+            fragments: BTreeMap::new(heap),
         }
     }
 
     /// An operation without a name: no other operation may stand beside it.
     fn add_anonymous(&mut self, place: Pos) -> Result<()>
-        ensures { (ds : List SpecDefinition) → IsSorted ds self.old → IsAdded ds (operation_head None place) result self.new }
+        ensures added { (ds : List SpecDefinition) → IsSorted ds self.old → IsAdded ds (operation_head None place) result self.new }
+        ensures takes_none { result ≢ Err OutOfMemory }
     {
         if let Some(first) = self.first {
             return Err(Error::MultipleOperations {
@@ -56,8 +58,9 @@ impl<'a> Sorted<'a> {
     }
 
     /// An operation with a name, which no other may have.
-    fn add_operation(&mut self, name: &'a str, place: Pos) -> Result<()>
-        ensures { (ds : List SpecDefinition) → IsSorted ds self.old → IsAdded ds (operation_head (Some name.now) place) result self.new }
+    fn add_operation(&mut self, memory: &mut Memory, name: &'a str, place: Pos) -> Result<()>
+        ensures added { (ds : List SpecDefinition) → IsSorted ds self.old → IsAdded ds (operation_head (Some name.now) place) result self.new }
+        ensures refused { result ≡ Err OutOfMemory → Refused memory.new }
     {
         if let Some(anonymous) = self.anonymous {
             return Err(Error::MultipleOperations {
@@ -65,48 +68,49 @@ impl<'a> Sorted<'a> {
                 operation: place,
             });
         }
-        match self.operations.insert(name, place) {
-            Ok(None) => {
+        match memory.insert_ordered(&mut self.operations, name, place)? {
+            None => {
                 self.first = self.first.or(Some(place));
                 Ok(())
             }
-            Ok(Some(first)) => Err(Error::OperationDuplicated {
-                operation: Name::new(self.alloc, name)?,
+            Some(first) => Err(Error::OperationDuplicated {
+                operation: Name::new_in(memory, name)?,
                 first,
                 second: place,
             }),
-            Err(_) => Err(Error::OutOfMemory),
         }
     }
 
     /// A fragment, whose name no other may have.
-    fn add_fragment(&mut self, name: &'a str, place: Pos) -> Result<()>
-        ensures { (ds : List SpecDefinition) → IsSorted ds self.old → IsAdded ds (fragment_head name.now place) result self.new }
+    fn add_fragment(&mut self, memory: &mut Memory, name: &'a str, place: Pos) -> Result<()>
+        ensures added { (ds : List SpecDefinition) → IsSorted ds self.old → IsAdded ds (fragment_head name.now place) result self.new }
+        ensures refused { result ≡ Err OutOfMemory → Refused memory.new }
     {
-        match self.fragments.insert(name, place) {
-            Ok(None) => Ok(()),
-            Ok(Some(first)) => Err(Error::FragmentDuplicated {
-                fragment: Name::new(self.alloc, name)?,
+        match memory.insert_ordered(&mut self.fragments, name, place)? {
+            None => Ok(()),
+            Some(first) => Err(Error::FragmentDuplicated {
+                fragment: Name::new_in(memory, name)?,
                 first,
                 second: place,
             }),
-            Err(_) => Err(Error::OutOfMemory),
         }
     }
 
-    fn add(&mut self, head: Head<'a>) -> Result<()>
-        ensures { (ds : List SpecDefinition) → IsSorted ds self.old → IsAdded ds (head_tree head.entry) result self.new }
+    fn add(&mut self, memory: &mut Memory, head: Head<'a>) -> Result<()>
+        ensures added { (ds : List SpecDefinition) → IsSorted ds self.old → IsAdded ds (head_tree head.entry) result self.new }
+        ensures refused { result ≡ Err OutOfMemory → Refused memory.new }
     {
         match head {
-            Head::Operation(Some(name), place) => self.add_operation(name, place),
+            Head::Operation(Some(name), place) => self.add_operation(memory, name, place),
             Head::Operation(None, place) => self.add_anonymous(place),
-            Head::Fragment(name, place) => self.add_fragment(name, place),
+            Head::Fragment(name, place) => self.add_fragment(memory, name, place),
         }
     }
 
     /// There is an operation.
     fn finish(&self) -> Result<()>
-        ensures { (ds : List SpecDefinition) → IsSorted ds self.now → IsDocumentOf (checked requests) ds result }
+        ensures document { (ds : List SpecDefinition) → IsSorted ds self.now → IsDocumentOf (checked requests) ds result }
+        ensures takes_none { result ≢ Err OutOfMemory }
     {
         if self.first.is_none() {
             return Err(Error::MissingOperation);
@@ -117,7 +121,8 @@ impl<'a> Sorted<'a> {
 
 /// One definition breaks no rule, and is to be an operation.
 fn judge_one(head: Head) -> Result<()>
-    ensures { IsDocumentOf (checked requests) (head_tree head.entry ∷ []) result }
+    ensures document { IsDocumentOf (checked requests) (head_tree head.entry ∷ []) result }
+    ensures takes_none { result ≢ Err OutOfMemory }
 {
     match head {
         Head::Operation(..) => Ok(()),
@@ -127,15 +132,16 @@ fn judge_one(head: Head) -> Result<()>
 
 /// Whether definitions with these heads make a document, or the first of the rules that they break, in source order.
 /// Two heads or more take memory.
-pub fn judge(alloc: Global, heads: &[Head]) -> Result<()>
-    ensures { IsDocumentOf (checked requests) (map head_tree heads.now) result }
+pub fn judge(memory: &mut Memory, heads: &[Head]) -> Result<()>
+    ensures document { IsDocumentOf (checked requests) (map head_tree heads.now) result }
+    ensures refused { result ≡ Err OutOfMemory → Refused memory.new }
 {
     if let [head] = heads {
         return judge_one(*head);
     }
-    let mut sorted = Sorted::new(alloc);
+    let mut sorted = Sorted::new(memory.heap());
     for head in heads {
-        sorted.add(*head)?;
+        sorted.add(memory, *head)?;
     }
     sorted.finish()
 }

@@ -1,7 +1,8 @@
 //! Schema files, checked without a tree (GraphQL October 2021, section 3).
-ghost use Rattle.std.specs.Prelude.{◌≡◌, ◌≢◌, ◌+◌, ℕ, Option, List, []};
+ghost use Rattle.std.specs.Prelude.{◌≡◌, ◌≢◌, ◌+◌, ℕ, Option, List, [], Err};
 ghost use Rattle.std.specs.List.{AllByRecursion};
 ghost use Rattle.std.specs.Str.{chars};
+ghost use Rattle.graphql_memory.specs.Memory.{Refused};
 ghost use Rattle.graphql_tokens.specs.tokens.Cuts.{Cuts, HasNoFault, IsCutInto};
 ghost use Rattle.graphql_tokens.specs.tokens.Edition.{Former};
 ghost use Rattle.graphql_tokens.specs.tokens.Token.{Token as SpecToken, left};
@@ -10,6 +11,7 @@ ghost use Rattle.graphql_check.specs.SchemaRules.{first_breach};
 ghost use Rattle.graphql_grammar.specs.answers.Answers.{Answers, AreTheDefinitions, HasOneTree, IsDecided, RestsOnBareTokens, TakenFor};
 ghost use Rattle.graphql_grammar.specs.answers.Language.{grammar};
 ghost use Rattle.graphql_grammar.specs.declared.error.Error.{Error as SpecError};
+ghost use Rattle.graphql_grammar.specs.declared.error.Error.TheVariants.{OutOfMemory};
 ghost use Rattle.graphql_reading.specs.grammar.Limits.{default_limits};
 ghost use Rattle.graphql_schemas.specs.grammar.SchemaFile.{Definition as SpecDefinition, HasNoDescribedSchema};
 ghost use Rattle.graphql_schemas.specs.grammar.Schemas.{schemas};
@@ -28,6 +30,7 @@ mod types;
 use crate::document::{Kept, check_document};
 use definitions::check_definitions;
 use graphql_grammar::error::{Error, Result};
+use graphql_memory::Memory;
 use graphql_reading::limits::Limits;
 use graphql_reading::parser::{Parser, Reading};
 use graphql_tokens::lexer::Tokens;
@@ -57,7 +60,7 @@ impl<'a> Kept<'a> for FirstBreach {
         Ok(FirstBreach { breach })
     }
 
-    fn judge(self, _alloc: Global) -> Result<()> {
+    fn judge(self, _memory: &mut Memory) -> Result<()> {
         match self.breach {
             None => Ok(()),
             Some(error) => Err(error),
@@ -93,8 +96,22 @@ pub fn check_schema_limited(alloc: Global, text: &str, limits: Limits) -> Result
     ensures decided { (tokens : List SpecToken) → IsCutInto text.now tokens → IsDecided (checked schemas) limits tokens }
     ensures bare { (tokens : List SpecToken) → IsCutInto text.now tokens → RestsOnBareTokens (checked schemas) limits tokens }
 {
+    check_schema_within(&mut Memory::new(alloc), text, limits)
+}
+
+/// As [`check_schema_limited`], with who takes memory, as a budget bounds it. `OutOfMemory` is answered only where memory was
+/// refused: where more was wanted than was left, or the heap had no more.
+pub fn check_schema_within(memory: &mut Memory, text: &str, limits: Limits) -> Result<()>
+    ensures answer { (tokens : List SpecToken) → IsCutInto text.now tokens → Answers (checked schemas) limits tokens result }
+    ensures former { (tokens : List SpecToken) (ds : List SpecDefinition) → Cuts Former [] (chars text.now) tokens → grammar (checked schemas) Former limits tokens ds → IsCutInto text.now tokens × AreTheDefinitions (checked schemas) limits tokens ds × AllByRecursion HasNoDescribedSchema ds }
+    ensures former_tokens { (tokens : List SpecToken) → HasNoFault tokens → Cuts Former [] (chars text.now) tokens → Answers (checked schemas) limits tokens result }
+    ensures one_tree { (tokens : List SpecToken) → IsCutInto text.now tokens → HasOneTree (checked schemas) tokens }
+    ensures decided { (tokens : List SpecToken) → IsCutInto text.now tokens → IsDecided (checked schemas) limits tokens }
+    ensures bare { (tokens : List SpecToken) → IsCutInto text.now tokens → RestsOnBareTokens (checked schemas) limits tokens }
+    ensures refused { result ≡ Err OutOfMemory → Refused memory.new }
+{
     let mut tokens = Tokens::new(text);
-    check_document::<FirstBreach>(alloc, &mut tokens, limits)
+    check_document::<FirstBreach>(memory, &mut tokens, limits)
 }
 
 /// As [`check_schema`], over the tokens that are not yet taken, with the places that they have in the whole text. The
@@ -112,5 +129,5 @@ pub fn check_schema_from(alloc: Global, tokens: &mut Tokens<'_>) -> Result<()>
     ensures taken { (count : ℕ) × (tokens.new.taken ≡ tokens.old.taken + count) × TakenFor (checked schemas) default_limits (left tokens.old) result count }
     ensures whole { tokens.new.whole ≡ tokens.old.whole }
 {
-    check_document::<FirstBreach>(alloc, tokens, Limits::default())
+    check_document::<FirstBreach>(&mut Memory::new(alloc), tokens, Limits::default())
 }

@@ -1,10 +1,10 @@
 -- The answer of a parser, and how many tokens are taken for it, from what the reader of its language tells and what
 -- the rules of the code make of the definitions. Proved once, for each language.
-use Rattle.std.proofs.Common.{◌≡◌, ℕ, suc, ◌+◌, ◌-◌, ◌≤◌, inl, Result, Ok, Err, List, ◌∷◌, ◌++◌, length, drop, sym, ap, ◌∙◌, subst, length-drop, length-append, arith}
+use Rattle.std.proofs.Common.{◌≡◌, ℕ, suc, ◌+◌, ◌-◌, ◌≤◌, inl, Result, Ok, Err, List, [], ◌∷◌, ◌++◌, length, drop, sym, ap, ◌∙◌, subst, length-drop, length-append, arith}
 use Rattle.graphql_tokens.specs.tokens.Cuts.{EndsOnce}
 use Rattle.graphql_tokens.specs.tokens.Edition.{Current}
 use Rattle.graphql_tokens.specs.tokens.Proper.{AreProperButFaults}
-use Rattle.graphql_tokens.specs.tokens.Token.{Token}
+use Rattle.graphql_tokens.specs.tokens.Token.{Token, Lexing, left}
 use Rattle.graphql_grammar.specs.answers.Answers.{Answers, TakenFor, AreTheDefinitions, AreUnbroken}
 use Rattle.graphql_grammar.specs.answers.Language.{Language, grammar}
 use Rattle.graphql_grammar.specs.declared.error.Error.{Error}
@@ -16,7 +16,7 @@ use Rattle.graphql_reading.specs.declared.parser.Refusal.{Refusal}
 use Rattle.graphql_reading.specs.grammar.Fronts.{IsRefused, Verdict, syntax, limit, whole}
 use Rattle.graphql_reading.specs.grammar.Limits.{Limits}
 use Rattle.graphql_reading.specs.reading.Ahead.{Ahead, tokens}
-use Rattle.graphql_reading.specs.reading.Given.{Refuses}
+use Rattle.graphql_reading.specs.reading.Given.{Refuses, GoesOn}
 use Rattle.graphql_reading.specs.reading.Outcome.{Reader, whole_at}
 
 -- ---- the answer where there is a tree
@@ -78,3 +78,33 @@ taken-between whole old behind before now o b le within =
     let p : length old ≡ length whole - before = ap length o ∙ length-drop before whole in
     let q : length behind ≡ length whole - now = ap length b ∙ length-drop now whole in
     omega (arith, p, q, le, within)
+
+-- the lexer from which a parser began, and the one that it left, where it stopped
+pub record Goes (from to : Lexing) (start stop : Ahead) : Type 0 where
+  pub same : tokens start ≡ left from
+  pub ends : EndsOnce (tokens start)
+  pub proper : AreProperButFaults (tokens start)
+  pub sums : GoesOn start stop → to.taken ≡ from.taken + (to.taken - from.taken)
+  pub counted : GoesOn start stop → length (tokens start) ≡ (to.taken - from.taken) + length stop.behind
+
+pub goes-of : (from given to : Lexing) (start stop : Ahead) → given ≡ from → tokens start ≡ left given → EndsOnce (left given) → AreProperButFaults (left given) → start.whole ≡ given.whole → start.taken ≡ given.taken + 1 → left to ≡ stop.behind → to.whole ≡ stop.whole → to.taken ≡ stop.taken → to.taken ≤ length to.whole → Goes from to start stop
+goes-of from given to start stop is begins ends proper whole taken behind last stopped within = record {
+  same = begins ∙ ap left is;
+  ends = subst EndsOnce (sym begins) ends;
+  proper = subst AreProperButFaults (sym begins) proper;
+  sums = λ on. omega (arith, forward on);
+  counted = λ on.
+      taken-between from.whole (tokens start) stop.behind from.taken to.taken
+      (begins ∙ ap left is) (sym behind ∙ ap (drop to.taken) (one-text on))
+      (forward on) (subst (λ (l : List Token). to.taken ≤ length l) (one-text on) within);
+}
+  where
+    forward : GoesOn start stop → from.taken ≤ to.taken
+    forward on = let b = on.1 in let e = ap (λ (l : Lexing). l.taken) is in omega (arith, taken, b, stopped, e)
+
+    one-text : GoesOn start stop → to.whole ≡ from.whole
+    one-text on = last ∙ on.0 ∙ whole ∙ ap (λ (l : Lexing). l.whole) is
+
+-- all are taken where none is left
+pub all-taken : (from to : Lexing) (start stop : Ahead) → Goes from to start stop → GoesOn start stop → stop.behind ≡ [] → to.taken - from.taken ≡ length (tokens start)
+all-taken from to start stop g on empty = let t = g.counted on in let n = ap length empty in omega (arith, t, n)

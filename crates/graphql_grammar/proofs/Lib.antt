@@ -18,3 +18,4 @@ pub mod OperationKinds
 pub mod Unbroken
 pub mod Breaches
 pub mod DistinctValues
+pub mod DirectiveParts

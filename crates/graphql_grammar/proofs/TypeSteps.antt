@@ -226,7 +226,7 @@ unfolding closes_at
 closes-refused total left next first item initial now after v kept more h = kept.told ∙ ap (λ (k : ℕ). closes_at k item (tokens now)) more ∙ ap (λ (o : Outcome TypeTree). o >>= closes_at next) h
 
 pub closes-stops : {X : Type 0} (view : X → TypeTree) (total left next : ℕ) (first item : TypeTree) (initial now after : Ahead) (e : Refusal) → Becomes (closes_at total first) initial (closes_at left item) now → left ≡ suc next → Gives view (Err e) now after (close_at item) → Gives view (Err e) initial after (closes_at total first)
-closes-stops view total left next first item initial now after Memory kept more h = (tt, go-on initial now after kept.on h.1)
+closes-stops view total left next first item initial now after Memory kept more h = (h.0, go-on initial now after kept.on h.1)
 closes-stops view total left next first item initial now after Syntax kept more h = (closes-refused total left next first item initial now after syntax kept more h.0, go-on initial now after kept.on h.1)
 closes-stops view total left next first item initial now after Limit kept more h = (closes-refused total left next first item initial now after limit kept more h.0, go-on initial now after kept.on h.1)
 

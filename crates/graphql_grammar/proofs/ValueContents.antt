@@ -1,17 +1,17 @@
 -- What the loops keep that read the contents of a list or an object, and each way on.
-use Rattle.std.proofs.Common.{◌≡◌, ℕ, ◌<◌, ◌≤◌, Bool, true, false, List, Option, Some, None, Ok, Err, length, refl, ap, ◌∙◌, arith}
+use Rattle.std.proofs.Common.{◌≡◌, ℕ, ◌<◌, ◌≤◌, Bool, true, false, List, Option, Some, None, Ok, Err, length, refl, sym, ap, ◌∙◌, arith}
 use Rattle.graphql_tokens.specs.tokens.Token.{Token}
 use Rattle.graphql_syntax.specs.trees.ValueTree.{Tree}
 use Rattle.graphql_reading.specs.declared.parser.Refusal.{Refusal}
 use Rattle.graphql_reading.specs.declared.parser.Refusal.TheVariants.{Memory, Syntax, Limit}
 use Rattle.graphql_reading.specs.grammar.Fronts.{Verdict, syntax, limit}
 use Rattle.graphql_reading.specs.grammar.Tests.{punct}
-use Rattle.graphql_reading.specs.reading.Ahead.{Ahead, tokens}
-use Rattle.graphql_grammar.specs.reading.OpenValues.{Field, node_at, Opened, Waiting, list_waits, object_waits, list_tree, object_tree, list_rest, object_rest, open_rest, add, filled, closes, enters, key_at, enter_at, MeetsAt}
+use Rattle.graphql_reading.specs.reading.Ahead.{Ahead, Stays, tokens}
+use Rattle.graphql_grammar.specs.reading.OpenValues.{Met, goes_on, Field, node_at, Opened, Waiting, list_waits, object_waits, list_tree, object_tree, list_rest, object_rest, open_rest, add, filled, closes, enters, key_at, enter_at, MeetsAt}
 use Rattle.graphql_reading.specs.reading.Given.{Gives, GoesOn, Refuses}
 use Rattle.graphql_reading.specs.reading.Outcome.{Outcome, Read, Refused, Reader, ◌>>=◌, take_at}
 use Rattle.graphql_grammar.specs.reading.Values.{simple_at, value_at}
-use Rattle.graphql_reading.proofs.Loops.{go-on, stays}
+use Rattle.graphql_reading.proofs.Loops.{go-on, stays, ahead-stays}
 use Rattle.graphql_grammar.proofs.ValueFrames.{value-law, begun, entered, list-law, after-item, object-law, after-key, taken, not-taken, takes-key, takes-node}
 
 -- From the first token on, all that is read comes of what is held now and of the tokens ahead.
@@ -59,13 +59,21 @@ ends-list vars b initial now next before held k gives = ends (list_rest vars b) 
 pub ends-object : (vars : Bool) (b : ℕ) (initial now next : Ahead) (before held : List Field) → HeldSoFar (object_rest vars b) initial now before held → Gives (λ k. k) (Ok None) now next key_at → MeetsAt vars b (closes (object_tree held)) initial next (object_rest vars b before) × GoesOn initial next
 ends-object vars b initial now next before held k gives = ends (object_rest vars b) vars b (object_tree held) initial now next before held k (object-law vars b held (tokens now) ∙ ap (λ (o : Outcome (Option (List ℕ))). o >>= after-key vars b held) gives.0) (takes-key (tokens now) None (tokens next) gives.0) gives.1
 
+-- memory was asked for after what is met
+pub meets-stays : (vars : Bool) (b : ℕ) (met : Met) (old now new : Ahead) (r : Reader Tree) → MeetsAt vars b met old now r → Stays now new → MeetsAt vars b met old new r
+meets-stays vars b met old now new r m s = record {
+  told = m.told ∙ ap (λ (l : List Token). goes_on vars b met l) (sym (ahead-stays now new s));
+  less = let same = ap (λ (l : List Token). length l) (ahead-stays now new s) in omega (arith, m.less, same);
+  room = m.room;
+}
+
 -- ---- where a part is refused, all is
 
 stops : {A X Y : Type 0} (r : List A → Reader Tree) (initial now mid next : Ahead) (before held : List A) (view : X → Y) (q : Reader Y) (e : Refusal) → HeldSoFar r initial now before held → GoesOn now mid → ((v : Verdict) (rest : List Token) → q (tokens mid) ≡ Refused v rest → r held (tokens now) ≡ Refused v rest) → Gives view (Err e) mid next q → Refuses e initial next (r before) × GoesOn initial next
 stops r initial now mid next before held view q e k on same gives = (by e gives.0, go-on initial mid next (go-on initial now mid k.on on) gives.1)
   where
     by : (e : Refusal) → Refuses e mid next q → Refuses e initial next (r before)
-    by Memory h = tt
+    by Memory h = h
     by Syntax h = k.told ∙ same syntax (tokens next) h
     by Limit h = k.told ∙ same limit (tokens next) h
 

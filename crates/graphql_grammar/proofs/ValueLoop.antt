@@ -3,6 +3,7 @@ use Rattle.std.proofs.Common.{◌≡◌, ℕ, suc, pred, ◌+◌, ◌<◌, Bool,
 use Rattle.std.proofs.lemmas.List.{map_push}
 use Rattle.graphql_tokens.specs.declared.pos.Pos.{Pos}
 use Rattle.graphql_tokens.specs.declared.pos.Positioned.{Positioned}
+use Rattle.graphql_tokens.specs.tokens.Token.{Token}
 use Rattle.graphql_syntax.specs.trees.Parts.{placed}
 use Rattle.graphql_syntax.specs.trees.ValueTree.{Tree}
 use Rattle.graphql_reading.specs.declared.parser.Refusal.{Refusal}
@@ -11,12 +12,12 @@ use Rattle.graphql_grammar.specs.declared.value.frames.Open.{Open}
 use Rattle.graphql_grammar.specs.declared.value.frames.Frame.{Frame}
 use Rattle.graphql_reading.specs.grammar.Fronts.{Verdict, syntax, limit}
 use Rattle.graphql_reading.specs.grammar.Places.{at}
-use Rattle.graphql_reading.specs.reading.Ahead.{Ahead, tokens}
+use Rattle.graphql_reading.specs.reading.Ahead.{Ahead, Stays, tokens}
 use Rattle.graphql_grammar.specs.reading.OpenValues.{node_at, Opened, opened, Waiting, waiting, open_rest, add, resume, closes, enters, goes_on, enter_at, Met, MeetsAt, Meets}
 use Rattle.graphql_reading.specs.reading.Given.{Gives, GoesOn, Refuses}
 use Rattle.graphql_reading.specs.reading.Outcome.{Outcome, Read, Refused, Reader, ◌>>=◌}
 use Rattle.graphql_grammar.specs.reading.Values.{simple_at, value_at}
-use Rattle.graphql_reading.proofs.Loops.{go-on, stays}
+use Rattle.graphql_reading.proofs.Loops.{go-on, stays, ahead-stays, on-stays}
 use Rattle.graphql_grammar.proofs.ValueFrames.{value-law, begun, resume-refused, resume-push}
 use Rattle.graphql_grammar.proofs.ValuePlaces.{value-placed}
 
@@ -43,6 +44,15 @@ module _ {V : Type 0} {tree : V → Tree} {vars : Bool} {most : ℕ} {whole : Re
   -- the budget after the frames
   left-is : (left : ℕ) → left + length fs + 1 ≡ most → left ≡ k.left
   left-is left h = omega (arith, h, k.shared)
+
+  -- memory was asked for
+  pub kept-stays : (new : Ahead) → Stays now new → Kept tree vars most whole initial new fs o
+  kept-stays new s = record {
+    left = k.left;
+    told = k.told ∙ ap (λ (l : List Token). resume vars (suc k.left) (stack tree fs) (open_rest vars k.left (opened tree o) l)) (sym (ahead-stays now new s));
+    shared = k.shared;
+    on = on-stays initial now new k.on s;
+  }
 
   -- what is met
   goes : (left : ℕ) (met : Met) (next : Ahead) → left + length fs + 1 ≡ most → MeetsAt vars left met now next (open_rest vars left (opened tree o)) → whole (tokens initial) ≡ resume vars (suc k.left) (stack tree fs) (goes_on vars k.left met (tokens next))
@@ -97,7 +107,7 @@ module _ {V : Type 0} {tree : V → Tree} {vars : Bool} {most : ℕ} {whole : Re
           ∙ resume-refused vars (suc k.left) (stack tree fs) v (tokens next)
 
       by : (e : Refusal) → Refuses e now next (open_rest vars left (opened tree o)) → Refuses e initial next whole
-      by Memory h = tt
+      by Memory h = h
       by Syntax h = refused syntax h
       by Limit h = refused limit h
 
@@ -106,7 +116,7 @@ module _ {V : Type 0} {tree : V → Tree} {vars : Bool} {most : ℕ} {whole : Re
 -- one reader in place of another, which begins where it has come to
 goes-as : {X Y : Type 0} (view : X → Y) (result : Result X Refusal) (old mid new : Ahead) (p q : Reader Y) → p (tokens old) ≡ q (tokens mid) → GoesOn old mid → Gives view result mid new q → Gives view result old new p
 goes-as view (Ok x) old mid new p q same on gives = (same ∙ gives.0, go-on old mid new on gives.1)
-goes-as view (Err Memory) old mid new p q same on gives = (tt, go-on old mid new on gives.1)
+goes-as view (Err Memory) old mid new p q same on gives = (gives.0, go-on old mid new on gives.1)
 goes-as view (Err Syntax) old mid new p q same on gives = (same ∙ gives.0, go-on old mid new on gives.1)
 goes-as view (Err Limit) old mid new p q same on gives = (same ∙ gives.0, go-on old mid new on gives.1)
 
@@ -117,7 +127,7 @@ value-stops tree part vars b old new e gives = (by e gives.0, gives.1)
     refused v h = value-law vars b (tokens old) ∙ ap (λ (o : Outcome (Option Opened)). o >>= begun vars b) h
 
     by : (e : Refusal) → Refuses e old new (enter_at b) → Refuses e old new (node_at (value_at vars b))
-    by Memory h = tt
+    by Memory h = h
     by Syntax h = refused syntax h
     by Limit h = refused limit h
 

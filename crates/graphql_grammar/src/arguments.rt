@@ -84,7 +84,7 @@ pub fn read_maybe_arguments<V: Literal>(
     ensures { Gives (trees_in (in_argument V.tree)) result parser.old parser.new (mapped_at given (maybe_arguments_at V.VARIABLES limits.values)) }
 {
     if !parser.is_at_punct("(") {
-        return Ok(Vec::new(parser.alloc()));
+        return Ok(parser.empty_list());
     }
     read_arguments(parser, limits)
 }

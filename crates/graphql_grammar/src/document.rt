@@ -1,9 +1,11 @@
 //! Documents, whichever language they are of: the definitions are read whole before the first rule is looked at.
-ghost use Rattle.std.specs.Prelude.{◌≡◌, ◌≢◌, ◌+◌, ℕ, List, [], map};
+ghost use Rattle.std.specs.Prelude.{◌≡◌, ◌≢◌, ◌+◌, ℕ, List, [], map, Err};
+ghost use Rattle.graphql_memory.specs.Memory.{Refused};
 ghost use Rattle.graphql_tokens.specs.tokens.Edition.{Current};
 ghost use Rattle.graphql_tokens.specs.tokens.Token.{left};
 ghost use Rattle.graphql_grammar.specs.answers.Answers.{Answers, AreTheDefinitions, HasOneTree, IsDecided, RestsOnBareTokens, TakenFor};
 ghost use Rattle.graphql_grammar.specs.answers.Language.{Language, grammar};
+ghost use Rattle.graphql_grammar.specs.declared.error.Error.TheVariants.{OutOfMemory};
 ghost use Rattle.graphql_grammar.specs.reading.DocumentOf.{IsDocumentOf};
 ghost use Rattle.graphql_grammar.specs.reading.ReadBy.{IsReadBy};
 ghost use Rattle.graphql_reading.specs.grammar.Limits.{Limits as SpecLimits};
@@ -12,10 +14,10 @@ ghost use Rattle.graphql_reading.specs.reading.Outcome.{Reader, whole_at};
 
 use crate::error::Result;
 use crate::refusals::error_of;
+use graphql_memory::Memory;
 use graphql_reading::limits::Limits;
 use graphql_reading::parser::{Parser, Reading};
 use graphql_tokens::lexer::Tokens;
-use std::alloc::Global;
 use std::mem;
 
 /// A definition of a language: how all that a text has are read, and the document that they make.
@@ -39,8 +41,9 @@ pub trait Definition: Drop {
         ensures { Gives (trees_in Self.tree) result parser.old parser.new (Self.reader limits) };
 
     /// The document of the definitions, or the first of the rules that they break, in source order.
-    fn document_of(alloc: Global, definitions: Vec<Self>) -> Result<Self::Document>
-        ensures { IsDocumentOf Self.language (map Self.tree definitions.items) result };
+    fn document_of(memory: &mut Memory, definitions: Vec<Self>) -> Result<Self::Document>
+        ensures document { IsDocumentOf Self.language (map Self.tree definitions.items) result }
+        ensures refused { result ≡ Err OutOfMemory → Refused memory.new };
 }
 
 fn read_whole<D: Definition>(parser: &mut Parser, limits: Limits) -> Reading<Vec<D>>
@@ -55,7 +58,7 @@ fn read_whole<D: Definition>(parser: &mut Parser, limits: Limits) -> Reading<Vec
 // Never inlined: the readers below it then are, also where a program has several callers.
 #[inline(never)]
 pub fn read_document<D: Definition>(
-    alloc: Global,
+    memory: &mut Memory,
     tokens: &mut Tokens<'_>,
     limits: Limits,
 ) -> Result<D::Document>
@@ -68,12 +71,20 @@ pub fn read_document<D: Definition>(
     ensures bare { RestsOnBareTokens D.language limits (left tokens.old) }
     ensures taken { (count : ℕ) × (tokens.new.taken ≡ tokens.old.taken + count) × TakenFor D.language limits (left tokens.old) result count }
     ensures whole { tokens.new.whole ≡ tokens.old.whole }
+    ensures refused { result ≡ Err OutOfMemory → Refused memory.new }
 {
-    let mut parser = Parser::new(alloc, mem::replace(tokens, Tokens::new("")));
-    let answer = match read_whole::<D>(&mut parser, limits) {
-        Ok(definitions) => D::document_of(alloc, definitions),
-        Err(refusal) => Err(error_of(&parser, refusal)),
-    };
-    *tokens = parser.into_tokens();
-    answer
+    let heap = memory.heap();
+    let mut parser = Parser::new(
+        mem::replace(memory, Memory::new(heap)),
+        mem::replace(tokens, Tokens::new("")),
+    );
+    let read = read_whole::<D>(&mut parser, limits);
+    let place = parser.hand().pos;
+    let (left, given) = parser.into_parts();
+    *tokens = left;
+    *memory = given;
+    match read {
+        Ok(definitions) => D::document_of(memory, definitions),
+        Err(refusal) => Err(error_of(memory, refusal, place)),
+    }
 }

@@ -1,18 +1,41 @@
 //! The error that a refusal of the readers becomes.
-ghost use Rattle.graphql_reading.specs.declared.parser.Refusal.TheVariants.{Syntax};
+ghost use Rattle.std.specs.Prelude.{◌≡◌, IfOk, OnErr, string_bytes};
+ghost use Rattle.graphql_memory.specs.Memory.{Refused};
+ghost use Rattle.graphql_reading.specs.declared.parser.Refusal.TheVariants as refusals;
+ghost use Rattle.graphql_grammar.specs.declared.error.Error.TheVariants.{OutOfMemory};
+ghost use Rattle.graphql_grammar.specs.errors.Errors.{syntax_message};
 ghost use Rattle.graphql_grammar.specs.reading.Errors.{IsErrorOf};
 
 use crate::error::Error;
-use graphql_reading::parser::{Parser, Refusal};
+use graphql_memory::Memory;
+use graphql_reading::parser::Refusal;
 use graphql_syntax::pos::Pos;
-use std::alloc::Global;
+use itoa::Buffer;
+use std::alloc::AllocError;
+
+// As long as the longest message.
+const LONGEST: &str = "syntax error at 18446744073709551615:18446744073709551615";
+
+fn message_of(memory: &mut Memory, start: Pos) -> Result<String, AllocError>
+    ensures text { IfOk result (λ message. string_bytes message ≡ syntax_message start) }
+    ensures refused { OnErr result (Refused memory.new) }
+{
+    let mut number = Buffer::new();
+    let mut message = memory.text_with_room(LONGEST)?;
+    memory.push_text(&mut message, "syntax error at ")?;
+    memory.push_text(&mut message, number.format(start.line))?;
+    memory.push_text(&mut message, ":")?;
+    memory.push_text(&mut message, number.format(start.column))?;
+    Ok(message)
+}
 
 #[cold]
 #[inline(never)]
-pub fn syntax_error(alloc: Global, start: Pos) -> Error
-    ensures { IsErrorOf Syntax start result }
+pub fn syntax_error(memory: &mut Memory, start: Pos) -> Error
+    ensures error { IsErrorOf refusals.Syntax start result }
+    ensures refused { result ≡ OutOfMemory → Refused memory.new }
 {
-    match format!(in alloc; "syntax error at {start}") {
+    match message_of(memory, start) {
         Ok(message) => Error::Syntax {
             message,
             start,
@@ -22,13 +45,15 @@ pub fn syntax_error(alloc: Global, start: Pos) -> Error
     }
 }
 
-/// The error of a refusal; the refused token is in hand.
-pub fn error_of(parser: &Parser, refusal: Refusal) -> Error
-    ensures { IsErrorOf refusal parser.now.hand.pos result }
+/// The error of a refusal, where the refused token stands at this place.
+pub fn error_of(memory: &mut Memory, refusal: Refusal, place: Pos) -> Error
+    requires { refusal ≡ refusals.Memory → Refused memory.old }
+    ensures error { IsErrorOf refusal place result }
+    ensures refused { result ≡ OutOfMemory → Refused memory.new }
 {
     match refusal {
         Refusal::Memory => Error::OutOfMemory,
         Refusal::Limit => Error::RecursionLimitExceeded,
-        Refusal::Syntax => syntax_error(parser.alloc(), parser.hand().pos),
+        Refusal::Syntax => syntax_error(memory, place),
     }
 }

@@ -6,7 +6,6 @@ ghost use Rattle.graphql_reading.specs.reading.Given.{Gives};
 ghost use Rattle.graphql_reading.specs.reading.Spelled.{IsQuoted};
 
 use graphql_reading::parser::{Parser, Reading, Refusal};
-use graphql_syntax::text::{block_string_value, string_value};
 
 /// What stands between so many quotes.
 fn inside(text: &str, quotes: usize) -> &str
@@ -27,7 +26,7 @@ pub fn read_string(parser: &mut Parser) -> Reading<String>
     if !token.kind.is_string() {
         return Err(Refusal::Syntax);
     }
-    let Some(text) = string_value(parser.alloc(), inside(token.text, 1))? else {
+    let Some(text) = parser.string_value(inside(token.text, 1))? else {
         return Err(Refusal::Syntax);
     };
     parser.advance();
@@ -44,7 +43,7 @@ pub fn read_block(parser: &mut Parser) -> Reading<String>
     if !token.kind.is_block() {
         return Err(Refusal::Syntax);
     }
-    let text = block_string_value(parser.alloc(), inside(token.text, 3))?;
+    let text = parser.block_string_value(inside(token.text, 3))?;
     parser.advance();
     Ok(text)
 }

@@ -89,7 +89,7 @@ fn close_list(parser: &mut Parser, item: Type) -> Reading<Type>
 {
     parser.expect_punct("]")?;
     let nullable = read_nullable(parser);
-    let item = Box::new(parser.alloc(), item)?;
+    let item = parser.boxed(item)?;
     Ok(Type {
         base: BaseType::List(item),
         nullable,

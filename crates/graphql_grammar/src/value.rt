@@ -36,7 +36,7 @@ fn go_on<V: Literal>(parser: &mut Parser, innermost: Open<V>, left: usize) -> Re
             Some(inner) => Ok(Stop::Entered(Frame::List(items), inner)),
         },
         Open::Object(mut fields) => match read_fields(parser, &mut fields, left)? {
-            None => Ok(Stop::Closed(V::object(merge(parser.alloc(), fields)?))),
+            None => Ok(Stop::Closed(V::object(merge(parser, fields)?))),
             Some((name, inner)) => Ok(Stop::Entered(Frame::Object(fields, name), inner)),
         },
     }
@@ -47,17 +47,17 @@ fn read_open<V: Literal>(parser: &mut Parser, first: Open<V>, limit: usize) -> R
     requires { 0 < limit }
     ensures { Gives V.tree result parser.old parser.new (open_rest V.VARIABLES (pred limit) (opened V.tree first)) }
 {
-    let mut frames = Frames::new(parser.alloc(), limit);
+    let mut frames = Frames::new(parser.heap(), limit);
     let mut innermost = first;
     loop {
         innermost = match go_on(parser, innermost, frames.left())? {
             Stop::Entered(frame, inner) => {
-                frames.push(frame)?;
+                frames.push(parser, frame)?;
                 inner
             }
             Stop::Closed(value) => match frames.pop() {
                 None => return Ok(value),
-                Some(frame) => frame.fill(value)?,
+                Some(frame) => frame.fill(parser, value)?,
             },
         };
     }

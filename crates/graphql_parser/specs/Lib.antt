@@ -2,6 +2,7 @@
 pub mod trees
 pub mod calls
 pub mod types
+pub use Rattle.graphql_memory.specs.Memory
 pub use Rattle.graphql_tokens.specs.tokens
 pub use Rattle.graphql_reading.specs.grammar as notation
 pub use Rattle.graphql_grammar.specs.grammar

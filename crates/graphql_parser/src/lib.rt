@@ -8,6 +8,9 @@
 //! places of each `Error` are written definitions too. `check_query`, `check_schema` and
 //! their forms answer as the parses do, and make no tree.
 //!
+//! Proved of their `_within` forms also: `OutOfMemory` is answered only where a request for memory was refused, by the
+//! budget of the caller's [`Memory`] or by the heap.
+//!
 //! A user names this crate alone: what stands here is given out from the crates below it. What a reader of the
 //! contracts has to believe is given out by `specs/Lib.antt`.
 #![tactic(auto)]
@@ -15,14 +18,19 @@
 pub mod types;
 
 pub use graphql_check::{
-    check_query, check_query_from, check_query_limited, check_schema, check_schema_from,
-    check_schema_limited,
+    check_query, check_query_from, check_query_limited, check_query_within, check_schema,
+    check_schema_from, check_schema_limited, check_schema_within,
 };
 pub use graphql_grammar::error::{Error, Result};
 pub use graphql_grammar::positions::ErrorPositions;
+pub use graphql_memory::Memory;
 pub use graphql_reading::limits::Limits;
-pub use graphql_requests::{parse_query, parse_query_from, parse_query_limited};
-pub use graphql_schemas::{parse_schema, parse_schema_from, parse_schema_limited};
+pub use graphql_requests::{
+    parse_query, parse_query_from, parse_query_limited, parse_query_within,
+};
+pub use graphql_schemas::{
+    parse_schema, parse_schema_from, parse_schema_limited, parse_schema_within,
+};
 pub use graphql_syntax::value;
 pub use graphql_tokens::pos::{Pos, Positioned};
 pub use graphql_tokens::{lexer, pos, text};

@@ -1,10 +1,11 @@
 -- What a loop of the code that reads one or more keeps.
-use Rattle.std.proofs.Common.{◌≡◌, suc, ◌≤◌, true, false, List, [], ◌∷◌, ◌++◌, length, map, refl, sym, ap, ◌∙◌, Result, Ok, Err, arith}
+use Rattle.std.proofs.Common.{◌≡◌, suc, ◌≤◌, true, false, List, [], ◌∷◌, ◌++◌, length, map, refl, sym, ap, ap₂, ◌∙◌, Result, Ok, Err, arith}
+use Rattle.graphql_tokens.specs.tokens.Token.{Token}
 use Rattle.graphql_reading.specs.declared.parser.Refusal.{Refusal}
 use Rattle.graphql_reading.specs.declared.parser.Refusal.TheVariants.{Memory, Syntax, Limit}
 use Rattle.graphql_reading.specs.grammar.Tests.{Test}
 use Rattle.graphql_reading.specs.grammar.Fronts.{syntax, limit}
-use Rattle.graphql_reading.specs.reading.Ahead.{Ahead, tokens}
+use Rattle.graphql_reading.specs.reading.Ahead.{Ahead, Stays, tokens}
 use Rattle.graphql_reading.specs.reading.Given.{Gives, GoesOn, Refuses}
 use Rattle.graphql_reading.specs.reading.Outcome.{Read, Reader, many_at, plus_at, with_front}
 use Rattle.graphql_reading.proofs.Loop.{Takes, loop-goes, loop-ends, loop-stops, loop-starts, many-plus, many-stops}
@@ -21,11 +22,37 @@ go-on a b c h k = (k.0 ∙ h.0, omega (arith, h.1, k.1))
 pub stays : (a : Ahead) → GoesOn a a
 stays a = (refl, omega arith)
 
+-- ---- memory was asked for
+
+pub same : (now : Ahead) → Stays now now
+same now = (refl, refl, refl, refl, refl)
+
+pub still : (old now new : Ahead) → Stays old now → Stays now new → Stays old new
+still old now new h k = (k.0 ∙ h.0, k.1 ∙ h.1, k.2 ∙ h.2, k.3 ∙ h.3, k.4 ∙ h.4)
+
+pub ahead-stays : (now new : Ahead) → Stays now new → tokens new ≡ tokens now
+ahead-stays now new s = ap₂ (λ (t : Token) (ts : List Token). t ∷ ts) s.0 s.1
+
+pub on-stays : (old now new : Ahead) → GoesOn old now → Stays now new → GoesOn old new
+on-stays old now new h s = (s.2 ∙ h.0, omega (arith, h.1, s.3))
+
+pub given-stays : {X Y : Type 0} (view : X → Y) (x : X) (old now new : Ahead) (r : Reader Y) → Gives view (Ok x) old now r → Stays now new → Gives view (Ok x) old new r
+given-stays view x old now new r h s = (h.0 ∙ ap (λ (l : List Token). Read (view x) l) (sym (ahead-stays now new s)), on-stays old now new h.1 s)
+
+-- ---- the loop
+
 pub begins : {Y : Type 0} (first : Test) (r : Reader Y) (initial : Ahead) → Kept first r initial initial []
 begins first r initial = record { told = loop-starts (plus_at first r (tokens initial)); on = stays initial }
 
+-- memory was asked for before the first
+pub begins-stays : {Y : Type 0} (first : Test) (r : Reader Y) (initial now : Ahead) → Stays initial now → Kept first r initial now []
+begins-stays first r initial now s = record {
+  told = loop-starts (plus_at first r (tokens initial)) ∙ ap (λ (l : List Token). with_front [] (plus_at first r l)) (sym (ahead-stays initial now s));
+  on = on-stays initial initial now (stays initial) s;
+}
+
 refuses : {Y : Type 0} (first : Test) (r : Reader Y) (initial now next : Ahead) (items : List Y) (e : Refusal) → Kept first r initial now items → Refuses e now next r → Refuses e initial next (plus_at first r)
-refuses first r initial now next items Memory kept h = tt
+refuses first r initial now next items Memory kept h = h
 refuses first r initial now next items Syntax kept h = loop-stops first r _ items (tokens now) syntax (tokens next) kept.told h
 refuses first r initial now next items Limit kept h = loop-stops first r _ items (tokens now) limit (tokens next) kept.told h
 
@@ -60,7 +87,7 @@ shorter view r now next x takes h = let less = takes (tokens now) (view x) (toke
 -- what is given by what one reader reads here is given by what another reads
 pub there : {X Y : Type 0} (view : X → Y) (result : Result X Refusal) (old new : Ahead) (r s : Reader Y) → r (tokens old) ≡ s (tokens old) → Gives view result old new r → Gives view result old new s
 there view (Ok x) old new r s e h = (sym e ∙ h.0, h.1)
-there view (Err Memory) old new r s e h = (tt, h.1)
+there view (Err Memory) old new r s e h = h
 there view (Err Syntax) old new r s e h = (sym e ∙ h.0, h.1)
 there view (Err Limit) old new r s e h = (sym e ∙ h.0, h.1)
 

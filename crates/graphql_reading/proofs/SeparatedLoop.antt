@@ -114,7 +114,7 @@ begins-members mark r initial now taken h = record {
 }
 
 refuses-member : {Y : Type 0} (mark : Test) (r : Reader Y) (initial now next : Ahead) (items : List Y) (e : Refusal) → KeptMembers mark r initial now items → Refuses e now next r → Refuses e initial next (separated_at mark r)
-refuses-member mark r initial now next items Memory kept h = tt
+refuses-member mark r initial now next items Memory kept h = h
 refuses-member mark r initial now next items Syntax kept h = kept.told ∙ ap (with_front items) (members-not mark r (tokens now) syntax (tokens next) h)
 refuses-member mark r initial now next items Limit kept h = kept.told ∙ ap (with_front items) (members-not mark r (tokens now) limit (tokens next) h)
 

@@ -9,7 +9,7 @@ use Rattle.graphql_reading.proofs.Loops.{go-on}
 
 told-behind : {X Y : Type 0} (view : X → Y) (result : Result X Refusal) (old middle new : Ahead) (whole rest : Reader Y) → whole (tokens old) ≡ rest (tokens middle) → Told view result middle new rest → Told view result old new whole
 told-behind view (Ok x) old middle new whole rest e h = e ∙ h
-told-behind view (Err Memory) old middle new whole rest e h = tt
+told-behind view (Err Memory) old middle new whole rest e h = h
 told-behind view (Err Syntax) old middle new whole rest e h = e ∙ h
 told-behind view (Err Limit) old middle new whole rest e h = e ∙ h
 

@@ -13,6 +13,6 @@
 
 pub mod limits;
 pub mod names;
-pub mod nodes;
 pub mod parser;
 pub mod production;
+mod room;

@@ -1,10 +1,12 @@
 //! Readers of names.
-ghost use Rattle.std.specs.Prelude.{◌≡◌, ℕ, List, IfOk};
+ghost use Rattle.std.specs.Prelude.{◌≡◌, ℕ, List, IfOk, OnErr};
+ghost use Rattle.graphql_memory.specs.Memory.{Refused};
 ghost use Rattle.graphql_tokens.specs.declared.pos.Positioned as model;
 ghost use Rattle.graphql_tokens.specs.tokens.Seen.{seen};
 ghost use Rattle.graphql_tokens.specs.tokens.Within.{StandsIn};
 ghost use Rattle.graphql_reading.specs.grammar.Places.{name_of};
 ghost use Rattle.graphql_reading.specs.grammar.Tests.{any_name};
+ghost use Rattle.graphql_reading.specs.reading.Ahead.{Stays};
 ghost use Rattle.graphql_reading.specs.reading.Given.{Gives};
 ghost use Rattle.graphql_reading.specs.reading.Outcome.{one_at, mapped_at};
 
@@ -18,9 +20,11 @@ use std::alloc::AllocError;
 
 /// The name that a token of the text spells, at its place. Fails only where memory was refused.
 #[inline(always)]
-pub fn name_in(parser: &Parser, token: Token) -> Result<Positioned<Name>, AllocError>
-    requires { StandsIn parser.now.text (seen token) }
-    ensures { IfOk result (λ name. name ≡ name_of (seen token.entry)) }
+pub fn name_in(parser: &mut Parser, token: Token) -> Result<Positioned<Name>, AllocError>
+    requires { StandsIn parser.old.text (seen token) }
+    ensures name { IfOk result (λ name. name ≡ name_of (seen token.entry)) }
+    ensures refused { OnErr result (Refused parser.new.memory) }
+    ensures stays { Stays parser.old parser.new }
 {
     Ok(Positioned::new(parser.name(token)?, token.pos))
 }

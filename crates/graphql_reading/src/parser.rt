@@ -1,5 +1,6 @@
 //! Reading a text token by token, with one token in hand.
-ghost use Rattle.std.specs.Prelude.{◌≡◌, ◌≢◌, ◌≤◌, ◌+◌, length, ◌&&◌, false, [], Ok, IfOk};
+ghost use Rattle.std.specs.Prelude.{◌≡◌, ◌≢◌, ◌≤◌, ◌+◌, length, ◌&&◌, false, ◌++◌, ◌∷◌, [], Ok, IfOk, OnOk, OnErr, vec_len};
+ghost use Rattle.graphql_memory.specs.Memory.{Refused};
 ghost use Rattle.graphql_tokens.specs.tokens.Cuts.{is_last, EndsOnce};
 ghost use Rattle.graphql_tokens.specs.tokens.Proper.{AreProperButFaults, IsProper};
 ghost use Rattle.graphql_tokens.specs.tokens.Seen.{seen};
@@ -8,16 +9,17 @@ ghost use Rattle.graphql_tokens.specs.tokens.Token.{left};
 ghost use Rattle.graphql_tokens.specs.tokens.Within.{StandsIn};
 ghost use Rattle.graphql_reading.specs.declared.parser.Refusal.TheVariants.{Memory};
 ghost use Rattle.graphql_reading.specs.grammar.Tests as tests;
-ghost use Rattle.graphql_reading.specs.reading.Ahead.{tokens as ahead};
+ghost use Rattle.graphql_reading.specs.reading.Ahead.{tokens as ahead, Stays};
 ghost use Rattle.graphql_reading.specs.reading.Given.{Gives, GivesWhole};
 ghost use Rattle.graphql_reading.specs.reading.Outcome.{one_at, take_at};
 ghost use Rattle.graphql_reading.specs.reading.Parser.{mark};
 ghost use Rattle.graphql_reading.specs.reading.Spelled.{keyword_of, punct_of};
 
+use graphql_memory::Memory;
 use graphql_tokens::lexer::{Token, TokenKind, Tokens};
 use graphql_tokens::name::Name;
 use graphql_tokens::number::Number;
-use std::alloc::{AllocError, AllocFailed, Global};
+use std::alloc::{AllocError, Global};
 use std::marker::Model;
 
 /// Why a reader stopped.
@@ -43,14 +45,6 @@ impl From<AllocError> for Refusal {
     }
 }
 
-impl<T: Drop> From<AllocFailed<T>> for Refusal {
-    ghost from_gives = { λ _ e. e ≡ Memory };
-
-    fn from(_refused: AllocFailed<T>) -> Refusal {
-        Refusal::Memory
-    }
-}
-
 // The byte of a punctuator of one byte, as most are; 0 for any other token.
 #[inline(always)]
 fn mark_of(kind: TokenKind, text: &str) -> u8
@@ -70,7 +64,7 @@ pub struct Parser<'a> {
     hand: Token<'a>,
     // By which a test for a punctuator is one compare.
     mark: u8,
-    alloc: Global,
+    pub(crate) memory: Memory,
 }
 
 impl<'a> Model for Parser<'a> {
@@ -87,7 +81,7 @@ impl<'a> Model for Parser<'a> {
 
 impl<'a> Parser<'a> {
     /// Takes the first token in hand. The caller owes that one is left: `tokens.is_ended()` is false.
-    pub fn new(alloc: Global, mut tokens: Tokens<'a>) -> Parser<'a>
+    pub fn new(memory: Memory, mut tokens: Tokens<'a>) -> Parser<'a>
         requires { left tokens ≢ [] }
         ensures left { ahead result ≡ left tokens.entry }
         ensures whole { result.whole ≡ tokens.entry.whole }
@@ -101,24 +95,20 @@ impl<'a> Parser<'a> {
             tokens,
             hand,
             mark,
-            alloc,
+            memory,
         }
     }
 
-    /// Who takes memory.
-    #[inline(always)]
-    pub fn alloc(&self) -> Global {
-        self.alloc
-    }
-
-    /// The tokens that are still to come, after the one in hand.
-    pub fn into_tokens(self) -> Tokens<'a>
-        ensures left { left result ≡ self.entry.behind }
-        ensures whole { result.whole ≡ self.entry.whole }
-        ensures taken { result.taken ≡ self.entry.taken }
-        ensures within { result.taken ≤ length result.whole }
+    /// The tokens that are still to come, after the one in hand, and who takes memory.
+    pub fn into_parts(self) -> (Tokens<'a>, Memory)
+        ensures left { left result.0 ≡ self.entry.behind }
+        ensures whole { result.0.whole ≡ self.entry.whole }
+        ensures taken { result.0.taken ≡ self.entry.taken }
+        ensures within { result.0.taken ≤ length result.0.whole }
+        ensures memory { result.1 ≡ self.entry.memory }
     {
-        self.tokens
+        let Parser { tokens, memory, .. } = self;
+        (tokens, memory)
     }
 
     /// Uses up the token in hand and takes the next. The caller owes that it isn't the last one.
@@ -130,6 +120,7 @@ impl<'a> Parser<'a> {
         ensures taken { self.new.taken ≡ self.old.taken + 1 }
         ensures whole { self.new.whole ≡ self.old.whole }
         ensures text { self.new.text ≡ self.old.text }
+        ensures memory { self.new.memory ≡ self.old.memory }
     {
         let next = self.tokens.next_token();
         self.hand.kind = next.kind;
@@ -151,21 +142,35 @@ impl<'a> Parser<'a> {
 
     /// The name that a token of the text spells. Fails only where it is longer than 22 bytes and memory was refused.
     #[inline(always)]
-    pub fn name(&self, token: Token) -> Result<Name, AllocError>
-        requires { StandsIn self.now.text (seen token) }
-        ensures { IfOk result (λ name. name ≡ token.entry.text.now) }
+    pub fn name(&mut self, token: Token) -> Result<Name, AllocError>
+        requires { StandsIn self.old.text (seen token) }
+        ensures name { IfOk result (λ name. name ≡ token.entry.text.now) }
+        ensures refused { OnErr result (Refused self.new.memory) }
+        ensures stays { Stays self.old self.new }
     {
-        Name::new_within(self.alloc, token.text, self.tokens.text(), token.start)
+        Name::cut_in(
+            &mut self.memory,
+            token.text,
+            self.tokens.text(),
+            token.start,
+        )
     }
 
     /// The number that a token of the text spells. Fails only where it is longer than 22 bytes and memory was refused.
     #[inline(always)]
-    pub fn number(&self, token: Token) -> Result<Number, AllocError>
+    pub fn number(&mut self, token: Token) -> Result<Number, AllocError>
         requires number { IsNumber token.text.now }
-        requires stands { StandsIn self.now.text (seen token) }
-        ensures { IfOk result (λ number. number ≡ token.entry.text.now) }
+        requires stands { StandsIn self.old.text (seen token) }
+        ensures number { IfOk result (λ number. number ≡ token.entry.text.now) }
+        ensures refused { OnErr result (Refused self.new.memory) }
+        ensures stays { Stays self.old self.new }
     {
-        Number::of_literal_within(self.alloc, token.text, self.tokens.text(), token.start)
+        Number::cut_in(
+            &mut self.memory,
+            token.text,
+            self.tokens.text(),
+            token.start,
+        )
     }
 
     /// Gives the token in hand and takes the next. The caller owes that it isn't the last one.
@@ -176,6 +181,7 @@ impl<'a> Parser<'a> {
         ensures left { ahead self.new ≡ self.old.behind }
         ensures taken { self.new.taken ≡ self.old.taken + 1 }
         ensures whole { self.new.whole ≡ self.old.whole }
+        ensures memory { self.new.memory ≡ self.old.memory }
         ensures stands { StandsIn self.new.text (seen result) }
     {
         let token = self.hand;

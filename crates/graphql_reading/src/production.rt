@@ -10,7 +10,6 @@ ghost use Rattle.graphql_reading.specs.reading.Outcome.{Reader, Takes, mapped_at
 ghost use Rattle.graphql_reading.specs.reading.Spelled.{punct_of};
 
 use crate::limits::Limits;
-use crate::nodes::add_node;
 use crate::parser::{Parser, Reading};
 
 /// A production of the grammar: the tokens that its phrases begin with, and how one of them is read.
@@ -30,7 +29,8 @@ pub trait Production {
     // How a phrase is read from a list of tokens, within limits.
     ghost reader: { Budgets → Reader Self.Tree };
 
-    /// How many phrases a list of them begins with room for: as many as mostly stand in one. A longer list grows.
+    /// How many phrases a list of them begins with room for: as many as mostly stand in one. A longer list grows. More
+    /// than eight count as eight.
     const ROOM: usize;
 
     /// Whether the token in hand begins a phrase.
@@ -48,10 +48,10 @@ pub fn one_or_more<P: Production>(parser: &mut Parser, limits: Limits) -> Readin
     requires { Takes (P.reader limits) }
     ensures { Gives (trees_in P.tree) result parser.old parser.new (plus_at P.first (P.reader limits)) }
 {
-    let mut nodes = Vec::with_capacity(parser.alloc(), P::ROOM)?;
+    let mut nodes = parser.list_with_room(P::ROOM.min(8))?;
     loop {
         let node = P::read(parser, limits)?;
-        add_node(&mut nodes, node)?;
+        parser.push(&mut nodes, node)?;
         if !P::is_next(parser) {
             return Ok(nodes);
         }
@@ -71,10 +71,10 @@ pub fn separated<P: Production>(
     ensures { Gives (trees_in P.tree) result parser.old parser.new (separated_at (punct_of mark.now) (P.reader limits)) }
 {
     parser.take_punct(mark);
-    let mut nodes = Vec::with_capacity(parser.alloc(), P::ROOM)?;
+    let mut nodes = parser.list_with_room(P::ROOM.min(8))?;
     loop {
         let node = P::read(parser, limits)?;
-        add_node(&mut nodes, node)?;
+        parser.push(&mut nodes, node)?;
         if !parser.take_punct(mark) {
             return Ok(nodes);
         }
@@ -88,7 +88,7 @@ pub fn any_number<P: Production>(parser: &mut Parser, limits: Limits) -> Reading
     ensures { Gives (trees_in P.tree) result parser.old parser.new (many_at P.first (P.reader limits)) }
 {
     if !P::is_next(parser) {
-        return Ok(Vec::new(parser.alloc()));
+        return Ok(parser.empty_list());
     }
     one_or_more::<P>(parser, limits)
 }
@@ -135,7 +135,7 @@ pub fn maybe_bracketed<P: Production>(
     ensures { Gives (trees_in P.tree) result parser.old parser.new (mapped_at given (opt_at (punct_of opening.now) (between_at (punct_of opening.now) (plus_at P.first (P.reader limits)) (punct_of closing.now)))) }
 {
     if !parser.is_at_punct(opening) {
-        return Ok(Vec::new(parser.alloc()));
+        return Ok(parser.empty_list());
     }
     bracketed::<P>(parser, opening, closing, limits)
 }

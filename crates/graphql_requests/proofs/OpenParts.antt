@@ -10,7 +10,7 @@ use Rattle.graphql_requests.specs.declared.selections.frames.OpenSet.{OpenSet}
 use Rattle.graphql_reading.specs.grammar.Fronts.{Verdict}
 use Rattle.graphql_requests.specs.grammar.Selections.{Set}
 use Rattle.graphql_reading.specs.grammar.Tests.{punct}
-use Rattle.graphql_reading.specs.reading.Ahead.{Ahead, tokens}
+use Rattle.graphql_reading.specs.reading.Ahead.{Ahead, Stays, tokens}
 use Rattle.graphql_reading.specs.reading.Given.{Refuses, GoesOn}
 use Rattle.graphql_requests.specs.reading.Nest.{Nest}
 use Rattle.graphql_requests.specs.reading.SelectionSteps.{Heading, Opened, closed, more, filled_in, fill_last, onto, head_at, may_nest}
@@ -103,6 +103,14 @@ pub record Wanted (values selections : ℕ) (start now : Ahead) (n : Nest) (own 
 pub record Behind (values selections most : ℕ) (start now : Ahead) (n : Nest) (own : OpenSet) (xs : Trees) : Type 0 where
   pub kept : sets.Behind values selections most start now n.left (parts n.outer (take own.first xs)) (part own xs)
   pub waits : Waits (own ∷ n.outer) xs
+
+-- ---- memory was asked for
+
+pub wanted-stays : {values selections : ℕ} {start now : Ahead} {n : Nest} {own : OpenSet} {xs : Trees} (new : Ahead) → Stays now new → Wanted values selections start now n own xs → Wanted values selections start new n own xs
+wanted-stays new s w = record { kept = sets.wanted-stays new s w.kept; within = w.within; waits = w.waits }
+
+pub behind-stays : {values selections most : ℕ} {start now : Ahead} {n : Nest} {own : OpenSet} {xs : Trees} (new : Ahead) → Stays now new → Behind values selections most start now n own xs → Behind values selections most start new n own xs
+behind-stays new s w = record { kept = sets.behind-stays new s w.kept; waits = w.waits }
 
 -- ---- the ways on
 

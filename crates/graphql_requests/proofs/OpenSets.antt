@@ -10,7 +10,7 @@ use Rattle.graphql_reading.specs.declared.parser.Refusal.TheVariants.{Memory, Sy
 use Rattle.graphql_reading.specs.grammar.Fronts.{Verdict, syntax, limit}
 use Rattle.graphql_requests.specs.grammar.Selections.{Set}
 use Rattle.graphql_reading.specs.grammar.Tests.{punct}
-use Rattle.graphql_reading.specs.reading.Ahead.{Ahead, tokens}
+use Rattle.graphql_reading.specs.reading.Ahead.{Ahead, Stays, tokens}
 use Rattle.graphql_requests.specs.reading.SelectionSteps.{Heading, with_set, may_nest, head_at, item_at, Opened, closed, close_at, behind_rest, more, begun, wanted_rest, headed, filled, filled_in, fill_last, resume}
 use Rattle.graphql_reading.specs.reading.Given.{Refuses, GoesOn}
 use Rattle.graphql_reading.specs.reading.Outcome.{Outcome, Read, Refused, Reader, ◌>>=◌, one_at}
@@ -18,7 +18,7 @@ use Rattle.graphql_requests.specs.reading.Selections.{selection_first, selection
 use Rattle.graphql_requests.proofs.Heads.{set-law, item-law}
 use Rattle.graphql_requests.proofs.HeadTakes.{item-takes, one-takes}
 use Rattle.graphql_reading.proofs.Loop.{rest-more, rest-stops}
-use Rattle.graphql_reading.proofs.Loops.{go-on}
+use Rattle.graphql_reading.proofs.Loops.{go-on, ahead-stays, on-stays}
 
 -- ---- an open set, step by step
 
@@ -74,6 +74,21 @@ pub record Behind (values selections most : ℕ) (start now : Ahead) (left : ℕ
   pub on : GoesOn start now
   pub less : length now.behind ≤ most
 
+-- ---- memory was asked for
+
+pub wanted-stays : {values selections : ℕ} {start now : Ahead} {left : ℕ} {os : List Opened} {own : Opened} (new : Ahead) → Stays now new → Wanted values selections start now left os own → Wanted values selections start new left os own
+wanted-stays {values} {start = start} {now = now} {left = left} {os = os} {own = own} new s kept = record {
+  told = kept.told ∙ ap (λ (l : List Token). resume values left os (wanted_rest values left own l)) (sym (ahead-stays now new s));
+  on = on-stays start now new kept.on s;
+}
+
+pub behind-stays : {values selections most : ℕ} {start now : Ahead} {left : ℕ} {os : List Opened} {own : Opened} (new : Ahead) → Stays now new → Behind values selections most start now left os own → Behind values selections most start new left os own
+behind-stays {values} {start = start} {now = now} {left = left} {os = os} {own = own} new s kept = record {
+  told = kept.told ∙ ap (λ (l : List Token). resume values left os (behind_rest values left own l)) (sym (ahead-stays now new s));
+  on = on-stays start now new kept.on s;
+  less = let same = ap (λ (l : List Token). length l) s.1 in omega (arith, kept.less, same);
+}
+
 -- ---- the ways on
 
 pub opens : {values selections : ℕ} {start now : Ahead} (t : Token) → (one_at (punct "{") (tokens start) ≡ Read t (tokens now)) × GoesOn start now → Wanted values selections start now selections [] (begun t.pos)
@@ -126,8 +141,8 @@ leaves {start = start} {now = now} {next = next} t e h kept = record {
 
 -- ---- refusals
 
-refuses-by : {A B : Type 0} (e : Refusal) (start now next : Ahead) (whole : Reader A) (part : Reader B) → ((v : Verdict) → part (tokens now) ≡ Refused v (tokens next) → whole (tokens start) ≡ Refused v (tokens next)) → Refuses e now next part → Refuses e start next whole
-refuses-by Memory start now next whole part h k = tt
+pub refuses-by : {A B : Type 0} (e : Refusal) (start now next : Ahead) (whole : Reader A) (part : Reader B) → ((v : Verdict) → part (tokens now) ≡ Refused v (tokens next) → whole (tokens start) ≡ Refused v (tokens next)) → Refuses e now next part → Refuses e start next whole
+refuses-by Memory start now next whole part h k = k
 refuses-by Syntax start now next whole part h k = h syntax k
 refuses-by Limit start now next whole part h k = h limit k
 

@@ -62,8 +62,8 @@ fn read_short_operation(parser: &mut Parser, limits: Limits) -> Reading<Definiti
     let pos = selection_set.pos;
     let operation = OperationDefinition {
         ty: OperationType::Query,
-        variable_definitions: Vec::new(parser.alloc()),
-        directives: Vec::new(parser.alloc()),
+        variable_definitions: parser.empty_list(),
+        directives: parser.empty_list(),
         selection_set,
     };
     Ok(Definition::Operation(None, Positioned::new(operation, pos)))

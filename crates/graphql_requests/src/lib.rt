@@ -11,14 +11,16 @@
 //! inner.
 #![tactic(auto)]
 
-ghost use Rattle.std.specs.Prelude.{◌≡◌, ◌≢◌, ◌+◌, ℕ, List, [], IfOk};
+ghost use Rattle.std.specs.Prelude.{◌≡◌, ◌≢◌, ◌+◌, ℕ, List, [], Err, IfOk};
 ghost use Rattle.std.specs.Str.{chars};
+ghost use Rattle.graphql_memory.specs.Memory.{Refused};
 ghost use Rattle.graphql_tokens.specs.tokens.Cuts.{Cuts, HasNoFault};
 ghost use Rattle.graphql_tokens.specs.tokens.Edition.{Former, Current};
 ghost use Rattle.graphql_tokens.specs.tokens.Cuts.{IsCutInto};
 ghost use Rattle.graphql_tokens.specs.tokens.Token.{Token as SpecToken, left};
 ghost use Rattle.graphql_grammar.specs.answers.Answers.{Answers, AreTheDefinitions, HasOneTree, IsDecided, RestsOnBareTokens, TakenFor};
 ghost use Rattle.graphql_grammar.specs.answers.Language.{grammar};
+ghost use Rattle.graphql_grammar.specs.declared.error.Error.TheVariants.{OutOfMemory};
 ghost use Rattle.graphql_grammar.specs.reading.DocumentOf.{IsDocumentOf};
 ghost use Rattle.graphql_reading.specs.grammar.Limits.{default_limits};
 ghost use Rattle.graphql_request_trees.specs.trees.RequestViews.{document_tree};
@@ -37,6 +39,7 @@ mod variables;
 use definitions::{Definition, read_definitions};
 use graphql_grammar::document::read_document;
 use graphql_grammar::error::Result;
+use graphql_memory::Memory;
 use graphql_reading::limits::Limits;
 use graphql_reading::parser::{Parser, Reading};
 use graphql_request_trees::ExecutableDocument;
@@ -60,10 +63,11 @@ impl graphql_grammar::document::Definition for Definition {
         read_definitions(parser, limits)
     }
 
-    fn document_of(alloc: Global, definitions: Vec<Definition>) -> Result<ExecutableDocument>
-        ensures { IsDocumentOf requests (definition_trees definitions.items) result }
+    fn document_of(memory: &mut Memory, definitions: Vec<Definition>) -> Result<ExecutableDocument>
+        ensures document { IsDocumentOf requests (definition_trees definitions.items) result }
+        ensures refused { result ≡ Err OutOfMemory → Refused memory.new }
     {
-        document_of(alloc, definitions)
+        document_of(memory, definitions)
     }
 }
 
@@ -107,8 +111,27 @@ pub fn parse_query_limited(alloc: Global, text: &str, limits: Limits) -> Result<
     ensures bare { (tokens : List SpecToken) → IsCutInto text.now tokens → RestsOnBareTokens requests limits tokens }
     ensures lawful { IfOk result (λ document. IsLawful (document_tree document)) }
 {
+    parse_query_within(&mut Memory::new(alloc), text, limits)
+}
+
+/// As [`parse_query_limited`], with who takes memory, as a budget bounds it (this project's own call). `OutOfMemory` is
+/// answered only where memory was refused: where more was wanted than was left, or the heap had no more.
+pub fn parse_query_within(
+    memory: &mut Memory,
+    text: &str,
+    limits: Limits,
+) -> Result<ExecutableDocument>
+    ensures answer { (tokens : List SpecToken) → IsCutInto text.now tokens → Answers requests limits tokens result }
+    ensures former { (tokens : List SpecToken) (ds : List SpecDefinition) → Cuts Former [] (chars text.now) tokens → grammar requests Former limits tokens ds → IsCutInto text.now tokens × AreTheDefinitions requests limits tokens ds }
+    ensures former_tokens { (tokens : List SpecToken) → HasNoFault tokens → Cuts Former [] (chars text.now) tokens → Answers requests limits tokens result }
+    ensures one_tree { (tokens : List SpecToken) → IsCutInto text.now tokens → HasOneTree requests tokens }
+    ensures decided { (tokens : List SpecToken) → IsCutInto text.now tokens → IsDecided requests limits tokens }
+    ensures bare { (tokens : List SpecToken) → IsCutInto text.now tokens → RestsOnBareTokens requests limits tokens }
+    ensures lawful { IfOk result (λ document. IsLawful (document_tree document)) }
+    ensures refused { result ≡ Err OutOfMemory → Refused memory.new }
+{
     let mut tokens = Tokens::new(text);
-    read_document::<Definition>(alloc, &mut tokens, limits)
+    read_document::<Definition>(memory, &mut tokens, limits)
 }
 
 /// As [`parse_query`], over the tokens that are not yet taken, with the places that they have in the whole
@@ -127,5 +150,5 @@ pub fn parse_query_from(alloc: Global, tokens: &mut Tokens<'_>) -> Result<Execut
     ensures taken { (count : ℕ) × (tokens.new.taken ≡ tokens.old.taken + count) × TakenFor requests default_limits (left tokens.old) result count }
     ensures whole { tokens.new.whole ≡ tokens.old.whole }
 {
-    read_document::<Definition>(alloc, tokens, Limits::default())
+    read_document::<Definition>(&mut Memory::new(alloc), tokens, Limits::default())
 }

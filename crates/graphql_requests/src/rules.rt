@@ -1,5 +1,7 @@
 //! The rules that the definitions of a request keep, and the document that they make.
-ghost use Rattle.std.specs.Prelude.{◌≡◌, List, [], Some, None, option_map};
+ghost use Rattle.std.specs.Prelude.{◌≡◌, ◌≢◌, List, [], Some, None, Err, option_map};
+ghost use Rattle.graphql_memory.specs.Memory.{Refused};
+ghost use Rattle.graphql_grammar.specs.declared.error.Error.TheVariants.{OutOfMemory};
 ghost use Rattle.std.specs.Map.{lookup};
 ghost use Rattle.std.specs.Str.{bytes_eq};
 ghost use Rattle.graphql_request_trees.specs.trees.RequestViews.{operation_tree, fragment_tree};
@@ -13,6 +15,7 @@ ghost use Rattle.graphql_requests.specs.grammar.Requests.{requests};
 
 use crate::definitions::Definition;
 use graphql_grammar::error::{Error, Result};
+use graphql_memory::Memory;
 use graphql_request_trees::{
     DocumentOperations, ExecutableDocument, FragmentDefinition, OperationDefinition,
 };
@@ -30,13 +33,13 @@ struct Sorted {
 }
 
 impl Sorted {
-    fn new(alloc: Global) -> Sorted
+    fn new(heap: Global) -> Sorted
         ensures { IsSorted [] result }
     {
         Sorted {
             anonymous: None,
-            operations: IndexMap::new(alloc),
-            fragments: IndexMap::new(alloc),
+            operations: IndexMap::new(heap),
+            fragments: IndexMap::new(heap),
         }
     }
 
@@ -69,7 +72,8 @@ impl Sorted {
 
     /// An operation without a name: no other operation may stand beside it.
     fn add_anonymous(&mut self, operation: Positioned<OperationDefinition>) -> Result<()>
-        ensures { (ds : List SpecDefinition) → IsSorted ds self.old → IsAdded ds (an_operation None (placed operation_tree operation)) result self.new }
+        ensures added { (ds : List SpecDefinition) → IsSorted ds self.old → IsAdded ds (an_operation None (placed operation_tree operation)) result self.new }
+        ensures takes_none { result ≢ Err OutOfMemory }
     {
         if let Some(first) = self.first_operation() {
             return Err(Error::MultipleOperations {
@@ -84,10 +88,12 @@ impl Sorted {
     /// An operation with a name, which no other may have.
     fn add_operation(
         &mut self,
+        memory: &mut Memory,
         name: Name,
         operation: Positioned<OperationDefinition>,
     ) -> Result<()>
-        ensures { (ds : List SpecDefinition) → IsSorted ds self.old → IsAdded ds (an_operation (Some name) (placed operation_tree operation)) result self.new }
+        ensures added { (ds : List SpecDefinition) → IsSorted ds self.old → IsAdded ds (an_operation (Some name) (placed operation_tree operation)) result self.new }
+        ensures refused { result ≡ Err OutOfMemory → Refused memory.new }
     {
         let second = operation.pos;
         if let Some(anonymous) = &self.anonymous {
@@ -103,15 +109,19 @@ impl Sorted {
                 second,
             });
         }
-        match self.operations.insert(name, operation) {
-            Ok(_) => Ok(()),
-            Err(_) => Err(Error::OutOfMemory),
-        }
+        memory.insert_indexed(&mut self.operations, name, operation)?;
+        Ok(())
     }
 
     /// A fragment, whose name no other may have.
-    fn add_fragment(&mut self, name: Name, fragment: Positioned<FragmentDefinition>) -> Result<()>
-        ensures { (ds : List SpecDefinition) → IsSorted ds self.old → IsAdded ds (a_fragment name (placed fragment_tree fragment)) result self.new }
+    fn add_fragment(
+        &mut self,
+        memory: &mut Memory,
+        name: Name,
+        fragment: Positioned<FragmentDefinition>,
+    ) -> Result<()>
+        ensures added { (ds : List SpecDefinition) → IsSorted ds self.old → IsAdded ds (a_fragment name (placed fragment_tree fragment)) result self.new }
+        ensures refused { result ≡ Err OutOfMemory → Refused memory.new }
     {
         if let Some(first) = self.fragment_named(&name) {
             return Err(Error::FragmentDuplicated {
@@ -120,27 +130,27 @@ impl Sorted {
                 second: fragment.pos,
             });
         }
-        match self.fragments.insert(name, fragment) {
-            Ok(_) => Ok(()),
-            Err(_) => Err(Error::OutOfMemory),
-        }
+        memory.insert_indexed(&mut self.fragments, name, fragment)?;
+        Ok(())
     }
 
-    fn add(&mut self, definition: Definition) -> Result<()>
-        ensures { (ds : List SpecDefinition) → IsSorted ds self.old → IsAdded ds (definition_tree definition) result self.new }
+    fn add(&mut self, memory: &mut Memory, definition: Definition) -> Result<()>
+        ensures added { (ds : List SpecDefinition) → IsSorted ds self.old → IsAdded ds (definition_tree definition) result self.new }
+        ensures refused { result ≡ Err OutOfMemory → Refused memory.new }
     {
         match definition {
             Definition::Operation(name, operation) => match name {
-                Some(name) => self.add_operation(name, operation),
+                Some(name) => self.add_operation(memory, name, operation),
                 None => self.add_anonymous(operation),
             },
-            Definition::Fragment(name, fragment) => self.add_fragment(name, fragment),
+            Definition::Fragment(name, fragment) => self.add_fragment(memory, name, fragment),
         }
     }
 
     /// The document, which has an operation.
     fn into_document(self) -> Result<ExecutableDocument>
-        ensures { (ds : List SpecDefinition) → IsSorted ds self → IsDocumentOf requests ds result }
+        ensures document { (ds : List SpecDefinition) → IsSorted ds self → IsDocumentOf requests ds result }
+        ensures takes_none { result ≢ Err OutOfMemory }
     {
         let Sorted {
             anonymous,
@@ -164,12 +174,13 @@ impl Sorted {
 }
 
 /// The document of a request's definitions, or the first of the rules that they break, in source order.
-pub fn document_of(alloc: Global, definitions: Vec<Definition>) -> Result<ExecutableDocument>
-    ensures { IsDocumentOf requests (definition_trees definitions.items) result }
+pub fn document_of(memory: &mut Memory, definitions: Vec<Definition>) -> Result<ExecutableDocument>
+    ensures document { IsDocumentOf requests (definition_trees definitions.items) result }
+    ensures refused { result ≡ Err OutOfMemory → Refused memory.new }
 {
-    let mut sorted = Sorted::new(alloc);
+    let mut sorted = Sorted::new(memory.heap());
     for definition in definitions {
-        sorted.add(definition)?;
+        sorted.add(memory, definition)?;
     }
     sorted.into_document()
 }

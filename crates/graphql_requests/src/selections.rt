@@ -22,8 +22,8 @@ pub fn read_selection_set(parser: &mut Parser, limits: Limits) -> Reading<Positi
 {
     let brace = parser.expect_punct("{")?;
     // The selections of all sets that are open, the innermost set's last.
-    let mut items = Vec::new(parser.alloc());
-    let mut frames = Frames::new(parser.alloc(), limits.selections());
+    let mut items = parser.empty_list();
+    let mut frames = Frames::new(parser.heap(), limits.selections());
     let mut own = OpenSet {
         place: brace.pos,
         first: 0,
@@ -32,7 +32,7 @@ pub fn read_selection_set(parser: &mut Parser, limits: Limits) -> Reading<Positi
         let nests = frames.may_nest();
         if let Some(place) = heads::read_head(parser, limits, nests, &mut items)? {
             // Its set is read before what stands after it.
-            frames.enter(own)?;
+            frames.enter(parser, own)?;
             own = OpenSet {
                 place,
                 first: items.len(),
@@ -42,7 +42,7 @@ pub fn read_selection_set(parser: &mut Parser, limits: Limits) -> Reading<Positi
         // Each set that ends here is given to the selection that waits for it.
         while !is_at_selection(parser) {
             parser.expect_punct("}")?;
-            let set = own.close(&mut items)?;
+            let set = own.close(parser, &mut items)?;
             match frames.leave() {
                 None => return Ok(set),
                 Some(outer) => {

@@ -12,8 +12,8 @@ ghost use Rattle.graphql_schemas.specs.reading.Directives.{location_named, locat
 
 use crate::descriptions::place_of;
 use crate::input_values::read_maybe_arguments_definition;
+use crate::names::read_named;
 use graphql_reading::limits::Limits;
-use graphql_reading::names::name_in;
 use graphql_reading::parser::{Parser, Reading, Refusal};
 use graphql_reading::production::{Production, separated};
 use graphql_schema_trees::{DirectiveDefinition, DirectiveLocation};
@@ -120,8 +120,7 @@ pub fn read_directive_definition(
     let word = parser.expect_keyword("directive")?;
     let pos = place_of(&description, word);
     parser.expect_punct("@")?;
-    let token = parser.expect_name()?;
-    let name = name_in(parser, token)?;
+    let (_, name) = read_named(parser)?;
     let arguments = read_maybe_arguments_definition(parser, limits)?;
     let is_repeatable = read_is_repeatable(parser);
     let locations = read_locations(parser, limits)?;

@@ -11,15 +11,17 @@
 //! inner. Modules are `pub` for `graphql_check` alone, which reads the same keywords and tells the same tokens.
 #![tactic(auto)]
 
-ghost use Rattle.std.specs.Prelude.{◌≡◌, ◌≢◌, ◌+◌, ℕ, List, [], IfOk};
+ghost use Rattle.std.specs.Prelude.{◌≡◌, ◌≢◌, ◌+◌, ℕ, List, [], Err, IfOk};
 ghost use Rattle.std.specs.List.{AllByRecursion};
 ghost use Rattle.std.specs.Str.{chars};
+ghost use Rattle.graphql_memory.specs.Memory.{Refused};
 ghost use Rattle.graphql_tokens.specs.tokens.Cuts.{Cuts, HasNoFault, IsCutInto};
 ghost use Rattle.graphql_tokens.specs.tokens.Edition.{Former};
 ghost use Rattle.graphql_tokens.specs.tokens.Token.{Token as SpecToken, left};
 ghost use Rattle.graphql_schema_trees.specs.trees.SchemaViews.{schema_document_tree};
 ghost use Rattle.graphql_grammar.specs.answers.Answers.{Answers, AreTheDefinitions, HasOneTree, IsDecided, RestsOnBareTokens, TakenFor};
 ghost use Rattle.graphql_grammar.specs.answers.Language.{grammar};
+ghost use Rattle.graphql_grammar.specs.declared.error.Error.TheVariants.{OutOfMemory};
 ghost use Rattle.graphql_grammar.specs.reading.DocumentOf.{IsDocumentOf};
 ghost use Rattle.graphql_reading.specs.grammar.Limits.{default_limits};
 ghost use Rattle.graphql_schemas.specs.grammar.Laws.{IsLawful};
@@ -34,6 +36,7 @@ pub mod directives;
 mod fields;
 pub mod input_values;
 pub mod members;
+mod names;
 mod rules;
 mod schema;
 pub mod types;
@@ -41,6 +44,7 @@ pub mod types;
 use definitions::{Definition, read_definitions};
 use graphql_grammar::document::read_document;
 use graphql_grammar::error::Result;
+use graphql_memory::Memory;
 use graphql_reading::limits::Limits;
 use graphql_reading::parser::{Parser, Reading};
 use graphql_schema_trees::ServiceDocument;
@@ -63,10 +67,11 @@ impl graphql_grammar::document::Definition for Definition {
         read_definitions(parser, limits)
     }
 
-    fn document_of(alloc: Global, definitions: Vec<Definition>) -> Result<ServiceDocument>
-        ensures { IsDocumentOf schemas (definition_trees definitions.items) result }
+    fn document_of(memory: &mut Memory, definitions: Vec<Definition>) -> Result<ServiceDocument>
+        ensures document { IsDocumentOf schemas (definition_trees definitions.items) result }
+        ensures refused { result ≡ Err OutOfMemory → Refused memory.new }
     {
-        document_of(alloc, definitions)
+        document_of(memory, definitions)
     }
 }
 
@@ -110,8 +115,27 @@ pub fn parse_schema_limited(alloc: Global, text: &str, limits: Limits) -> Result
     ensures bare { (tokens : List SpecToken) → IsCutInto text.now tokens → RestsOnBareTokens schemas limits tokens }
     ensures lawful { IfOk result (λ document. IsLawful (schema_document_tree document)) }
 {
+    parse_schema_within(&mut Memory::new(alloc), text, limits)
+}
+
+/// As [`parse_schema_limited`], with who takes memory, as a budget bounds it (this project's own call). `OutOfMemory` is
+/// answered only where memory was refused: where more was wanted than was left, or the heap had no more.
+pub fn parse_schema_within(
+    memory: &mut Memory,
+    text: &str,
+    limits: Limits,
+) -> Result<ServiceDocument>
+    ensures answer { (tokens : List SpecToken) → IsCutInto text.now tokens → Answers schemas limits tokens result }
+    ensures former { (tokens : List SpecToken) (ds : List SpecDefinition) → Cuts Former [] (chars text.now) tokens → grammar schemas Former limits tokens ds → IsCutInto text.now tokens × AreTheDefinitions schemas limits tokens ds × AllByRecursion HasNoDescribedSchema ds }
+    ensures former_tokens { (tokens : List SpecToken) → HasNoFault tokens → Cuts Former [] (chars text.now) tokens → Answers schemas limits tokens result }
+    ensures one_tree { (tokens : List SpecToken) → IsCutInto text.now tokens → HasOneTree schemas tokens }
+    ensures decided { (tokens : List SpecToken) → IsCutInto text.now tokens → IsDecided schemas limits tokens }
+    ensures bare { (tokens : List SpecToken) → IsCutInto text.now tokens → RestsOnBareTokens schemas limits tokens }
+    ensures lawful { IfOk result (λ document. IsLawful (schema_document_tree document)) }
+    ensures refused { result ≡ Err OutOfMemory → Refused memory.new }
+{
     let mut tokens = Tokens::new(text);
-    read_document::<Definition>(alloc, &mut tokens, limits)
+    read_document::<Definition>(memory, &mut tokens, limits)
 }
 
 /// As [`parse_schema`], over the tokens that are not yet taken, with the places that they have in the whole
@@ -130,5 +154,5 @@ pub fn parse_schema_from(alloc: Global, tokens: &mut Tokens<'_>) -> Result<Servi
     ensures taken { (count : ℕ) × (tokens.new.taken ≡ tokens.old.taken + count) × TakenFor schemas default_limits (left tokens.old) result count }
     ensures whole { tokens.new.whole ≡ tokens.old.whole }
 {
-    read_document::<Definition>(alloc, tokens, Limits::default())
+    read_document::<Definition>(&mut Memory::new(alloc), tokens, Limits::default())
 }

@@ -13,9 +13,10 @@ ghost use Rattle.graphql_schemas.specs.grammar.Members.{enum_name};
 ghost use Rattle.graphql_schemas.specs.reading.Members.{implements_at, given_implements_at, members_at, given_members_at, enum_value_first, enum_value_at, given_enum_values_at};
 
 use crate::descriptions::{is_at_description, place_of, read_maybe_description};
+use crate::names::read_enum_named;
 use graphql_grammar::arguments::read_const_directives;
 use graphql_reading::limits::Limits;
-use graphql_reading::names::{NamePhrase, name_in};
+use graphql_reading::names::NamePhrase;
 use graphql_reading::parser::{Parser, Reading, Refusal};
 use graphql_reading::production::{Production, maybe_bracketed, separated};
 use graphql_schema_trees::EnumValueDefinition;
@@ -39,7 +40,7 @@ pub fn read_maybe_implements(parser: &mut Parser, limits: Limits) -> Reading<Vec
     ensures { Gives (λ names. names.items) result parser.old parser.new given_implements_at }
 {
     if !parser.is_at_keyword("implements") {
-        return Ok(Vec::new(parser.alloc()));
+        return Ok(parser.empty_list());
     }
     read_implements(parser, limits)
 }
@@ -60,7 +61,7 @@ pub fn read_maybe_members(parser: &mut Parser, limits: Limits) -> Reading<Vec<Po
     ensures { Gives (λ names. names.items) result parser.old parser.new given_members_at }
 {
     if !parser.is_at_punct("=") {
-        return Ok(Vec::new(parser.alloc()));
+        return Ok(parser.empty_list());
     }
     read_members(parser, limits)
 }
@@ -109,9 +110,8 @@ impl Production for EnumValuePhrase {
 
     fn read(parser: &mut Parser, limits: Limits) -> Reading<Positioned<EnumValueDefinition>> {
         let description = read_maybe_description(parser)?;
-        let token = expect_enum_name(parser)?;
+        let (token, value) = read_enum_named(parser)?;
         let pos = place_of(&description, token);
-        let value = name_in(parser, token)?;
         let directives = read_const_directives(parser, limits)?;
         let definition = EnumValueDefinition {
             description,

@@ -1,5 +1,7 @@
 //! The rules that the definitions of a schema file keep, and the document that they make.
-ghost use Rattle.std.specs.Prelude.{◌≡◌, [], List};
+ghost use Rattle.std.specs.Prelude.{◌≡◌, ◌≢◌, [], List, Err};
+ghost use Rattle.graphql_memory.specs.Memory.{Refused};
+ghost use Rattle.graphql_grammar.specs.declared.error.Error.TheVariants.{OutOfMemory};
 ghost use Rattle.graphql_syntax.specs.trees.Parts.{placed};
 ghost use Rattle.graphql_schemas.specs.grammar.Schema.{Root as SpecRoot};
 ghost use Rattle.graphql_schemas.specs.grammar.Schemas.{schemas};
@@ -10,12 +12,11 @@ ghost use Rattle.graphql_grammar.specs.reading.DocumentOf.{IsDocumentOf};
 use crate::definitions::Definition;
 use crate::schema::{Root, Schema};
 use graphql_grammar::error::{Error, Result};
-use graphql_reading::nodes::add_node;
+use graphql_memory::Memory;
 use graphql_schema_trees::{SchemaDefinition, ServiceDocument, TypeSystemDefinition};
 use graphql_syntax::pos::{Pos, Positioned};
 use graphql_syntax::types::OperationType;
 use graphql_syntax::value::Name;
-use std::alloc::Global;
 
 /// The roots of a schema, each under its kind.
 #[derive(Drop)]
@@ -77,7 +78,8 @@ fn sorted(roots: Vec<Root>, schema: Pos) -> Result<Roots>
 /// A schema as it stands in a document, or the rule that it breaks: a kind of root comes once, and only an extension
 /// may leave the query root out.
 fn finish_schema(schema: Positioned<Schema>) -> Result<Positioned<SchemaDefinition>>
-    ensures { IsFinishedSchema (placed schema_tree schema) result }
+    ensures finished { IsFinishedSchema (placed schema_tree schema) result }
+    ensures takes_none { result ≢ Err OutOfMemory }
 {
     let Positioned { pos, node } = schema;
     let Schema {
@@ -107,7 +109,8 @@ fn finish_schema(schema: Positioned<Schema>) -> Result<Positioned<SchemaDefiniti
 
 /// The definition as it stands in a document, or the rule that it breaks.
 fn finish(definition: Definition) -> Result<TypeSystemDefinition>
-    ensures { IsFinished (definition_tree definition) result }
+    ensures finished { IsFinished (definition_tree definition) result }
+    ensures takes_none { result ≢ Err OutOfMemory }
 {
     match definition {
         Definition::TypeDef(definition) => Ok(TypeSystemDefinition::TypeDef(definition)),
@@ -117,12 +120,13 @@ fn finish(definition: Definition) -> Result<TypeSystemDefinition>
 }
 
 /// The document of a schema file's definitions, or the first of the rules that they break, in source order.
-pub fn document_of(alloc: Global, definitions: Vec<Definition>) -> Result<ServiceDocument>
-    ensures { IsDocumentOf schemas (definition_trees definitions.items) result }
+pub fn document_of(memory: &mut Memory, definitions: Vec<Definition>) -> Result<ServiceDocument>
+    ensures document { IsDocumentOf schemas (definition_trees definitions.items) result }
+    ensures refused { result ≡ Err OutOfMemory → Refused memory.new }
 {
-    let mut finished = Vec::with_capacity(alloc, definitions.len())?;
+    let mut finished = memory.list_for(&definitions)?;
     for definition in definitions {
-        add_node(&mut finished, finish(definition)?)?;
+        memory.push(&mut finished, finish(definition)?)?;
     }
     Ok(ServiceDocument {
         definitions: finished,

@@ -9,6 +9,7 @@ ghost use Rattle.std.specs.Cmp.Rules.{hashing};
 ghost use Rattle.std.proofs.Common.{rules};
 
 use crate::small_text::SmallText;
+use graphql_memory::Memory;
 use serde::{Described, Deserialize, Deserializer, Format, Serialize, Serializer};
 use std::alloc::{AllocError, Global};
 use std::cmp::Ordering;
@@ -34,7 +35,8 @@ impl Model for Name {
 }
 
 impl Name {
-    ghost use Rattle.std.specs.Prelude.{◌≤◌, length, IsOk, IfSome, IsSome};
+    ghost use Rattle.std.specs.Prelude.{◌≤◌, length, IsOk, IfSome, IsSome, OnErr};
+    ghost use Rattle.graphql_memory.specs.Memory.{Refused};
     ghost use Rattle.graphql_tokens.specs.tokens.Within.{StandsAt};
 
     /// The name with this text, if it is at most 22 bytes long, and so takes no memory; None where it is longer.
@@ -55,7 +57,17 @@ impl Name {
         ensures name { IfOk result (λ name. name ≡ text.now) }
         ensures short { length text.now ≤ 22 → IsOk result }
     {
-        Ok(Name(SmallText::new(alloc, text)?))
+        Name::new_in(&mut Memory::new(alloc), text)
+    }
+
+    /// As `new`, in this memory.
+    #[inline]
+    pub fn new_in(memory: &mut Memory, text: &str) -> Result<Name, AllocError>
+        ensures name { IfOk result (λ name. name ≡ text.now) }
+        ensures short { length text.now ≤ 22 → IsOk result }
+        ensures refused { OnErr result (Refused memory.new) }
+    {
+        Ok(Name(SmallText::new(memory, text)?))
     }
 
     /// The name with this text, which stands in `whole` from this offset on: as `new`, and quicker, as it may copy what
@@ -71,7 +83,23 @@ impl Name {
         ensures name { IfOk result (λ name. name ≡ text.now) }
         ensures short { length text.now ≤ 22 → IsOk result }
     {
-        Ok(Name(SmallText::new_within(alloc, text, whole, start)?))
+        Name::cut_in(&mut Memory::new(alloc), text, whole, start)
+    }
+
+    /// As `new_within`, in this memory.
+    #[inline(always)]
+    pub fn cut_in(
+        memory: &mut Memory,
+        text: &str,
+        whole: &str,
+        start: usize,
+    ) -> Result<Name, AllocError>
+        requires { StandsAt text.now whole.now start }
+        ensures name { IfOk result (λ name. name ≡ text.now) }
+        ensures short { length text.now ≤ 22 → IsOk result }
+        ensures refused { OnErr result (Refused memory.new) }
+    {
+        Ok(Name(SmallText::new_within(memory, text, whole, start)?))
     }
 
     /// The name's text, borrowed.

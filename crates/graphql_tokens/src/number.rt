@@ -1,5 +1,6 @@
 //! Number literals, as they were written.
-ghost use Rattle.std.specs.Prelude.{◌≡◌, ◌↔◌, ◌≤◌, ◌^◌, ℕ, ℤ, pos, length, Ok, Some, None, IfOk, IfSome, IfNone, IsOk, IsTrue, FitsSigned, nat_eq};
+ghost use Rattle.std.specs.Prelude.{◌≡◌, ◌↔◌, ◌≤◌, ◌^◌, ℕ, ℤ, pos, length, Ok, Some, None, IfOk, IfSome, IfNone, IsOk, IsTrue, OnErr, FitsSigned, nat_eq};
+ghost use Rattle.graphql_memory.specs.Memory.{Refused};
 ghost use Rattle.std.specs.Int.{w64};
 ghost use Rattle.std.specs.Fmt.{styled_text};
 ghost use Rattle.std.specs.Option.{SomeIff};
@@ -14,6 +15,7 @@ use crate::lexer::number::pass_number;
 use crate::lexer::reading::has_more;
 use crate::pos::running::RunningPlace;
 use crate::small_text::SmallText;
+use graphql_memory::Memory;
 use std::alloc::{AllocError, Global};
 use std::fmt;
 use std::marker::Model;
@@ -59,7 +61,7 @@ impl Number {
         if !is_number(text) {
             return Ok(None);
         }
-        Ok(Some(Number(SmallText::new(alloc, text)?)))
+        Ok(Some(Number(SmallText::new(&mut Memory::new(alloc), text)?)))
     }
 
     /// The number of a literal, which isn't scanned again. The caller owes that the text is one; the text of a number
@@ -71,7 +73,7 @@ impl Number {
         ensures number { IfOk result (λ number. number ≡ literal.now) }
         ensures short { length literal.now ≤ 22 → IsOk result }
     {
-        Ok(Number(SmallText::new(alloc, literal)?))
+        Ok(Number(SmallText::new(&mut Memory::new(alloc), literal)?))
     }
 
     /// The number of a literal that stands in `whole` from this offset on: as `of_literal`, and quicker, as it may copy
@@ -88,7 +90,24 @@ impl Number {
         ensures number { IfOk result (λ number. number ≡ literal.now) }
         ensures short { length literal.now ≤ 22 → IsOk result }
     {
-        Ok(Number(SmallText::new_within(alloc, literal, whole, start)?))
+        Number::cut_in(&mut Memory::new(alloc), literal, whole, start)
+    }
+
+    /// As `of_literal_within`, in this memory.
+    #[inline(always)]
+    pub fn cut_in(
+        memory: &mut Memory,
+        literal: &str,
+        whole: &str,
+        start: usize,
+    ) -> Result<Number, AllocError>
+        requires literal { IsNumber literal.now }
+        requires stands { StandsAt literal.now whole.now start }
+        ensures number { IfOk result (λ number. number ≡ literal.now) }
+        ensures short { length literal.now ≤ 22 → IsOk result }
+        ensures refused { OnErr result (Refused memory.new) }
+    {
+        Ok(Number(SmallText::new_within(memory, literal, whole, start)?))
     }
 
     /// The literal, borrowed.

@@ -1,8 +1,10 @@
 //! Short texts in place, long ones in a block of their own.
-ghost use Rattle.std.specs.Prelude.{◌≡◌, ◌≤◌, length, take, IfOk, IfSome, IsOk, IsSome};
+ghost use Rattle.std.specs.Prelude.{◌≡◌, ◌≤◌, length, take, IfOk, IfSome, IsOk, IsSome, OnErr};
+ghost use Rattle.graphql_memory.specs.Memory.{Refused};
 ghost use Rattle.graphql_tokens.specs.tokens.Within.{StandsAt};
 
-use std::alloc::{AllocError, Global};
+use graphql_memory::Memory;
+use std::alloc::AllocError;
 use std::marker::Model;
 use std::str;
 
@@ -62,15 +64,16 @@ impl SmallText {
 
     /// This text. Fails only where it is longer than 22 bytes and no memory is left for it.
     #[inline(never)]
-    pub fn new(alloc: Global, text: &str) -> Result<SmallText, AllocError>
+    pub fn new(memory: &mut Memory, text: &str) -> Result<SmallText, AllocError>
         ensures text { IfOk result (λ small. small ≡ text.now) }
         ensures short { length text.now ≤ 22 → IsOk result }
+        ensures refused { OnErr result (Refused memory.new) }
     {
         match SmallText::in_place(text) {
             Some(small) => Ok(small),
             None => {
-                let text = String::from_str(alloc, text)?;
-                Ok(SmallText(Place::Long(Box::new(alloc, text)?)))
+                let text = memory.text_of(text)?;
+                Ok(SmallText(Place::Long(memory.boxed(text)?)))
             }
         }
     }
@@ -79,7 +82,7 @@ impl SmallText {
     /// copied at once, however long the text is.
     #[inline(always)]
     pub fn new_within(
-        alloc: Global,
+        memory: &mut Memory,
         text: &str,
         whole: &str,
         start: usize,
@@ -87,6 +90,7 @@ impl SmallText {
         requires { StandsAt text.now whole.now start }
         ensures text { IfOk result (λ small. small ≡ text.now) }
         ensures short { length text.now ≤ 22 → IsOk result }
+        ensures refused { OnErr result (Refused memory.new) }
     {
         if text.len() <= ROOM
             && let Some(bytes) = whole.as_bytes()[start..].first_chunk::<ROOM>()
@@ -96,7 +100,7 @@ impl SmallText {
                 len: text.len() as u8,
             }));
         }
-        SmallText::new(alloc, text)
+        SmallText::new(memory, text)
     }
 
     /// The text, borrowed.

@@ -1,8 +1,9 @@
 //! What strings and block strings mean.
 
-ghost use Rattle.std.specs.Prelude.{◌≡◌, ◌≤◌, ◌<◌, Bool, ◌+◌, [], drop, length, slice_index, IfOk, IfSome, IfNone, IsOk, Some, List, ℕ, string_bytes};
+ghost use Rattle.std.specs.Prelude.{◌≡◌, ◌≤◌, ◌<◌, Bool, ◌+◌, [], drop, length, slice_index, IfOk, IfSome, IfNone, IsOk, OnErr, Some, List, ℕ, string_bytes};
 ghost use Rattle.std.specs.List.{prefix_len};
 ghost use Rattle.std.specs.Str.{chars};
+ghost use Rattle.graphql_memory.specs.Memory.{Refused};
 ghost use Rattle.graphql_tokens.specs.calls.Contents.{content_value};
 ghost use Rattle.graphql_tokens.specs.tokens.BlockText.{block_value};
 ghost use Rattle.graphql_tokens.specs.tokens.Edition.{Former, Current};
@@ -14,6 +15,7 @@ pub(crate) mod runs;
 
 use block::{common_indent, first_text, is_plain as is_plain_text, last_text, push_lines};
 use escape::escape_at;
+use graphql_memory::Memory;
 use runs::{Plain, past_run};
 use std::alloc::{AllocError, Global};
 
@@ -57,7 +59,6 @@ fn past_plain(bytes: &[u8], start: usize) -> usize
 /// The escapes with one letter and those with four digits are from GraphQL October 2021, section 2.9.4.
 /// It is this project's choice that `\u{..}` and surrogate pairs are escapes too, that an escape which names
 /// half of a pair is none, and that any character may stand in a string.
-#[tactic(auto, using(crate::proofs::Contents::former_means, crate::proofs::Meanings::content_means))]
 pub fn string_value(alloc: Global, content: &str) -> Result<Option<String>, AllocError>
     // What it gives is the value of the content,
     ensures some { IfOk result (λ value. IfSome value (λ s. StringMeans Current (chars content.now) (chars (string_bytes s)))) }
@@ -71,21 +72,40 @@ pub fn string_value(alloc: Global, content: &str) -> Result<Option<String>, Allo
     // What a content meant in the former edition, it means now.
     ensures former { (value : List ℕ) → StringMeans Former (chars content.now) value → StringMeans Current (chars content.now) value }
 {
+    string_value_in(&mut Memory::new(alloc), content)
+}
+
+/// As [`string_value`], in this memory.
+#[tactic(auto, using(crate::proofs::Contents::former_means, crate::proofs::Meanings::content_means))]
+pub fn string_value_in(memory: &mut Memory, content: &str) -> Result<Option<String>, AllocError>
+    // What it gives is the value of the content,
+    ensures some { IfOk result (λ value. IfSome value (λ s. StringMeans Current (chars content.now) (chars (string_bytes s)))) }
+    // and the content has no other.
+    ensures only { IfOk result (λ value. IfSome value (λ s. (other : List ℕ) → StringMeans Current (chars content.now) other → other ≡ chars (string_bytes s))) }
+    ensures none { IfOk result (λ value. IfNone value (¬ IsContent Current (chars content.now))) }
+    // The function `content_value` gives no value but that of the content,
+    ensures sound { (value : List ℕ) → content_value (chars content.now) ≡ Some value → StringMeans Current (chars content.now) value }
+    // and gives it wherever there is one.
+    ensures complete { (value : List ℕ) → StringMeans Current (chars content.now) value → content_value (chars content.now) ≡ Some value }
+    // What a content meant in the former edition, it means now.
+    ensures former { (value : List ℕ) → StringMeans Former (chars content.now) value → StringMeans Current (chars content.now) value }
+    ensures refused { OnErr result (Refused memory.new) }
+{
     let bytes = content.as_bytes();
     let mut at = past_plain(bytes, 0);
     if at == bytes.len() {
-        return Ok(Some(String::from_str(alloc, content)?));
+        return Ok(Some(memory.text_of(content)?));
     }
-    let mut value = String::with_capacity(alloc, bytes.len())?;
-    value.push_str(&content[..at])?;
+    let mut value = memory.text_with_room(content)?;
+    memory.push_text(&mut value, &content[..at])?;
     while at < bytes.len() {
         let Some((c, len)) = escape_at(&bytes[at..]) else {
             return Ok(None);
         };
-        value.push(c)?;
+        memory.push_char(&mut value, c)?;
         let start = at + len;
         at = past_plain(bytes, start);
-        value.push_str(&content[start..at])?;
+        memory.push_text(&mut value, &content[start..at])?;
     }
     Ok(Some(value))
 }
@@ -104,18 +124,28 @@ pub fn block_string_value(alloc: Global, raw: &str) -> Result<String, AllocError
     // An empty value, as that of white space alone, takes no memory.
     ensures empty { block_value (chars raw.now) ≡ [] → IsOk result }
 {
+    block_string_value_in(&mut Memory::new(alloc), raw)
+}
+
+/// As [`block_string_value`], in this memory.
+pub fn block_string_value_in(memory: &mut Memory, raw: &str) -> Result<String, AllocError>
+    ensures value { IfOk result (λ value. chars (string_bytes value) ≡ block_value (chars raw.now)) }
+    // An empty value, as that of white space alone, takes no memory.
+    ensures empty { block_value (chars raw.now) ≡ [] → IsOk result }
+    ensures refused { OnErr result (Refused memory.new) }
+{
     let Some(first) = first_text(raw.as_bytes()) else {
-        return Ok(String::new(alloc));
+        return Ok(memory.empty_text());
     };
     let text = &raw[first..];
     let text = &text[..last_text(text.as_bytes())];
     let is_later = first > 0;
     let indent = common_indent(text.as_bytes(), is_later);
     if indent == 0 && is_plain_text(text.as_bytes()) {
-        return String::from_str(alloc, text);
+        return memory.text_of(text);
     }
     let first_indent = if is_later { indent } else { 0 };
-    let mut value = String::with_capacity(alloc, text.len())?;
-    push_lines(&mut value, text, first_indent, indent)?;
+    let mut value = memory.text_with_room(text)?;
+    push_lines(memory, &mut value, text, first_indent, indent)?;
     Ok(value)
 }

@@ -1,7 +1,7 @@
 //! What is asked of a parser in a table.
 use super::answers::Parser;
 use super::views::View;
-use super::{chosen, hostile, taken};
+use super::{budgets, chosen, hostile, taken};
 use rows::{Subject, pair};
 use std::alloc::Global;
 use std::test::Fail;
@@ -23,6 +23,8 @@ pub enum Asked {
     InTurn,
     /// Whether a text is accepted within limits. They stand before it, with ` in ` between them.
     Limited,
+    /// What is answered as the budget of memory grows.
+    Budgets,
     /// How many beginnings a text has, if each of them is refused late or not at all.
     Beginnings,
     /// How many tokens a text has, if a quote before any of them but the end is refused at that quote.
@@ -53,6 +55,7 @@ impl Subject for Call {
             Asked::Quotes => hostile::quotes(alloc, parser, text)?,
             Asked::Lines => hostile::lines(alloc, parser, text)?,
             Asked::ShortTexts => hostile::short_texts(alloc, parser, text)?,
+            Asked::Budgets => budgets::answers(alloc, parser, text)?,
             Asked::InTurn => {
                 let (passed, text) = pair(text, " in ")?;
                 taken::in_turn(alloc, parser, passed.parse()?, text)?

@@ -97,3 +97,15 @@ pub const LIMITED: &str = r"
 256 256 256 in query($a:⟨256×[⟩Int⟨256×]⟩=⟨256×[⟩⟨256×]⟩){⟨256×a{⟩b⟨257×}⟩ ⇒ accepted
 256 256 256 in {⟨100000×a{⟩ ⇒ recursion limit exceeded
 ";
+
+/// Requests, and what is answered as the budget grows. A check of one definition that is accepted takes no memory.
+pub const BUDGETS: &str = r#"
+{a} ⇒ out of memory, then accepted; checked accepted
+{a(b:[1 {c:"d"}])@e{f}} ⇒ out of memory, then accepted; checked accepted
+query A{a} query B{b} ⇒ out of memory, then accepted; checked out of memory, then accepted
+{a( ⇒ out of memory, then syntax 1:4; checked out of memory, then syntax 1:4
+{a} {b} ⇒
+  out of memory, then multiple operations anonymous 1:5 operation 1:1;
+  checked out of memory, then multiple operations anonymous 1:5 operation 1:1
+{⟨65×a{⟩ ⇒ out of memory, then recursion limit exceeded; checked recursion limit exceeded
+"#;

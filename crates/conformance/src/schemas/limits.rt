@@ -185,3 +185,11 @@ pub const LIMITED: &str = r##"
 256 256 256 in type A{a:⟨100000×[⟩ ⇒ recursion limit exceeded
 256 256 256 in input A{a:B=⟨100000×{x:⟩ ⇒ recursion limit exceeded
 "##;
+
+/// Schema files, and what is answered as the budget grows. A check that is accepted takes no memory.
+pub const BUDGETS: &str = r#"
+scalar A ⇒ out of memory, then accepted; checked accepted
+type A{b(c:[D]=[1]):E} extend union F=G|H ⇒ out of memory, then accepted; checked accepted
+type A{} ⇒ out of memory, then syntax 1:8; checked out of memory, then syntax 1:8
+input A{b:⟨65×[⟩ ⇒ out of memory, then recursion limit exceeded; checked recursion limit exceeded
+"#;

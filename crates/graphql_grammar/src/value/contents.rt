@@ -15,9 +15,9 @@ pub fn enter<V: Literal>(parser: &mut Parser, left: usize) -> Reading<Option<Ope
     ensures { Gives (option_map (opened V.tree)) result parser.old parser.new (enter_at left) }
 {
     let opening = if parser.is_at_punct("[") {
-        Open::List(Vec::new(parser.alloc()))
+        Open::List(parser.empty_list())
     } else if parser.is_at_punct("{") {
-        Open::Object(Vec::new(parser.alloc()))
+        Open::Object(parser.empty_list())
     } else {
         return Ok(None);
     };
@@ -57,7 +57,8 @@ pub fn read_items<V: Literal>(
         if let Some(inner) = enter(parser, left)? {
             return Ok(Some(inner));
         }
-        items.push(read_simple(parser)?)?;
+        let item = read_simple(parser)?;
+        parser.push(items, item)?;
     }
     Ok(None)
 }
@@ -76,7 +77,8 @@ pub fn read_fields<V: Literal>(
         if let Some(inner) = enter(parser, left)? {
             return Ok(Some((name, inner)));
         }
-        fields.push((name, read_simple(parser)?))?;
+        let value = read_simple(parser)?;
+        parser.push(fields, (name, value))?;
     }
     Ok(None)
 }

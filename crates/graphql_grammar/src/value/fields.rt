@@ -1,12 +1,15 @@
 //! The fields of an object.
-ghost use Rattle.std.specs.Prelude.{◌≡◌, IfOk, OnOk, []};
+ghost use Rattle.std.specs.Prelude.{◌≡◌, IfOk, OnOk, OnErr, []};
+ghost use Rattle.graphql_memory.specs.Memory.{Refused};
+ghost use Rattle.graphql_reading.specs.reading.Ahead.{Stays};
 ghost use Rattle.std.specs.List.{list_any};
 ghost use Rattle.graphql_grammar.specs.grammar.Merged as grammar;
 ghost use Rattle.graphql_grammar.specs.grammar.Merged.{has_name};
 ghost use Rattle.graphql_grammar.specs.reading.Fields.{are_distinct as distinct, place_among, places, put};
 
+use graphql_reading::parser::Parser;
 use graphql_syntax::value::Name;
-use std::alloc::{AllocError, Global};
+use std::alloc::AllocError;
 use std::collections::BTreeMap;
 
 /// So many fields are compared one by one. The names of more are put in order.
@@ -38,52 +41,62 @@ fn are_distinct<V>(fields: &[(Name, V)]) -> bool
 }
 
 /// For each field the place of its name among the names, each named once, where it comes first.
-fn places_of<V>(alloc: Global, fields: &[(Name, V)]) -> Result<Vec<usize>, AllocError>
-    ensures { IfOk result (λ found. found.items ≡ places [] fields.now) }
+fn places_of<V>(parser: &mut Parser, fields: &[(Name, V)]) -> Result<Vec<usize>, AllocError>
+    ensures places { IfOk result (λ found. found.items ≡ places [] fields.now) }
+    ensures refused { OnErr result (Refused parser.new.memory) }
+    ensures stays { Stays parser.old parser.new }
 {
-    let mut known: BTreeMap<&Name, usize> = BTreeMap::new(alloc);
-    let mut found = Vec::with_capacity(alloc, fields.len())?;
+    let mut known: BTreeMap<&Name, usize> = BTreeMap::new(parser.heap());
+    let mut found = parser.list_for(fields)?;
     for (name, _) in fields {
         let place = match known.get(&name) {
             Some(place) => *place,
             None => {
                 let next = known.len();
-                known.insert(name, next)?;
+                parser.insert_ordered(&mut known, name, next)?;
                 next
             }
         };
-        found.push(place)?;
+        parser.push(&mut found, place)?;
     }
     Ok(found)
 }
 
 /// The field goes last, or its value takes the place of the one that stands there.
 fn put_at<V: Drop>(
+    parser: &mut Parser,
     merged: &mut Vec<(Name, V)>,
     place: usize,
     field: (Name, V),
 ) -> Result<(), AllocError>
     requires { place ≡ place_among merged.old.items field.0 }
-    ensures { OnOk result (merged.new.items ≡ put merged.old.items field) }
+    ensures put { OnOk result (merged.new.items ≡ put merged.old.items field) }
+    ensures refused { OnErr result (Refused parser.new.memory) }
+    ensures stays { Stays parser.old parser.new }
 {
     match merged.get_mut(place) {
         Some(first) => first.1 = field.1,
-        None => merged.push(field)?,
+        None => parser.push(merged, field)?,
     }
     Ok(())
 }
 
 /// Each name once: where it comes first, with the value with which it comes last.
-pub fn merge<V: Drop>(alloc: Global, fields: Vec<(Name, V)>) -> Result<Vec<(Name, V)>, AllocError>
-    ensures { IfOk result (λ merged. merged.items ≡ grammar.merged fields.items) }
+pub fn merge<V: Drop>(
+    parser: &mut Parser,
+    fields: Vec<(Name, V)>,
+) -> Result<Vec<(Name, V)>, AllocError>
+    ensures merged { IfOk result (λ merged. merged.items ≡ grammar.merged fields.items) }
+    ensures refused { OnErr result (Refused parser.new.memory) }
+    ensures stays { Stays parser.old parser.new }
 {
     if fields.len() <= COMPARED_ONE_BY_ONE && are_distinct(&fields) {
         return Ok(fields);
     }
-    let places = places_of(alloc, &fields)?;
-    let mut merged = Vec::with_capacity(alloc, fields.len())?;
+    let places = places_of(parser, &fields)?;
+    let mut merged = parser.list_for(&fields)?;
     for (field, place) in fields.into_iter().zip(places) {
-        put_at(&mut merged, place, field)?;
+        put_at(parser, &mut merged, place, field)?;
     }
     Ok(merged)
 }

@@ -1,10 +1,12 @@
 //! Lists and objects that are open while a value inside them is read.
-ghost use Rattle.std.specs.Prelude.{◌≡◌, ◌+◌, ◌<◌, [], ◌∷◌, ◌++◌, length, IfOk, IfNone, option_to_list};
+ghost use Rattle.std.specs.Prelude.{◌≡◌, ◌+◌, ◌<◌, [], ◌∷◌, ◌++◌, length, IfOk, OnOk, OnErr, IfNone, option_to_list};
+ghost use Rattle.graphql_memory.specs.Memory.{Refused};
+ghost use Rattle.graphql_reading.specs.reading.Ahead.{Stays};
 
-use graphql_reading::nodes::add_node;
+use graphql_reading::parser::Parser;
 use graphql_syntax::value::{Literal, Name};
 use smallvec::SmallVec;
-use std::alloc::{AllocError, AllocFailed, Global};
+use std::alloc::{AllocError, Global};
 use std::default::MadeWith;
 
 /// A list or an object with what it holds so far. The fields of an object are pairs as they are written.
@@ -30,11 +32,13 @@ impl<V> MadeWith<Global> for Frame<V> {
 
 // Makes room in an empty list for one node alone: most lists and objects that hold a list or an object hold nothing else.
 #[inline(always)]
-fn make_room<T: Drop>(nodes: &mut Vec<T>) -> Result<(), AllocError>
-    ensures { nodes.new.items ≡ nodes.old.items }
+fn make_room<T: Drop>(parser: &mut Parser, nodes: &mut Vec<T>) -> Result<(), AllocError>
+    ensures items { nodes.new.items ≡ nodes.old.items }
+    ensures refused { OnErr result (Refused parser.new.memory) }
+    ensures stays { Stays parser.old parser.new }
 {
     if nodes.is_empty() {
-        nodes.reserve_exact(1)?;
+        parser.give_one_place(nodes)?;
     }
     Ok(())
 }
@@ -44,18 +48,20 @@ impl<V: Literal> Frame<V> {
 
     /// With the value for which it waits.
     #[inline(always)]
-    pub fn fill(self, value: V) -> Result<Open<V>, AllocError>
-        ensures { IfOk result (λ o. opened V.tree o ≡ add (waiting V.tree self) (V.tree value)) }
+    pub fn fill(self, parser: &mut Parser, value: V) -> Result<Open<V>, AllocError>
+        ensures filled { IfOk result (λ o. opened V.tree o ≡ add (waiting V.tree self) (V.tree value)) }
+        ensures refused { OnErr result (Refused parser.new.memory) }
+        ensures stays { Stays parser.old parser.new }
     {
         match self {
             Frame::List(mut items) => {
-                make_room(&mut items)?;
-                add_node(&mut items, value)?;
+                make_room(parser, &mut items)?;
+                parser.push(&mut items, value)?;
                 Ok(Open::List(items))
             }
             Frame::Object(mut fields, name) => {
-                make_room(&mut fields)?;
-                add_node(&mut fields, (name, value))?;
+                make_room(parser, &mut fields)?;
+                parser.push(&mut fields, (name, value))?;
                 Ok(Open::Object(fields))
             }
         }
@@ -90,12 +96,14 @@ impl<V: Literal> Frames<V> {
         self.limit - self.outer.len() - 1
     }
 
-    pub fn push(&mut self, frame: Frame<V>) -> Result<(), AllocFailed<Frame<V>>>
+    pub fn push(&mut self, parser: &mut Parser, frame: Frame<V>) -> Result<(), AllocError>
         requires { length self.old.outer.items + 1 < self.old.limit }
         ensures outer { IfOk result (λ _. self.new.outer.items ≡ self.old.outer.items ++ frame ∷ []) }
         ensures limit { self.new.limit ≡ self.old.limit }
+        ensures refused { OnErr result (Refused parser.new.memory) }
+        ensures stays { Stays parser.old parser.new }
     {
-        self.outer.push(frame)
+        parser.push_small(&mut self.outer, frame)
     }
 
     pub fn pop(&mut self) -> Option<Frame<V>>

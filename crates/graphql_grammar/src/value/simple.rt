@@ -1,5 +1,7 @@
 //! Values that are neither lists nor objects.
-ghost use Rattle.std.specs.Prelude.{◌≡◌, IfOk};
+ghost use Rattle.std.specs.Prelude.{◌≡◌, IfOk, OnErr};
+ghost use Rattle.graphql_memory.specs.Memory.{Refused};
+ghost use Rattle.graphql_reading.specs.reading.Ahead.{Stays};
 ghost use Rattle.graphql_tokens.specs.tokens.Seen.{seen};
 ghost use Rattle.graphql_tokens.specs.tokens.Within.{StandsIn};
 ghost use Rattle.graphql_grammar.specs.reading.OpenValues.{node_at, word_tree};
@@ -12,9 +14,11 @@ use graphql_syntax::lexer::{Token, TokenKind};
 use graphql_syntax::value::Literal;
 use std::alloc::AllocError;
 
-fn word_of<V: Literal>(parser: &Parser, token: Token) -> Result<V, AllocError>
-    requires { StandsIn parser.now.text (seen token) }
-    ensures { IfOk result (λ v. V.tree v ≡ word_tree token.entry.text.now) }
+fn word_of<V: Literal>(parser: &mut Parser, token: Token) -> Result<V, AllocError>
+    requires { StandsIn parser.old.text (seen token) }
+    ensures word { IfOk result (λ v. V.tree v ≡ word_tree token.entry.text.now) }
+    ensures refused { OnErr result (Refused parser.new.memory) }
+    ensures stays { Stays parser.old parser.new }
 {
     let text = token.text;
     if text == "true" {

@@ -1,15 +1,16 @@
 -- What a reader of the code gives, by what the reader of lists gives.
 use Rattle.std.specs.Prelude.{◌≡◌, ◌≤◌, Result, Ok, Err, List, map, Vec}
 use Rattle.std.specs.declared.alloc.Global.{Global}
+use Rattle.graphql_memory.specs.Memory as memory
 use Rattle.graphql_reading.specs.grammar.Fronts.{syntax, limit}
 use Rattle.graphql_reading.specs.reading.Ahead.{Ahead, tokens}
 use Rattle.graphql_reading.specs.reading.Outcome.{Reader, Read, Refused}
 use Rattle.graphql_reading.specs.declared.parser.Refusal.{Refusal}
 use Rattle.graphql_reading.specs.declared.parser.Refusal.TheVariants.{Memory, Syntax, Limit}
 
--- a refusal, with the refused token in hand
+-- a refusal, with the refused token in hand; or memory that was refused
 abbrev pub Refuses : {Y : Type 0} → Refusal → Ahead → Ahead → Reader Y → Type 0
-Refuses Memory old new r = Unit {0}
+Refuses Memory old new r = memory.Refused new.memory
 Refuses Syntax old new r = r (tokens old) ≡ Refused syntax (tokens new)
 Refuses Limit old new r = r (tokens old) ≡ Refused limit (tokens new)
 

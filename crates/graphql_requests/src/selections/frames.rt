@@ -1,11 +1,14 @@
 //! The sets that are open around the one that is read.
-ghost use Rattle.std.specs.Prelude.{◌≡◌, ◌≤◌, true, ◌∷◌, [], suc, take, drop, IfOk, MatchOption};
+ghost use Rattle.std.specs.Prelude.{◌≡◌, ◌≤◌, true, ◌∷◌, [], suc, take, drop, IfOk, OnErr, MatchOption};
+ghost use Rattle.graphql_memory.specs.Memory.{Refused};
+ghost use Rattle.graphql_reading.specs.reading.Ahead.{Stays};
 ghost use Rattle.std.specs.Vec.{vec_len};
 ghost use Rattle.graphql_syntax.specs.trees.Parts.{placed};
 ghost use Rattle.graphql_request_trees.specs.trees.RequestViews.{selection_tree, selection_trees, selection_set_tree};
 ghost use Rattle.graphql_requests.specs.reading.SelectionSteps.{with_set, fill_last, closed, may_nest};
 ghost use Rattle.graphql_requests.specs.reading.OpenSets.{part};
 
+use graphql_reading::parser::Parser;
 use graphql_request_trees::{Selection, SelectionSet};
 use graphql_syntax::pos::{Pos, Positioned};
 use smallvec::SmallVec;
@@ -15,15 +18,17 @@ use std::mem;
 
 /// Cuts the items from `first` on off a list. They get a block that is as large as they need: where they are the
 /// whole list they keep its block, and give back the rest of it.
-fn cut_off<T>(items: &mut Vec<T>, first: usize) -> Result<Vec<T>, AllocError>
+fn cut_off<T>(parser: &mut Parser, items: &mut Vec<T>, first: usize) -> Result<Vec<T>, AllocError>
     requires { first ≤ vec_len items.old }
     ensures own { IfOk result (λ own. own.items ≡ drop first items.old.items) }
     ensures rest { IfOk result (λ _. items.new.items ≡ take first items.old.items) }
+    ensures refused { OnErr result (Refused parser.new.memory) }
+    ensures stays { Stays parser.old parser.new }
 {
     if first > 0 {
-        return items.split_off(first);
+        return parser.split_off(items, first);
     }
-    let mut all = mem::try_take(items)?;
+    let mut all = mem::replace(items, parser.empty_list());
     all.shrink_to_fit();
     Ok(all)
 }
@@ -41,13 +46,16 @@ impl OpenSet {
     /// Cuts the set off the list.
     pub(super) fn close(
         &self,
+        parser: &mut Parser,
         items: &mut Vec<Positioned<Selection>>,
     ) -> Result<Positioned<SelectionSet>, AllocError>
         requires { self.now.first ≤ vec_len items.old }
         ensures set { IfOk result (λ set. placed selection_set_tree set ≡ closed (part self.now (selection_trees items.old.items))) }
         ensures rest { IfOk result (λ _. selection_trees items.new.items ≡ take self.now.first (selection_trees items.old.items)) }
+        ensures refused { OnErr result (Refused parser.new.memory) }
+        ensures stays { Stays parser.old parser.new }
     {
-        let own = cut_off(items, self.first)?;
+        let own = cut_off(parser, items, self.first)?;
         Ok(Positioned::new(SelectionSet { items: own }, self.place))
     }
 }
@@ -114,13 +122,14 @@ impl Frames {
     }
 
     /// A set in `outer` is to be read.
-    pub(super) fn enter(&mut self, outer: OpenSet) -> Result<(), AllocError>
+    pub(super) fn enter(&mut self, parser: &mut Parser, outer: OpenSet) -> Result<(), AllocError>
         requires { may_nest self.old.left ≡ true }
         ensures outer { IfOk result (λ _. self.new.outer ≡ outer ∷ self.old.outer) }
         ensures left { IfOk result (λ _. suc self.new.left ≡ self.old.left) }
+        ensures refused { OnErr result (Refused parser.new.memory) }
+        ensures stays { Stays parser.old parser.new }
     {
-        self.outer.push(outer)?;
-        Ok(())
+        parser.push_small(&mut self.outer, outer)
     }
 
     /// The set around the one that was read.

@@ -1,5 +1,7 @@
 //! Readers of selections up to their sets.
-ghost use Rattle.std.specs.Prelude.{◌≡◌, ◌++◌, ◌∷◌, [], None, Some, option_map, IfOk};
+ghost use Rattle.std.specs.Prelude.{◌≡◌, ◌++◌, ◌∷◌, [], None, Some, option_map, IfOk, OnErr};
+ghost use Rattle.graphql_memory.specs.Memory.{Refused};
+ghost use Rattle.graphql_reading.specs.reading.Ahead.{Stays};
 ghost use Rattle.graphql_syntax.specs.trees.Parts.{placed};
 ghost use Rattle.graphql_syntax.specs.trees.PartViews.{arguments_tree, directives_tree};
 ghost use Rattle.graphql_request_trees.specs.trees.RequestViews.{selection_tree, selection_trees, type_condition_tree};
@@ -13,7 +15,6 @@ ghost use Rattle.graphql_requests.specs.reading.Selections.{type_condition_at, i
 use graphql_grammar::arguments::{read_directives, read_maybe_arguments};
 use graphql_reading::limits::Limits;
 use graphql_reading::names::{name_in, read_name};
-use graphql_reading::nodes::add_node;
 use graphql_reading::parser::{Parser, Reading, Refusal};
 use graphql_request_trees::{
     Field, FragmentSpread, InlineFragment, Selection, SelectionSet, TypeCondition,
@@ -58,10 +59,16 @@ pub fn is_at_selection(parser: &Parser) -> bool
 }
 
 #[inline(always)]
-fn add_selection(items: &mut Selections, selection: Positioned<Selection>) -> Result<(), AllocError>
-    ensures { IfOk result (λ _. selection_trees items.new.items ≡ selection_trees items.old.items ++ placed selection_tree selection ∷ []) }
+fn add_selection(
+    parser: &mut Parser,
+    items: &mut Selections,
+    selection: Positioned<Selection>,
+) -> Result<(), AllocError>
+    ensures items { IfOk result (λ _. selection_trees items.new.items ≡ selection_trees items.old.items ++ placed selection_tree selection ∷ []) }
+    ensures refused { OnErr result (Refused parser.new.memory) }
+    ensures stays { Stays parser.old parser.new }
 {
-    add_node(items, selection)
+    parser.push(items, selection)
 }
 
 /// An alias, if there is one, and a name.
@@ -134,10 +141,8 @@ fn read_field(
     let arguments = read_maybe_arguments(parser, limits)?;
     let directives = read_directives(parser, limits)?;
     let place = read_maybe_brace(parser, nests)?;
-    add_selection(
-        items,
-        bare_field(parser.alloc(), names, arguments, directives),
-    )?;
+    let field = bare_field(parser.heap(), names, arguments, directives);
+    add_selection(parser, items, field)?;
     Ok(place)
 }
 
@@ -161,7 +166,7 @@ fn read_spread(
         directives,
     };
     let node = Selection::FragmentSpread(Positioned::new(spread, dots));
-    add_selection(items, Positioned::new(node, dots))?;
+    add_selection(parser, items, Positioned::new(node, dots))?;
     Ok(None)
 }
 
@@ -220,10 +225,8 @@ fn read_inline(
     let condition = read_maybe_condition(parser)?;
     let directives = read_directives(parser, limits)?;
     let brace = parser.expect_punct("{")?;
-    add_selection(
-        items,
-        bare_inline(parser.alloc(), dots, condition, directives),
-    )?;
+    let inline = bare_inline(parser.heap(), dots, condition, directives);
+    add_selection(parser, items, inline)?;
     Ok(brace.pos)
 }
 

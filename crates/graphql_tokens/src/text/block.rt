@@ -1,6 +1,7 @@
 //! The lines of a block string.
 
-ghost use Rattle.std.specs.Prelude.{◌≡◌, ◌≤◌, ◌<◌, ◌+◌, ◌++◌, [], false, true, drop, length, MatchOption, OnOk, string_bytes};
+ghost use Rattle.std.specs.Prelude.{◌≡◌, ◌≤◌, ◌<◌, ◌+◌, ◌++◌, [], false, true, drop, length, MatchOption, OnOk, OnErr, string_bytes};
+ghost use Rattle.graphql_memory.specs.Memory.{Refused};
 ghost use Rattle.std.specs.List.{prefix_len};
 ghost use Rattle.std.specs.Str.{IsUtf8};
 ghost use Rattle.graphql_tokens.specs.tokens.Place as place;
@@ -8,6 +9,7 @@ ghost use Rattle.graphql_tokens.specs.tokens.BlockText as spec;
 ghost use Rattle.graphql_tokens.specs.inner.Blocks.{is_space as is_space_char, end_len, counted, indent_with, trimmed, written, first_line, StartsText, EndsText, IsPlainBetween, IsUnquotedBetween};
 
 use super::{byte, past_while};
+use graphql_memory::Memory;
 use memchr::{memchr, memchr2};
 use std::alloc::AllocError;
 
@@ -176,14 +178,15 @@ fn next_quotes(bytes: &[u8], start: usize) -> usize
 }
 
 // Adds the text, with each `\"""` as `"""`.
-fn push_unquoted(value: &mut String, text: &str) -> Result<(), AllocError>
-    ensures { OnOk result (string_bytes value.new ≡ string_bytes value.old ++ spec.unquoted text.now) }
+fn push_unquoted(memory: &mut Memory, value: &mut String, text: &str) -> Result<(), AllocError>
+    ensures value { OnOk result (string_bytes value.new ≡ string_bytes value.old ++ spec.unquoted text.now) }
+    ensures refused { OnErr result (Refused memory.new) }
 {
     let bytes = text.as_bytes();
     let mut at = 0;
     loop {
         let end = next_quotes(bytes, at);
-        value.push_str(&text[at..end])?;
+        memory.push_text(value, &text[at..end])?;
         if end == bytes.len() {
             return Ok(());
         }
@@ -204,23 +207,25 @@ fn dedented(line: &str, indent: usize) -> &str
 // Adds the lines of the text, joined by line feeds and without their indent, which is `first_indent` for
 // the first of them.
 pub fn push_lines(
+    memory: &mut Memory,
     value: &mut String,
     text: &str,
     first_indent: usize,
     indent: usize,
 ) -> Result<(), AllocError>
-    ensures { OnOk result (string_bytes value.new ≡ string_bytes value.old ++ written first_indent indent (spec.lines_of text.now)) }
+    ensures value { OnOk result (string_bytes value.new ≡ string_bytes value.old ++ written first_indent indent (spec.lines_of text.now)) }
+    ensures refused { OnErr result (Refused memory.new) }
 {
     let bytes = text.as_bytes();
     let mut at = 0;
     let mut here = first_indent;
     'lines: loop {
         let end = past_line(bytes, at);
-        push_unquoted(value, dedented(&text[at..end], here))?;
+        push_unquoted(memory, value, dedented(&text[at..end], here))?;
         if end == bytes.len() {
             return Ok(());
         }
-        value.push('\n')?;
+        memory.push_char(value, '\n')?;
         at = next_line(bytes, end);
         here = indent;
     }

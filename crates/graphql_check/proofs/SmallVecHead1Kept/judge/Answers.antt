@@ -7,7 +7,10 @@ use Rattle.graphql_check.proofs.Documents.{document-of}
 use Rattle.graphql_check.proofs.RequestHeads.{looks-at-heads}
 use Rattle.graphql_check.proofs.SmallVecHead1Kept.judge.Goals as goal
 
-pub returns : goal.returns
-returns c ds h =
+pub returns-clause-document : goal.returns-clause-document
+returns-clause-document c ds h =
     document-of (checked requests) head_of looks-at-heads ds c.judge.result
-    (subst (λ hs. IsDocumentOf (checked requests) hs c.judge.result) (ap (map head_tree) c.as_slice.ensures ∙ h) c.judge.ensures)
+    (subst (λ hs. IsDocumentOf (checked requests) hs c.judge.result) (ap (map head_tree) c.as_slice.ensures ∙ h) c.judge.ensures.document)
+
+pub returns-clause-refused : goal.returns-clause-refused
+returns-clause-refused c ds h is = c.judge.ensures.refused is

@@ -2,7 +2,7 @@ use Rattle.std.proofs.Common.{map, Err, sym, ◌∙◌}
 use Rattle.std.proofs.lemmas.Result.{err_from_is_err_and}
 use Rattle.graphql_check.specs.RequestHeads.{head_of, head_tree, in_heads}
 use Rattle.graphql_check.proofs.RequestHeads.{takes-head, definitions-are}
-use Rattle.graphql_reading.proofs.Loops.{stops, goes, ends, shorter, there}
+use Rattle.graphql_reading.proofs.Loops.{stops, goes, ends, shorter, there, given-stays}
 use Rattle.graphql_reading.specs.reading.Ahead.{tokens}
 use Rattle.graphql_reading.specs.reading.Outcome.{mapped_at, plus_at}
 use Rattle.graphql_requests.specs.reading.Request.{definition_first, definition_at, definitions_at}
@@ -17,11 +17,11 @@ returns-in_err-head c =
 
 pub returns-then-not-is_at_definition : goal.returns-then-not-is_at_definition
 returns-then-not-is_at_definition c =
-    let m = ends head_tree definition_first (mapped_at head_of (definition_at c.args.limits)) c.args.parser.now c.loop-heads.parser c.read_head.new.parser _ _ _ c.loop-heads.invariant c.in_ok-head.ensures (sym c.is_at_definition.ensures ∙ c.if-not-is_at_definition.true) c.in_ok-push.ensures.ok in
+    let m = ends head_tree definition_first (mapped_at head_of (definition_at c.args.limits)) c.args.parser.now c.loop-heads.parser c.push_small.new.self _ _ _ c.loop-heads.invariant (given-stays head_tree _ c.loop-heads.parser c.read_head.new.parser c.push_small.new.self (mapped_at head_of (definition_at c.args.limits)) c.in_ok-head.ensures c.push_small.ensures.stays) (sym c.is_at_definition.ensures ∙ c.if-not-is_at_definition.true) c.in_ok-push_small.ensures.items in
     (sym (definitions-are c.args.limits (tokens c.args.parser.now)) ∙ m.0, m.1)
 
 pub loop-heads-smaller : goal.loop-heads-smaller
-loop-heads-smaller c = shorter head_tree (mapped_at head_of (definition_at c.args.limits)) c.loop-heads.parser c.read_head.new.parser _ (takes-head c.args.limits) c.in_ok-head.ensures
+loop-heads-smaller c = shorter head_tree (mapped_at head_of (definition_at c.args.limits)) c.loop-heads.parser c.push_small.new.self _ (takes-head c.args.limits) (given-stays head_tree _ c.loop-heads.parser c.read_head.new.parser c.push_small.new.self (mapped_at head_of (definition_at c.args.limits)) c.in_ok-head.ensures c.push_small.ensures.stays)
 
 pub loop-heads-preserved : goal.loop-heads-preserved
-loop-heads-preserved c = goes head_tree definition_first (mapped_at head_of (definition_at c.args.limits)) c.args.parser.now c.loop-heads.parser c.read_head.new.parser _ _ _ (takes-head c.args.limits) c.loop-heads.invariant c.in_ok-head.ensures (sym c.is_at_definition.ensures ∙ c.if-not-is_at_definition.false) c.in_ok-push.ensures.ok
+loop-heads-preserved c = goes head_tree definition_first (mapped_at head_of (definition_at c.args.limits)) c.args.parser.now c.loop-heads.parser c.push_small.new.self _ _ _ (takes-head c.args.limits) c.loop-heads.invariant (given-stays head_tree _ c.loop-heads.parser c.read_head.new.parser c.push_small.new.self (mapped_at head_of (definition_at c.args.limits)) c.in_ok-head.ensures c.push_small.ensures.stays) (sym c.is_at_definition.ensures ∙ c.if-not-is_at_definition.false) c.in_ok-push_small.ensures.items

@@ -1,95 +1,128 @@
-use Rattle.std.proofs.Common.{◌≡◌, ℕ, ◌≤◌, ◌+◌, ◌-◌, List, [], length, drop, ap, sym, ◌∙◌, subst, arith}
-use Rattle.graphql_tokens.specs.tokens.Cuts.{EndsOnce}
+use Rattle.std.proofs.Common.{◌≡◌, ℕ, ◌-◌, Err, List, ap, sym, subst}
 use Rattle.graphql_tokens.specs.tokens.Edition.{Current}
-use Rattle.graphql_tokens.specs.tokens.Proper.{AreProperButFaults}
-use Rattle.graphql_tokens.specs.tokens.Token.{Token, left}
+use Rattle.graphql_tokens.specs.tokens.Token.{Token, Lexing}
 use Rattle.graphql_grammar.specs.answers.Answers.{Answers, TakenFor, IsDecided, AreTheDefinitions}
 use Rattle.graphql_grammar.specs.answers.Language.{grammar}
-use Rattle.graphql_reading.specs.reading.Ahead.{tokens}
-use Rattle.graphql_reading.specs.reading.Given.{GoesOn}
-use Rattle.graphql_reading.specs.reading.Outcome.{whole_at}
-use Rattle.graphql_grammar.proofs.Answering.{document-answers, document-taken, refusal-answers, refusal-taken, taken-between}
+use Rattle.graphql_memory.specs.Memory as memory
+use Rattle.graphql_tokens.specs.declared.pos.Pos.{Pos}
+use Rattle.graphql_grammar.specs.reading.Errors.{IsErrorOf}
+use Rattle.graphql_reading.specs.declared.parser.Refusal.{Refusal}
+use Rattle.graphql_reading.specs.declared.parser.Refusal.TheVariants.{Memory}
+use Rattle.graphql_reading.specs.reading.Ahead.{Ahead, tokens}
+use Rattle.graphql_reading.specs.reading.Given.{Refuses}
+use Rattle.graphql_reading.specs.reading.Outcome.{Reader, whole_at}
+use Rattle.graphql_grammar.proofs.Answering.{document-answers, document-taken, refusal-answers, refusal-taken, Goes, goes-of, all-taken}
 use Rattle.graphql_check.proofs.Sums.{is-made, refuses-made}
 use Rattle.graphql_check.proofs.document.check_document.Given.{Over}
 use Rattle.graphql_check.proofs.document.check_document.Goals as goal
-use Rattle.graphql_check.proofs.document.check_document.Goals.{in-Ok, in-Err}
 
--- the tokens that the parser reads are those that were left
-ahead-is : (g : Over) (c : goal.After-into_tokens g) → tokens c.new-parser.result ≡ left c.args.tokens.now
-ahead-is g c = c.new-parser.ensures.left ∙ ap left c.replace.ensures.value
+-- the lexer before and after, in either arm
+went-ok : (g : Over) (c : goal.After-judge g) → Goes c.args.tokens.now c.into_parts-left.result.0 c.new-parser.result c.read_whole-read.new.parser
+went-ok g c =
+    let begins = c.new-parser.ensures in
+    let ends = c.into_parts-left.ensures in
+    goes-of c.args.tokens.now c.replace-2.result c.into_parts-left.result.0 c.new-parser.result c.read_whole-read.new.parser
+    c.replace-2.ensures.value begins.left begins.ends begins.proper begins.whole begins.taken ends.left ends.whole ends.taken ends.within
 
-ends : (g : Over) (c : goal.After-into_tokens g) → EndsOnce (tokens c.new-parser.result)
-ends g c = subst EndsOnce (sym c.new-parser.ensures.left) c.new-parser.ensures.ends
+went-not : (g : Over) (c : goal.After-error_of g) → Goes c.args.tokens.now c.into_parts-left.result.0 c.new-parser.result c.read_whole-read.new.parser
+went-not g c =
+    let begins = c.new-parser.ensures in
+    let ends = c.into_parts-left.ensures in
+    goes-of c.args.tokens.now c.replace-2.result c.into_parts-left.result.0 c.new-parser.result c.read_whole-read.new.parser
+    c.replace-2.ensures.value begins.left begins.ends begins.proper begins.whole begins.taken ends.left ends.whole ends.taken ends.within
 
-proper : (g : Over) (c : goal.After-into_tokens g) → AreProperButFaults (tokens c.new-parser.result)
-proper g c = subst AreProperButFaults (sym c.new-parser.ensures.left) c.new-parser.ensures.proper
+abbrev count : Lexing → Lexing → ℕ
+count from to = to.taken - from.taken
 
--- so many tokens are taken up to those after the one in hand
-abbrev count : (g : Over) (c : goal.After-into_tokens g) → ℕ
-count g c = c.into_tokens.result.taken - c.args.tokens.now.taken
+-- ---- where there is a tree
 
-forward : (g : Over) (c : goal.After-into_tokens g) → GoesOn c.new-parser.result c.read_whole.new.parser → c.args.tokens.now.taken ≤ c.into_tokens.result.taken
-forward g c on =
-    let a = c.new-parser.ensures.taken in
-    let b = on.1 in
-    let d = c.into_tokens.ensures.taken in
-    let e = ap (λ l. l.taken) c.replace.ensures.value in
-    omega (arith, a, b, d, e)
-
-taken : (g : Over) (c : goal.After-into_tokens g) → GoesOn c.new-parser.result c.read_whole.new.parser → length (tokens c.new-parser.result) ≡ count g c + length c.read_whole.new.parser.behind
-taken g c on =
-    let same : c.into_tokens.result.whole ≡ c.args.tokens.now.whole = c.into_tokens.ensures.whole ∙ on.0 ∙ c.new-parser.ensures.whole ∙ ap (λ l. l.whole) c.replace.ensures.value in
-    taken-between c.args.tokens.now.whole (tokens c.new-parser.result) c.read_whole.new.parser.behind c.args.tokens.now.taken c.into_tokens.result.taken
-    (ahead-is g c) (sym c.into_tokens.ensures.left ∙ ap (drop c.into_tokens.result.taken) same)
-    (forward g c on) (subst (λ whole. c.into_tokens.result.taken ≤ length whole) same c.into_tokens.ensures.within)
-
-pub returns-clause-answer : goal.returns-clause-answer
-returns-clause-answer g c =
+pub returns-in-Ok-clause-answer : goal.returns-in-Ok-clause-answer
+returns-in-Ok-clause-answer g c =
     let language = g.K.Kept.language in
+    let went = went-ok g c in
     let ts = tokens c.new-parser.result in
     let limits = c.args.limits in
-    subst (λ (ts : List Token). Answers language limits ts c.match-read_whole.answer) (ahead-is g c)
-    (elim c.match-read_whole.branch [
-      | in-Ok w ↦
-          let made = is-made g.K.Kept.sum (whole_at (g.K.Kept.reader limits) ts) _ c.read_whole.new.parser.behind w.in-Ok.ensures.0 in
-          subst (Answers language limits ts) (sym w.answer-is) (document-answers language limits ts made.tree _ (c.requires.read.accepts limits ts (ends g c) (proper g c) made.tree _ made.is).1 (w.judge-answer.ensures made.tree made.made))
-      | in-Err w ↦ subst (Answers language limits ts) (sym w.answer-is) (refusal-answers language g.K.Kept.reader c.requires.read limits c.new-parser.result c.read_whole.new.parser w.in-Err.refusal w.error_of.result (ends g c) (proper g c) (refuses-made g.K.Kept.sum (whole_at (g.K.Kept.reader limits)) w.in-Err.refusal c.new-parser.result c.read_whole.new.parser w.in-Err.ensures.0) w.error_of.ensures)
-    ])
+    let made = is-made g.K.Kept.sum (whole_at (g.K.Kept.reader limits) ts) _ c.read_whole-read.new.parser.behind c.in-Ok.ensures.0 in
+    subst (λ (ts : List Token). Answers language limits ts c.judge.result) went.same
+    (document-answers language limits ts made.tree _ (c.requires.read.accepts limits ts went.ends went.proper made.tree _ made.is).1 (c.judge.ensures.document made.tree made.made))
 
-pub returns-clause-taken : goal.returns-clause-taken
-returns-clause-taken g c =
+pub returns-in-Ok-clause-taken : goal.returns-in-Ok-clause-taken
+returns-in-Ok-clause-taken g c =
     let language = g.K.Kept.language in
+    let went = went-ok g c in
     let ts = tokens c.new-parser.result in
     let limits = c.args.limits in
-    elim c.match-read_whole.branch [
-      | in-Ok w ↦
-          let made = is-made g.K.Kept.sum (whole_at (g.K.Kept.reader limits) ts) _ c.read_whole.new.parser.behind w.in-Ok.ensures.0 in (
-            count g c,
-            sums w.in-Ok.ensures.1,
-            subst (λ (ts : List Token). TakenFor language limits ts c.match-read_whole.answer (count g c)) (ahead-is g c)
-                (subst (λ r. TakenFor language limits ts r (count g c)) (sym w.answer-is)
-                (document-taken language limits ts made.tree _ (count g c) (all w.in-Ok.ensures.1 (c.requires.read.accepts limits ts (ends g c) (proper g c) made.tree _ made.is).0) (w.judge-answer.ensures made.tree made.made))),
-          )
-      | in-Err w ↦ (
-        count g c,
-        sums w.in-Err.ensures.1,
-        subst (λ (ts : List Token). TakenFor language limits ts c.match-read_whole.answer (count g c)) (ahead-is g c)
-            (subst (λ r. TakenFor language limits ts r (count g c)) (sym w.answer-is)
-            (refusal-taken language g.K.Kept.reader c.requires.read limits c.new-parser.result c.read_whole.new.parser w.in-Err.refusal w.error_of.result (count g c) (taken g c w.in-Err.ensures.1) (ends g c) (proper g c) (refuses-made g.K.Kept.sum (whole_at (g.K.Kept.reader limits)) w.in-Err.refusal c.new-parser.result c.read_whole.new.parser w.in-Err.ensures.0) w.error_of.ensures)),
-      )
-    ]
-  where
-    sums : GoesOn c.new-parser.result c.read_whole.new.parser → c.into_tokens.result.taken ≡ c.args.tokens.now.taken + count g c
-    sums on = let le = forward g c on in omega (arith, le)
+    let n = count c.args.tokens.now c.into_parts-left.result.0 in
+    let made = is-made g.K.Kept.sum (whole_at (g.K.Kept.reader limits) ts) _ c.read_whole-read.new.parser.behind c.in-Ok.ensures.0 in
+    let accepted = c.requires.read.accepts limits ts went.ends went.proper made.tree _ made.is in
+    let all = all-taken c.args.tokens.now c.into_parts-left.result.0 c.new-parser.result c.read_whole-read.new.parser went c.in-Ok.ensures.1 accepted.0 in (
+      n,
+      went.sums c.in-Ok.ensures.1,
+      subst (λ (ts : List Token). TakenFor language limits ts c.judge.result n) went.same (document-taken language limits ts made.tree _ n all (c.judge.ensures.document made.tree made.made)),
+    )
 
-    all : GoesOn c.new-parser.result c.read_whole.new.parser → c.read_whole.new.parser.behind ≡ [] → count g c ≡ length (tokens c.new-parser.result)
-    all on empty = let t = taken g c on in let n = ap length empty in omega (arith, t, n)
+pub returns-in-Ok-clause-refused : goal.returns-in-Ok-clause-refused
+returns-in-Ok-clause-refused g c is =
+    let made = is-made g.K.Kept.sum (whole_at (g.K.Kept.reader c.args.limits) (tokens c.new-parser.result)) _ c.read_whole-read.new.parser.behind c.in-Ok.ensures.0 in
+    c.judge.ensures.refused made.tree made.made is
 
-pub returns-clause-decided : goal.returns-clause-decided
-returns-clause-decided g c = subst (IsDecided g.K.Kept.language c.args.limits) (ahead-is g c) (c.requires.read.decided c.args.limits (tokens c.new-parser.result) (ends g c) (proper g c))
+-- ---- where there is none
 
-pub returns-clause-only : goal.returns-clause-only
-returns-clause-only g c ds h =
+-- where memory was refused, it was so when the reader stopped
+memory-refused : {Y : Type 0} (stop : Refusal) (old new : Ahead) (r : Reader Y) → Refuses stop old new r → stop ≡ Memory → memory.Refused new.memory
+memory-refused stop old new r h is = subst (λ (s : Refusal). Refuses s old new r) is h
+
+refused-here : (g : Over) (c : goal.After-error_of g) → Refuses c.in-Err.refusal c.new-parser.result c.read_whole-read.new.parser (whole_at (g.K.Kept.reader c.args.limits))
+refused-here g c = refuses-made g.K.Kept.sum (whole_at (g.K.Kept.reader c.args.limits)) c.in-Err.refusal c.new-parser.result c.read_whole-read.new.parser c.in-Err.ensures.0
+
+pub error_of-requires : goal.error_of-requires
+error_of-requires g c is =
+    subst memory.Refused (sym c.into_parts-left.ensures.memory)
+    (memory-refused c.in-Err.refusal c.new-parser.result c.read_whole-read.new.parser (whole_at (g.K.Kept.reader c.args.limits))
+    (refuses-made g.K.Kept.sum (whole_at (g.K.Kept.reader c.args.limits)) c.in-Err.refusal c.new-parser.result c.read_whole-read.new.parser c.in-Err.ensures.0) is)
+
+pub returns-in-Err-clause-answer : goal.returns-in-Err-clause-answer
+returns-in-Err-clause-answer g c =
     let language = g.K.Kept.language in
-    subst (λ ts. AreTheDefinitions language c.args.limits ts ds) (ahead-is g c)
-    (c.requires.read.only c.args.limits (tokens c.new-parser.result) (ends g c) (proper g c) ds (subst (λ ts. grammar language Current c.args.limits ts ds) (sym (ahead-is g c)) h))
+    let went = went-not g c in
+    let ts = tokens c.new-parser.result in
+    let limits = c.args.limits in
+    let place = ap (λ (t : Token). t.pos) c.hand.ensures.token in
+    subst (λ (ts : List Token). Answers language limits ts (Err c.error_of.result)) went.same
+    (refusal-answers language g.K.Kept.reader c.requires.read limits c.new-parser.result c.read_whole-read.new.parser c.in-Err.refusal c.error_of.result went.ends went.proper (refused-here g c) (subst (λ (p : Pos). IsErrorOf c.in-Err.refusal p c.error_of.result) place c.error_of.ensures.error))
+
+pub returns-in-Err-clause-taken : goal.returns-in-Err-clause-taken
+returns-in-Err-clause-taken g c =
+    let language = g.K.Kept.language in
+    let went = went-not g c in
+    let ts = tokens c.new-parser.result in
+    let limits = c.args.limits in
+    let n = count c.args.tokens.now c.into_parts-left.result.0 in
+    let place = ap (λ (t : Token). t.pos) c.hand.ensures.token in (
+      n,
+      went.sums c.in-Err.ensures.1,
+      subst (λ (ts : List Token). TakenFor language limits ts (Err c.error_of.result) n) went.same
+          (refusal-taken language g.K.Kept.reader c.requires.read limits c.new-parser.result c.read_whole-read.new.parser c.in-Err.refusal c.error_of.result n (went.counted c.in-Err.ensures.1) went.ends went.proper (refused-here g c) (subst (λ (p : Pos). IsErrorOf c.in-Err.refusal p c.error_of.result) place c.error_of.ensures.error)),
+    )
+
+-- ---- either way
+
+pub returns-in-Ok-clause-decided : goal.returns-in-Ok-clause-decided
+returns-in-Ok-clause-decided g c = let went = went-ok g c in subst (IsDecided g.K.Kept.language c.args.limits) went.same (c.requires.read.decided c.args.limits (tokens c.new-parser.result) went.ends went.proper)
+
+pub returns-in-Err-clause-decided : goal.returns-in-Err-clause-decided
+returns-in-Err-clause-decided g c = let went = went-not g c in subst (IsDecided g.K.Kept.language c.args.limits) went.same (c.requires.read.decided c.args.limits (tokens c.new-parser.result) went.ends went.proper)
+
+pub returns-in-Ok-clause-only : goal.returns-in-Ok-clause-only
+returns-in-Ok-clause-only g c ds h =
+    let language = g.K.Kept.language in
+    let went = went-ok g c in
+    subst (λ ts. AreTheDefinitions language c.args.limits ts ds) went.same
+    (c.requires.read.only c.args.limits (tokens c.new-parser.result) went.ends went.proper ds (subst (λ ts. grammar language Current c.args.limits ts ds) (sym went.same) h))
+
+pub returns-in-Err-clause-only : goal.returns-in-Err-clause-only
+returns-in-Err-clause-only g c ds h =
+    let language = g.K.Kept.language in
+    let went = went-not g c in
+    subst (λ ts. AreTheDefinitions language c.args.limits ts ds) went.same
+    (c.requires.read.only c.args.limits (tokens c.new-parser.result) went.ends went.proper ds (subst (λ ts. grammar language Current c.args.limits ts ds) (sym went.same) h))

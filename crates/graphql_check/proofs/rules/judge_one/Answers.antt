@@ -8,8 +8,8 @@ use Rattle.graphql_requests.specs.grammar.Requests.{requests}
 use Rattle.graphql_check.proofs.Sorted.{one-operation, one-fragment}
 use Rattle.graphql_check.proofs.rules.judge_one.Goals as goal
 
-pub returns-in-Operation : goal.returns-in-Operation
-returns-in-Operation c = subst (λ head. IsDocument (checked requests) (head_tree head ∷ []) tt) (sym c.in-Operation.is) (one-operation (option_map (λ n. n.now) c.in-Operation.field-0) c.in-Operation.field-1)
+pub returns-in-Operation-clause-document : goal.returns-in-Operation-clause-document
+returns-in-Operation-clause-document c = subst (λ head. IsDocument (checked requests) (head_tree head ∷ []) tt) (sym c.in-Operation.is) (one-operation (option_map (λ n. n.now) c.in-Operation.field-0) c.in-Operation.field-1)
 
-pub returns-in-Fragment : goal.returns-in-Fragment
-returns-in-Fragment c = subst (λ head. TellsBreach (checked requests) (head_tree head ∷ []) MissingOperation) (sym c.in-Fragment.is) (one-fragment c.in-Fragment.field-0.now c.in-Fragment.field-1)
+pub returns-in-Fragment-clause-document : goal.returns-in-Fragment-clause-document
+returns-in-Fragment-clause-document c = subst (λ head. TellsBreach (checked requests) (head_tree head ∷ []) MissingOperation) (sym c.in-Fragment.is) (one-fragment c.in-Fragment.field-0.now c.in-Fragment.field-1)

@@ -1,7 +1,7 @@
 use Rattle.std.proofs.Common.{ℕ, pred, sym, subst}
 use Rattle.std.proofs.lemmas.Result.{err_from_is_err_and}
 use Rattle.graphql_grammar.specs.reading.OpenValues.{opened, met, open_rest}
-use Rattle.graphql_grammar.proofs.ValueLoop.{Kept, kept-first, kept-popped, kept-entered, kept-stops}
+use Rattle.graphql_grammar.proofs.ValueLoop.{Kept, kept-first, kept-popped, kept-entered, kept-stops, kept-stays}
 use Rattle.graphql_grammar.proofs.value.read_open.Goals as goal
 
 pub loop-frames-init : goal.loop-frames-init
@@ -18,9 +18,9 @@ returns-in_err-frame g c =
 pub loop-frames-preserved-in_ok-push-in-Entered : goal.loop-frames-preserved-in_ok-push-in-Entered
 loop-frames-preserved-in_ok-push-in-Entered g c =
     let entered = rw c.in-Entered.is at c.in_ok-frame.ensures in
-    rw c.push.ensures.limit (kept-entered c.loop-frames.invariant c.left.result c.go_on.new.parser c.in-Entered.frame c.push.new.self.outer.items c.in-Entered.inner c.left.ensures c.in_ok-push-in-Entered.ensures.outer entered.0 entered.1)
+    rw c.push.ensures.limit (kept-stays (kept-entered c.loop-frames.invariant c.left.result c.go_on.new.parser c.in-Entered.frame c.push.new.self.outer.items c.in-Entered.inner c.left.ensures c.in_ok-push-in-Entered.ensures.outer entered.0 entered.1) c.push.new.parser c.push.ensures.stays)
 
 pub loop-frames-preserved : goal.loop-frames-preserved
 loop-frames-preserved g c =
     let closed = rw c.in-Closed.is at c.in_ok-frame.ensures in
-    rw c.pop.ensures.limit (kept-popped c.loop-frames.invariant c.left.result (g.V.Literal.tree c.in-Closed.value) c.go_on.new.parser c.in-Some.frame c.pop.new.self.outer.items c.in_ok-innermost-in-Some.innermost c.left.ensures c.in-Some.ensures.outer c.in_ok-innermost-in-Some.ensures closed.0 closed.1)
+    rw c.pop.ensures.limit (kept-stays (kept-popped c.loop-frames.invariant c.left.result (g.V.Literal.tree c.in-Closed.value) c.go_on.new.parser c.in-Some.frame c.pop.new.self.outer.items c.in_ok-innermost-in-Some.innermost c.left.ensures c.in-Some.ensures.outer c.in_ok-innermost-in-Some.ensures.filled closed.0 closed.1) c.fill.new.parser c.fill.ensures.stays)

@@ -9,6 +9,6 @@ loop-definition-preserved c =
       tt,
       tt,
       kept.2 ∙ ap (λ l. front ++ l) c.in-Some.ensures.steps.0 ∙ sym (append_assoc front (c.in-Some.definition ∷ []) _),
-      unbroken-one-more front c.in-Some.definition kept.3 c.in_ok-finish.ensures.0,
-      finished-one-more front c.in-Some.definition _ _ _ kept.4 c.in_ok-add_node.ensures c.in_ok-finish.ensures.1,
+      unbroken-one-more front c.in-Some.definition kept.3 c.in_ok-finish.ensures.finished.0,
+      finished-one-more front c.in-Some.definition _ _ _ kept.4 c.in_ok-push.ensures.items c.in_ok-finish.ensures.finished.1,
     )

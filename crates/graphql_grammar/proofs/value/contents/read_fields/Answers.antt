@@ -3,7 +3,9 @@ use Rattle.std.proofs.lemmas.List.{map_push}
 use Rattle.std.proofs.lemmas.Result.{err_from_is_err_and}
 use Rattle.graphql_syntax.specs.trees.ValueTree.{Tree}
 use Rattle.graphql_reading.specs.reading.Ahead.{tokens}
-use Rattle.graphql_grammar.specs.reading.OpenValues.{Field, field_tree, opened, object_rest}
+use Rattle.graphql_grammar.specs.reading.OpenValues.{node_at, Field, field_tree, opened, object_rest}
+use Rattle.graphql_grammar.specs.reading.Values.{simple_at}
+use Rattle.graphql_reading.proofs.Loops.{given-stays}
 use Rattle.graphql_grammar.proofs.ValueContents.{wants-field, ends-object, stops-field, meets-inside, stops-inside, stops-alone, falls, adds}
 use Rattle.graphql_grammar.proofs.value.contents.read_fields.Goals as goal
 
@@ -26,13 +28,13 @@ returns-in-Some-2 g c =
     let found = rw c.in-Some-2.is at c.in_ok-inner.ensures in
     meets-inside c.loop-name.invariant wants (opened g.V.Literal.tree c.in-Some-2.inner) c.enter.new.parser found.0 found.1
 
-pub returns-in_err-read_simple : goal.returns-in_err-read_simple
-returns-in_err-read_simple g c =
-    let p = err_from_is_err_and c.from_residual-in_err-read_simple.result c.from_residual-in_err-read_simple.ensures.1 in
+pub returns-in_err-value : goal.returns-in_err-value
+returns-in_err-value g c =
+    let p = err_from_is_err_and c.from_residual-in_err-value.result c.from_residual-in_err-value.ensures.1 in
     let key = rw c.in-Some.is at c.in_ok-name.ensures in
     let wants = wants-field g.V.Literal.VARIABLES c.args.left (map (field_tree g.V.Literal.tree) c.loop-name.fields.items) c.loop-name.parser c.read_key.new.parser c.in-Some.name key in
     let none = rw c.in_default-2.is at c.in_ok-inner.ensures in
-    rw (p.1, p.2) (stops-alone c.loop-name.invariant wants record { none = none.0; on = none.1 } g.V.Literal.tree _ c.read_simple.new.parser c.in_err-read_simple.ensures)
+    rw (p.1, p.2) (stops-alone c.loop-name.invariant wants record { none = none.0; on = none.1 } g.V.Literal.tree _ c.read_simple.new.parser c.in_err-value.ensures)
 
 pub loop-name-preserved : goal.loop-name-preserved
 loop-name-preserved g c =
@@ -42,18 +44,20 @@ loop-name-preserved g c =
     let key = rw c.in-Some.is at c.in_ok-name.ensures in
     let wants = wants-field vars c.args.left (map (field_tree tree) held) c.loop-name.parser c.read_key.new.parser c.in-Some.name key in
     let none = rw c.in_default-2.is at c.in_ok-inner.ensures in
-    let t : Tree = tree c.in_ok-read_simple.field-0 in
-    let pair : List ℕ × g.row.V.Denot = (c.in-Some.name, c.in_ok-read_simple.field-0) in
-    let items : c.push.new.self.items ≡ held ++ pair ∷ [] = search rules in
-    let pushed : map (field_tree tree) c.push.new.self.items ≡ map (field_tree tree) held ++ (c.in-Some.name, t) ∷ [] = ap (map (field_tree tree)) items ∙ map_push (field_tree tree) held (c.in-Some.name, c.in_ok-read_simple.field-0) in
-    adds c.loop-name.invariant wants {alone = c.enter.new.parser} record { none = none.0; on = none.1 } t c.read_simple.new.parser (map (field_tree tree) c.push.new.self.items) c.in_ok-read_simple.ensures.0 c.in_ok-read_simple.ensures.1 (ap (λ (l : List Field). object_rest vars c.args.left l (tokens c.read_simple.new.parser)) (sym pushed))
+    let moved = given-stays g.V.Literal.tree _ c.enter.new.parser c.read_simple.new.parser c.push.new.self (node_at (simple_at g.V.Literal.VARIABLES)) c.in_ok-value.ensures c.push.ensures.stays in
+    let t : Tree = tree c.in_ok-value.value in
+    let pair : List ℕ × g.row.V.Denot = (c.in-Some.name, c.in_ok-value.value) in
+    let items : c.push.new.list.items ≡ held ++ pair ∷ [] = search rules in
+    let pushed : map (field_tree tree) c.push.new.list.items ≡ map (field_tree tree) held ++ (c.in-Some.name, t) ∷ [] = ap (map (field_tree tree)) items ∙ map_push (field_tree tree) held (c.in-Some.name, c.in_ok-value.value) in
+    adds c.loop-name.invariant wants {alone = c.enter.new.parser} record { none = none.0; on = none.1 } t c.push.new.self (map (field_tree tree) c.push.new.list.items) moved.0 moved.1 (ap (λ (l : List Field). object_rest vars c.args.left l (tokens c.push.new.self)) (sym pushed))
 
 pub loop-name-smaller : goal.loop-name-smaller
 loop-name-smaller g c =
     let key = rw c.in-Some.is at c.in_ok-name.ensures in
     let wants = wants-field g.V.Literal.VARIABLES c.args.left (map (field_tree g.V.Literal.tree) c.loop-name.fields.items) c.loop-name.parser c.read_key.new.parser c.in-Some.name key in
     let none = rw c.in_default-2.is at c.in_ok-inner.ensures in
-    falls c.loop-name.invariant wants {alone = c.enter.new.parser} record { none = none.0; on = none.1 } (g.V.Literal.tree c.in_ok-read_simple.field-0) c.read_simple.new.parser c.in_ok-read_simple.ensures.0
+    let moved = given-stays g.V.Literal.tree _ c.enter.new.parser c.read_simple.new.parser c.push.new.self (node_at (simple_at g.V.Literal.VARIABLES)) c.in_ok-value.ensures c.push.ensures.stays in
+    falls c.loop-name.invariant wants {alone = c.enter.new.parser} record { none = none.0; on = none.1 } (g.V.Literal.tree c.in_ok-value.value) c.push.new.self moved.0
 
 pub returns : goal.returns
 returns g c =

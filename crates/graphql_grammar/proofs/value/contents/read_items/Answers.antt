@@ -3,7 +3,9 @@ use Rattle.std.proofs.lemmas.List.{map_push}
 use Rattle.std.proofs.lemmas.Result.{err_from_is_err_and}
 use Rattle.graphql_syntax.specs.trees.ValueTree.{Tree}
 use Rattle.graphql_reading.specs.reading.Ahead.{tokens}
-use Rattle.graphql_grammar.specs.reading.OpenValues.{opened, list_rest}
+use Rattle.graphql_grammar.specs.reading.OpenValues.{node_at, opened, list_rest}
+use Rattle.graphql_grammar.specs.reading.Values.{simple_at}
+use Rattle.graphql_reading.proofs.Loops.{given-stays}
 use Rattle.graphql_grammar.proofs.ValueContents.{wants-item, ends-list, meets-inside, stops-inside, stops-alone, falls, adds}
 use Rattle.graphql_grammar.proofs.value.contents.read_items.Goals as goal
 
@@ -19,12 +21,12 @@ returns-in-Some g c =
     let found = rw c.in-Some.is at c.in_ok-inner.ensures in
     meets-inside c.loop-parser.invariant wants (opened g.V.Literal.tree c.in-Some.inner) c.enter.new.parser found.0 found.1
 
-pub returns-in_err-read_simple : goal.returns-in_err-read_simple
-returns-in_err-read_simple g c =
-    let p = err_from_is_err_and c.from_residual-in_err-read_simple.result c.from_residual-in_err-read_simple.ensures.1 in
+pub returns-in_err-item : goal.returns-in_err-item
+returns-in_err-item g c =
+    let p = err_from_is_err_and c.from_residual-in_err-item.result c.from_residual-in_err-item.ensures.1 in
     let wants = wants-item g.V.Literal.VARIABLES c.args.left (map g.V.Literal.tree c.loop-parser.items.items) c.loop-parser.parser c.take_punct.new.self c.loop-parser-test.ensures in
     let none = rw c.in_default.is at c.in_ok-inner.ensures in
-    rw (p.1, p.2) (stops-alone c.loop-parser.invariant wants record { none = none.0; on = none.1 } g.V.Literal.tree _ c.read_simple.new.parser c.in_err-read_simple.ensures)
+    rw (p.1, p.2) (stops-alone c.loop-parser.invariant wants record { none = none.0; on = none.1 } g.V.Literal.tree _ c.read_simple.new.parser c.in_err-item.ensures)
 
 pub loop-parser-preserved : goal.loop-parser-preserved
 loop-parser-preserved g c =
@@ -33,15 +35,17 @@ loop-parser-preserved g c =
     let held = c.loop-parser.items.items in
     let wants = wants-item vars c.args.left (map tree held) c.loop-parser.parser c.take_punct.new.self c.loop-parser-test.ensures in
     let none = rw c.in_default.is at c.in_ok-inner.ensures in
-    let t : Tree = tree c.in_ok-read_simple.field-0 in
-    let pushed : map tree c.push.new.self.items ≡ map tree held ++ t ∷ [] = ap (map tree) c.in_ok-push.ensures.items ∙ map_push tree held c.in_ok-read_simple.field-0 in
-    adds c.loop-parser.invariant wants {alone = c.enter.new.parser} record { none = none.0; on = none.1 } t c.read_simple.new.parser (map tree c.push.new.self.items) c.in_ok-read_simple.ensures.0 c.in_ok-read_simple.ensures.1 (ap (λ (l : List Tree). list_rest vars c.args.left l (tokens c.read_simple.new.parser)) (sym pushed))
+    let moved = given-stays g.V.Literal.tree _ c.enter.new.parser c.read_simple.new.parser c.push.new.self (node_at (simple_at g.V.Literal.VARIABLES)) c.in_ok-item.ensures c.push.ensures.stays in
+    let t : Tree = tree c.in_ok-item.item in
+    let pushed : map tree c.push.new.list.items ≡ map tree held ++ t ∷ [] = ap (map tree) c.in_ok-push.ensures.items ∙ map_push tree held c.in_ok-item.item in
+    adds c.loop-parser.invariant wants {alone = c.enter.new.parser} record { none = none.0; on = none.1 } t c.push.new.self (map tree c.push.new.list.items) moved.0 moved.1 (ap (λ (l : List Tree). list_rest vars c.args.left l (tokens c.push.new.self)) (sym pushed))
 
 pub loop-parser-smaller : goal.loop-parser-smaller
 loop-parser-smaller g c =
     let wants = wants-item g.V.Literal.VARIABLES c.args.left (map g.V.Literal.tree c.loop-parser.items.items) c.loop-parser.parser c.take_punct.new.self c.loop-parser-test.ensures in
     let none = rw c.in_default.is at c.in_ok-inner.ensures in
-    falls c.loop-parser.invariant wants {alone = c.enter.new.parser} record { none = none.0; on = none.1 } (g.V.Literal.tree c.in_ok-read_simple.field-0) c.read_simple.new.parser c.in_ok-read_simple.ensures.0
+    let moved = given-stays g.V.Literal.tree _ c.enter.new.parser c.read_simple.new.parser c.push.new.self (node_at (simple_at g.V.Literal.VARIABLES)) c.in_ok-item.ensures c.push.ensures.stays in
+    falls c.loop-parser.invariant wants {alone = c.enter.new.parser} record { none = none.0; on = none.1 } (g.V.Literal.tree c.in_ok-item.item) c.push.new.self moved.0
 
 pub returns : goal.returns
 returns g c = ends-list g.V.Literal.VARIABLES c.args.left c.args.parser.now c.loop-parser.parser c.take_punct.new.self (map g.V.Literal.tree c.args.items.now.items) (map g.V.Literal.tree c.loop-parser.items.items) c.loop-parser.invariant c.loop-parser-test.ensures

@@ -1,18 +1,19 @@
 use Rattle.std.proofs.Common.{◌≡◌, [], arith, inl, inr, ap, ap₂, sym, ◌∙◌}
 use Rattle.graphql_grammar.specs.reading.Fields.{are_distinct, put_all, places}
 use Rattle.graphql_grammar.proofs.Fields.{merged-distinct, merged-by-putting}
+use Rattle.graphql_reading.proofs.Loops.{still}
 use Rattle.graphql_grammar.proofs.FieldPlaces.{put-next, all-put}
 use Rattle.graphql_grammar.proofs.value.fields.merge.Goals as goal
 
-pub returns-then-are_distinct : goal.returns-then-are_distinct
-returns-then-are_distinct g c = sym (merged-distinct c.args.fields.items (ap are_distinct (sym c.deref.ensures.value) ∙ sym c.are_distinct.ensures ∙ c.if-are_distinct.true))
+pub returns-then-are_distinct-clause-merged : goal.returns-then-are_distinct-clause-merged
+returns-then-are_distinct-clause-merged g c = sym (merged-distinct c.args.fields.items (ap are_distinct (sym c.deref.ensures.value) ∙ sym c.are_distinct.ensures ∙ c.if-are_distinct.true))
 
 pub loop-field-init : goal.loop-field-init
 loop-field-init g c =
     let gives = c.into_iter-field-iterator.ensures.into_iter_gives in
     let fields : c.into_iter-field-iterator.result.a.rest.items ≡ c.args.fields.items = ap (λ z. z.a.rest.items) gives ∙ ap (λ x. x.rest.items) c.zip-field-items.ensures.first ∙ c.into_iter.ensures.rest in
     let found : c.into_iter-field-iterator.result.b.rest.items ≡ c.in_ok-places.places.items = ap (λ z. z.b.rest.items) gives ∙ c.zip-field-items.ensures.second.0 in
-    (ap₂ put_all c.in_ok-merged.ensures.items fields, found ∙ c.in_ok-places.ensures ∙ ap (places []) c.deref-2.ensures.value ∙ sym (ap₂ places c.in_ok-merged.ensures.items fields))
+    (ap₂ put_all c.in_ok-merged.ensures.items fields, found ∙ c.in_ok-places.ensures.places ∙ ap (places []) c.deref-2.ensures.value ∙ sym (ap₂ places c.in_ok-merged.ensures.items fields), still c.args.parser.now c.places_of.new.parser c.list_for.new.self c.places_of.ensures.stays c.list_for.ensures.stays)
 
 pub put_at-requires : goal.put_at-requires
 put_at-requires g c =
@@ -22,12 +23,13 @@ put_at-requires g c =
 pub loop-field-preserved : goal.loop-field-preserved
 loop-field-preserved g c =
     let steps = c.in-Some.ensures.steps in
-    let now = c.in_ok-put_at.ensures in (
+    let now = c.in_ok-put_at.ensures.put in (
       ap (λ l. put_all l c.next.new.self.a.rest.items) now ∙ sym (ap (put_all c.loop-field.merged.items) steps.0.0) ∙ c.loop-field.invariant.0,
       (put-next c.loop-field.merged.items c.loop-field.field-iterator.a.rest.items _ c.in-Some.field c.in-Some.place c.loop-field.field-iterator.b.rest.items _ c.loop-field.invariant.1 steps.0.0 steps.1.0).1
           ∙ sym (ap (λ l. places l c.next.new.self.a.rest.items) now),
+      still c.args.parser.now c.loop-field.parser c.put_at.new.parser c.loop-field.invariant.2 c.put_at.ensures.stays,
     )
 
-pub returns : goal.returns
-returns g c = all-put c.loop-field.merged.items c.loop-field.field-iterator.a.rest.items c.loop-field.field-iterator.b.rest.items _ (c.loop-field.invariant.0 ∙ merged-by-putting c.args.fields.items) c.loop-field.invariant.1
+pub returns-clause-merged : goal.returns-clause-merged
+returns-clause-merged g c = all-put c.loop-field.merged.items c.loop-field.field-iterator.a.rest.items c.loop-field.field-iterator.b.rest.items _ (c.loop-field.invariant.0 ∙ merged-by-putting c.args.fields.items) c.loop-field.invariant.1
     (elim c.in-None.ensures.steps [ inl w ↦ inl (omega (arith, w.1, c.loop-field.field-iterator.a.rest.ok)) | inr w ↦ inr (omega (arith, w.1, c.loop-field.field-iterator.b.rest.ok)) ])

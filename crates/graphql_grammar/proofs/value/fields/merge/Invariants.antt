@@ -1,6 +1,7 @@
 use Rattle.std.proofs.Common.{◌≡◌, []}
+use Rattle.graphql_reading.specs.reading.Ahead.{Stays}
 use Rattle.graphql_grammar.specs.reading.Fields.{put_all, places}
 use Rattle.graphql_grammar.proofs.value.fields.merge.Given as goal
 
 abbrev pub invariant-loop-field : goal.invariant-loop-field
-invariant-loop-field g l = (put_all l.merged.items l.field-iterator.a.rest.items ≡ put_all [] l.fn.fields.items) × (l.field-iterator.b.rest.items ≡ places l.merged.items l.field-iterator.a.rest.items)
+invariant-loop-field g l = (put_all l.merged.items l.field-iterator.a.rest.items ≡ put_all [] l.fn.fields.items) × (l.field-iterator.b.rest.items ≡ places l.merged.items l.field-iterator.a.rest.items) × Stays l.fn.parser l.parser

@@ -15,15 +15,15 @@ range-requires-clause-end_boundary c =
     let b = line_boundary c.as_bytes-bytes.result.now c.lines.at c.past_line-end.result c.past_line-end.ensures.value c.past_line-end.ensures.within in
     rw (← c.as_bytes-bytes.ensures.value) b
 
-pub returns-then-end-bytes : goal.returns-then-end-bytes
-returns-then-end-bytes c =
+pub returns-then-end-bytes-clause-value : goal.returns-then-end-bytes-clause-value
+returns-then-end-bytes-clause-value c =
     let bs = c.as_bytes-bytes.result.now in
     let i = c.lines.at in
     let j = c.past_line-end.result in
     let line = take (j - i) (drop i bs) in
     let read : c.range.result.now ≡ line = c.range.ensures.value ∙ ap (λ x. take (j - i) (drop i x)) (sym c.as_bytes-bytes.ensures.value) in
     let added : string_bytes c.push_unquoted.new.value ≡ string_bytes c.lines.value ++ cleaned c.lines.here line =
-    c.in_ok-push_unquoted.ensures ∙ ap (λ x. string_bytes c.lines.value ++ unquoted x) (c.dedented.ensures ∙ ap (trimmed c.lines.here) read) in
+    c.in_ok-push_unquoted.ensures.value ∙ ap (λ x. string_bytes c.lines.value ++ unquoted x) (c.dedented.ensures ∙ ap (trimmed c.lines.here) read) in
     written_end bs _ (string_bytes c.lines.value) (string_bytes c.push_unquoted.new.value) c.lines.here c.args.indent i j c.past_line-end.ensures.value c.if-end-bytes.true c.lines.invariant.within
     c.lines.invariant.rest added
     ∙ ap (λ x. string_bytes c.args.value.now ++ written c.args.first_indent c.args.indent (lines_of x)) c.as_bytes-bytes.ensures.value
@@ -37,12 +37,12 @@ lines-preserved c =
     let l : j < length bs = (let w = c.past_line-end.ensures.within in let n = c.if-end-bytes.false in omega arith) in
     let read : c.range.result.now ≡ line = c.range.ensures.value ∙ ap (λ x. take (j - i) (drop i x)) (sym c.as_bytes-bytes.ensures.value) in
     let added : string_bytes c.push_unquoted.new.value ≡ string_bytes c.lines.value ++ cleaned c.lines.here line =
-    c.in_ok-push_unquoted.ensures ∙ ap (λ x. string_bytes c.lines.value ++ unquoted x) (c.dedented.ensures ∙ ap (trimmed c.lines.here) read) in
-    let feed : string_bytes c.push.new.self ≡ string_bytes c.push_unquoted.new.value ++ 10 ∷ [] =
-    c.in_ok-push.ensures.bytes ∙ ap (λ x. string_bytes c.push_unquoted.new.value ++ x) (c.in_ok-push.ensures.ascii (omega arith)) in
+    c.in_ok-push_unquoted.ensures.value ∙ ap (λ x. string_bytes c.lines.value ++ unquoted x) (c.dedented.ensures ∙ ap (trimmed c.lines.here) read) in
+    let feed : string_bytes c.push_char.new.text ≡ string_bytes c.push_unquoted.new.value ++ 10 ∷ [] =
+    c.in_ok-push_char.ensures.text ∙ ap (λ x. string_bytes c.push_unquoted.new.value ++ x) (c.in_ok-push_char.ensures.ascii (omega arith)) in
     record {
       within = c.next_line-at.ensures.within;
       boundary = rw c.next_line-at.ensures.value (end_boundary bs j c.as_bytes-bytes.ensures.utf8 l (line_end_of bs i j c.past_line-end.ensures.value l));
-      rest = written_step bs _ (string_bytes c.lines.value) (string_bytes c.push_unquoted.new.value) (string_bytes c.push.new.self) c.lines.here c.args.indent i j c.next_line-at.result
+      rest = written_step bs _ (string_bytes c.lines.value) (string_bytes c.push_unquoted.new.value) (string_bytes c.push_char.new.text) c.lines.here c.args.indent i j c.next_line-at.result
           c.past_line-end.ensures.value l c.next_line-at.ensures.value c.lines.invariant.rest added feed;
     }

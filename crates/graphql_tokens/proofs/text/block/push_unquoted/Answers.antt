@@ -13,15 +13,15 @@ range-requires-clause-end_boundary c =
     let b = quotes_boundary c.as_bytes-bytes.result.now c.next_quotes-end.result c.next_quotes-end.ensures.within c.next_quotes-end.ensures.here in
     rw (← c.as_bytes-bytes.ensures.value) b
 
-pub returns-then-end-bytes : goal.returns-then-end-bytes
-returns-then-end-bytes c =
+pub returns-then-end-bytes-clause-value : goal.returns-then-end-bytes-clause-value
+returns-then-end-bytes-clause-value c =
     let bs = c.as_bytes-bytes.result.now in
     let i = c.loop-at.at in
     let j = c.next_quotes-end.result in
     let run = c.range.ensures.value ∙ ap (λ x. take (j - i) (drop i x)) (sym c.as_bytes-bytes.ensures.value) in
-    let pushed = push_run bs _ (string_bytes c.loop-at.value) (string_bytes c.push_str.new.self) c.range.result.now i j c.loop-at.invariant.written
-    c.next_quotes-end.ensures.none c.next_quotes-end.ensures.from run c.in_ok-push_str.ensures.bytes in
-    push_end bs _ (string_bytes c.push_str.new.self) j pushed (omega arith) ∙ ap (λ x. string_bytes c.args.value.now ++ unquoted x) c.as_bytes-bytes.ensures.value
+    let pushed = push_run bs _ (string_bytes c.loop-at.value) (string_bytes c.push_text.new.text) c.range.result.now i j c.loop-at.invariant.written
+    c.next_quotes-end.ensures.none c.next_quotes-end.ensures.from run c.in_ok-push_text.ensures.text in
+    push_end bs _ (string_bytes c.push_text.new.text) j pushed (omega arith) ∙ ap (λ x. string_bytes c.args.value.now ++ unquoted x) c.as_bytes-bytes.ensures.value
 
 pub loop-at-preserved : goal.loop-at-preserved
 loop-at-preserved c =
@@ -31,9 +31,9 @@ loop-at-preserved c =
     let l : j < length bs = (let w = c.next_quotes-end.ensures.within in let n = c.if-end-bytes.false in omega arith) in
     let here = c.next_quotes-end.ensures.here l in
     let run = c.range.ensures.value ∙ ap (λ x. take (j - i) (drop i x)) (sym c.as_bytes-bytes.ensures.value) in
-    let pushed = push_run bs _ (string_bytes c.loop-at.value) (string_bytes c.push_str.new.self) c.range.result.now i j c.loop-at.invariant.written
-    c.next_quotes-end.ensures.none c.next_quotes-end.ensures.from run c.in_ok-push_str.ensures.bytes in
+    let pushed = push_run bs _ (string_bytes c.loop-at.value) (string_bytes c.push_text.new.text) c.range.result.now i j c.loop-at.invariant.written
+    c.next_quotes-end.ensures.none c.next_quotes-end.ensures.from run c.in_ok-push_text.ensures.text in
     record {
-      written = ap (λ x. string_bytes c.push_str.new.self ++ x) (sym (unquoted_quotes bs j here)) ∙ pushed;
+      written = ap (λ x. string_bytes c.push_text.new.text ++ x) (sym (unquoted_quotes bs j here)) ∙ pushed;
       boundary = behind_slash bs j c.as_bytes-bytes.ensures.utf8 l here;
     }

@@ -8,14 +8,14 @@ use Rattle.graphql_tokens.specs.inner.Blocks.{written, IsPlainBetween}
 use Rattle.graphql_tokens.proofs.BlockValue.{whole}
 use Rattle.graphql_tokens.proofs.BlockAnswers.{none_value, some_value, code_value, plain_value, cut_later, cut_first}
 use Rattle.graphql_tokens.proofs.BlockChars.{value_chars, no_bytes}
-use Rattle.graphql_tokens.proofs.text.block_string_value.Goals as goal
-use Rattle.graphql_tokens.proofs.text.block_string_value.Goals.{then-is_later, else-is_later}
+use Rattle.graphql_tokens.proofs.text.block_string_value_in.Goals as goal
+use Rattle.graphql_tokens.proofs.text.block_string_value_in.Goals.{then-is_later, else-is_later}
 
 pub returns-in_default-clause-value : goal.returns-in_default-clause-value
 returns-in_default-clause-value c =
     let none : block_value c.as_bytes.result.now ≡ [] = none_value c.as_bytes.result.now c.in_default.ensures in
-    value_chars c.args.raw.now (string_bytes c.new.result) c.utf8.raw (IsUtf8-string_bytes c.new.result)
-    (c.new.ensures.bytes ∙ sym none ∙ ap block_value c.as_bytes.ensures.value)
+    value_chars c.args.raw.now (string_bytes c.empty_text.result) c.utf8.raw (IsUtf8-string_bytes c.empty_text.result)
+    (c.empty_text.ensures ∙ sym none ∙ ap block_value c.as_bytes.ensures.value)
 
 pub returns-then-is_plain-clause-value : goal.returns-then-is_plain-clause-value
 returns-then-is_plain-clause-value c =
@@ -29,8 +29,8 @@ returns-then-is_plain-clause-value c =
     let k : c.as_bytes-then-indent-eq0.result.now ≡ text = c.as_bytes-then-indent-eq0.ensures.value in
     let plain : IsPlainBetween text 0 (length text) = subst (λ (x : List ℕ). IsPlainBetween x 0 (length x)) k (c.is_plain.ensures c.if-is_plain.true) in
     let is = plain_value raw text c.in-Some.first n c.if-indent-eq0.true plain v in
-    IfOk-weaker c.from_str.result (λ s. string_bytes s ≡ text) (λ s. chars (string_bytes s) ≡ block_value (chars raw))
-    (λ s e. value_chars raw (string_bytes s) c.utf8.raw (IsUtf8-string_bytes s) (e ∙ sym is)) c.from_str.ensures.ok
+    IfOk-weaker c.text_of.result (λ s. string_bytes s ≡ text) (λ s. chars (string_bytes s) ≡ block_value (chars raw))
+    (λ s e. value_chars raw (string_bytes s) c.utf8.raw (IsUtf8-string_bytes s) (e ∙ sym is)) c.text_of.ensures.text
 
 pub returns-clause-value : goal.returns-clause-value
 returns-clause-value c =
@@ -43,7 +43,7 @@ returns-clause-value c =
     c.range_from-text.ensures.value c.as_bytes-2.ensures.value c.last_text.ensures (c.range-text.ensures.value ∙ whole p back) c.as_bytes-3.ensures.value c.common_indent-indent.ensures in
     let cut : c.if-is_later.first_indent ≡ cond (ltb 0 c.in-Some.first) n 0 = elim c.if-is_later.branch [ then-is_later w ↦ w.first_indent-is ∙ cut_later c.in-Some.first n w.if-is_later.true | else-is_later w ↦ w.first_indent-is ∙ cut_first c.in-Some.first n w.if-is_later.false ] in
     let new = string_bytes c.push_lines.new.value in
-    let is : new ≡ written c.if-is_later.first_indent n (lines_of text) = c.in_ok-push_lines.ensures ∙ ap (λ x. x ++ written c.if-is_later.first_indent n (lines_of text)) c.in_ok-value.ensures.bytes in
+    let is : new ≡ written c.if-is_later.first_indent n (lines_of text) = c.in_ok-push_lines.ensures.value ∙ ap (λ x. x ++ written c.if-is_later.first_indent n (lines_of text)) c.in_ok-value.ensures.text in
     value_chars raw new c.utf8.raw (IsUtf8-string_bytes c.push_lines.new.value) (is ∙ ap (λ k. written k n (lines_of text)) cut ∙ sym v)
 
 pub returns-then-is_plain-clause-empty : goal.returns-then-is_plain-clause-empty

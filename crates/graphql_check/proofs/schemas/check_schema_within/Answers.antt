@@ -12,7 +12,7 @@ use Rattle.graphql_schemas.specs.reading.SchemaFile.{definitions_at}
 use Rattle.graphql_schemas.proofs.Laws.{none-described}
 use Rattle.graphql_schemas.proofs.SchemaFileProductions.{schemas-are-read}
 use Rattle.graphql_check.proofs.SchemaBreaches.{schema-checks-read-by}
-use Rattle.graphql_check.proofs.schemas.check_schema_limited.Goals as goal
+use Rattle.graphql_check.proofs.schemas.check_schema_within.Goals as goal
 
 pub check_document-requires : goal.check_document-requires
 check_document-requires c = λ k. ((refl, tt), (search rules, schema-checks-read-by))

@@ -10,7 +10,7 @@ use Rattle.graphql_grammar.proofs.Languages.{EndsWell, ends-well, former-tree}
 use Rattle.graphql_requests.specs.grammar.Request.{definitions}
 use Rattle.graphql_requests.specs.grammar.Requests.{requests}
 use Rattle.graphql_requests.specs.reading.Request.{definitions_at}
-use Rattle.graphql_check.proofs.check_query_limited.Goals as goal
+use Rattle.graphql_check.proofs.check_query_within.Goals as goal
 
 pub check_document-requires : goal.check_document-requires
 check_document-requires c k = ((refl, tt), (ends-some (left c.new-tokens.result) c.new-tokens.ensures.ends, checks-read-by))

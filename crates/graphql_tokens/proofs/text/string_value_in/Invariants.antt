@@ -3,7 +3,7 @@ use Rattle.std.specs.Prelude.{string_bytes}
 use Rattle.std.specs.Str.{chars, IsCharBoundary}
 use Rattle.graphql_tokens.specs.tokens.Edition.{Current}
 use Rattle.graphql_tokens.specs.tokens.Strings.{is_plain, StringMeans}
-use Rattle.graphql_tokens.proofs.text.string_value.Given as goal
+use Rattle.graphql_tokens.proofs.text.string_value_in.Given as goal
 
 abbrev pub invariant-loop-at : goal.invariant-loop-at
 invariant-loop-at l = record {

@@ -8,15 +8,15 @@ use Rattle.graphql_tokens.specs.tokens.Strings.{StringMeans}
 use Rattle.graphql_tokens.specs.calls.Escapes.{escape_at}
 use Rattle.graphql_tokens.proofs.Contents.{past_run, past_push, no_content, means_once, all_plain, nothing, escape_some}
 use Rattle.graphql_tokens.proofs.Meanings.{means_content}
-use Rattle.graphql_tokens.proofs.text.string_value.Goals as goal
+use Rattle.graphql_tokens.proofs.text.string_value_in.Goals as goal
 
 -- ---- a content without escapes
 
-plain : (c : goal.In_ok-from_str) → StringMeans Current (chars c.args.content.now) (chars (string_bytes c.in_ok-from_str.field-0))
+plain : (c : goal.In_ok-text_of) → StringMeans Current (chars c.args.content.now) (chars (string_bytes c.in_ok-text_of.field-0))
 plain c =
     let bs = c.as_bytes-bytes.result.now in
     let m = all_plain bs c.past_plain-at.result c.as_bytes-bytes.ensures.utf8 (c.past_plain-at.ensures.value ∙ omega arith) (c.if-at-bytes.true) in
-    rw (c.in_ok-from_str.ensures.ok, ← c.as_bytes-bytes.ensures.value) m
+    rw (c.in_ok-text_of.ensures.text, ← c.as_bytes-bytes.ensures.value) m
 
 pub returns-then-at-bytes-clause-some : goal.returns-then-at-bytes-clause-some
 returns-then-at-bytes-clause-some c = plain c
@@ -40,7 +40,7 @@ loop-at-init c =
     let n = c.past_plain-at.result in
     let run : c.range.result.now ≡ take (n - 0) (drop 0 bs) = c.range.ensures.value ∙ ap (λ x. take (n - 0) (drop 0 x)) (sym c.as_bytes-bytes.ensures.value) in
     let p = past_run bs [] c.range.result.now 0 n u IsUtf8-nil (IsCharBoundary-start bs u) nothing c.past_plain-at.ensures.value run in
-    let is : string_bytes c.push_str.new.self ≡ c.range.result.now = c.in_ok-push_str.ensures.bytes ∙ ap (λ x. x ++ c.range.result.now) c.in_ok-value.ensures.bytes in
+    let is : string_bytes c.push_text.new.text ≡ c.range.result.now = c.in_ok-push_text.ensures.text ∙ ap (λ x. x ++ c.range.result.now) c.in_ok-value.ensures.text in
     record { means = rw is p.means; boundary = p.boundary; stops = p.stops }
 
 -- ---- no escape
@@ -59,27 +59,27 @@ returns-in_default-clause-none c content =
 
 pub overflow_add-start : goal.overflow_add-start
 overflow_add-start c =
-    let e = past_push c.as_bytes-bytes.result.now (string_bytes c.loop-at.value) (string_bytes c.push.new.self) c.loop-at.at c.in-Some.c c.in-Some.len
-    c.as_bytes-bytes.ensures.utf8 (IsUtf8-string_bytes c.loop-at.value) c.loop-at.invariant.boundary c.loop-at.invariant.means c.in-Some.ensures c.in_ok-push.ensures.bytes in
+    let e = past_push c.as_bytes-bytes.result.now (string_bytes c.loop-at.value) (string_bytes c.push_char.new.text) c.loop-at.at c.in-Some.c c.in-Some.len
+    c.as_bytes-bytes.ensures.utf8 (IsUtf8-string_bytes c.loop-at.value) c.loop-at.invariant.boundary c.loop-at.invariant.means c.in-Some.ensures c.in_ok-push_char.ensures.text in
     let h = e.boundary.0 in
     omega (arith, c.as_bytes-bytes.ensures.len)
 
 pub past_plain-at-requires-in-loop-at : goal.past_plain-at-requires-in-loop-at
-past_plain-at-requires-in-loop-at c = let e = past_push c.as_bytes-bytes.result.now (string_bytes c.loop-at.value) (string_bytes c.push.new.self) c.loop-at.at c.in-Some.c c.in-Some.len
-    c.as_bytes-bytes.ensures.utf8 (IsUtf8-string_bytes c.loop-at.value) c.loop-at.invariant.boundary c.loop-at.invariant.means c.in-Some.ensures c.in_ok-push.ensures.bytes in e.boundary.0
+past_plain-at-requires-in-loop-at c = let e = past_push c.as_bytes-bytes.result.now (string_bytes c.loop-at.value) (string_bytes c.push_char.new.text) c.loop-at.at c.in-Some.c c.in-Some.len
+    c.as_bytes-bytes.ensures.utf8 (IsUtf8-string_bytes c.loop-at.value) c.loop-at.invariant.boundary c.loop-at.invariant.means c.in-Some.ensures c.in_ok-push_char.ensures.text in e.boundary.0
 
 pub range-requires-in-loop-at-clause-start_boundary : goal.range-requires-in-loop-at-clause-start_boundary
 range-requires-in-loop-at-clause-start_boundary c =
-    let e = past_push c.as_bytes-bytes.result.now (string_bytes c.loop-at.value) (string_bytes c.push.new.self) c.loop-at.at c.in-Some.c c.in-Some.len
-    c.as_bytes-bytes.ensures.utf8 (IsUtf8-string_bytes c.loop-at.value) c.loop-at.invariant.boundary c.loop-at.invariant.means c.in-Some.ensures c.in_ok-push.ensures.bytes in
+    let e = past_push c.as_bytes-bytes.result.now (string_bytes c.loop-at.value) (string_bytes c.push_char.new.text) c.loop-at.at c.in-Some.c c.in-Some.len
+    c.as_bytes-bytes.ensures.utf8 (IsUtf8-string_bytes c.loop-at.value) c.loop-at.invariant.boundary c.loop-at.invariant.means c.in-Some.ensures c.in_ok-push_char.ensures.text in
     rw (← c.as_bytes-bytes.ensures.value) (λ _. e.boundary)
 
 pub range-requires-in-loop-at-clause-end_boundary : goal.range-requires-in-loop-at-clause-end_boundary
 range-requires-in-loop-at-clause-end_boundary c =
     let bs = c.as_bytes-bytes.result.now in
-    let e = past_push c.as_bytes-bytes.result.now (string_bytes c.loop-at.value) (string_bytes c.push.new.self) c.loop-at.at c.in-Some.c c.in-Some.len
-    c.as_bytes-bytes.ensures.utf8 (IsUtf8-string_bytes c.loop-at.value) c.loop-at.invariant.boundary c.loop-at.invariant.means c.in-Some.ensures c.in_ok-push.ensures.bytes in
-    let p = past_run bs (string_bytes c.push.new.self) _ (c.loop-at.at + c.in-Some.len) c.past_plain-at-in-loop-at.result c.as_bytes-bytes.ensures.utf8 (IsUtf8-string_bytes c.push.new.self)
+    let e = past_push c.as_bytes-bytes.result.now (string_bytes c.loop-at.value) (string_bytes c.push_char.new.text) c.loop-at.at c.in-Some.c c.in-Some.len
+    c.as_bytes-bytes.ensures.utf8 (IsUtf8-string_bytes c.loop-at.value) c.loop-at.invariant.boundary c.loop-at.invariant.means c.in-Some.ensures c.in_ok-push_char.ensures.text in
+    let p = past_run bs (string_bytes c.push_char.new.text) _ (c.loop-at.at + c.in-Some.len) c.past_plain-at-in-loop-at.result c.as_bytes-bytes.ensures.utf8 (IsUtf8-string_bytes c.push_char.new.text)
     e.boundary e.means c.past_plain-at-in-loop-at.ensures.value refl in
     rw (← c.as_bytes-bytes.ensures.value) p.boundary
 
@@ -91,14 +91,14 @@ loop-at-smaller c =
 pub loop-at-preserved : goal.loop-at-preserved
 loop-at-preserved c =
     let bs = c.as_bytes-bytes.result.now in
-    let e = past_push c.as_bytes-bytes.result.now (string_bytes c.loop-at.value) (string_bytes c.push.new.self) c.loop-at.at c.in-Some.c c.in-Some.len
-    c.as_bytes-bytes.ensures.utf8 (IsUtf8-string_bytes c.loop-at.value) c.loop-at.invariant.boundary c.loop-at.invariant.means c.in-Some.ensures c.in_ok-push.ensures.bytes in
+    let e = past_push c.as_bytes-bytes.result.now (string_bytes c.loop-at.value) (string_bytes c.push_char.new.text) c.loop-at.at c.in-Some.c c.in-Some.len
+    c.as_bytes-bytes.ensures.utf8 (IsUtf8-string_bytes c.loop-at.value) c.loop-at.invariant.boundary c.loop-at.invariant.means c.in-Some.ensures c.in_ok-push_char.ensures.text in
     let i = c.loop-at.at + c.in-Some.len in
     let j = c.past_plain-at-in-loop-at.result in
     let run : c.range-in-loop-at.result.now ≡ take (j - i) (drop i bs) = c.range-in-loop-at.ensures.value ∙ ap (λ x. take (j - i) (drop i x)) (sym c.as_bytes-bytes.ensures.value) in
-    let p = past_run bs (string_bytes c.push.new.self) c.range-in-loop-at.result.now i j c.as_bytes-bytes.ensures.utf8 (IsUtf8-string_bytes c.push.new.self)
+    let p = past_run bs (string_bytes c.push_char.new.text) c.range-in-loop-at.result.now i j c.as_bytes-bytes.ensures.utf8 (IsUtf8-string_bytes c.push_char.new.text)
     e.boundary e.means c.past_plain-at-in-loop-at.ensures.value run in
-    record { means = rw c.in_ok-push_str-2.ensures.bytes p.means; boundary = p.boundary; stops = p.stops }
+    record { means = rw c.in_ok-push_text-2.ensures.text p.means; boundary = p.boundary; stops = p.stops }
 
 -- ---- the end
 
@@ -117,8 +117,8 @@ returns-clause-only c other m = means_once _ _ other (whole c) m
 
 -- ---- the function that is the relation
 
-pub returns-in_err-from_str-clause-complete : goal.returns-in_err-from_str-clause-complete
-returns-in_err-from_str-clause-complete c value m = means_content _ value m
+pub returns-in_err-text_of-clause-complete : goal.returns-in_err-text_of-clause-complete
+returns-in_err-text_of-clause-complete c value m = means_content _ value m
 
 pub returns-then-at-bytes-clause-complete : goal.returns-then-at-bytes-clause-complete
 returns-then-at-bytes-clause-complete c value m = means_content _ value m
@@ -129,11 +129,14 @@ returns-in_err-value-clause-complete c value m = means_content _ value m
 pub returns-in_default-clause-complete : goal.returns-in_default-clause-complete
 returns-in_default-clause-complete c value m = means_content _ value m
 
-pub returns-in_err-push-clause-complete : goal.returns-in_err-push-clause-complete
-returns-in_err-push-clause-complete c value m = means_content _ value m
+pub returns-in_err-push_char-clause-complete : goal.returns-in_err-push_char-clause-complete
+returns-in_err-push_char-clause-complete c value m = means_content _ value m
 
-pub returns-in_err-push_str-2-clause-complete : goal.returns-in_err-push_str-2-clause-complete
-returns-in_err-push_str-2-clause-complete c value m = means_content _ value m
+pub returns-in_err-push_text-2-clause-complete : goal.returns-in_err-push_text-2-clause-complete
+returns-in_err-push_text-2-clause-complete c value m = means_content _ value m
 
 pub returns-clause-complete : goal.returns-clause-complete
 returns-clause-complete c value m = means_content _ value m
+
+pub returns-in_err-push_text-clause-complete : goal.returns-in_err-push_text-clause-complete
+returns-in_err-push_text-clause-complete c value m = means_content _ value m

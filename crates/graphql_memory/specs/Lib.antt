@@ -1,0 +1,2 @@
+-- Public: what it means that memory was refused.
+pub mod Memory
