@@ -17,6 +17,7 @@ pub mod Heads
 pub mod OpenSets
 pub mod Mapped
 pub mod Documents
+pub mod Checking
 pub mod ShortOperations
 pub mod RequestHeads
 pub mod WordedHeads

@@ -1,10 +1,10 @@
 -- Readers whose trees are mapped.
-use Rattle.std.proofs.Common.{◌≡◌, ℕ, zero, suc, Bool, true, false, cond, List, [], ◌∷◌, map, length, refl, sym, ap, ◌∙◌}
+use Rattle.std.proofs.Common.{◌≡◌, ℕ, zero, suc, Bool, true, false, cond, List, [], ◌∷◌, map, length, refl, ap, ◌∙◌}
 use Rattle.graphql_tokens.specs.tokens.Token.{Token}
 use Rattle.graphql_reading.specs.grammar.Relations.{cons}
 use Rattle.graphql_reading.specs.grammar.Tests.{Test}
 use Rattle.graphql_reading.specs.reading.Outcome.{Outcome, Read, Refused, ◌>>=◌, Reader, Takes, mapped_at, repeat_at, many_at, plus_at}
-use Rattle.graphql_check.proofs.Sums.{is-made}
+use Rattle.graphql_grammar.proofs.Made.{is-made}
 
 -- an outcome with another tree
 abbrev pub mapped : {A B : Type 0} → (A → B) → Outcome A → Outcome B

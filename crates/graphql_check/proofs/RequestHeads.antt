@@ -7,6 +7,7 @@ use Rattle.graphql_tokens.specs.tokens.Token.{Token}
 use Rattle.graphql_syntax.specs.trees.Parts.{Name}
 use Rattle.graphql_check.specs.Checking.{checked}
 use Rattle.graphql_check.specs.RequestHeads.{head_of}
+use Rattle.graphql_check.proofs.Checking.{checks-read}
 use Rattle.graphql_check.proofs.Documents.{LooksAtHeads}
 use Rattle.graphql_check.proofs.Mapped.{takes-mapped, plus-mapped}
 use Rattle.graphql_grammar.specs.answers.Breaches.{or_else}
@@ -30,7 +31,7 @@ pub definitions-are : (limits : Limits) (ts : List Token) → plus_at definition
 definitions-are limits ts = plus-mapped head_of definition_first (definition_at limits) ts
 
 pub checks-are-read : IsRead (checked requests) definitions_at
-checks-are-read = record { has_phrase = requests-are-read.has_phrase; ignores_places = requests-are-read.ignores_places; reads_exactly = requests-are-read.reads_exactly; includes = requests-are-read.includes }
+checks-are-read = checks-read requests definitions_at requests-are-read
 
 pub checks-read-by : IsReadBy (checked requests) definitions_at
 checks-read-by = is-read-by (checked requests) definitions_at checks-are-read

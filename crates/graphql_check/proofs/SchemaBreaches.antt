@@ -1,26 +1,25 @@
 -- The first breach of the definitions of a schema file is what the rules say of them.
 use Rattle.std.proofs.Common.{◌≡◌, Bool, true, false, cond, Option, Some, None, option_map, Result, Ok, Err, List, [], ◌∷◌, ◌++◌, refl, sym, ap, ◌∙◌, subst}
-use Rattle.graphql_tokens.specs.declared.pos.Positioned.{Positioned}
 use Rattle.graphql_syntax.specs.declared.types.OperationType.TheVariants.{Query}
 use Rattle.graphql_grammar.specs.answers.Answers.{AreUnbroken}
 use Rattle.graphql_grammar.specs.answers.Breaches.{or_else}
-use Rattle.graphql_grammar.specs.answers.Language.{Language}
 use Rattle.graphql_grammar.specs.declared.error.Error.{Error}
 use Rattle.graphql_grammar.specs.declared.error.Error.TheVariants as errors
 use Rattle.graphql_grammar.specs.reading.DocumentOf.{IsDocumentOf, TellsOf}
 use Rattle.graphql_grammar.proofs.Answering.{breaks}
 use Rattle.graphql_grammar.proofs.Breaches.{none-first, none-second}
 use Rattle.graphql_schemas.specs.grammar.Rules.{first_of_kind, first_repeated, missing_query, breach_of}
-use Rattle.graphql_schemas.specs.grammar.Schema.{Root, Schema}
+use Rattle.graphql_schemas.specs.grammar.Schema.{Root}
 use Rattle.graphql_schemas.specs.grammar.SchemaFile.{Definition, schema, type_def, directive}
 use Rattle.graphql_schemas.specs.grammar.Schemas.{schemas}
 use Rattle.graphql_grammar.specs.reading.ReadBy.{IsReadBy}
-use Rattle.graphql_grammar.proofs.Languages.{is-read-by}
+use Rattle.graphql_grammar.proofs.Languages.{IsRead, is-read-by}
 use Rattle.graphql_schemas.proofs.Finished.{anywhere}
 use Rattle.graphql_schemas.proofs.SchemaFileProductions.{schemas-are-read}
 use Rattle.graphql_schemas.specs.reading.SchemaFile.{definitions_at}
 use Rattle.graphql_check.specs.Checking.{checked}
 use Rattle.graphql_check.specs.SchemaRules.{first_breach}
+use Rattle.graphql_check.proofs.Checking.{checks-read}
 
 -- ---- no breach
 
@@ -98,5 +97,8 @@ no-memory-told ds error result h told is = let same : error ≡ errors.OutOfMemo
 
 -- ---- reading
 
+pub schema-checks-are-read : IsRead (checked schemas) definitions_at
+schema-checks-are-read = checks-read schemas definitions_at schemas-are-read
+
 pub schema-checks-read-by : IsReadBy (checked schemas) definitions_at
-schema-checks-read-by = is-read-by (checked schemas) definitions_at (record { has_phrase = schemas-are-read.has_phrase; ignores_places = schemas-are-read.ignores_places; reads_exactly = schemas-are-read.reads_exactly; includes = schemas-are-read.includes })
+schema-checks-read-by = is-read-by (checked schemas) definitions_at schema-checks-are-read

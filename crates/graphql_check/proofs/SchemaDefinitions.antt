@@ -28,7 +28,7 @@ use Rattle.graphql_check.specs.Checked.{rest_of}
 use Rattle.graphql_check.specs.SchemaRules.{roots_of, first_breach}
 use Rattle.graphql_check.specs.declared.schemas.rules.Roots as code_roots
 use Rattle.graphql_check.proofs.Rests.{is-read}
-use Rattle.graphql_check.proofs.Sums.{is-made}
+use Rattle.graphql_grammar.proofs.Made.{is-made}
 
 -- ---- where a definition stands
 

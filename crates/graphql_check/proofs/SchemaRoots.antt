@@ -3,7 +3,7 @@ use Rattle.std.proofs.Common.{◌≡◌, Bool, true, false, cond, ◌||◌, is_s
 use Rattle.std.specs.Option.{option_or}
 use Rattle.graphql_syntax.specs.declared.types.OperationType.{OperationType}
 use Rattle.graphql_syntax.specs.declared.types.OperationType.TheVariants.{Query, Mutation, Subscription}
-use Rattle.graphql_schemas.specs.grammar.Rules.{same_kind, first_of_kind, first_repeated}
+use Rattle.graphql_schemas.specs.grammar.Rules.{same_kind, first_repeated}
 use Rattle.graphql_schemas.specs.grammar.Schema.{Root}
 use Rattle.graphql_check.specs.declared.schemas.rules.Root as code_root
 use Rattle.graphql_check.specs.declared.schemas.rules.Roots as code_roots

@@ -1,5 +1,5 @@
 -- What a loop keeps that reads phrases with a mark between each two of them, and makes no tree.
-use Rattle.std.proofs.Common.{◌≡◌, suc, ◌≤◌, Bool, true, false, Ok, Err, Some, List, [], ◌∷◌, ◌++◌, length, map, refl, ap}
+use Rattle.std.proofs.Common.{◌≡◌, suc, ◌≤◌, Bool, true, false, Ok, Some, List, [], ◌∷◌, ◌++◌, length, map, refl, ap}
 use Rattle.graphql_reading.specs.declared.parser.Refusal.{Refusal}
 use Rattle.graphql_reading.specs.grammar.Tests.{Test}
 use Rattle.graphql_reading.specs.reading.Ahead.{Ahead, tokens}

@@ -1,5 +1,5 @@
 -- What is kept of the roots of a schema, and of the definitions of a schema file, while they are checked.
-use Rattle.std.specs.Prelude.{Bool, is_some, Option, Some, None, option_map, List, [], ◌∷◌}
+use Rattle.std.specs.Prelude.{Bool, is_some, Option, None, option_map, List, [], ◌∷◌}
 use Rattle.graphql_check.specs.declared.schemas.rules.Root as code_root
 use Rattle.graphql_check.specs.declared.schemas.rules.Roots as code_roots
 use Rattle.graphql_grammar.specs.answers.Breaches.{or_else}

@@ -7,16 +7,12 @@
 //! Users name `graphql_parser`, which gives these calls out.
 #![tactic(auto)]
 
-ghost use Rattle.std.specs.Prelude.{◌≡◌, ◌≢◌, ◌+◌, ℕ, List, [], map, Err};
-ghost use Rattle.std.specs.Str.{chars};
+ghost use Rattle.std.specs.Prelude.{◌≡◌, ◌≢◌, List, [], map, Err};
 ghost use Rattle.graphql_check.specs.Checking.{checked};
 ghost use Rattle.graphql_check.specs.RequestHeads.{head_of, in_heads};
 ghost use Rattle.graphql_memory.specs.Memory.{Refused};
-ghost use Rattle.graphql_tokens.specs.tokens.Cuts.{Cuts, HasNoFault, IsCutInto};
-ghost use Rattle.graphql_tokens.specs.tokens.Edition.{Former};
-ghost use Rattle.graphql_tokens.specs.tokens.Token.{Token as SpecToken, left};
-ghost use Rattle.graphql_grammar.specs.answers.Answers.{Answers, AreTheDefinitions, HasOneTree, IsDecided, RestsOnBareTokens, TakenFor};
-ghost use Rattle.graphql_grammar.specs.answers.Language.{grammar};
+ghost use Rattle.graphql_tokens.specs.tokens.Token.{left};
+ghost use Rattle.graphql_grammar.specs.answers.Reads.{ReadsText, ReadsTokens};
 ghost use Rattle.graphql_grammar.specs.declared.error.Error.TheVariants.{OutOfMemory};
 ghost use Rattle.graphql_grammar.specs.reading.DocumentOf.{IsDocumentOf};
 ghost use Rattle.graphql_reading.specs.grammar.Limits.{default_limits};
@@ -26,7 +22,6 @@ ghost use Rattle.graphql_requests.specs.reading.Request.{definitions_at};
 
 pub mod arguments;
 mod definitions;
-mod document;
 pub mod production;
 mod rules;
 mod schemas;
@@ -37,7 +32,7 @@ pub mod value;
 pub mod variables;
 
 use definitions::{Head, read_heads};
-use document::{Kept, check_document};
+use graphql_grammar::document::{Kept, read_document};
 use graphql_grammar::error::Result;
 use graphql_memory::Memory;
 use graphql_reading::limits::Limits;
@@ -48,26 +43,34 @@ pub use schemas::{check_schema, check_schema_from, check_schema_limited, check_s
 use smallvec::SmallVec;
 use std::alloc::Global;
 
-// Requests: the heads of their operations and fragments, of which the first lies in place.
-impl<'a> Kept<'a> for SmallVec<Head<'a>, 1> {
+/// The heads of the operations and fragments of a request, of which the first lies in place.
+#[derive(Drop)]
+struct KeptHeads<'a> {
+    items: SmallVec<Head<'a>, 1>,
+}
+
+impl<'a> Kept<'a> for KeptHeads<'a> {
+    type Document = ();
+
     ghost Tree = { SpecDefinition };
 
     ghost Sum = { List SpecDefinition };
 
     ghost sum = { map head_of };
 
-    ghost kept = { in_heads };
+    ghost kept = { λ kept. in_heads kept.items };
 
     ghost language = { checked requests };
 
     ghost reader = { definitions_at };
 
-    fn read_all(parser: &mut Parser<'a>, limits: Limits) -> Reading<SmallVec<Head<'a>, 1>> {
-        read_heads(parser, limits)
+    fn read_all(parser: &mut Parser<'a>, limits: Limits) -> Reading<KeptHeads<'a>> {
+        let items = read_heads(parser, limits)?;
+        Ok(KeptHeads { items })
     }
 
-    fn judge(self, memory: &mut Memory) -> Result<()> {
-        judge(memory, self.as_slice())
+    fn into_document(self, memory: &mut Memory) -> Result<()> {
+        judge(memory, self.items.as_slice())
     }
 }
 
@@ -86,27 +89,14 @@ impl<'a> Kept<'a> for SmallVec<Head<'a>, 1> {
 ///   `FragmentDuplicated` for a name given twice; and `MissingOperation` for fragments alone;
 /// - `OutOfMemory` where memory was refused.
 pub fn check_query(alloc: Global, text: &str) -> Result<()>
-    ensures answer { (tokens : List SpecToken) → IsCutInto text.now tokens → Answers (checked requests) default_limits tokens result }
-    // A text that has a tree by the former grammar has the same tree now.
-    ensures former { (tokens : List SpecToken) (ds : List SpecDefinition) → Cuts Former [] (chars text.now) tokens → grammar (checked requests) Former default_limits tokens ds → IsCutInto text.now tokens × AreTheDefinitions (checked requests) default_limits tokens ds }
-    // The tokens of a text that the former edition cuts without a fault are those of now.
-    ensures former_tokens { (tokens : List SpecToken) → HasNoFault tokens → Cuts Former [] (chars text.now) tokens → Answers (checked requests) default_limits tokens result }
-    // These three hold of each text, also where memory runs out.
-    ensures one_tree { (tokens : List SpecToken) → IsCutInto text.now tokens → HasOneTree (checked requests) tokens }
-    ensures decided { (tokens : List SpecToken) → IsCutInto text.now tokens → IsDecided (checked requests) default_limits tokens }
-    ensures bare { (tokens : List SpecToken) → IsCutInto text.now tokens → RestsOnBareTokens (checked requests) default_limits tokens }
+    ensures { ReadsText (checked requests) default_limits text.now result }
 {
     check_query_limited(alloc, text, Limits::default())
 }
 
 /// As [`check_query`], with limits that the caller chooses.
 pub fn check_query_limited(alloc: Global, text: &str, limits: Limits) -> Result<()>
-    ensures answer { (tokens : List SpecToken) → IsCutInto text.now tokens → Answers (checked requests) limits tokens result }
-    ensures former { (tokens : List SpecToken) (ds : List SpecDefinition) → Cuts Former [] (chars text.now) tokens → grammar (checked requests) Former limits tokens ds → IsCutInto text.now tokens × AreTheDefinitions (checked requests) limits tokens ds }
-    ensures former_tokens { (tokens : List SpecToken) → HasNoFault tokens → Cuts Former [] (chars text.now) tokens → Answers (checked requests) limits tokens result }
-    ensures one_tree { (tokens : List SpecToken) → IsCutInto text.now tokens → HasOneTree (checked requests) tokens }
-    ensures decided { (tokens : List SpecToken) → IsCutInto text.now tokens → IsDecided (checked requests) limits tokens }
-    ensures bare { (tokens : List SpecToken) → IsCutInto text.now tokens → RestsOnBareTokens (checked requests) limits tokens }
+    ensures { ReadsText (checked requests) limits text.now result }
 {
     check_query_within(&mut Memory::new(alloc), text, limits)
 }
@@ -114,16 +104,11 @@ pub fn check_query_limited(alloc: Global, text: &str, limits: Limits) -> Result<
 /// As [`check_query_limited`], with who takes memory, as a budget bounds it. `OutOfMemory` is answered only where memory was
 /// refused: where more was wanted than was left, or the heap had no more.
 pub fn check_query_within(memory: &mut Memory, text: &str, limits: Limits) -> Result<()>
-    ensures answer { (tokens : List SpecToken) → IsCutInto text.now tokens → Answers (checked requests) limits tokens result }
-    ensures former { (tokens : List SpecToken) (ds : List SpecDefinition) → Cuts Former [] (chars text.now) tokens → grammar (checked requests) Former limits tokens ds → IsCutInto text.now tokens × AreTheDefinitions (checked requests) limits tokens ds }
-    ensures former_tokens { (tokens : List SpecToken) → HasNoFault tokens → Cuts Former [] (chars text.now) tokens → Answers (checked requests) limits tokens result }
-    ensures one_tree { (tokens : List SpecToken) → IsCutInto text.now tokens → HasOneTree (checked requests) tokens }
-    ensures decided { (tokens : List SpecToken) → IsCutInto text.now tokens → IsDecided (checked requests) limits tokens }
-    ensures bare { (tokens : List SpecToken) → IsCutInto text.now tokens → RestsOnBareTokens (checked requests) limits tokens }
+    ensures reads { ReadsText (checked requests) limits text.now result }
     ensures refused { result ≡ Err OutOfMemory → Refused memory.new }
 {
     let mut tokens = Tokens::new(text);
-    check_document::<SmallVec<Head, 1>>(memory, &mut tokens, limits)
+    read_document::<KeptHeads>(memory, &mut tokens, limits)
 }
 
 /// As [`check_query`], over the tokens that are not yet taken, with the places that they have in the whole
@@ -134,12 +119,7 @@ pub fn check_query_within(memory: &mut Memory, text: &str, limits: Limits) -> Re
 /// left. What `tokens` then gives is the rest of the same list.
 pub fn check_query_from(alloc: Global, tokens: &mut Tokens<'_>) -> Result<()>
     requires { left tokens.old ≢ [] }
-    ensures answer { Answers (checked requests) default_limits (left tokens.old) result }
-    ensures one_tree { HasOneTree (checked requests) (left tokens.old) }
-    ensures decided { IsDecided (checked requests) default_limits (left tokens.old) }
-    ensures bare { RestsOnBareTokens (checked requests) default_limits (left tokens.old) }
-    ensures taken { (count : ℕ) × (tokens.new.taken ≡ tokens.old.taken + count) × TakenFor (checked requests) default_limits (left tokens.old) result count }
-    ensures whole { tokens.new.whole ≡ tokens.old.whole }
+    ensures { ReadsTokens (checked requests) default_limits tokens.old tokens.new result }
 {
-    check_document::<SmallVec<Head, 1>>(&mut Memory::new(alloc), tokens, Limits::default())
+    read_document::<KeptHeads>(&mut Memory::new(alloc), tokens, Limits::default())
 }

@@ -1,20 +1,15 @@
 //! Schema files, checked without a tree (GraphQL October 2021, section 3).
-ghost use Rattle.std.specs.Prelude.{◌≡◌, ◌≢◌, ◌+◌, ℕ, Option, List, [], Err};
-ghost use Rattle.std.specs.List.{AllByRecursion};
-ghost use Rattle.std.specs.Str.{chars};
+ghost use Rattle.std.specs.Prelude.{◌≡◌, ◌≢◌, Option, [], Err};
 ghost use Rattle.graphql_memory.specs.Memory.{Refused};
-ghost use Rattle.graphql_tokens.specs.tokens.Cuts.{Cuts, HasNoFault, IsCutInto};
-ghost use Rattle.graphql_tokens.specs.tokens.Edition.{Former};
-ghost use Rattle.graphql_tokens.specs.tokens.Token.{Token as SpecToken, left};
+ghost use Rattle.graphql_tokens.specs.tokens.Token.{left};
 ghost use Rattle.graphql_check.specs.Checking.{checked};
 ghost use Rattle.graphql_check.specs.SchemaRules.{first_breach};
-ghost use Rattle.graphql_grammar.specs.answers.Answers.{Answers, AreTheDefinitions, HasOneTree, IsDecided, RestsOnBareTokens, TakenFor};
-ghost use Rattle.graphql_grammar.specs.answers.Language.{grammar};
+ghost use Rattle.graphql_grammar.specs.answers.Reads.{ReadsText, ReadsTokens};
 ghost use Rattle.graphql_grammar.specs.declared.error.Error.{Error as SpecError};
 ghost use Rattle.graphql_grammar.specs.declared.error.Error.TheVariants.{OutOfMemory};
 ghost use Rattle.graphql_reading.specs.grammar.Limits.{default_limits};
-ghost use Rattle.graphql_schemas.specs.grammar.SchemaFile.{Definition as SpecDefinition, HasNoDescribedSchema};
-ghost use Rattle.graphql_schemas.specs.grammar.Schemas.{schemas};
+ghost use Rattle.graphql_schemas.specs.grammar.SchemaFile.{Definition as SpecDefinition};
+ghost use Rattle.graphql_schemas.specs.grammar.Schemas.{schemas, FormerDescribesNoSchema};
 ghost use Rattle.graphql_schemas.specs.reading.SchemaFile.{definitions_at};
 
 mod definitions;
@@ -27,8 +22,8 @@ mod rules;
 mod schema;
 mod types;
 
-use crate::document::{Kept, check_document};
 use definitions::check_definitions;
+use graphql_grammar::document::{Kept, read_document};
 use graphql_grammar::error::{Error, Result};
 use graphql_memory::Memory;
 use graphql_reading::limits::Limits;
@@ -43,6 +38,8 @@ struct FirstBreach {
 }
 
 impl<'a> Kept<'a> for FirstBreach {
+    type Document = ();
+
     ghost Tree = { SpecDefinition };
 
     ghost Sum = { Option SpecError };
@@ -60,7 +57,7 @@ impl<'a> Kept<'a> for FirstBreach {
         Ok(FirstBreach { breach })
     }
 
-    fn judge(self, _memory: &mut Memory) -> Result<()> {
+    fn into_document(self, _memory: &mut Memory) -> Result<()> {
         match self.breach {
             None => Ok(()),
             Some(error) => Err(error),
@@ -73,15 +70,9 @@ impl<'a> Kept<'a> for FirstBreach {
 ///
 /// Errors: as `parse_schema`'s.
 pub fn check_schema(alloc: Global, text: &str) -> Result<()>
-    ensures answer { (tokens : List SpecToken) → IsCutInto text.now tokens → Answers (checked schemas) default_limits tokens result }
-    // A text that has a tree by the former grammar has the same tree now, and no schema in it has a description.
-    ensures former { (tokens : List SpecToken) (ds : List SpecDefinition) → Cuts Former [] (chars text.now) tokens → grammar (checked schemas) Former default_limits tokens ds → IsCutInto text.now tokens × AreTheDefinitions (checked schemas) default_limits tokens ds × AllByRecursion HasNoDescribedSchema ds }
-    // The tokens of a text that the former edition cuts without a fault are those of now.
-    ensures former_tokens { (tokens : List SpecToken) → HasNoFault tokens → Cuts Former [] (chars text.now) tokens → Answers (checked schemas) default_limits tokens result }
-    // These three hold of each text, also where memory runs out.
-    ensures one_tree { (tokens : List SpecToken) → IsCutInto text.now tokens → HasOneTree (checked schemas) tokens }
-    ensures decided { (tokens : List SpecToken) → IsCutInto text.now tokens → IsDecided (checked schemas) default_limits tokens }
-    ensures bare { (tokens : List SpecToken) → IsCutInto text.now tokens → RestsOnBareTokens (checked schemas) default_limits tokens }
+    ensures reads { ReadsText (checked schemas) default_limits text.now result }
+    // No schema of a former tree has a description.
+    ensures former_schemas { FormerDescribesNoSchema default_limits }
 {
     check_schema_limited(alloc, text, Limits::default())
 }
@@ -89,12 +80,8 @@ pub fn check_schema(alloc: Global, text: &str) -> Result<()>
 /// As [`check_schema`], with limits that the caller chooses. The first number isn't used: a schema file has no
 /// selection sets.
 pub fn check_schema_limited(alloc: Global, text: &str, limits: Limits) -> Result<()>
-    ensures answer { (tokens : List SpecToken) → IsCutInto text.now tokens → Answers (checked schemas) limits tokens result }
-    ensures former { (tokens : List SpecToken) (ds : List SpecDefinition) → Cuts Former [] (chars text.now) tokens → grammar (checked schemas) Former limits tokens ds → IsCutInto text.now tokens × AreTheDefinitions (checked schemas) limits tokens ds × AllByRecursion HasNoDescribedSchema ds }
-    ensures former_tokens { (tokens : List SpecToken) → HasNoFault tokens → Cuts Former [] (chars text.now) tokens → Answers (checked schemas) limits tokens result }
-    ensures one_tree { (tokens : List SpecToken) → IsCutInto text.now tokens → HasOneTree (checked schemas) tokens }
-    ensures decided { (tokens : List SpecToken) → IsCutInto text.now tokens → IsDecided (checked schemas) limits tokens }
-    ensures bare { (tokens : List SpecToken) → IsCutInto text.now tokens → RestsOnBareTokens (checked schemas) limits tokens }
+    ensures reads { ReadsText (checked schemas) limits text.now result }
+    ensures former_schemas { FormerDescribesNoSchema limits }
 {
     check_schema_within(&mut Memory::new(alloc), text, limits)
 }
@@ -102,16 +89,12 @@ pub fn check_schema_limited(alloc: Global, text: &str, limits: Limits) -> Result
 /// As [`check_schema_limited`], with who takes memory, as a budget bounds it. `OutOfMemory` is answered only where memory was
 /// refused: where more was wanted than was left, or the heap had no more.
 pub fn check_schema_within(memory: &mut Memory, text: &str, limits: Limits) -> Result<()>
-    ensures answer { (tokens : List SpecToken) → IsCutInto text.now tokens → Answers (checked schemas) limits tokens result }
-    ensures former { (tokens : List SpecToken) (ds : List SpecDefinition) → Cuts Former [] (chars text.now) tokens → grammar (checked schemas) Former limits tokens ds → IsCutInto text.now tokens × AreTheDefinitions (checked schemas) limits tokens ds × AllByRecursion HasNoDescribedSchema ds }
-    ensures former_tokens { (tokens : List SpecToken) → HasNoFault tokens → Cuts Former [] (chars text.now) tokens → Answers (checked schemas) limits tokens result }
-    ensures one_tree { (tokens : List SpecToken) → IsCutInto text.now tokens → HasOneTree (checked schemas) tokens }
-    ensures decided { (tokens : List SpecToken) → IsCutInto text.now tokens → IsDecided (checked schemas) limits tokens }
-    ensures bare { (tokens : List SpecToken) → IsCutInto text.now tokens → RestsOnBareTokens (checked schemas) limits tokens }
+    ensures reads { ReadsText (checked schemas) limits text.now result }
+    ensures former_schemas { FormerDescribesNoSchema limits }
     ensures refused { result ≡ Err OutOfMemory → Refused memory.new }
 {
     let mut tokens = Tokens::new(text);
-    check_document::<FirstBreach>(memory, &mut tokens, limits)
+    read_document::<FirstBreach>(memory, &mut tokens, limits)
 }
 
 /// As [`check_schema`], over the tokens that are not yet taken, with the places that they have in the whole text. The
@@ -122,12 +105,7 @@ pub fn check_schema_within(memory: &mut Memory, text: &str, limits: Limits) -> R
 /// left. What `tokens` then gives is the rest of the same list.
 pub fn check_schema_from(alloc: Global, tokens: &mut Tokens<'_>) -> Result<()>
     requires { left tokens.old ≢ [] }
-    ensures answer { Answers (checked schemas) default_limits (left tokens.old) result }
-    ensures one_tree { HasOneTree (checked schemas) (left tokens.old) }
-    ensures decided { IsDecided (checked schemas) default_limits (left tokens.old) }
-    ensures bare { RestsOnBareTokens (checked schemas) default_limits (left tokens.old) }
-    ensures taken { (count : ℕ) × (tokens.new.taken ≡ tokens.old.taken + count) × TakenFor (checked schemas) default_limits (left tokens.old) result count }
-    ensures whole { tokens.new.whole ≡ tokens.old.whole }
+    ensures { ReadsTokens (checked schemas) default_limits tokens.old tokens.new result }
 {
-    check_document::<FirstBreach>(&mut Memory::new(alloc), tokens, Limits::default())
+    read_document::<FirstBreach>(&mut Memory::new(alloc), tokens, Limits::default())
 }

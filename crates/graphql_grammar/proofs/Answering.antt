@@ -5,8 +5,9 @@ use Rattle.graphql_tokens.specs.tokens.Cuts.{EndsOnce}
 use Rattle.graphql_tokens.specs.tokens.Edition.{Current}
 use Rattle.graphql_tokens.specs.tokens.Proper.{AreProperButFaults}
 use Rattle.graphql_tokens.specs.tokens.Token.{Token, Lexing, left}
-use Rattle.graphql_grammar.specs.answers.Answers.{Answers, TakenFor, AreTheDefinitions, AreUnbroken}
+use Rattle.graphql_grammar.specs.answers.Answers.{Answers, TakenFor, AreTheDefinitions, AreUnbroken, IsDecided}
 use Rattle.graphql_grammar.specs.answers.Language.{Language, grammar}
+use Rattle.graphql_grammar.specs.answers.Reads.{ReadsTokens}
 use Rattle.graphql_grammar.specs.declared.error.Error.{Error}
 use Rattle.graphql_grammar.specs.declared.error.Error.TheVariants as errors
 use Rattle.graphql_grammar.specs.reading.DocumentOf.{IsDocumentOf, TellsBreach, TellsOf}
@@ -17,18 +18,18 @@ use Rattle.graphql_reading.specs.grammar.Fronts.{IsRefused, Verdict, syntax, lim
 use Rattle.graphql_reading.specs.grammar.Limits.{Limits}
 use Rattle.graphql_reading.specs.reading.Ahead.{Ahead, tokens}
 use Rattle.graphql_reading.specs.reading.Given.{Refuses, GoesOn}
-use Rattle.graphql_reading.specs.reading.Outcome.{Reader, whole_at}
+use Rattle.graphql_reading.specs.reading.Outcome.{Reader, Read, whole_at}
 
 -- ---- the answer where there is a tree
 
-pub document-answers : {D Document : Type 0} (language : Language D Document) (limits : Limits) (ts : List Token) (ds : List D) (result : Result Document Error) → AreTheDefinitions language limits ts ds → IsDocumentOf language ds result → Answers language limits ts result
+document-answers : {D Document : Type 0} (language : Language D Document) (limits : Limits) (ts : List Token) (ds : List D) (result : Result Document Error) → AreTheDefinitions language limits ts ds → IsDocumentOf language ds result → Answers language limits ts result
 document-answers language limits ts ds (Ok document) h is = (ds, h, is)
 document-answers language limits ts ds (Err (errors.Syntax message start end)) h is = absurd is
 document-answers language limits ts ds (Err errors.RecursionLimitExceeded) h is = absurd is
 document-answers language limits ts ds (Err errors.OutOfMemory) h is = tt
 document-answers language limits ts ds (Err error) h is = record { definitions = ds; tree = h; broken = is }
 
-pub document-taken : {D Document : Type 0} (language : Language D Document) (limits : Limits) (ts : List Token) (ds : List D) (result : Result Document Error) (count : ℕ) → count ≡ length ts → IsDocumentOf language ds result → TakenFor language limits ts result count
+document-taken : {D Document : Type 0} (language : Language D Document) (limits : Limits) (ts : List Token) (ds : List D) (result : Result Document Error) (count : ℕ) → count ≡ length ts → IsDocumentOf language ds result → TakenFor language limits ts result count
 document-taken language limits ts ds (Ok document) count all is = all
 document-taken language limits ts ds (Err (errors.Syntax message start end)) count all is = absurd is
 document-taken language limits ts ds (Err errors.RecursionLimitExceeded) count all is = absurd is
@@ -44,7 +45,7 @@ breaks language ds before d after error split unbroken e = inl (record { before 
 
 -- ---- the answer where there is none
 
-pub refusal-answers : {D Document : Type 0} (language : Language D Document) (reader : Limits → Reader (List D)) → IsReadBy language reader → (limits : Limits) (old new : Ahead) (stop : Refusal) (error : Error) → EndsOnce (tokens old) → AreProperButFaults (tokens old) → Refuses stop old new (whole_at (reader limits)) → IsErrorOf stop new.hand.pos error → Answers language limits (tokens old) (Err error)
+refusal-answers : {D Document : Type 0} (language : Language D Document) (reader : Limits → Reader (List D)) → IsReadBy language reader → (limits : Limits) (old new : Ahead) (stop : Refusal) (error : Error) → EndsOnce (tokens old) → AreProperButFaults (tokens old) → Refuses stop old new (whole_at (reader limits)) → IsErrorOf stop new.hand.pos error → Answers language limits (tokens old) (Err error)
 refusal-answers language reader read limits old new stop (errors.Syntax message start end) ends proper h is =
     let m = read.refuses limits (tokens old) ends proper syntax new.hand new.behind (subst (λ (s : Refusal). Refuses s old new (whole_at (reader limits))) is.0 h) in
     (m.0, is.1 ∙ ap (λ (t : Token). t.pos) (sym m.1), is.2, is.3)
@@ -60,7 +61,7 @@ up-to language limits ts after t v count long h =
     let same : suc (length h.0.before) ≡ count = omega (arith, long, all) in
     subst (λ (n : ℕ). IsRefused (grammar language Current) limits ts n v) same h.0.refused
 
-pub refusal-taken : {D Document : Type 0} (language : Language D Document) (reader : Limits → Reader (List D)) → IsReadBy language reader → (limits : Limits) (old new : Ahead) (stop : Refusal) (error : Error) (count : ℕ) → length (tokens old) ≡ count + length new.behind → EndsOnce (tokens old) → AreProperButFaults (tokens old) → Refuses stop old new (whole_at (reader limits)) → IsErrorOf stop new.hand.pos error → TakenFor language limits (tokens old) (Err error) count
+refusal-taken : {D Document : Type 0} (language : Language D Document) (reader : Limits → Reader (List D)) → IsReadBy language reader → (limits : Limits) (old new : Ahead) (stop : Refusal) (error : Error) (count : ℕ) → length (tokens old) ≡ count + length new.behind → EndsOnce (tokens old) → AreProperButFaults (tokens old) → Refuses stop old new (whole_at (reader limits)) → IsErrorOf stop new.hand.pos error → TakenFor language limits (tokens old) (Err error) count
 refusal-taken language reader read limits old new stop (errors.Syntax message start end) count long ends proper h is =
     up-to language limits (tokens old) new.behind new.hand syntax count long
     (read.refuses limits (tokens old) ends proper syntax new.hand new.behind (subst (λ (s : Refusal). Refuses s old new (whole_at (reader limits))) is.0 h))
@@ -84,6 +85,7 @@ pub record Goes (from to : Lexing) (start stop : Ahead) : Type 0 where
   pub same : tokens start ≡ left from
   pub ends : EndsOnce (tokens start)
   pub proper : AreProperButFaults (tokens start)
+  pub whole : GoesOn start stop → to.whole ≡ from.whole
   pub sums : GoesOn start stop → to.taken ≡ from.taken + (to.taken - from.taken)
   pub counted : GoesOn start stop → length (tokens start) ≡ (to.taken - from.taken) + length stop.behind
 
@@ -92,6 +94,7 @@ goes-of from given to start stop is begins ends proper whole taken behind last s
   same = begins ∙ ap left is;
   ends = subst EndsOnce (sym begins) ends;
   proper = subst AreProperButFaults (sym begins) proper;
+  whole = one-text;
   sums = λ on. omega (arith, forward on);
   counted = λ on.
       taken-between from.whole (tokens start) stop.behind from.taken to.taken
@@ -106,5 +109,34 @@ goes-of from given to start stop is begins ends proper whole taken behind last s
     one-text on = last ∙ on.0 ∙ whole ∙ ap (λ (l : Lexing). l.whole) is
 
 -- all are taken where none is left
-pub all-taken : (from to : Lexing) (start stop : Ahead) → Goes from to start stop → GoesOn start stop → stop.behind ≡ [] → to.taken - from.taken ≡ length (tokens start)
+all-taken : (from to : Lexing) (start stop : Ahead) → Goes from to start stop → GoesOn start stop → stop.behind ≡ [] → to.taken - from.taken ≡ length (tokens start)
 all-taken from to start stop g on empty = let t = g.counted on in let n = ap length empty in omega (arith, t, n)
+
+-- ---- what is said of the tokens that were left
+
+-- whatever the answer
+reads-tokens : {D Document : Type 0} (language : Language D Document) (reader : Limits → Reader (List D)) → IsReadBy language reader → (limits : Limits) (from to : Lexing) (start stop : Ahead) → Goes from to start stop → GoesOn start stop → (result : Result Document Error) → Answers language limits (tokens start) result → TakenFor language limits (tokens start) result (to.taken - from.taken) → ReadsTokens language limits from to result
+reads-tokens language reader read limits from to start stop goes on result answers taken = record {
+  answer = subst (λ ts. Answers language limits ts result) goes.same answers;
+  only = λ ds h. subst (λ ts. AreTheDefinitions language limits ts ds) goes.same (read.only limits (tokens start) goes.ends goes.proper ds (subst (λ ts. grammar language Current limits ts ds) (sym goes.same) h));
+  one_tree = read.one_tree (left from);
+  decided = subst (IsDecided language limits) goes.same (read.decided limits (tokens start) goes.ends goes.proper);
+  bare = read.bare limits (left from);
+  taken = (to.taken - from.taken, goes.sums on, subst (λ ts. TakenFor language limits ts result (to.taken - from.taken)) goes.same taken);
+  whole = goes.whole on;
+}
+
+-- where there is a tree
+pub reads-document : {D Document : Type 0} (language : Language D Document) (reader : Limits → Reader (List D)) → IsReadBy language reader → (limits : Limits) (from to : Lexing) (start stop : Ahead) → Goes from to start stop → GoesOn start stop → (ds : List D) (result : Result Document Error) → whole_at (reader limits) (tokens start) ≡ Read ds stop.behind → IsDocumentOf language ds result → ReadsTokens language limits from to result
+reads-document language reader read limits from to start stop goes on ds result h is =
+    let accepted = read.accepts limits (tokens start) goes.ends goes.proper ds stop.behind h in
+    reads-tokens language reader read limits from to start stop goes on result
+    (document-answers language limits (tokens start) ds result accepted.1 is)
+    (document-taken language limits (tokens start) ds result (to.taken - from.taken) (all-taken from to start stop goes on accepted.0) is)
+
+-- where there is none
+pub reads-refusal : {D Document : Type 0} (language : Language D Document) (reader : Limits → Reader (List D)) → IsReadBy language reader → (limits : Limits) (from to : Lexing) (start stop : Ahead) → Goes from to start stop → GoesOn start stop → (refusal : Refusal) (error : Error) → Refuses refusal start stop (whole_at (reader limits)) → IsErrorOf refusal stop.hand.pos error → ReadsTokens language limits from to (Err error)
+reads-refusal language reader read limits from to start stop goes on refusal error h is =
+    reads-tokens language reader read limits from to start stop goes on (Err error)
+    (refusal-answers language reader read limits start stop refusal error goes.ends goes.proper h is)
+    (refusal-taken language reader read limits start stop refusal error (to.taken - from.taken) (goes.counted on) goes.ends goes.proper h is)

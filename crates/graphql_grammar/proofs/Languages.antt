@@ -1,13 +1,17 @@
 -- A language whose reader follows its grammar exactly: what is known of each list of tokens. Proved once, for each
 -- language.
-use Rattle.std.proofs.Common.{◌≡◌, ℕ, ◌⊎◌, inl, inr, List, [], ◌∷◌, ◌++◌, refl, sym, ap, ◌∙◌, subst}
+use Rattle.std.proofs.Common.{◌≡◌, ℕ, ◌⊎◌, inl, inr, Result, List, [], ◌∷◌, ◌++◌, refl, sym, ap, ◌∙◌, subst}
+use Rattle.std.specs.Str.{chars}
 use Rattle.graphql_tokens.specs.declared.lexer.TokenKind.TheVariants.{End}
-use Rattle.graphql_tokens.specs.tokens.Cuts.{EndsOnce}
+use Rattle.graphql_tokens.specs.tokens.Cuts.{Cuts, EndsOnce, HasNoFault, IsCutInto}
 use Rattle.graphql_tokens.specs.tokens.Edition.{Former, Current}
 use Rattle.graphql_tokens.specs.tokens.Proper.{AreProperButFaults}
-use Rattle.graphql_tokens.specs.tokens.Token.{Bare, Token}
-use Rattle.graphql_grammar.specs.answers.Answers.{AreTheDefinitions, HasOneTree, IsDecided, RestsOnBareTokens}
+use Rattle.graphql_tokens.specs.tokens.Token.{Bare, Token, Lexing, left}
+use Rattle.graphql_tokens.proofs.Editions.{former-cuts}
+use Rattle.graphql_grammar.specs.answers.Answers.{Answers, AreTheDefinitions, HasOneTree, IsDecided, RestsOnBareTokens}
 use Rattle.graphql_grammar.specs.answers.Language.{Language, grammar}
+use Rattle.graphql_grammar.specs.answers.Reads.{ReadsText, ReadsTokens}
+use Rattle.graphql_grammar.specs.declared.error.Error.{Error}
 use Rattle.graphql_grammar.specs.reading.ReadBy.{RefusedHere, IsReadBy}
 use Rattle.graphql_reading.specs.grammar.Fronts.{IsRefused, RefusedToken, Verdict, without_places, whole}
 use Rattle.graphql_reading.specs.grammar.Limits.{Limits}
@@ -94,7 +98,7 @@ rests-on-bare-tokens language reader read limits ts = record {
 
 -- ---- the former edition
 
-pub former-tree : {D Document : Type 0} (language : Language D Document) (reader : Limits → Reader (List D)) → IsRead language reader → (limits : Limits) (ts : List Token) (ds : List D) → grammar language Former limits ts ds → grammar language Current limits ts ds
+former-tree : {D Document : Type 0} (language : Language D Document) (reader : Limits → Reader (List D)) → IsRead language reader → (limits : Limits) (ts : List Token) (ds : List D) → grammar language Former limits ts ds → grammar language Current limits ts ds
 former-tree language reader read limits ts ds h = (includes-whole read.includes limits).by ts ds h
 
 -- the last token of a list that has a tree is the end of the text
@@ -122,4 +126,23 @@ is-read-by language reader read = record {
   decided = λ limits ts ends proper. is-decided language reader read limits ts ends proper;
   one_tree = has-one-tree language reader read;
   bare = rests-on-bare-tokens language reader read;
+}
+
+-- ---- what is said of a text
+
+-- What is read of the tokens that a lexer cuts from a text is read of the text: it cuts them in one way, and those of
+-- the former edition in the same.
+pub reads-text : {D Document : Type 0} (language : Language D Document) (reader : Limits → Reader (List D)) → IsRead language reader → (limits : Limits) (text : List ℕ) (from to : Lexing) (result : Result Document Error) → ((ts : List Token) → IsCutInto text ts → ts ≡ left from) → ((ts : List Token) → HasNoFault ts → Cuts Former [] (chars text) ts → ts ≡ left from) → ReadsTokens language limits from to result → ReadsText language limits text result
+reads-text language reader read limits text from to result only only-former reads = record {
+  answer = λ ts cut. subst (λ us. Answers language limits us result) (sym (only ts cut)) reads.answer;
+  former = λ ts ds cut h.
+      let now = former-tree language reader read limits ts ds h in
+      let end = ends-well (language.definitions Current) limits ts ds now in
+      let cut_now = former-cuts text ts cut end.front end.last end.joined end.is_end in
+      let same = only ts cut_now in
+      (cut_now, subst (λ us. AreTheDefinitions language limits us ds) (sym same) (reads.only ds (subst (λ us. grammar language Current limits us ds) same now)));
+  former_tokens = λ ts no_fault cut. subst (λ us. Answers language limits us result) (sym (only-former ts no_fault cut)) reads.answer;
+  one_tree = λ ts cut. subst (HasOneTree language) (sym (only ts cut)) reads.one_tree;
+  decided = λ ts cut. subst (IsDecided language limits) (sym (only ts cut)) reads.decided;
+  bare = λ ts cut. subst (RestsOnBareTokens language limits) (sym (only ts cut)) reads.bare;
 }

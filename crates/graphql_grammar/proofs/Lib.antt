@@ -14,6 +14,7 @@ pub mod ArgumentProductions
 pub mod Former
 pub mod Languages
 pub mod Answering
+pub mod Made
 pub mod OperationKinds
 pub mod Unbroken
 pub mod Breaches

@@ -2,3 +2,4 @@
 pub mod Answers
 pub mod Breaches
 pub mod Language
+pub mod Reads

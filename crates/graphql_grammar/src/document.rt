@@ -1,16 +1,15 @@
 //! Documents, whichever language they are of: the definitions are read whole before the first rule is looked at.
-ghost use Rattle.std.specs.Prelude.{◌≡◌, ◌≢◌, ◌+◌, ℕ, List, [], map, Err};
+ghost use Rattle.std.specs.Prelude.{◌≡◌, ◌≢◌, List, [], Err};
 ghost use Rattle.graphql_memory.specs.Memory.{Refused};
-ghost use Rattle.graphql_tokens.specs.tokens.Edition.{Current};
 ghost use Rattle.graphql_tokens.specs.tokens.Token.{left};
-ghost use Rattle.graphql_grammar.specs.answers.Answers.{Answers, AreTheDefinitions, HasOneTree, IsDecided, RestsOnBareTokens, TakenFor};
-ghost use Rattle.graphql_grammar.specs.answers.Language.{Language, grammar};
+ghost use Rattle.graphql_grammar.specs.answers.Language.{Language};
+ghost use Rattle.graphql_grammar.specs.answers.Reads.{ReadsTokens};
 ghost use Rattle.graphql_grammar.specs.declared.error.Error.TheVariants.{OutOfMemory};
 ghost use Rattle.graphql_grammar.specs.reading.DocumentOf.{IsDocumentOf};
 ghost use Rattle.graphql_grammar.specs.reading.ReadBy.{IsReadBy};
 ghost use Rattle.graphql_reading.specs.grammar.Limits.{Limits as SpecLimits};
-ghost use Rattle.graphql_reading.specs.reading.Given.{Gives, GivesWhole, trees_in};
-ghost use Rattle.graphql_reading.specs.reading.Outcome.{Reader, whole_at};
+ghost use Rattle.graphql_reading.specs.reading.Given.{Gives, GivesWhole};
+ghost use Rattle.graphql_reading.specs.reading.Outcome.{Reader, mapped_at, whole_at};
 
 use crate::error::Result;
 use crate::refusals::error_of;
@@ -20,15 +19,21 @@ use graphql_reading::parser::{Parser, Reading};
 use graphql_tokens::lexer::Tokens;
 use std::mem;
 
-/// A definition of a language: how all that a text has are read, and the document that they make.
-pub trait Definition: Drop {
+/// What is kept of the definitions of a text: all of them, to make a tree, or enough to tell the first of the rules
+/// that they break.
+pub trait Kept<'a>: Drop {
     /// What is made of a text.
     type Document;
 
     // The tree that a definition stands for.
     ghost Tree: { Type 0 };
 
-    ghost tree: { Self → Self.Tree };
+    // What definitions come to, where nothing but this is kept.
+    ghost Sum: { Type 0 };
+
+    ghost sum: { List Self.Tree → Self.Sum };
+
+    ghost kept: { Self → Self.Sum };
 
     // The language of the definitions.
     ghost language: { Language Self.Tree Self.Document };
@@ -37,40 +42,34 @@ pub trait Definition: Drop {
     ghost reader: { SpecLimits → Reader (List Self.Tree) };
 
     /// Reads the definitions of a text, up to its end.
-    fn read_all(parser: &mut Parser, limits: Limits) -> Reading<Vec<Self>>
-        ensures { Gives (trees_in Self.tree) result parser.old parser.new (Self.reader limits) };
+    fn read_all(parser: &mut Parser<'a>, limits: Limits) -> Reading<Self>
+        ensures { Gives Self.kept result parser.old parser.new (mapped_at Self.sum (Self.reader limits)) };
 
     /// The document of the definitions, or the first of the rules that they break, in source order.
-    fn document_of(memory: &mut Memory, definitions: Vec<Self>) -> Result<Self::Document>
-        ensures document { IsDocumentOf Self.language (map Self.tree definitions.items) result }
-        ensures refused { result ≡ Err OutOfMemory → Refused memory.new };
+    fn into_document(self, memory: &mut Memory) -> Result<Self::Document>
+        ensures document { (ds : List Self.Tree) → Self.kept self ≡ Self.sum ds → IsDocumentOf Self.language ds result }
+        ensures refused { (ds : List Self.Tree) → Self.kept self ≡ Self.sum ds → result ≡ Err OutOfMemory → Refused memory.new };
 }
 
-fn read_whole<D: Definition>(parser: &mut Parser, limits: Limits) -> Reading<Vec<D>>
-    ensures { GivesWhole (trees_in D.tree) result parser.old parser.new (whole_at (D.reader limits)) }
+fn read_whole<'a, K: Kept<'a>>(parser: &mut Parser<'a>, limits: Limits) -> Reading<K>
+    ensures { GivesWhole K.kept result parser.old parser.new (mapped_at K.sum (whole_at (K.reader limits))) }
 {
-    let definitions = D::read_all(parser, limits)?;
+    let kept = K::read_all(parser, limits)?;
     parser.expect_end()?;
-    Ok(definitions)
+    Ok(kept)
 }
 
 /// Reads the tokens that are left as a document.
 // Never inlined: the readers below it then are, also where a program has several callers.
 #[inline(never)]
-pub fn read_document<D: Definition>(
+pub fn read_document<'a, K: Kept<'a>>(
     memory: &mut Memory,
-    tokens: &mut Tokens<'_>,
+    tokens: &mut Tokens<'a>,
     limits: Limits,
-) -> Result<D::Document>
+) -> Result<K::Document>
     requires some { left tokens.old ≢ [] }
-    requires read { IsReadBy D.language D.reader }
-    ensures answer { Answers D.language limits (left tokens.old) result }
-    ensures only { (ds : List D.Tree) → grammar D.language Current limits (left tokens.old) ds → AreTheDefinitions D.language limits (left tokens.old) ds }
-    ensures one_tree { HasOneTree D.language (left tokens.old) }
-    ensures decided { IsDecided D.language limits (left tokens.old) }
-    ensures bare { RestsOnBareTokens D.language limits (left tokens.old) }
-    ensures taken { (count : ℕ) × (tokens.new.taken ≡ tokens.old.taken + count) × TakenFor D.language limits (left tokens.old) result count }
-    ensures whole { tokens.new.whole ≡ tokens.old.whole }
+    requires read { IsReadBy K.language K.reader }
+    ensures reads { ReadsTokens K.language limits tokens.old tokens.new result }
     ensures refused { result ≡ Err OutOfMemory → Refused memory.new }
 {
     let heap = memory.heap();
@@ -78,13 +77,13 @@ pub fn read_document<D: Definition>(
         mem::replace(memory, Memory::new(heap)),
         mem::replace(tokens, Tokens::new("")),
     );
-    let read = read_whole::<D>(&mut parser, limits);
+    let read = read_whole::<K>(&mut parser, limits);
     let place = parser.hand().pos;
     let (left, given) = parser.into_parts();
     *tokens = left;
     *memory = given;
     match read {
-        Ok(definitions) => D::document_of(memory, definitions),
+        Ok(kept) => kept.into_document(memory),
         Err(refusal) => Err(error_of(memory, refusal, place)),
     }
 }

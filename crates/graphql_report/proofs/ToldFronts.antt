@@ -162,9 +162,6 @@ accepted-right language limits text utf8 document answers = λ ts cut. told-tree
 
 -- ---- checks
 
-pub checks-read : {D Document : Type 0} (language : Language D Document) (reader : Limits → Reader (List D)) → IsRead language reader → IsRead (checked language) reader
-checks-read language reader read = record { has_phrase = read.has_phrase; ignores_places = read.ignores_places; reads_exactly = read.reads_exactly; includes = read.includes }
-
 of-checked : {D Document : Type 0} (language : Language D Document) (limits : Limits) (ts : List Token) → IsFront (checked language) limits ts → IsFront language limits ts
 of-checked language limits ts f = record { front = f.front; last = f.last; split = f.split; ends = f.ends; viable = f.viable }
 

@@ -11,23 +11,16 @@
 //! inner.
 #![tactic(auto)]
 
-ghost use Rattle.std.specs.Prelude.{◌≡◌, ◌≢◌, ◌+◌, ℕ, List, [], Err, IfOk};
-ghost use Rattle.std.specs.Str.{chars};
+ghost use Rattle.std.specs.Prelude.{◌≡◌, ◌≢◌, List, [], Err, IfOk};
 ghost use Rattle.graphql_memory.specs.Memory.{Refused};
-ghost use Rattle.graphql_tokens.specs.tokens.Cuts.{Cuts, HasNoFault};
-ghost use Rattle.graphql_tokens.specs.tokens.Edition.{Former, Current};
-ghost use Rattle.graphql_tokens.specs.tokens.Cuts.{IsCutInto};
-ghost use Rattle.graphql_tokens.specs.tokens.Token.{Token as SpecToken, left};
-ghost use Rattle.graphql_grammar.specs.answers.Answers.{Answers, AreTheDefinitions, HasOneTree, IsDecided, RestsOnBareTokens, TakenFor};
-ghost use Rattle.graphql_grammar.specs.answers.Language.{grammar};
+ghost use Rattle.graphql_tokens.specs.tokens.Token.{left};
+ghost use Rattle.graphql_grammar.specs.answers.Reads.{ReadsText, ReadsTokens};
 ghost use Rattle.graphql_grammar.specs.declared.error.Error.TheVariants.{OutOfMemory};
-ghost use Rattle.graphql_grammar.specs.reading.DocumentOf.{IsDocumentOf};
 ghost use Rattle.graphql_reading.specs.grammar.Limits.{default_limits};
 ghost use Rattle.graphql_request_trees.specs.trees.RequestViews.{document_tree};
 ghost use Rattle.graphql_requests.specs.grammar.Laws.{IsLawful};
 ghost use Rattle.graphql_requests.specs.grammar.Request.{Definition as SpecDefinition};
 ghost use Rattle.graphql_requests.specs.grammar.Requests.{requests};
-ghost use Rattle.graphql_requests.specs.reading.Definitions.{definition_tree};
 ghost use Rattle.graphql_requests.specs.reading.Request.{definitions_at};
 ghost use Rattle.graphql_requests.specs.reading.Sorting.{definition_trees};
 
@@ -37,7 +30,7 @@ pub mod selections;
 mod variables;
 
 use definitions::{Definition, read_definitions};
-use graphql_grammar::document::read_document;
+use graphql_grammar::document::{Kept, read_document};
 use graphql_grammar::error::Result;
 use graphql_memory::Memory;
 use graphql_reading::limits::Limits;
@@ -47,27 +40,34 @@ use graphql_tokens::lexer::Tokens;
 use rules::document_of;
 use std::alloc::Global;
 
-// Requests as a language: how their definitions are read, and the document that they make.
-impl graphql_grammar::document::Definition for Definition {
+/// The definitions of a request.
+#[derive(Drop)]
+struct KeptDefinitions {
+    items: Vec<Definition>,
+}
+
+impl<'a> Kept<'a> for KeptDefinitions {
     type Document = ExecutableDocument;
 
     ghost Tree = { SpecDefinition };
 
-    ghost tree = { definition_tree };
+    ghost Sum = { List SpecDefinition };
+
+    ghost sum = { λ ds. ds };
+
+    ghost kept = { λ kept. definition_trees kept.items.items };
 
     ghost language = { requests };
 
     ghost reader = { definitions_at };
 
-    fn read_all(parser: &mut Parser, limits: Limits) -> Reading<Vec<Definition>> {
-        read_definitions(parser, limits)
+    fn read_all(parser: &mut Parser<'a>, limits: Limits) -> Reading<KeptDefinitions> {
+        let items = read_definitions(parser, limits)?;
+        Ok(KeptDefinitions { items })
     }
 
-    fn document_of(memory: &mut Memory, definitions: Vec<Definition>) -> Result<ExecutableDocument>
-        ensures document { IsDocumentOf requests (definition_trees definitions.items) result }
-        ensures refused { result ≡ Err OutOfMemory → Refused memory.new }
-    {
-        document_of(memory, definitions)
+    fn into_document(self, memory: &mut Memory) -> Result<ExecutableDocument> {
+        document_of(memory, self.items)
     }
 }
 
@@ -85,15 +85,7 @@ impl graphql_grammar::document::Definition for Definition {
 ///   `FragmentDuplicated` for a name given twice; and `MissingOperation` for fragments alone;
 /// - `OutOfMemory` where memory was refused.
 pub fn parse_query(alloc: Global, text: &str) -> Result<ExecutableDocument>
-    ensures answer { (tokens : List SpecToken) → IsCutInto text.now tokens → Answers requests default_limits tokens result }
-    // A text that has a tree by the former grammar has the same tree now.
-    ensures former { (tokens : List SpecToken) (ds : List SpecDefinition) → Cuts Former [] (chars text.now) tokens → grammar requests Former default_limits tokens ds → IsCutInto text.now tokens × AreTheDefinitions requests default_limits tokens ds }
-    // The tokens of a text that the former edition cuts without a fault are those of now.
-    ensures former_tokens { (tokens : List SpecToken) → HasNoFault tokens → Cuts Former [] (chars text.now) tokens → Answers requests default_limits tokens result }
-    // These three hold of each text, also where memory runs out.
-    ensures one_tree { (tokens : List SpecToken) → IsCutInto text.now tokens → HasOneTree requests tokens }
-    ensures decided { (tokens : List SpecToken) → IsCutInto text.now tokens → IsDecided requests default_limits tokens }
-    ensures bare { (tokens : List SpecToken) → IsCutInto text.now tokens → RestsOnBareTokens requests default_limits tokens }
+    ensures reads { ReadsText requests default_limits text.now result }
     // Operations have distinct names, or there is one without a name; fragments have distinct names; and so have the
     // fields of each object.
     ensures lawful { IfOk result (λ document. IsLawful (document_tree document)) }
@@ -103,12 +95,7 @@ pub fn parse_query(alloc: Global, text: &str) -> Result<ExecutableDocument>
 
 /// As [`parse_query`], with limits that the caller chooses (this project's own call).
 pub fn parse_query_limited(alloc: Global, text: &str, limits: Limits) -> Result<ExecutableDocument>
-    ensures answer { (tokens : List SpecToken) → IsCutInto text.now tokens → Answers requests limits tokens result }
-    ensures former { (tokens : List SpecToken) (ds : List SpecDefinition) → Cuts Former [] (chars text.now) tokens → grammar requests Former limits tokens ds → IsCutInto text.now tokens × AreTheDefinitions requests limits tokens ds }
-    ensures former_tokens { (tokens : List SpecToken) → HasNoFault tokens → Cuts Former [] (chars text.now) tokens → Answers requests limits tokens result }
-    ensures one_tree { (tokens : List SpecToken) → IsCutInto text.now tokens → HasOneTree requests tokens }
-    ensures decided { (tokens : List SpecToken) → IsCutInto text.now tokens → IsDecided requests limits tokens }
-    ensures bare { (tokens : List SpecToken) → IsCutInto text.now tokens → RestsOnBareTokens requests limits tokens }
+    ensures reads { ReadsText requests limits text.now result }
     ensures lawful { IfOk result (λ document. IsLawful (document_tree document)) }
 {
     parse_query_within(&mut Memory::new(alloc), text, limits)
@@ -121,17 +108,12 @@ pub fn parse_query_within(
     text: &str,
     limits: Limits,
 ) -> Result<ExecutableDocument>
-    ensures answer { (tokens : List SpecToken) → IsCutInto text.now tokens → Answers requests limits tokens result }
-    ensures former { (tokens : List SpecToken) (ds : List SpecDefinition) → Cuts Former [] (chars text.now) tokens → grammar requests Former limits tokens ds → IsCutInto text.now tokens × AreTheDefinitions requests limits tokens ds }
-    ensures former_tokens { (tokens : List SpecToken) → HasNoFault tokens → Cuts Former [] (chars text.now) tokens → Answers requests limits tokens result }
-    ensures one_tree { (tokens : List SpecToken) → IsCutInto text.now tokens → HasOneTree requests tokens }
-    ensures decided { (tokens : List SpecToken) → IsCutInto text.now tokens → IsDecided requests limits tokens }
-    ensures bare { (tokens : List SpecToken) → IsCutInto text.now tokens → RestsOnBareTokens requests limits tokens }
+    ensures reads { ReadsText requests limits text.now result }
     ensures lawful { IfOk result (λ document. IsLawful (document_tree document)) }
     ensures refused { result ≡ Err OutOfMemory → Refused memory.new }
 {
     let mut tokens = Tokens::new(text);
-    read_document::<Definition>(memory, &mut tokens, limits)
+    read_document::<KeptDefinitions>(memory, &mut tokens, limits)
 }
 
 /// As [`parse_query`], over the tokens that are not yet taken, with the places that they have in the whole
@@ -142,13 +124,8 @@ pub fn parse_query_within(
 /// left. What `tokens` then gives is the rest of the same list.
 pub fn parse_query_from(alloc: Global, tokens: &mut Tokens<'_>) -> Result<ExecutableDocument>
     requires { left tokens.old ≢ [] }
-    ensures answer { Answers requests default_limits (left tokens.old) result }
-    ensures one_tree { HasOneTree requests (left tokens.old) }
-    ensures decided { IsDecided requests default_limits (left tokens.old) }
-    ensures bare { RestsOnBareTokens requests default_limits (left tokens.old) }
+    ensures reads { ReadsTokens requests default_limits tokens.old tokens.new result }
     ensures lawful { IfOk result (λ document. IsLawful (document_tree document)) }
-    ensures taken { (count : ℕ) × (tokens.new.taken ≡ tokens.old.taken + count) × TakenFor requests default_limits (left tokens.old) result count }
-    ensures whole { tokens.new.whole ≡ tokens.old.whole }
 {
-    read_document::<Definition>(&mut Memory::new(alloc), tokens, Limits::default())
+    read_document::<KeptDefinitions>(&mut Memory::new(alloc), tokens, Limits::default())
 }

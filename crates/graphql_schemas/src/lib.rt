@@ -11,24 +11,18 @@
 //! inner. Modules are `pub` for `graphql_check` alone, which reads the same keywords and tells the same tokens.
 #![tactic(auto)]
 
-ghost use Rattle.std.specs.Prelude.{◌≡◌, ◌≢◌, ◌+◌, ℕ, List, [], Err, IfOk};
-ghost use Rattle.std.specs.List.{AllByRecursion};
-ghost use Rattle.std.specs.Str.{chars};
+ghost use Rattle.std.specs.Prelude.{◌≡◌, ◌≢◌, List, [], Err, IfOk};
 ghost use Rattle.graphql_memory.specs.Memory.{Refused};
-ghost use Rattle.graphql_tokens.specs.tokens.Cuts.{Cuts, HasNoFault, IsCutInto};
-ghost use Rattle.graphql_tokens.specs.tokens.Edition.{Former};
-ghost use Rattle.graphql_tokens.specs.tokens.Token.{Token as SpecToken, left};
+ghost use Rattle.graphql_tokens.specs.tokens.Token.{left};
 ghost use Rattle.graphql_schema_trees.specs.trees.SchemaViews.{schema_document_tree};
-ghost use Rattle.graphql_grammar.specs.answers.Answers.{Answers, AreTheDefinitions, HasOneTree, IsDecided, RestsOnBareTokens, TakenFor};
-ghost use Rattle.graphql_grammar.specs.answers.Language.{grammar};
+ghost use Rattle.graphql_grammar.specs.answers.Reads.{ReadsText, ReadsTokens};
 ghost use Rattle.graphql_grammar.specs.declared.error.Error.TheVariants.{OutOfMemory};
-ghost use Rattle.graphql_grammar.specs.reading.DocumentOf.{IsDocumentOf};
 ghost use Rattle.graphql_reading.specs.grammar.Limits.{default_limits};
 ghost use Rattle.graphql_schemas.specs.grammar.Laws.{IsLawful};
-ghost use Rattle.graphql_schemas.specs.grammar.SchemaFile.{Definition as SpecDefinition, HasNoDescribedSchema};
-ghost use Rattle.graphql_schemas.specs.grammar.Schemas.{schemas};
+ghost use Rattle.graphql_schemas.specs.grammar.SchemaFile.{Definition as SpecDefinition};
+ghost use Rattle.graphql_schemas.specs.grammar.Schemas.{schemas, FormerDescribesNoSchema};
 ghost use Rattle.graphql_schemas.specs.reading.SchemaFile.{definitions_at};
-ghost use Rattle.graphql_schemas.specs.reading.Views.{definition_tree, definition_trees};
+ghost use Rattle.graphql_schemas.specs.reading.Views.{definition_trees};
 
 pub mod definitions;
 pub mod descriptions;
@@ -42,7 +36,7 @@ mod schema;
 pub mod types;
 
 use definitions::{Definition, read_definitions};
-use graphql_grammar::document::read_document;
+use graphql_grammar::document::{Kept, read_document};
 use graphql_grammar::error::Result;
 use graphql_memory::Memory;
 use graphql_reading::limits::Limits;
@@ -52,26 +46,34 @@ use graphql_tokens::lexer::Tokens;
 use rules::document_of;
 use std::alloc::Global;
 
-impl graphql_grammar::document::Definition for Definition {
+/// The definitions of a schema file.
+#[derive(Drop)]
+struct KeptDefinitions {
+    items: Vec<Definition>,
+}
+
+impl<'a> Kept<'a> for KeptDefinitions {
     type Document = ServiceDocument;
 
     ghost Tree = { SpecDefinition };
 
-    ghost tree = { definition_tree };
+    ghost Sum = { List SpecDefinition };
+
+    ghost sum = { λ ds. ds };
+
+    ghost kept = { λ kept. definition_trees kept.items.items };
 
     ghost language = { schemas };
 
     ghost reader = { definitions_at };
 
-    fn read_all(parser: &mut Parser, limits: Limits) -> Reading<Vec<Definition>> {
-        read_definitions(parser, limits)
+    fn read_all(parser: &mut Parser<'a>, limits: Limits) -> Reading<KeptDefinitions> {
+        let items = read_definitions(parser, limits)?;
+        Ok(KeptDefinitions { items })
     }
 
-    fn document_of(memory: &mut Memory, definitions: Vec<Definition>) -> Result<ServiceDocument>
-        ensures document { IsDocumentOf schemas (definition_trees definitions.items) result }
-        ensures refused { result ≡ Err OutOfMemory → Refused memory.new }
-    {
-        document_of(memory, definitions)
+    fn into_document(self, memory: &mut Memory) -> Result<ServiceDocument> {
+        document_of(memory, self.items)
     }
 }
 
@@ -89,15 +91,9 @@ impl graphql_grammar::document::Definition for Definition {
 ///   definition without a query root;
 /// - `OutOfMemory` where memory was refused.
 pub fn parse_schema(alloc: Global, text: &str) -> Result<ServiceDocument>
-    ensures answer { (tokens : List SpecToken) → IsCutInto text.now tokens → Answers schemas default_limits tokens result }
-    // A text that has a tree by the former grammar has the same tree now, and no schema in it has a description.
-    ensures former { (tokens : List SpecToken) (ds : List SpecDefinition) → Cuts Former [] (chars text.now) tokens → grammar schemas Former default_limits tokens ds → IsCutInto text.now tokens × AreTheDefinitions schemas default_limits tokens ds × AllByRecursion HasNoDescribedSchema ds }
-    // The tokens of a text that the former edition cuts without a fault are those of now.
-    ensures former_tokens { (tokens : List SpecToken) → HasNoFault tokens → Cuts Former [] (chars text.now) tokens → Answers schemas default_limits tokens result }
-    // These three hold of each text, also where memory runs out.
-    ensures one_tree { (tokens : List SpecToken) → IsCutInto text.now tokens → HasOneTree schemas tokens }
-    ensures decided { (tokens : List SpecToken) → IsCutInto text.now tokens → IsDecided schemas default_limits tokens }
-    ensures bare { (tokens : List SpecToken) → IsCutInto text.now tokens → RestsOnBareTokens schemas default_limits tokens }
+    ensures reads { ReadsText schemas default_limits text.now result }
+    // No schema of a former tree has a description.
+    ensures former_schemas { FormerDescribesNoSchema default_limits }
     // A schema has a query root, or is an extension; and no extension has a description.
     ensures lawful { IfOk result (λ document. IsLawful (schema_document_tree document)) }
 {
@@ -107,12 +103,8 @@ pub fn parse_schema(alloc: Global, text: &str) -> Result<ServiceDocument>
 /// As [`parse_schema`], with limits that the caller chooses (this project's own call). The first number isn't used:
 /// a schema file has no selection sets.
 pub fn parse_schema_limited(alloc: Global, text: &str, limits: Limits) -> Result<ServiceDocument>
-    ensures answer { (tokens : List SpecToken) → IsCutInto text.now tokens → Answers schemas limits tokens result }
-    ensures former { (tokens : List SpecToken) (ds : List SpecDefinition) → Cuts Former [] (chars text.now) tokens → grammar schemas Former limits tokens ds → IsCutInto text.now tokens × AreTheDefinitions schemas limits tokens ds × AllByRecursion HasNoDescribedSchema ds }
-    ensures former_tokens { (tokens : List SpecToken) → HasNoFault tokens → Cuts Former [] (chars text.now) tokens → Answers schemas limits tokens result }
-    ensures one_tree { (tokens : List SpecToken) → IsCutInto text.now tokens → HasOneTree schemas tokens }
-    ensures decided { (tokens : List SpecToken) → IsCutInto text.now tokens → IsDecided schemas limits tokens }
-    ensures bare { (tokens : List SpecToken) → IsCutInto text.now tokens → RestsOnBareTokens schemas limits tokens }
+    ensures reads { ReadsText schemas limits text.now result }
+    ensures former_schemas { FormerDescribesNoSchema limits }
     ensures lawful { IfOk result (λ document. IsLawful (schema_document_tree document)) }
 {
     parse_schema_within(&mut Memory::new(alloc), text, limits)
@@ -125,17 +117,13 @@ pub fn parse_schema_within(
     text: &str,
     limits: Limits,
 ) -> Result<ServiceDocument>
-    ensures answer { (tokens : List SpecToken) → IsCutInto text.now tokens → Answers schemas limits tokens result }
-    ensures former { (tokens : List SpecToken) (ds : List SpecDefinition) → Cuts Former [] (chars text.now) tokens → grammar schemas Former limits tokens ds → IsCutInto text.now tokens × AreTheDefinitions schemas limits tokens ds × AllByRecursion HasNoDescribedSchema ds }
-    ensures former_tokens { (tokens : List SpecToken) → HasNoFault tokens → Cuts Former [] (chars text.now) tokens → Answers schemas limits tokens result }
-    ensures one_tree { (tokens : List SpecToken) → IsCutInto text.now tokens → HasOneTree schemas tokens }
-    ensures decided { (tokens : List SpecToken) → IsCutInto text.now tokens → IsDecided schemas limits tokens }
-    ensures bare { (tokens : List SpecToken) → IsCutInto text.now tokens → RestsOnBareTokens schemas limits tokens }
+    ensures reads { ReadsText schemas limits text.now result }
+    ensures former_schemas { FormerDescribesNoSchema limits }
     ensures lawful { IfOk result (λ document. IsLawful (schema_document_tree document)) }
     ensures refused { result ≡ Err OutOfMemory → Refused memory.new }
 {
     let mut tokens = Tokens::new(text);
-    read_document::<Definition>(memory, &mut tokens, limits)
+    read_document::<KeptDefinitions>(memory, &mut tokens, limits)
 }
 
 /// As [`parse_schema`], over the tokens that are not yet taken, with the places that they have in the whole
@@ -146,13 +134,8 @@ pub fn parse_schema_within(
 /// left. What `tokens` then gives is the rest of the same list.
 pub fn parse_schema_from(alloc: Global, tokens: &mut Tokens<'_>) -> Result<ServiceDocument>
     requires { left tokens.old ≢ [] }
-    ensures answer { Answers schemas default_limits (left tokens.old) result }
-    ensures one_tree { HasOneTree schemas (left tokens.old) }
-    ensures decided { IsDecided schemas default_limits (left tokens.old) }
-    ensures bare { RestsOnBareTokens schemas default_limits (left tokens.old) }
+    ensures reads { ReadsTokens schemas default_limits tokens.old tokens.new result }
     ensures lawful { IfOk result (λ document. IsLawful (schema_document_tree document)) }
-    ensures taken { (count : ℕ) × (tokens.new.taken ≡ tokens.old.taken + count) × TakenFor schemas default_limits (left tokens.old) result count }
-    ensures whole { tokens.new.whole ≡ tokens.old.whole }
 {
-    read_document::<Definition>(&mut Memory::new(alloc), tokens, Limits::default())
+    read_document::<KeptDefinitions>(&mut Memory::new(alloc), tokens, Limits::default())
 }

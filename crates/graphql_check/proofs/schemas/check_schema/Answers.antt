@@ -1,17 +1,6 @@
-use Rattle.std.proofs.Common.{sym, subst}
-use Rattle.std.specs.List.{AllByRecursion}
-use Rattle.graphql_tokens.specs.tokens.Edition.{Former}
-use Rattle.graphql_tokens.specs.tokens.Cuts.{IsCutInto}
-use Rattle.graphql_check.specs.Checking.{checked}
-use Rattle.graphql_grammar.specs.answers.Answers.{AreTheDefinitions}
-use Rattle.graphql_grammar.specs.answers.Language.{grammar}
-use Rattle.graphql_reading.specs.grammar.Limits.{Limits}
-use Rattle.graphql_schemas.specs.grammar.SchemaFile.{HasNoDescribedSchema}
-use Rattle.graphql_schemas.specs.grammar.Schemas.{schemas}
+use Rattle.graphql_reading.specs.grammar.Limits.{default_limits}
+use Rattle.graphql_schemas.proofs.Laws.{none-described}
 use Rattle.graphql_check.proofs.schemas.check_schema.Goals as goal
 
-pub returns-clause-former : goal.returns-clause-former
-returns-clause-former c ts ds cuts h =
-    let limits = c.default.ensures in
-    subst (λ (l : Limits). IsCutInto c.args.text.now ts × AreTheDefinitions (checked schemas) l ts ds × AllByRecursion HasNoDescribedSchema ds) limits
-    (c.check_schema_limited.ensures.former ts ds cuts (subst (λ (l : Limits). grammar (checked schemas) Former l ts ds) (sym limits) h))
+pub returns-clause-former_schemas : goal.returns-clause-former_schemas
+returns-clause-former_schemas c = none-described default_limits

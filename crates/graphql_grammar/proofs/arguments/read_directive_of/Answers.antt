@@ -1,8 +1,7 @@
-use Rattle.std.proofs.Common.{◌≡◌, List, sym, ap, ◌∙◌, map}
+use Rattle.std.proofs.Common.{List, sym, ap, ◌∙◌, map}
 use Rattle.std.proofs.lemmas.Result.{err_from_is_err_and}
 use Rattle.graphql_tokens.specs.declared.pos.Positioned.{Positioned}
 use Rattle.graphql_tokens.specs.tokens.Seen.{seen}
-use Rattle.graphql_syntax.specs.trees.Parts as trees
 use Rattle.graphql_reading.specs.reading.Ahead.{Ahead, Stays, tokens}
 use Rattle.graphql_reading.specs.reading.Given.{GoesOn}
 use Rattle.graphql_reading.specs.reading.Outcome.{Read}

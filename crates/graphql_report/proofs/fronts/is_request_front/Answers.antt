@@ -1,8 +1,9 @@
 use Rattle.graphql_check.specs.Checking.{checked}
+use Rattle.graphql_check.proofs.Checking.{checks-read}
 use Rattle.graphql_requests.specs.grammar.Requests.{requests}
 use Rattle.graphql_requests.specs.reading.Request.{definitions_at}
 use Rattle.graphql_requests.proofs.RequestProductions.{requests-are-read}
-use Rattle.graphql_report.proofs.ToldFronts.{checks-read, refused-right, accepted-right, right-of-checked, told-by-check}
+use Rattle.graphql_report.proofs.ToldFronts.{refused-right, accepted-right, right-of-checked, told-by-check}
 use Rattle.graphql_report.proofs.fronts.is_request_front.Goals as goal
 
 pub returns-in-Ok : goal.returns-in-Ok

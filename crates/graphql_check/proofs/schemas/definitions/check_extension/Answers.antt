@@ -1,5 +1,4 @@
 use Rattle.std.proofs.Common.{sym, ◌∙◌}
-use Rattle.graphql_tokens.specs.tokens.Seen.{seen}
 use Rattle.graphql_reading.proofs.Loops.{go-on}
 use Rattle.graphql_check.proofs.SchemaDefinitions.{extended-schema}
 use Rattle.graphql_check.proofs.schemas.definitions.check_extension.Goals as goal

@@ -1,11 +1,11 @@
-use Rattle.std.proofs.Common.{map, ap, sym, ◌∙◌, subst}
+use Rattle.std.proofs.Common.{map, ap, ◌∙◌, subst}
 use Rattle.graphql_grammar.specs.reading.DocumentOf.{IsDocumentOf}
 use Rattle.graphql_requests.specs.grammar.Requests.{requests}
 use Rattle.graphql_check.specs.Checking.{checked}
 use Rattle.graphql_check.specs.RequestHeads.{head_of, head_tree}
 use Rattle.graphql_check.proofs.Documents.{document-of}
 use Rattle.graphql_check.proofs.RequestHeads.{looks-at-heads}
-use Rattle.graphql_check.proofs.SmallVecHead1Kept.judge.Goals as goal
+use Rattle.graphql_check.proofs.KeptHeadsKept.into_document.Goals as goal
 
 pub returns-clause-document : goal.returns-clause-document
 returns-clause-document c ds h =

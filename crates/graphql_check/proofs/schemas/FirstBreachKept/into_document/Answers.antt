@@ -1,6 +1,6 @@
 use Rattle.std.proofs.Common.{Err, refl, sym, ◌∙◌}
 use Rattle.graphql_check.proofs.SchemaBreaches.{none-told, first-told, no-memory-told}
-use Rattle.graphql_check.proofs.schemas.FirstBreachKept.judge.Goals as goal
+use Rattle.graphql_check.proofs.schemas.FirstBreachKept.into_document.Goals as goal
 
 pub returns-in-None-clause-document : goal.returns-in-None-clause-document
 returns-in-None-clause-document c ds h = none-told ds (sym h ∙ c.in-None.is)
