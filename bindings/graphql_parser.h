@@ -1,6 +1,6 @@
 /* graphql_parser: a parser of GraphQL requests and schema files whose every function is proved.
  *
- * Three calls for each language. A check tells by a status, and by up to two places, whether a text is a request or a
+ * Three calls for each language, and two of them within a budget of memory. A check tells by a status, and by up to two places, whether a text is a request or a
  * schema file. A parse tells the same, and hands over the tree, or the error, as JSON. An explanation tells the same, and
  * hands over a report of the error for people. A fourth, at the end, is for the wrapper in Rust.
  *
@@ -37,7 +37,7 @@ uint32_t graphql_parser_version(void);
 enum {
     /* The text is a document of the language, within the limits: it has one tree, which breaks no rule. */
     GRAPHQL_PARSER_ACCEPTED = 0,
-    /* `malloc` or `realloc` gave nothing. Nothing is known of the text. */
+    /* `malloc` or `realloc` gave nothing, or a budget was used up. Nothing is known of the text. */
     GRAPHQL_PARSER_OUT_OF_MEMORY = 1,
     /* The bytes aren't UTF-8. They weren't read. */
     GRAPHQL_PARSER_NOT_UTF8 = 2,
@@ -172,6 +172,27 @@ uint32_t graphql_parser_parse_query(
     graphql_parser_places *places, graphql_parser_json *json);
 uint32_t graphql_parser_parse_schema(
     const uint8_t *text, size_t length, size_t selections, size_t values, size_t types, bool with_places,
+    graphql_parser_places *places, graphql_parser_json *json);
+
+/* The same as a check and a parse, within a budget.
+ *
+ * memory                   how many bytes reading the text may take: those of each block that is asked for, of a block that
+ *                          grows those that are added, and of each named operation or fragment those of its place in a map.
+ *                          What is given back isn't counted off, and neither are the JSON and what writing it takes
+ *                          counted.
+ *
+ * A text that needs more is answered with GRAPHQL_PARSER_OUT_OF_MEMORY, as one for which `malloc` gave nothing. */
+uint32_t graphql_parser_check_query_within(
+    const uint8_t *text, size_t length, size_t selections, size_t values, size_t types, size_t memory,
+    graphql_parser_places *places);
+uint32_t graphql_parser_check_schema_within(
+    const uint8_t *text, size_t length, size_t selections, size_t values, size_t types, size_t memory,
+    graphql_parser_places *places);
+uint32_t graphql_parser_parse_query_within(
+    const uint8_t *text, size_t length, size_t selections, size_t values, size_t types, size_t memory, bool with_places,
+    graphql_parser_places *places, graphql_parser_json *json);
+uint32_t graphql_parser_parse_schema_within(
+    const uint8_t *text, size_t length, size_t selections, size_t values, size_t types, size_t memory, bool with_places,
     graphql_parser_places *places, graphql_parser_json *json);
 
 /* The same as a check, and hands over a report for people, such as

@@ -73,6 +73,75 @@ static const char *fault_of_packing(const row *row, const uint8_t *text, size_t 
     return NULL;
 }
 
+/* What is wrong with what the calls tell of a row within a budget that no text uses up, and within one of no bytes, which
+ * is either used up or not needed; null where nothing is. */
+static const char *fault_within(const row *row, const uint8_t *text, size_t length) {
+    static const graphql_parser_places nowhere = NOWHERE;
+    size_t limit = row->limit;
+    for (int round = 0; round < 4; round++) {
+        size_t memory = round % 2 ? 0 : SIZE_MAX;
+        graphql_parser_places places = unwritten;
+        graphql_parser_json json = garbage;
+        uint32_t status = round < 2
+            ? row->language->check_within(text, length, limit, limit, limit, memory, &places)
+            : row->language->parse_within(text, length, limit, limit, limit, memory, false, &places, &json);
+        if (!memory && status == GRAPHQL_PARSER_OUT_OF_MEMORY) {
+            if (!are_same(&places, &nowhere)) return "places of a budget that is used up";
+            if (round > 1 && !is_nothing(&json)) return "something is handed over within a budget";
+            continue;
+        }
+        const char *wrong = NULL;
+        if (round > 1) {
+            wrong = fault_of_parse(row, status, false, &places, &json);
+            free(json.start);
+        } else if (status != row->status || !are_same(&places, &row->places)) {
+            wrong = "a check within a budget";
+        }
+        if (wrong) return wrong;
+    }
+    return NULL;
+}
+
+#define USED_UP GRAPHQL_PARSER_OUT_OF_MEMORY
+
+/* Texts and budgets, with what a check and a parse answer. A check takes memory only for names, if there are two definitions
+ * or more, and for an error. */
+static const struct {
+    const language *language;
+    const char *text;
+    size_t memory;
+    uint32_t check, parse;
+} budgets[] = {
+    {&requests, "{a}", 0, GRAPHQL_PARSER_ACCEPTED, USED_UP},
+    {&requests, "{a}", 1 << 12, GRAPHQL_PARSER_ACCEPTED, GRAPHQL_PARSER_ACCEPTED},
+    {&requests, "query A{a}query B{b}", 0, USED_UP, USED_UP},
+    {&requests, "query A{a}query B{b}", 1 << 12, GRAPHQL_PARSER_ACCEPTED, GRAPHQL_PARSER_ACCEPTED},
+    {&requests, "{", 0, USED_UP, USED_UP},
+    {&requests, "{", 1 << 12, GRAPHQL_PARSER_SYNTAX, GRAPHQL_PARSER_SYNTAX},
+    {&requests, "{" TIMES_4096("a ") "}", 1 << 12, GRAPHQL_PARSER_ACCEPTED, USED_UP},
+    {&requests, "{" TIMES_4096("a ") "}", 1 << 24, GRAPHQL_PARSER_ACCEPTED, GRAPHQL_PARSER_ACCEPTED},
+    {&requests, "{a}", SIZE_MAX, GRAPHQL_PARSER_ACCEPTED, GRAPHQL_PARSER_ACCEPTED},
+    {&schema_files, "scalar A", 0, GRAPHQL_PARSER_ACCEPTED, USED_UP},
+    {&schema_files, "scalar A", 1 << 12, GRAPHQL_PARSER_ACCEPTED, GRAPHQL_PARSER_ACCEPTED},
+    {&schema_files, "type A{" TIMES_4096("a:B ") "}", 1 << 12, GRAPHQL_PARSER_ACCEPTED, USED_UP},
+    {&schema_files, "type A{" TIMES_4096("a:B ") "}", 1 << 24, GRAPHQL_PARSER_ACCEPTED, GRAPHQL_PARSER_ACCEPTED},
+};
+
+/* The text of a budget for which a call answers something else; null where there is none. */
+static const char *fault_of_budgets(void) {
+    for (size_t i = 0; i < sizeof budgets / sizeof *budgets; i++) {
+        const language *language = budgets[i].language;
+        const uint8_t *text = (const uint8_t *)budgets[i].text;
+        size_t length = strlen(budgets[i].text), memory = budgets[i].memory;
+        graphql_parser_json json;
+        uint32_t check = language->check_within(text, length, 64, 64, 64, memory, NULL);
+        uint32_t parse = language->parse_within(text, length, 64, 64, 64, memory, false, NULL, &json);
+        free(json.start);
+        if (check != budgets[i].check || parse != budgets[i].parse) return budgets[i].text;
+    }
+    return NULL;
+}
+
 /* Texts with the whole report of each, by the rules of docs/MESSAGES.md. */
 static const struct {
     const language *language;
@@ -194,6 +263,7 @@ static size_t failures(void) {
         if (!wrong) wrong = fault_without_places(&rows[i], text, length);
         if (!wrong) wrong = fault_of_explaining(&rows[i], text, length);
         if (!wrong) wrong = fault_of_packing(&rows[i], text, length);
+        if (!wrong) wrong = fault_within(&rows[i], text, length);
         if (wrong) {
             printf("wrong at %.60s: %s\n", shown(&rows[i]), wrong);
             count++;
@@ -215,6 +285,7 @@ int main(void) {
     if (!wrong) wrong = fault_of_limits(&schema_files);
     if (!wrong) wrong = fault_of_names();
     if (!wrong) wrong = fault_of_reports();
+    if (!wrong) wrong = fault_of_budgets();
     if (!wrong && graphql_parser_version() != GRAPHQL_PARSER_VERSION_NUMBER) wrong = "the version";
     if (wrong) {
         printf("wrong: %s\n", wrong);

@@ -12,6 +12,11 @@ typedef uint32_t check_call(const uint8_t *, size_t, size_t, size_t, size_t, gra
 typedef uint32_t parse_call(
     const uint8_t *, size_t, size_t, size_t, size_t, bool, graphql_parser_places *, graphql_parser_json *);
 
+/* The same within a budget. */
+typedef uint32_t check_within_call(const uint8_t *, size_t, size_t, size_t, size_t, size_t, graphql_parser_places *);
+typedef uint32_t parse_within_call(
+    const uint8_t *, size_t, size_t, size_t, size_t, size_t, bool, graphql_parser_places *, graphql_parser_json *);
+
 /* An explanation, or a pack. */
 typedef uint32_t handing_call(
     const uint8_t *, size_t, size_t, size_t, size_t, graphql_parser_places *, graphql_parser_block *);
@@ -21,12 +26,16 @@ typedef struct {
     parse_call *parse;
     handing_call *explain;
     handing_call *pack;
+    check_within_call *check_within;
+    parse_within_call *parse_within;
 } language;
 
 static const language requests = {
-    graphql_parser_check_query, graphql_parser_parse_query, graphql_parser_explain_query, graphql_parser_pack_query};
+    graphql_parser_check_query, graphql_parser_parse_query, graphql_parser_explain_query, graphql_parser_pack_query,
+    graphql_parser_check_query_within, graphql_parser_parse_query_within};
 static const language schema_files = {
-    graphql_parser_check_schema, graphql_parser_parse_schema, graphql_parser_explain_schema, graphql_parser_pack_schema};
+    graphql_parser_check_schema, graphql_parser_parse_schema, graphql_parser_explain_schema, graphql_parser_pack_schema,
+    graphql_parser_check_schema_within, graphql_parser_parse_schema_within};
 
 /* A text of a language, and what it gives. */
 typedef struct {

@@ -1,5 +1,6 @@
 //! Checking texts: whether each is good.
-ghost use Rattle.std.specs.Prelude.{◌≡◌, ◌≤◌, ◌↔◌, IfOk, map, Ok, None};
+ghost use Rattle.std.specs.Prelude.{◌≡◌, ◌≤◌, ◌↔◌, IfOk, OnErr, map, Ok, None};
+ghost use Rattle.graphql_parser.specs.Memory.{Refused};
 ghost use Rattle.gql.specs.checked.Good.{IsGoodText, IsGood, GiveGoodTexts};
 ghost use Rattle.gql.specs.declared.check.Found.TheVariants.{Good};
 
@@ -8,7 +9,7 @@ use crate::language::read_as;
 use crate::output::shown_name;
 use crate::telling::{Reading, Told, tell_all, tell_unread};
 use crate::texts::{Texts, Unread};
-use graphql_parser::{Error, Limits, check_query_limited, check_schema_limited};
+use graphql_parser::{Error, Limits, Memory, check_query_within, check_schema_within};
 use graphql_report::{Language, Style};
 use std::alloc::{AllocError, Global};
 use std::io::Write;
@@ -51,23 +52,25 @@ impl Found {
     }
 }
 
-/// The error of a text within these limits; None where it has none, or lacks an operation and may.
+/// The error of a text within these limits; None where it has none, or lacks an operation and may. An error in its place
+/// says that memory was refused.
 pub fn error_of(
-    alloc: Global,
+    memory: &mut Memory,
     language: Language,
     text: &str,
     limits: Limits,
     takes_fragments: bool,
 ) -> Result<Option<Error>, AllocError>
-    ensures { (result ≡ Ok None) → IsGoodText takes_fragments language limits text.now }
+    ensures good { (result ≡ Ok None) → IsGoodText takes_fragments language limits text.now }
+    ensures refused { OnErr result (Refused memory.new) }
 {
     let error = match language {
-        Language::Requests => match check_query_limited(alloc, text, limits) {
+        Language::Requests => match check_query_within(memory, text, limits) {
             Ok(_) => return Ok(None),
             Err(Error::MissingOperation) if takes_fragments => return Ok(None),
             Err(error) => error,
         },
-        Language::Schemas => match check_schema_limited(alloc, text, limits) {
+        Language::Schemas => match check_schema_within(memory, text, limits) {
             Ok(_) => return Ok(None),
             Err(error) => error,
         },
@@ -158,18 +161,42 @@ fn check_text<E: Write>(
         }
         Ok(text) => {
             let text = text.as_str();
-            let language = read_as(alloc, call.language, told.name, text)?;
-            let limits = call.limits;
-            match error_of(alloc, language, text, limits, call.takes_fragments)? {
-                None => Ok(Found::Good),
-                Some(error) => {
-                    let reading = Reading { language, limits };
-                    let count = tell_all(alloc, told, &reading, text, &error, lines, err)?;
-                    *findings = findings.saturating_add(count);
-                    Ok(Found::Refused)
-                }
-            }
+            let reading = Reading {
+                language: read_as(alloc, call.language, told.name, text)?,
+                limits: call.limits,
+            };
+            check_read(alloc, call, told, &reading, text, findings, lines, err)
         }
+    }
+}
+
+// What is found of a text. Where memory is refused, a budget stops the check of this text alone.
+fn check_read<E: Write>(
+    alloc: Global,
+    call: &Call<'_>,
+    told: &Told<'_>,
+    reading: &Reading,
+    text: &str,
+    findings: &mut usize,
+    lines: &mut String,
+    err: &mut E,
+) -> Result<Found, AllocError>
+    ensures { (result ≡ Ok Good) → IsGoodText call.now.takes_fragments reading.now.language reading.now.limits text.now }
+{
+    let Reading { language, limits } = *reading;
+    let mut memory = Memory::with_budget(alloc, call.memory.unwrap_or(usize::MAX));
+    match error_of(&mut memory, language, text, limits, call.takes_fragments) {
+        Ok(None) => Ok(Found::Good),
+        Ok(Some(error)) => {
+            let count = tell_all(alloc, told, reading, text, &error, lines, err)?;
+            *findings = findings.saturating_add(count);
+            Ok(Found::Refused)
+        }
+        Err(_) if call.memory.is_some() => {
+            tell_unread(alloc, told, Unread::OverBudget, lines, err)?;
+            Ok(Found::Unread)
+        }
+        Err(refused) => Err(refused),
     }
 }
 

@@ -34,6 +34,8 @@ pub struct Call<'a> {
     /// What the texts are read as; None where each file tells it.
     pub language: Option<Language>,
     pub limits: Limits,
+    /// `--memory`: how many bytes the check of a text may take; None where it may take what there is.
+    pub memory: Option<usize>,
     /// `-v`: a line for each good text.
     pub is_verbose: bool,
     /// A request that lacks nothing but an operation is good: so it is without `--executable`.
@@ -52,6 +54,7 @@ pub struct Call<'a> {
 #[derive(Clone, Copy, PartialEq, Eq)]
 pub enum Valued {
     Limits,
+    Memory,
     Format,
     Color,
 }
@@ -100,6 +103,7 @@ pub fn command_of<'a>(alloc: Global, words: &'a [String]) -> Result<Asked<'a>, A
         files: Vec::new(alloc),
         language: None,
         limits: Limits::default(),
+        memory: None,
         is_verbose: false,
         takes_fragments: true,
         has_places: false,
@@ -196,6 +200,7 @@ fn read_option<'a>(call: &mut Call<'a>, word: &'a str) -> Result<Next, Wrong<'a>
 fn option_named(name: &str) -> Option<Valued> {
     match name {
         "--limits" => Some(Valued::Limits),
+        "--memory" => Some(Valued::Memory),
         "--format" => Some(Valued::Format),
         "--color" => Some(Valued::Color),
         _ => None,
@@ -208,6 +213,10 @@ fn read_value(call: &mut Call<'_>, option: Valued, value: &str) -> bool {
         Valued::Limits => match limits_of(value) {
             Some(limits) => call.limits = limits,
             None => return false,
+        },
+        Valued::Memory => match value.parse() {
+            Ok(bytes) => call.memory = Some(bytes),
+            Err(_) => return false,
         },
         Valued::Format => match value {
             "text" => call.format = Format::Text,

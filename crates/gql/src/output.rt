@@ -70,6 +70,7 @@ pub fn complain_of_call<E: Write>(
 fn needs(option: Valued) -> &'static str {
     match option {
         Valued::Limits => "--limits needs three numbers of at most 256, as 64,64,64",
+        Valued::Memory => "--memory needs a number of bytes",
         Valued::Format => "--format needs text, json or github",
         Valued::Color => "--color needs always, never or auto",
     }

@@ -4,7 +4,7 @@ use crate::command::Format;
 use crate::output::complain;
 use crate::recovery::{next_definition, rest_at};
 use crate::texts::Unread;
-use graphql_parser::{Error, Limits, Pos};
+use graphql_parser::{Error, Limits, Memory, Pos};
 use graphql_report::{Finding, Language, Style, explain_in, finding_of, refused_token};
 use serde::Serialize;
 use std::alloc::{AllocError, Global};
@@ -87,7 +87,7 @@ fn tell_rest<E: Write>(
 // The error of the rest of a text, if it is one to be told.
 fn next_error(alloc: Global, reading: &Reading, rest: &str) -> Result<Option<Error>, AllocError> {
     let Reading { language, limits } = *reading;
-    match error_of(alloc, language, rest, limits, true)? {
+    match error_of(&mut Memory::new(alloc), language, rest, limits, true)? {
         Some(Error::MultipleOperations { .. }) => Ok(None),
         other => Ok(other),
     }

@@ -111,6 +111,7 @@ fn help_is_printed_and_output_may_fail(rt: HostRuntime) -> Result<(), Fail> {
             "--query",
             "--schema",
             "--limits S,V,T",
+            "--memory BYTES",
             "--executable",
             "--format FORMAT",
             "--color WHEN",

@@ -8,7 +8,7 @@ use std::alloc::{AllocError, Global};
 use std::io::{ErrorKind, Read};
 use std::{fs, io};
 
-/// Why there is no text.
+/// Why there is no text, or it isn't checked.
 #[derive(Clone, Copy)]
 pub enum Unread {
     /// There is no such file.
@@ -23,6 +23,8 @@ pub enum Unread {
     Unreadable,
     /// It isn't UTF-8.
     NotText,
+    /// Its check needs more memory than it may take.
+    OverBudget,
     /// Memory was refused.
     NoMemory,
 }
@@ -37,6 +39,7 @@ impl Unread {
             Unread::NoFiles => Some("has no file named *.graphql, *.graphqls or *.gql"),
             Unread::Unreadable => Some("cannot be read"),
             Unread::NotText => Some("is not UTF-8"),
+            Unread::OverBudget => Some("needs more memory than --memory allows"),
             Unread::NoMemory => None,
         }
     }
@@ -45,7 +48,7 @@ impl Unread {
     pub fn status(self) -> &'static str {
         match self {
             Unread::NotText => "NOT_UTF8",
-            Unread::NoMemory => "OUT_OF_MEMORY",
+            Unread::OverBudget | Unread::NoMemory => "OUT_OF_MEMORY",
             _ => "UNREADABLE",
         }
     }

@@ -22,6 +22,7 @@ pub fn check_text<D: Document>(
     selections: usize,
     values: usize,
     types: usize,
+    memory: usize,
     room: Room,
 ) -> Told
     ensures told { IsTold (checked D.language) (limits_of selections values types) text.bytes result.number result.places }
@@ -33,6 +34,7 @@ pub fn check_text<D: Document>(
         selections,
         values,
         types,
+        memory,
     };
     let mut places = Places::none();
     let number = check::<D>(alloc, &question, &mut places);
@@ -46,6 +48,7 @@ pub fn parse_text<D: Document>(
     selections: usize,
     values: usize,
     types: usize,
+    memory: usize,
     with_places: bool,
     room: Room,
     json: &mut Block,
@@ -60,6 +63,7 @@ pub fn parse_text<D: Document>(
         selections,
         values,
         types,
+        memory,
     };
     let mut places = Places::none();
     let number = parse::<D>(alloc, &question, with_places, &mut places, json);
@@ -73,6 +77,7 @@ pub fn explain_text<D: Document>(
     selections: usize,
     values: usize,
     types: usize,
+    memory: usize,
     room: Room,
     report: &mut Block,
 ) -> Told
@@ -86,6 +91,7 @@ pub fn explain_text<D: Document>(
         selections,
         values,
         types,
+        memory,
     };
     let mut places = Places::none();
     let number = explain::<D>(alloc, &question, &mut places, report);
@@ -99,6 +105,7 @@ pub fn pack_text<D: Document>(
     selections: usize,
     values: usize,
     types: usize,
+    memory: usize,
     room: Room,
     packed: &mut Block,
 ) -> Told
@@ -112,6 +119,7 @@ pub fn pack_text<D: Document>(
         selections,
         values,
         types,
+        memory,
     };
     let mut places = Places::none();
     let number = pack::<D>(alloc, &question, &mut places, packed);

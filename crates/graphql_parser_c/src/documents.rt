@@ -21,8 +21,8 @@ use graphql_json::{Places, request_json, schema_json};
 use graphql_packed::{packed_request, packed_schema};
 use graphql_parser::types::{ExecutableDocument, ServiceDocument};
 use graphql_parser::{
-    Limits, Result, check_query_limited, check_schema_limited, parse_query_limited,
-    parse_schema_limited,
+    Limits, Memory, Result, check_query_within, check_schema_within, parse_query_within,
+    parse_schema_within,
 };
 use graphql_report::Language;
 use std::alloc::{AllocError, Global};
@@ -48,11 +48,11 @@ pub trait Document: Drop {
     ghost bytes: { Self → Bytes };
 
     /// Reads a text.
-    fn read(alloc: Global, text: &str, limits: Limits) -> Result<Self>
+    fn read(memory: &mut Memory, text: &str, limits: Limits) -> Result<Self>
         ensures { (tokens : List Token) → IsCutInto text.now tokens → Answers Self.language limits tokens result };
 
     /// Checks a text: the same, without a tree.
-    fn check(alloc: Global, text: &str, limits: Limits) -> Result<()>
+    fn check(memory: &mut Memory, text: &str, limits: Limits) -> Result<()>
         ensures { (tokens : List Token) → IsCutInto text.now tokens → Answers (checked Self.language) limits tokens result };
 
     /// The tree as JSON.
@@ -75,12 +75,12 @@ impl Document for ExecutableDocument {
 
     ghost bytes = { λ document. request_bytes (document_tree document) };
 
-    fn read(alloc: Global, text: &str, limits: Limits) -> Result<ExecutableDocument> {
-        parse_query_limited(alloc, text, limits)
+    fn read(memory: &mut Memory, text: &str, limits: Limits) -> Result<ExecutableDocument> {
+        parse_query_within(memory, text, limits)
     }
 
-    fn check(alloc: Global, text: &str, limits: Limits) -> Result<()> {
-        check_query_limited(alloc, text, limits)
+    fn check(memory: &mut Memory, text: &str, limits: Limits) -> Result<()> {
+        check_query_within(memory, text, limits)
     }
 
     fn json(&self, alloc: Global, places: Places) -> std::result::Result<Vec<u8>, AllocError> {
@@ -103,12 +103,12 @@ impl Document for ServiceDocument {
 
     ghost bytes = { λ document. schema_bytes (schema_document_tree document) };
 
-    fn read(alloc: Global, text: &str, limits: Limits) -> Result<ServiceDocument> {
-        parse_schema_limited(alloc, text, limits)
+    fn read(memory: &mut Memory, text: &str, limits: Limits) -> Result<ServiceDocument> {
+        parse_schema_within(memory, text, limits)
     }
 
-    fn check(alloc: Global, text: &str, limits: Limits) -> Result<()> {
-        check_schema_limited(alloc, text, limits)
+    fn check(memory: &mut Memory, text: &str, limits: Limits) -> Result<()> {
+        check_schema_within(memory, text, limits)
     }
 
     fn json(&self, alloc: Global, places: Places) -> std::result::Result<Vec<u8>, AllocError> {

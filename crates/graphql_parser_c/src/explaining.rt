@@ -9,7 +9,7 @@ use crate::block::Block;
 use crate::documents::Document;
 use crate::handing::hand_over;
 use crate::telling::{Places, Question, ReadableText};
-use graphql_parser::{Error, Limits, Result};
+use graphql_parser::{Error, Limits, Memory, Result};
 use graphql_report::Language;
 use std::alloc::{AllocError, Global};
 
@@ -54,7 +54,8 @@ pub fn explain<D: Document>(
             return status.number();
         }
     };
-    let answer = D::check(alloc, text, limits);
+    let mut memory = Memory::with_budget(alloc, question.memory);
+    let answer = D::check(&mut memory, text, limits);
     let made = report_of(alloc, D::LANGUAGE, text, limits, &answer);
     hand_over(&answer, made, places, report).number()
 }

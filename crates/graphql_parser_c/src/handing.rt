@@ -12,7 +12,7 @@ use crate::documents::Document;
 use crate::status::Status;
 use crate::telling::{Places, Question, ReadableText, tell};
 use graphql_json::error_json;
-use graphql_parser::{Error, Result};
+use graphql_parser::{Error, Memory, Result};
 use std::alloc::{AllocError, Global};
 
 /// Tells an answer and hands over what was made of it; or, where memory was refused to that, tells this alone and hands over
@@ -85,7 +85,8 @@ pub fn parse<D: Document>(
             return status.number();
         }
     };
-    let answer = D::read(alloc, text, limits);
+    let mut memory = Memory::with_budget(alloc, question.memory);
+    let answer = D::read(&mut memory, text, limits);
     let made = json_of(alloc, &answer, with_places);
     hand_over(&answer, made, places, json).number()
 }

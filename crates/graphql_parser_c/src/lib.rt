@@ -1,9 +1,10 @@
-//! `graphql_parser` for callers that are not Rattle: a static library with four functions of C for each language.
+//! `graphql_parser` for callers that are not Rattle: a static library with six functions of C for each language.
 //!
 //! A check tells whether a text is a request or a schema file, by a status and up to two places, and keeps no tree. A
 //! parse tells the same, and hands over the tree, or the error, as JSON. An explanation tells the same, and hands over
 //! a report of the error for people. A pack tells the same as a parse, and hands over the tree as bytes for a wrapper
-//! that makes trees of its own. `bindings/graphql_parser.h` declares the eight functions and says what a caller owes;
+//! that makes trees of its own. Checks and parses within a budget of memory stand beside these.
+//! `bindings/graphql_parser.h` declares the functions and says what a caller owes;
 //! `bindings/README.md` says how to link them.
 //!
 //! Proved of each call, for every text, at null too where it has no bytes, and for all limits: its status and its
@@ -75,7 +76,7 @@ pub extern "C" fn graphql_parser_check_query(
     ensures told { IsTold (checked requests) (limits_of selections values types) text.bytes result.number result.places }
     ensures back { IsBack text places result }
 {
-    check_text::<ExecutableDocument>(alloc, text, selections, values, types, places)
+    check_text::<ExecutableDocument>(alloc, text, selections, values, types, usize::MAX, places)
 }
 
 /// Tells whether a text is a schema file, as [`graphql_parser_check_query`] does of a request.
@@ -93,7 +94,42 @@ pub extern "C" fn graphql_parser_check_schema(
     ensures told { IsTold (checked schemas) (limits_of selections values types) text.bytes result.number result.places }
     ensures back { IsBack text places result }
 {
-    check_text::<ServiceDocument>(alloc, text, selections, values, types, places)
+    check_text::<ServiceDocument>(alloc, text, selections, values, types, usize::MAX, places)
+}
+
+/// Checks a request as [`graphql_parser_check_query`] does, and takes `memory` bytes at most, counted as `Memory` of
+/// `graphql_parser` does. A text that needs more is told as one for which memory was refused.
+#[unsafe(no_mangle)]
+pub extern "C" fn graphql_parser_check_query_within(
+    alloc: Global,
+    text: Text,
+    selections: usize,
+    values: usize,
+    types: usize,
+    memory: usize,
+    places: Room,
+) -> Told
+    ensures told { IsTold (checked requests) (limits_of selections values types) text.bytes result.number result.places }
+    ensures back { IsBack text places result }
+{
+    check_text::<ExecutableDocument>(alloc, text, selections, values, types, memory, places)
+}
+
+/// Checks a schema file as [`graphql_parser_check_schema`] does, within a budget as [`graphql_parser_check_query_within`] has.
+#[unsafe(no_mangle)]
+pub extern "C" fn graphql_parser_check_schema_within(
+    alloc: Global,
+    text: Text,
+    selections: usize,
+    values: usize,
+    types: usize,
+    memory: usize,
+    places: Room,
+) -> Told
+    ensures told { IsTold (checked schemas) (limits_of selections values types) text.bytes result.number result.places }
+    ensures back { IsBack text places result }
+{
+    check_text::<ServiceDocument>(alloc, text, selections, values, types, memory, places)
 }
 
 /// Reads a request as [`graphql_parser_check_query`] does, and hands over its tree as JSON, or its error.
@@ -123,6 +159,7 @@ pub extern "C" fn graphql_parser_parse_query(
         selections,
         values,
         types,
+        usize::MAX,
         with_places,
         places,
         json,
@@ -152,6 +189,68 @@ pub extern "C" fn graphql_parser_parse_schema(
         selections,
         values,
         types,
+        usize::MAX,
+        with_places,
+        places,
+        json,
+    )
+}
+
+/// Reads a request as [`graphql_parser_parse_query`] does, and takes `memory` bytes at most for its tree and what it reads
+/// on the way, counted as `Memory` of `graphql_parser` does. The JSON isn't counted.
+#[unsafe(no_mangle)]
+pub extern "C" fn graphql_parser_parse_query_within(
+    alloc: Global,
+    text: Text,
+    selections: usize,
+    values: usize,
+    types: usize,
+    memory: usize,
+    with_places: bool,
+    places: Room,
+    json: &mut Block,
+) -> Told
+    ensures told { IsTold requests (limits_of selections values types) text.bytes result.number result.places }
+    ensures handed { IsAnswered requests (λ document. request_value (places_asked with_places) (document_tree document)) (limits_of selections values types) text.bytes result.number json.new }
+    ensures back { IsBack text places result }
+{
+    parse_text::<ExecutableDocument>(
+        alloc,
+        text,
+        selections,
+        values,
+        types,
+        memory,
+        with_places,
+        places,
+        json,
+    )
+}
+
+/// Reads a schema file as [`graphql_parser_parse_schema`] does, within a budget as [`graphql_parser_parse_query_within`] has.
+#[unsafe(no_mangle)]
+pub extern "C" fn graphql_parser_parse_schema_within(
+    alloc: Global,
+    text: Text,
+    selections: usize,
+    values: usize,
+    types: usize,
+    memory: usize,
+    with_places: bool,
+    places: Room,
+    json: &mut Block,
+) -> Told
+    ensures told { IsTold schemas (limits_of selections values types) text.bytes result.number result.places }
+    ensures handed { IsAnswered schemas (λ document. schema_value (places_asked with_places) (schema_document_tree document)) (limits_of selections values types) text.bytes result.number json.new }
+    ensures back { IsBack text places result }
+{
+    parse_text::<ServiceDocument>(
+        alloc,
+        text,
+        selections,
+        values,
+        types,
+        memory,
         with_places,
         places,
         json,
@@ -178,7 +277,16 @@ pub extern "C" fn graphql_parser_explain_query(
     ensures handed { IsExplained (checked requests) (limits_of selections values types) text.bytes result.number report.new }
     ensures back { IsBack text places result }
 {
-    explain_text::<ExecutableDocument>(alloc, text, selections, values, types, places, report)
+    explain_text::<ExecutableDocument>(
+        alloc,
+        text,
+        selections,
+        values,
+        types,
+        usize::MAX,
+        places,
+        report,
+    )
 }
 
 /// Checks a schema file as [`graphql_parser_check_schema`] does, and hands over a report of its error for people, as
@@ -197,7 +305,16 @@ pub extern "C" fn graphql_parser_explain_schema(
     ensures handed { IsExplained (checked schemas) (limits_of selections values types) text.bytes result.number report.new }
     ensures back { IsBack text places result }
 {
-    explain_text::<ServiceDocument>(alloc, text, selections, values, types, places, report)
+    explain_text::<ServiceDocument>(
+        alloc,
+        text,
+        selections,
+        values,
+        types,
+        usize::MAX,
+        places,
+        report,
+    )
 }
 
 /// Reads a request as [`graphql_parser_parse_query`] does, and hands over its tree as bytes for a wrapper.
@@ -219,7 +336,16 @@ pub extern "C" fn graphql_parser_pack_query(
     ensures handed { IsPacked requests (λ document. request_bytes (document_tree document)) (limits_of selections values types) text.bytes result.number packed.new }
     ensures back { IsBack text places result }
 {
-    pack_text::<ExecutableDocument>(alloc, text, selections, values, types, places, packed)
+    pack_text::<ExecutableDocument>(
+        alloc,
+        text,
+        selections,
+        values,
+        types,
+        usize::MAX,
+        places,
+        packed,
+    )
 }
 
 /// Reads a schema file as [`graphql_parser_parse_schema`] does, and hands over its tree as bytes for a wrapper, as
@@ -238,5 +364,14 @@ pub extern "C" fn graphql_parser_pack_schema(
     ensures handed { IsPacked schemas (λ document. schema_bytes (schema_document_tree document)) (limits_of selections values types) text.bytes result.number packed.new }
     ensures back { IsBack text places result }
 {
-    pack_text::<ServiceDocument>(alloc, text, selections, values, types, places, packed)
+    pack_text::<ServiceDocument>(
+        alloc,
+        text,
+        selections,
+        values,
+        types,
+        usize::MAX,
+        places,
+        packed,
+    )
 }

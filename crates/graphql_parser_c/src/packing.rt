@@ -8,7 +8,7 @@ use crate::block::Block;
 use crate::documents::Document;
 use crate::handing::hand_over;
 use crate::telling::{Places, Question, ReadableText};
-use graphql_parser::{Error, Result};
+use graphql_parser::{Error, Memory, Result};
 use std::alloc::{AllocError, Global};
 
 // The bytes of an answer's tree, or nothing where the text is refused; an error says that memory was refused, to the parser
@@ -48,7 +48,8 @@ pub fn pack<D: Document>(
             return status.number();
         }
     };
-    let answer = D::read(alloc, text, limits);
+    let mut memory = Memory::with_budget(alloc, question.memory);
+    let answer = D::read(&mut memory, text, limits);
     let made = packed_of(alloc, &answer);
     hand_over(&answer, made, places, packed).number()
 }

@@ -8,7 +8,7 @@ ghost use Rattle.graphql_parser_c.specs.Telling.{IsTold, IsUnread, limits_of, no
 
 use crate::documents::Document;
 use crate::status::{Status, status_of_error};
-use graphql_parser::{Limits, Pos, Result};
+use graphql_parser::{Limits, Memory, Pos, Result};
 use std::alloc::Global;
 
 /// A place in a text: the line and the column, both counted from 1, the column in characters (Unicode scalar values).
@@ -57,13 +57,15 @@ impl Places {
     }
 }
 
-/// What a caller asks: the bytes of a text, and how deep selection sets, values and types may nest.
+/// What a caller asks: the bytes of a text, how deep selection sets, values and types may nest, and how many bytes of memory
+/// the parser may take.
 #[derive(Clone, Copy)]
 pub struct Question<'a> {
     pub text: &'a [u8],
     pub selections: usize,
     pub values: usize,
     pub types: usize,
+    pub memory: usize,
 }
 
 /// A text that can be read, and the limits to read it within.
@@ -119,6 +121,7 @@ pub fn check<D: Document>(alloc: Global, question: &Question<'_>, places: &mut P
             return status.number();
         }
     };
-    let answer = D::check(alloc, text, limits);
+    let mut memory = Memory::with_budget(alloc, question.memory);
+    let answer = D::check(&mut memory, text, limits);
     tell(&answer, places).number()
 }

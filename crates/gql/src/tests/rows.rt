@@ -182,6 +182,23 @@ $ check short.graphql --limits 1,0,0
 > 1 file: 1 good
 = 0
 
+$ check --memory 0 -v fragments.graphql good.graphql
+> good.graphql: good
+> 2 files: 1 good, 1 not read
+! gql: fragments.graphql needs more memory than --memory allows
+= 2
+
+$ check --format json --memory=0 fragments.graphql
+> {"file":"fragments.graphql","severity":"error","status":"OUT_OF_MEMORY","message":"needs more memory than --memory allows"}
+= 2
+
+$ check --memory 1000000 bad.graphql
+> 1 file: 0 good, 1 refused (1 finding)
+! bad.graphql:1:4: syntax error: found ")", expected a name
+!  1 | {a()}
+!    |    ^
+= 1
+
 $ check --schema -- good.graphqls
 > 1 file: 1 good
 = 0
@@ -296,6 +313,11 @@ $ check --limits 1,2
 
 $ check --limits 1,2,257
 ! gql: --limits needs three numbers of at most 256, as 64,64,64, and not 1,2,257
+! usage: gql check|tree|tokens [OPTION].. [FILE].. (gql --help tells more)
+= 2
+
+$ check --memory 1k
+! gql: --memory needs a number of bytes, and not 1k
 ! usage: gql check|tree|tokens [OPTION].. [FILE].. (gql --help tells more)
 = 2
 
