@@ -1,12 +1,6 @@
 //! The calls that the tables are about.
-use crate::literals_made::{VALUES, made};
-use crate::{meanings, names, numbers, places, tokens, type_texts};
-use graphql_request_trees::SelectionSet;
-use graphql_syntax::types::Type;
-use graphql_tokens::name::Name;
-use graphql_tokens::number::Number;
-use graphql_tokens::text::{block_string_value, string_value};
-use rows::{Subject, compared, failures, pair};
+use crate::{literals_made, meanings, names, numbers, places, tokens, type_texts};
+use rows::{Subject, failures};
 use std::alloc::Global;
 use std::test::Fail;
 
@@ -39,40 +33,19 @@ enum Call {
 
 impl Subject for Call {
     fn answer(&self, alloc: Global, text: &str) -> Result<String, Fail> {
-        let (one, other) = match self {
-            Call::NumberEquality | Call::NameOrder | Call::TypeEquality => pair(text, " and ")?,
-            Call::Steps => pair(text, " in ")?,
-            _ => ("", text),
-        };
-        Ok(match self {
-            Call::Tokens => tokens::shown(alloc, text)?,
-            Call::StringValue => match string_value(alloc, text)? {
-                Some(value) => format!(in alloc; "'{value}'")?,
-                None => String::from_str(alloc, "none")?,
-            },
-            Call::BlockStringValue => {
-                let value = block_string_value(alloc, text)?;
-                format!(in alloc; "'{value}'")?
-            }
-            Call::Number => numbers::shown(alloc, Number::new(alloc, text)?)?,
-            Call::NumberEquality => compared(
-                alloc,
-                &Number::new(alloc, one)?,
-                &Number::new(alloc, other)?,
-            )?,
-            Call::Name => names::printed(alloc, &Name::new(alloc, text)?)?,
-            Call::NameOrder => names::ordered(
-                alloc,
-                &Name::new(alloc, one)?,
-                &Name::new(alloc, other)?,
-            )?,
-            Call::Steps => places::shown(alloc, one, other)?,
-            Call::Type => type_texts::shown(alloc, text, Type::new(alloc, text)?)?,
-            Call::TypeEquality => {
-                compared(alloc, &Type::new(alloc, one)?, &Type::new(alloc, other)?)?
-            }
-            Call::MadeValue => made(alloc, text)?,
-        })
+        match self {
+            Call::Tokens => tokens::shown(alloc, text),
+            Call::StringValue => meanings::of_string(alloc, text),
+            Call::BlockStringValue => meanings::of_block_string(alloc, text),
+            Call::Number => numbers::shown(alloc, text),
+            Call::NumberEquality => numbers::two_compared(alloc, text),
+            Call::Name => names::shown(alloc, text),
+            Call::NameOrder => names::two_ordered(alloc, text),
+            Call::Steps => places::of_row(alloc, text),
+            Call::Type => type_texts::shown(alloc, text),
+            Call::TypeEquality => type_texts::two_compared(alloc, text),
+            Call::MadeValue => literals_made::made(alloc, text),
+        }
     }
 }
 
@@ -89,14 +62,9 @@ fn every_row_holds(rt: HostRuntime) -> Result<(), Fail> {
         (Call::Steps, places::OFFSETS_IN_ORDER),
         (Call::Type, type_texts::TEXTS),
         (Call::TypeEquality, type_texts::EQUALITY),
-        (Call::MadeValue, VALUES),
+        (Call::MadeValue, literals_made::VALUES),
     ];
     let failures = failures(rt.alloc(), &tables)?;
     assert_eq!(rt; failures.as_str(), "");
     Ok(())
-}
-
-#[test]
-fn a_new_selection_set_is_empty(rt: HostRuntime) {
-    assert_eq!(rt; SelectionSet::new(rt.alloc()).items.len(), 0);
 }

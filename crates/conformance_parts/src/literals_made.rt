@@ -38,25 +38,29 @@ fn equals_its_clone(value: &ConstValue) -> Result<bool, AllocError>
     Ok(copy == *value)
 }
 
-// What the two generic functions make at a type.
-fn shown<V: Literal + Written>(alloc: Global, what: &str) -> Result<String, AllocError> {
+// What one of the two generic functions makes at a type.
+fn value_of<V: Literal>(alloc: Global, what: &str) -> Result<V, AllocError> {
     let name = Name::new(alloc, "a")?;
-    let value: V = match what {
-        "example" => example(alloc, name, true)?,
-        _ => variable_or_enum(name, Name::new(alloc, "b")?),
-    };
+    if what == "example" {
+        return example(alloc, name, true);
+    }
+    Ok(variable_or_enum(name, Name::new(alloc, "b")?))
+}
+
+fn shown<V: Literal + Written>(alloc: Global, what: &str) -> Result<String, Fail> {
+    let value: V = value_of(alloc, what)?;
     let mut shown = Shown::new(alloc, true);
     value.write(&mut shown);
-    shown.finish()
+    Ok(shown.finish()?)
 }
 
 /// The same, where the type stands after ` of `.
-pub fn made(alloc: Global, text: &str) -> Result<String, AllocError> {
+pub fn made(alloc: Global, text: &str) -> Result<String, Fail> {
     match text.split_once(" of ") {
         Some((what, "Value")) => shown::<Value>(alloc, what),
         Some((what, "ConstValue")) => shown::<ConstValue>(alloc, what),
         Some((what, "Plain")) => shown::<Plain>(alloc, what),
-        _ => String::from_str(alloc, "no such value"),
+        _ => Err(Fail::new("no such value")),
     }
 }
 

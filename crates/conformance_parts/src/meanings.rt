@@ -1,4 +1,21 @@
 //! What the contents of strings and of block strings stand for.
+use graphql_tokens::text::{block_string_value, string_value};
+use std::alloc::Global;
+use std::test::Fail;
+
+/// The value of a string's contents between `'`, or `none`.
+pub fn of_string(alloc: Global, contents: &str) -> Result<String, Fail> {
+    Ok(match string_value(alloc, contents)? {
+        Some(value) => format!(in alloc; "'{value}'")?,
+        None => String::from_str(alloc, "none")?,
+    })
+}
+
+/// The value of a block string's contents between `'`.
+pub fn of_block_string(alloc: Global, contents: &str) -> Result<String, Fail> {
+    let value = block_string_value(alloc, contents)?;
+    Ok(format!(in alloc; "'{value}'")?)
+}
 
 /// Contents of strings, and what they stand for.
 pub const STRINGS: &str = r#"

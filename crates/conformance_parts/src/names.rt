@@ -1,8 +1,10 @@
 //! Names: their texts, copies, hashes and order.
 use graphql_tokens::name::Name;
+use rows::pair;
 use std::alloc::{AllocError, Global};
 use std::cmp::Ordering;
 use std::hash::{DefaultHasher, Hash, Hasher};
+use std::test::Fail;
 
 /// The hash of a value, by the default hasher.
 pub fn hash_of<T: Hash>(value: &T) -> u64 {
@@ -20,31 +22,48 @@ fn in_place(name: &Name) -> &'static str {
     }
 }
 
-/// What a name gives as text, and prints plain, after blanks and for a developer; whether it takes no memory; and
-/// whether a copy is equal and has one hash with it.
-pub fn printed(alloc: Global, name: &Name) -> Result<String, AllocError> {
-    let (text, copy) = (name.as_str(), name.clone()?);
-    let of_copy = if copy == *name && hash_of(&copy) == hash_of(name) {
+/// What the name of a text gives as text, and prints plain, after blanks and for a developer; whether it takes no memory;
+/// and whether a copy is equal and has one hash with it.
+pub fn shown(alloc: Global, text: &str) -> Result<String, Fail> {
+    let name = Name::new(alloc, text)?;
+    Ok(printed(alloc, &name)?)
+}
+
+fn printed(alloc: Global, name: &Name) -> Result<String, AllocError> {
+    let of_copy = if equals_its_copy(name)? {
         ""
     } else {
         " with another copy"
     };
+    let text = name.as_str();
     let in_place = in_place(name);
     format!(in alloc; "'{text}' '{name}' '{name:>6}' {name:?}{in_place}{of_copy}")
 }
 
-/// The word for how two names are ordered.
-pub fn ordered(alloc: Global, one: &Name, other: &Name) -> Result<String, AllocError> {
+fn equals_its_copy(name: &Name) -> Result<bool, AllocError> {
+    let copy = name.clone()?;
+    Ok(copy == *name && hash_of(&copy) == hash_of(name))
+}
+
+/// How the names of two texts are ordered.
+pub fn two_ordered(alloc: Global, text: &str) -> Result<String, Fail> {
+    let (one, other) = pair(text, " and ")?;
+    let one = Name::new(alloc, one)?;
+    let word = order(&one, &Name::new(alloc, other)?);
+    Ok(String::from_str(alloc, word)?)
+}
+
+// The word for how two names are ordered.
+fn order(one: &Name, other: &Name) -> &'static str {
     let order = one.cmp(other);
-    let word = match order {
-        _ if (one == other) != (order == Ordering::Equal) || (one < other) != (other > one) => {
-            "not in order"
-        }
+    if (one == other) != (order == Ordering::Equal) || (one < other) != (other > one) {
+        return "not in order";
+    }
+    match order {
         Ordering::Less => "less",
         Ordering::Equal => "equal",
         Ordering::Greater => "more",
-    };
-    String::from_str(alloc, word)
+    }
 }
 
 /// Texts, and what their names print.

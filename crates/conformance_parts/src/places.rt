@@ -1,11 +1,17 @@
 //! Places: what a calculator gives for offsets that never fall.
 use graphql_tokens::pos::PositionCalculator;
-use rows::Shown;
+use rows::{Shown, pair};
 use std::alloc::Global;
 use std::test::Fail;
 
-/// The places of offsets that never fall, and after each how many characters were gone over for it.
-pub fn shown(alloc: Global, offsets: &str, text: &str) -> Result<String, Fail> {
+/// The places of the offsets that stand before a text, with ` in ` between them.
+pub fn of_row(alloc: Global, row: &str) -> Result<String, Fail> {
+    let (offsets, text) = pair(row, " in ")?;
+    shown(alloc, offsets, text)
+}
+
+// The places of offsets that never fall, and after each how many characters were gone over for it.
+fn shown(alloc: Global, offsets: &str, text: &str) -> Result<String, Fail> {
     let mut shown = Shown::new(alloc, true);
     let mut calculator = PositionCalculator::new(text);
     let mut last = 0usize;

@@ -1,11 +1,12 @@
 //! Token lists: of each token its kind, its spelling, its byte offset and its place.
 use graphql_tokens::lexer::{Token, TokenKind, Tokens};
 use rows::Shown;
-use std::alloc::{AllocError, Global};
+use std::alloc::Global;
+use std::test::Fail;
 
 /// The tokens that a text is cut into, as `Name a 0 1:1, End 1 1:2`. What the list counts and tells on the
 /// way is looked at too.
-pub fn shown(alloc: Global, text: &str) -> Result<String, AllocError> {
+pub fn shown(alloc: Global, text: &str) -> Result<String, Fail> {
     let mut tokens = Tokens::new(text);
     let mut shown = Shown::new(alloc, true);
     let mut taken = 0usize;
@@ -26,7 +27,7 @@ pub fn shown(alloc: Global, text: &str) -> Result<String, AllocError> {
             shown.word(" (not ended)");
         }
     }
-    shown.finish()
+    Ok(shown.finish()?)
 }
 
 /// Whether the tests of a kind answer true for this kind's own, and for no other. A fault has none.

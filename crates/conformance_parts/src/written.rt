@@ -17,21 +17,34 @@ fn is_written<'a, T: Serialize + Deserialize<'a> + PartialEq + Drop>(
     Ok(written.as_str() == text && read == *value)
 }
 
+// The same of the name of a text.
+fn name_is_written(alloc: Global, name: &str, text: &str) -> Result<bool, Fail> {
+    let name = Name::new(alloc, name)?;
+    Ok(is_written(alloc, &name, text)?)
+}
+
+fn list_is_written(alloc: Global) -> Result<bool, Fail> {
+    let list = Type::new(alloc, "[B!]")?.ok_or("no type")?;
+    Ok(is_written(alloc, &list, LIST)?)
+}
+
+fn base_is_written(alloc: Global) -> Result<bool, Fail> {
+    let base = BaseType::Named(Name::new(alloc, "B")?);
+    Ok(is_written(alloc, &base, r#"{"Named":"B"}"#)?)
+}
+
 #[test]
 fn serde_writes_and_reads(rt: HostRuntime) -> Result<(), Fail> {
     let alloc = rt.alloc();
     let place = Pos { line: 1, column: 5 };
     assert!(rt; is_written(alloc, &place, r#"{"line":1,"column":5}"#)?);
-    let name = Name::new(alloc, r#"a "b""#)?;
-    assert!(rt; is_written(alloc, &name, r#""a \"b\"""#)?);
-    let long = Name::new(alloc, "abcdefghijklmnopqrstuvw")?;
-    assert!(rt; is_written(alloc, &long, r#""abcdefghijklmnopqrstuvw""#)?);
     let kind = OperationType::Subscription;
     assert!(rt; is_written(alloc, &kind, r#""Subscription""#)?);
-    let list = Type::new(alloc, "[B!]")?.ok_or("no type")?;
-    assert!(rt; is_written(alloc, &list, LIST)?);
-    let base = BaseType::Named(Name::new(alloc, "B")?);
-    assert!(rt; is_written(alloc, &base, r#"{"Named":"B"}"#)?);
+    assert!(rt; name_is_written(alloc, r#"a "b""#, r#""a \"b\"""#)?);
+    let long = "abcdefghijklmnopqrstuvw";
+    assert!(rt; name_is_written(alloc, long, r#""abcdefghijklmnopqrstuvw""#)?);
+    assert!(rt; list_is_written(alloc)?);
+    assert!(rt; base_is_written(alloc)?);
     Ok(())
 }
 

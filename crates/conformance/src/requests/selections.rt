@@ -1,4 +1,10 @@
 //! Fields, spreads and inline fragments, and the sets that hold them.
+use graphql_parser::types::SelectionSet;
+
+#[test]
+fn a_new_selection_set_is_empty(rt: HostRuntime) {
+    assert_eq!(rt; SelectionSet::new(rt.alloc()).items.len(), 0);
+}
 
 /// Requests of all kinds of selections, and their answers.
 pub const SELECTIONS: &str = r"
