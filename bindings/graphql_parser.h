@@ -1,8 +1,9 @@
 /* graphql_parser: a parser of GraphQL requests and schema files whose every function is proved.
  *
- * Three calls for each language, and two of them within a budget of memory. A check tells by a status, and by up to two places, whether a text is a request or a
- * schema file. A parse tells the same, and hands over the tree, or the error, as JSON. An explanation tells the same, and
- * hands over a report of the error for people. A fourth, at the end, is for the wrapper in Rust.
+ * Three calls for each language, and two of them within a budget of memory. A check tells by a status, and by up to two
+ * places, whether a text is a request or a schema file. A parse tells the same, and hands over the tree, or the error, as
+ * JSON. An explanation tells the same, and hands over a report of the error for people. A fourth, at the end, is for the
+ * wrapper in Rust.
  *
  * After every parse, whatever it tells and whatever stood in its `json` before, `free(json.start)` is right, and so is
  * `free(report.start)` after every explanation.
