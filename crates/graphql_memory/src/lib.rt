@@ -5,7 +5,7 @@
 //! or a text has, for at most eight, or for one more. So want of memory can't be had by asking for too much.
 #![tactic(auto)]
 
-ghost use Rattle.std.specs.Prelude.{◌≡◌, OnOk, OnErr};
+ghost use Rattle.std.specs.Prelude.{◌≡◌, ◌<◌, ◌+◌, ◌^◌, OnOk, OnErr};
 ghost use Rattle.graphql_memory.specs.Memory.{Refused};
 
 mod lists;
@@ -25,10 +25,8 @@ pub struct Memory {
     heap: Global,
     // The bytes that may still be taken.
     left: usize,
-    // The bytes that were asked for last, where they were more than are left; else 0.
-    wanted: usize,
-    // Whether the heap refused a request.
-    is_heap_full: bool,
+    // Whether a request was refused: more was asked for than was left, or the heap had no more.
+    is_refused: bool,
 }
 
 // The bytes of one value.
@@ -41,7 +39,8 @@ impl Memory {
     /// Memory with no bound but the heap's.
     #[inline(always)]
     pub fn new(heap: Global) -> Memory
-        ensures { ¬ (Refused result) }
+        ensures left { result.left + 1 ≡ 2 ^ 64 }
+        ensures granted { ¬ (Refused result) }
     {
         Memory::with_budget(heap, usize::MAX)
     }
@@ -49,13 +48,13 @@ impl Memory {
     /// Memory of so many bytes at most.
     #[inline(always)]
     pub fn with_budget(heap: Global, bytes: usize) -> Memory
-        ensures { ¬ (Refused result) }
+        ensures left { result.left ≡ bytes }
+        ensures granted { ¬ (Refused result) }
     {
         Memory {
             heap,
             left: bytes,
-            wanted: 0,
-            is_heap_full: false,
+            is_refused: false,
         }
     }
 
@@ -68,25 +67,25 @@ impl Memory {
     // Takes so many bytes off the budget.
     #[inline]
     fn spend(&mut self, bytes: usize) -> Result<(), AllocError>
+        ensures budget { OnErr result (self.old.left < bytes) }
+        ensures taken { OnOk result (self.new.left + bytes ≡ self.old.left) }
         ensures refused { OnErr result (Refused self.new) }
         ensures granted { OnOk result (Refused self.new → Refused self.old) }
     {
         if self.left < bytes {
-            self.wanted = bytes;
-            return Err(AllocError);
+            return Err(self.refuse());
         }
         self.left -= bytes;
-        self.wanted = 0;
         Ok(())
     }
 
-    // The heap refused.
+    // Keeps that a request was refused.
     #[cold]
     #[inline(never)]
-    fn full(&mut self) -> AllocError
+    fn refuse(&mut self) -> AllocError
         ensures { Refused self.new }
     {
-        self.is_heap_full = true;
+        self.is_refused = true;
         AllocError
     }
 
@@ -99,7 +98,7 @@ impl Memory {
     {
         match answer {
             Ok(made) => Ok(made),
-            Err(_) => Err(self.full()),
+            Err(_) => Err(self.refuse()),
         }
     }
 }

@@ -154,7 +154,7 @@ impl Memory {
         self.spend(bytes_of::<T>(1))?;
         match Box::new(self.heap, item) {
             Ok(made) => Ok(made),
-            Err(_) => Err(self.full()),
+            Err(_) => Err(self.refuse()),
         }
     }
 

@@ -36,7 +36,7 @@ impl Memory {
         self.spend(pair_bytes::<K, V>())?;
         match map.insert(key, value) {
             Ok(old) => Ok(old),
-            Err(_) => Err(self.full()),
+            Err(_) => Err(self.refuse()),
         }
     }
 
@@ -57,7 +57,7 @@ impl Memory {
         self.spend(pair_bytes::<K, V>())?;
         match map.insert(key, value) {
             Ok(old) => Ok(old),
-            Err(_) => Err(self.full()),
+            Err(_) => Err(self.refuse()),
         }
     }
 }

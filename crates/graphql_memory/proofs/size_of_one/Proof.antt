@@ -1,9 +1,9 @@
 -- `size_of_one` gives the machine's number. Assumes `Logic`.
-use Rattle.std.proofs.Common.{◌≡◌, ◌^◌, List, [], ◌∷◌, refl, sym, w64}
+use Rattle.std.proofs.Common.{◌^◌, List, [], ◌∷◌, refl, w64}
 use mir.Syntax.{Ty, Fn, Args, a_type}
 use mir.Val.{Val, vint}
 use mir.MapTy.{inst_fn}
-use base.Logic.{SProp, emp}
+use base.Logic.{SProp}
 use base.Fml.{ftrue}
 use prog.Memory.{size, capped}
 use prog.Capped.{capped_fits}
@@ -11,7 +11,7 @@ use prog.Wp.{Env}
 use contract.BorrowLft.{◌⊑◌}
 use contract.Monad.{fact}
 use contract.Running.{tables}
-use types.Kit.{‵, raw, ◌⊛◌, ◌$◌, ◌∵◌, !, qed, by, move, drop, split, join, fjoin, feq_i, flt_i}
+use types.Kit.{‵, raw, ◌⊛◌, ◌$◌, ◌∵◌, !, qed, by, move, drop, split, fjoin, feq_i, flt_i}
 use types.Run.{size_word, of_opd, returns, enter}
 use types.ByLocal.{alloc_all, pass_all, free_all, look_at, sets, env}
 use denote.RattleType.{owns}

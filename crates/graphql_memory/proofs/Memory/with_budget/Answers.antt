@@ -1,7 +1,7 @@
-use Rattle.std.proofs.Common.{arith, inl, inr, rules}
+use Rattle.std.proofs.Common.{rules}
 use Rattle.graphql_memory.specs.Memory.{Refused}
 use Rattle.graphql_memory.proofs.Memory.with_budget.Goals as goal
 
-pub returns : goal.returns
+pub returns-clause-granted : goal.returns-clause-granted
 unfolding Refused
-returns c h = elim h [ inl small ↦ omega (arith, small) | inr full ↦ search (rules, full) ]
+returns-clause-granted c refused = search (rules, refused)
