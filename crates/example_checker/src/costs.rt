@@ -39,11 +39,14 @@ impl From<AllocError> for Refusal {
 /// What the request costs, where that is at most the limit.
 pub fn cost_within(alloc: Global, document: &ExecutableDocument, limit: u32) -> Result<u64, Refusal>
     ensures cost { IfOk result (Costs (document_tree document.now)) }
-    ensures no_other { IfOk result (λ cost. (other : ℕ) → Costs (document_tree document.now) other → other ≡ cost) }
+    ensures no_other { IfOk result (λ cost. (other : ℕ) → Costs (document_tree document.now) other →
+        other ≡ cost) }
     ensures within { IfOk result (λ cost. cost ≤ limit) }
 
-    ensures too_dear { result ≡ Err TooDear → (cost : ℕ) × Costs (document_tree document.now) cost × (limit < cost) }
-    ensures endless { result ≡ Err Endless → (cost : ℕ) → ¬ Costs (document_tree document.now) cost }
+    ensures too_dear { result ≡ Err TooDear → (cost : ℕ) × Costs (document_tree document.now) cost ×
+        (limit < cost) }
+    ensures endless { result ≡ Err Endless → (cost : ℕ) →
+        ¬ Costs (document_tree document.now) cost }
 {
     let prices = prices_of_fragments(alloc, document, limit)?;
     let Some(cost) = price_of_operations(document, prices.as_slice(), limit) else {
@@ -61,7 +64,9 @@ pub(crate) fn prices_of_fragments(
     document: &ExecutableDocument,
     limit: u32,
 ) -> Result<Vec<Option<u64>>, AllocError>
-    ensures { IfOk result (λ prices. prices.items ≡ prices_after limit (document_tree document.now).fragments (length (document_tree document.now).fragments)) }
+    ensures { IfOk result (λ prices. prices.items ≡
+        prices_after limit (document_tree document.now).fragments
+        (length (document_tree document.now).fragments)) }
 {
     let mut prices = first_prices(alloc, document, limit)?;
     for _ in 0..document.fragments.len() {
@@ -80,8 +85,12 @@ fn first_prices(
     document: &ExecutableDocument,
     limit: u32,
 ) -> Result<Vec<Option<u64>>, AllocError>
-    ensures many { IfOk result (λ prices. length prices.items ≡ length (document_tree document.now).fragments) }
-    ensures known { IfOk result (λ prices. AreKnownIn prices.items (prices_after limit (document_tree document.now).fragments (length (document_tree document.now).fragments))) }
+    ensures many { IfOk result (λ prices. length prices.items ≡
+        length (document_tree document.now).fragments) }
+    ensures known { IfOk result (λ prices.
+        AreKnownIn prices.items
+        (prices_after limit (document_tree document.now).fragments
+        (length (document_tree document.now).fragments))) }
 {
     let mut prices = vec![in alloc; None; document.fragments.len()]?;
     for place in order_of(alloc, document)? {
@@ -100,7 +109,8 @@ fn round(
     prices: &[Option<u64>],
     limit: u32,
 ) -> Result<Vec<Option<u64>>, AllocError>
-    ensures { IfOk result (λ next. next.items ≡ next_prices limit (document_tree document.now).fragments prices.now) }
+    ensures { IfOk result (λ next. next.items ≡
+        next_prices limit (document_tree document.now).fragments prices.now) }
 {
     let mut next = Vec::new(alloc);
     for (_, fragment) in document.fragments.iter() {
@@ -116,7 +126,9 @@ fn price_of_operations(
     prices: &[Option<u64>],
     limit: u32,
 ) -> Option<u64>
-    ensures { result ≡ capped limit (operations_cost (price_in (document_tree document.now).fragments prices.now) (document_tree document.now).operations) }
+    ensures { result ≡ capped limit
+        (operations_cost (price_in (document_tree document.now).fragments prices.now)
+        (document_tree document.now).operations) }
 {
     let mut cost = 0;
     for (_, operation) in document.operations.iter() {
@@ -135,7 +147,9 @@ fn price_of_set(
     prices: &[Option<u64>],
     limit: u32,
 ) -> Option<u64>
-    ensures { result ≡ capped limit (set_cost (price_in (document_tree document.now).fragments prices.now) (selection_set_tree set.now)) }
+    ensures { result ≡ capped limit
+        (set_cost (price_in (document_tree document.now).fragments prices.now)
+        (selection_set_tree set.now)) }
 {
     let mut cost = 0;
     for item in &set.items {
@@ -153,7 +167,9 @@ fn price_of_selection(
     prices: &[Option<u64>],
     limit: u32,
 ) -> Option<u64>
-    ensures { result ≡ capped limit (selection_cost (price_in (document_tree document.now).fragments prices.now) (selection_tree selection.now)) }
+    ensures { result ≡ capped limit
+        (selection_cost (price_in (document_tree document.now).fragments prices.now)
+        (selection_tree selection.now)) }
 {
     match selection {
         Selection::Field(field) => {

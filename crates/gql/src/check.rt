@@ -94,7 +94,9 @@ pub fn check_files<T: Texts, E: Write>(
     err: &mut E,
 ) -> Result<Outcome, AllocError>
     ensures status { IfOk result (λ outcome. outcome.status ≤ 2) }
-    ensures good { IfOk result (λ outcome. outcome.status ≡ 0 → GiveGoodTexts T.gives call.now.takes_fragments call.now.limits texts.old (map (λ name. name.now) files.now.items) texts.new) }
+    ensures good { IfOk result (λ outcome. outcome.status ≡ 0 →
+        GiveGoodTexts T.gives call.now.takes_fragments call.now.limits texts.old
+        (map (λ name. name.now) files.now.items) texts.new) }
 {
     let mut tally = Tally {
         good: 0,
@@ -181,7 +183,8 @@ fn check_read<E: Write>(
     lines: &mut String,
     err: &mut E,
 ) -> Result<Found, AllocError>
-    ensures { (result ≡ Ok Good) → IsGoodText call.now.takes_fragments reading.now.language reading.now.limits text.now }
+    ensures { (result ≡ Ok Good) →
+        IsGoodText call.now.takes_fragments reading.now.language reading.now.limits text.now }
 {
     let Reading { language, limits } = *reading;
     let mut memory = Memory::with_budget(alloc, call.memory.unwrap_or(usize::MAX));

@@ -81,9 +81,12 @@ pub fn run<R: Read, O: Write, E: Write>(
 ) -> u8
     ensures status { result ≤ 2 }
     // Wrong arguments are told before anything is read,
-    ensures usage { (IsServed (map string_bytes words.now) → ⊥) → (AsksForHelp (map string_bytes words.now) → ⊥) → (result ≡ 2) × (input.new ≡ input.old) × (out.new ≡ out.old) }
+    ensures usage { (IsServed (map string_bytes words.now) → ⊥) →
+        (AsksForHelp (map string_bytes words.now) → ⊥) → (result ≡ 2) × (input.new ≡ input.old) ×
+        (out.new ≡ out.old) }
     // help is given without reading,
-    ensures help { AsksForHelp (map string_bytes words.now) → (result ≢ 1) × (input.new ≡ input.old) }
+    ensures help { AsksForHelp (map string_bytes words.now) → (result ≢ 1) ×
+        (input.new ≡ input.old) }
     // an accepted text says nothing on standard error,
     ensures accepted { result ≡ 0 → err.new ≡ err.old }
     // and a refused one nothing on standard output.
@@ -134,9 +137,12 @@ fn write_whole<W: Write>(to: &mut W, text: &str) -> bool {
 }
 
 fn answer_to<R: Read>(alloc: Global, words: &[String], input: &mut R) -> Result<Answer, Stop>
-    ensures usage { (IsServed (map string_bytes words.now) → ⊥) → (AsksForHelp (map string_bytes words.now) → ⊥) → (result ≡ Err Usage) × (input.new ≡ input.old) }
+    ensures usage { (IsServed (map string_bytes words.now) → ⊥) →
+        (AsksForHelp (map string_bytes words.now) → ⊥) → (result ≡ Err Usage) ×
+        (input.new ≡ input.old) }
     ensures served { IsServed (map string_bytes words.now) → result ≢ Err Usage }
-    ensures help { AsksForHelp (map string_bytes words.now) → (result ≡ Ok Help) × (input.new ≡ input.old) }
+    ensures help { AsksForHelp (map string_bytes words.now) → (result ≡ Ok Help) ×
+        (input.new ≡ input.old) }
 {
     if asks_for_help(words) {
         return Ok(Answer::Help);
@@ -200,7 +206,8 @@ fn command_named(name: &str) -> Option<Command>
 
 // The whole input.
 fn read<R: Read>(alloc: Global, input: &mut R) -> Result<String, Stop>
-    ensures whole { IfOk result (λ text. IfSome (R.remaining input.old) (λ bytes. string_bytes text ≡ bytes)) }
+    ensures whole { IfOk result (λ text.
+        IfSome (R.remaining input.old) (λ bytes. string_bytes text ≡ bytes)) }
     ensures stops { IfErr result (λ stop. stop ≢ Usage) }
 {
     let mut bytes = Vec::new(alloc);

@@ -43,7 +43,8 @@ impl Default for Head<'_> {
 ///
 /// `OperationDefinition : SelectionSet` (GraphQL October 2021, section 2.3)
 fn read_short_operation<'a>(parser: &mut Parser<'a>, limits: Limits) -> Reading<Head<'a>>
-    ensures { Gives head_tree result parser.old parser.new (mapped_at head_of (short_operation_at limits)) }
+    ensures { Gives head_tree result parser.old parser.new
+        (mapped_at head_of (short_operation_at limits)) }
 {
     let place = parser.hand().pos;
     check_selection_set(parser, limits)?;
@@ -52,7 +53,8 @@ fn read_short_operation<'a>(parser: &mut Parser<'a>, limits: Limits) -> Reading<
 
 #[tactic(auto, unfolding(graphql_reading::specs::reading::Outcome::opt_at))]
 fn read_maybe_name<'a>(parser: &mut Parser<'a>) -> Reading<Option<Token<'a>>>
-    ensures { Gives (option_map seen) result parser.old parser.new (opt_at any_name (one_at any_name)) }
+    ensures { Gives (option_map seen) result parser.old parser.new
+        (opt_at any_name (one_at any_name)) }
 {
     if !parser.is_at_name() {
         return Ok(None);
@@ -70,7 +72,8 @@ fn text_of<'a>(name: Option<Token<'a>>) -> Option<&'a str>
 ///
 /// `Directives? SelectionSet`
 fn check_body(parser: &mut Parser, limits: Limits) -> Reading<()>
-    ensures { Checks result parser.old parser.new (then_at (directives_at true limits.values) (own_set_at limits)) }
+    ensures { Checks result parser.old parser.new
+        (then_at (directives_at true limits.values) (own_set_at limits)) }
 {
     check_directives(parser, limits)?;
     check_selection_set(parser, limits)
@@ -81,7 +84,8 @@ fn check_body(parser: &mut Parser, limits: Limits) -> Reading<()>
 /// `OperationDefinition : OperationType Name? VariableDefinitions? Directives? SelectionSet` (GraphQL October 2021,
 /// section 2.3)
 fn read_operation<'a>(parser: &mut Parser<'a>, limits: Limits) -> Reading<Head<'a>>
-    ensures { Gives head_tree result parser.old parser.new (mapped_at head_of (full_operation_at limits)) }
+    ensures { Gives head_tree result parser.old parser.new
+        (mapped_at head_of (full_operation_at limits)) }
 {
     let (word, _) = read_operation_type(parser)?;
     let name = read_maybe_name(parser)?;
@@ -102,7 +106,8 @@ fn expect_fragment_name<'a>(parser: &mut Parser<'a>) -> Reading<Token<'a>>
 /// `FragmentDefinition : 'fragment' FragmentName TypeCondition Directives? SelectionSet` (GraphQL October 2021,
 /// section 2.8)
 fn read_fragment<'a>(parser: &mut Parser<'a>, limits: Limits) -> Reading<Head<'a>>
-    ensures { Gives head_tree result parser.old parser.new (mapped_at head_of (fragment_at limits)) }
+    ensures { Gives head_tree result parser.old parser.new
+        (mapped_at head_of (fragment_at limits)) }
 {
     let word = parser.expect_keyword("fragment")?;
     let name = expect_fragment_name(parser)?;
@@ -113,7 +118,8 @@ fn read_fragment<'a>(parser: &mut Parser<'a>, limits: Limits) -> Reading<Head<'a
 
 /// `ExecutableDefinition : OperationDefinition | FragmentDefinition`
 fn read_head<'a>(parser: &mut Parser<'a>, limits: Limits) -> Reading<Head<'a>>
-    ensures { Gives head_tree result parser.old parser.new (mapped_at head_of (definition_at limits)) }
+    ensures { Gives head_tree result parser.old parser.new
+        (mapped_at head_of (definition_at limits)) }
 {
     if parser.is_at_punct("{") {
         read_short_operation(parser, limits)
@@ -128,7 +134,8 @@ fn read_head<'a>(parser: &mut Parser<'a>, limits: Limits) -> Reading<Head<'a>>
 ///
 /// `ExecutableDocument : ExecutableDefinition+` (GraphQL October 2021, section 2.2)
 pub fn read_heads<'a>(parser: &mut Parser<'a>, limits: Limits) -> Reading<SmallVec<Head<'a>, 1>>
-    ensures { Gives in_heads result parser.old parser.new (mapped_at (map head_of) (definitions_at limits)) }
+    ensures { Gives in_heads result parser.old parser.new
+        (mapped_at (map head_of) (definitions_at limits)) }
 {
     let mut heads = SmallVec::new(parser.heap());
     loop {

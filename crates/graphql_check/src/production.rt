@@ -79,7 +79,9 @@ pub fn check_bracketed<P: Phrase>(
     limits: Limits,
 ) -> Reading<()>
     requires { Takes (P.reader limits) }
-    ensures { Checks result parser.old parser.new (between_at (punct_of opening.now) (plus_at P.first (P.reader limits)) (punct_of closing.now)) }
+    ensures { Checks result parser.old parser.new
+        (between_at (punct_of opening.now) (plus_at P.first (P.reader limits))
+        (punct_of closing.now)) }
 {
     parser.expect_punct(opening)?;
     check_one_or_more::<P>(parser, limits)?;

@@ -43,7 +43,8 @@ impl<'a> Sorted<'a> {
 
     /// An operation without a name: no other operation may stand beside it.
     fn add_anonymous(&mut self, place: Pos) -> Result<()>
-        ensures added { (ds : List SpecDefinition) → IsSorted ds self.old → IsAdded ds (operation_head None place) result self.new }
+        ensures added { (ds : List SpecDefinition) → IsSorted ds self.old →
+            IsAdded ds (operation_head None place) result self.new }
         ensures takes_none { result ≢ Err OutOfMemory }
     {
         if let Some(first) = self.first {
@@ -59,7 +60,8 @@ impl<'a> Sorted<'a> {
 
     /// An operation with a name, which no other may have.
     fn add_operation(&mut self, memory: &mut Memory, name: &'a str, place: Pos) -> Result<()>
-        ensures added { (ds : List SpecDefinition) → IsSorted ds self.old → IsAdded ds (operation_head (Some name.now) place) result self.new }
+        ensures added { (ds : List SpecDefinition) → IsSorted ds self.old →
+            IsAdded ds (operation_head (Some name.now) place) result self.new }
         ensures refused { result ≡ Err OutOfMemory → Refused memory.new }
     {
         if let Some(anonymous) = self.anonymous {
@@ -83,7 +85,8 @@ impl<'a> Sorted<'a> {
 
     /// A fragment, whose name no other may have.
     fn add_fragment(&mut self, memory: &mut Memory, name: &'a str, place: Pos) -> Result<()>
-        ensures added { (ds : List SpecDefinition) → IsSorted ds self.old → IsAdded ds (fragment_head name.now place) result self.new }
+        ensures added { (ds : List SpecDefinition) → IsSorted ds self.old →
+            IsAdded ds (fragment_head name.now place) result self.new }
         ensures refused { result ≡ Err OutOfMemory → Refused memory.new }
     {
         match memory.insert_ordered(&mut self.fragments, name, place)? {
@@ -97,7 +100,8 @@ impl<'a> Sorted<'a> {
     }
 
     fn add(&mut self, memory: &mut Memory, head: Head<'a>) -> Result<()>
-        ensures added { (ds : List SpecDefinition) → IsSorted ds self.old → IsAdded ds (head_tree head.entry) result self.new }
+        ensures added { (ds : List SpecDefinition) → IsSorted ds self.old →
+            IsAdded ds (head_tree head.entry) result self.new }
         ensures refused { result ≡ Err OutOfMemory → Refused memory.new }
     {
         match head {
@@ -109,7 +113,8 @@ impl<'a> Sorted<'a> {
 
     /// There is an operation.
     fn finish(&self) -> Result<()>
-        ensures document { (ds : List SpecDefinition) → IsSorted ds self.now → IsDocumentOf (checked requests) ds result }
+        ensures document { (ds : List SpecDefinition) → IsSorted ds self.now →
+            IsDocumentOf (checked requests) ds result }
         ensures takes_none { result ≢ Err OutOfMemory }
     {
         if self.first.is_none() {

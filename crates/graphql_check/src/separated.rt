@@ -13,7 +13,8 @@ use graphql_reading::parser::{Parser, Reading};
 #[inline(always)]
 pub fn check_separated<P: Phrase>(parser: &mut Parser, mark: &str, limits: Limits) -> Reading<()>
     requires { Takes (P.reader limits) }
-    ensures { Checks result parser.old parser.new (separated_at (punct_of mark.now) (P.reader limits)) }
+    ensures { Checks result parser.old parser.new
+        (separated_at (punct_of mark.now) (P.reader limits)) }
 {
     parser.take_punct(mark);
     loop {

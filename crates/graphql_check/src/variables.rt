@@ -55,7 +55,8 @@ impl Phrase for VariablePhrase {
 /// `VariableDefinitions? : ('(' VariableDefinition+ ')')?` (GraphQL October 2021, section 2.10)
 #[tactic(auto, unfolding(graphql_reading::specs::reading::Outcome::opt_at))]
 pub fn check_maybe_variable_definitions(parser: &mut Parser, limits: Limits) -> Reading<()>
-    ensures { Checks result parser.old parser.new (opt_at (punct "(") (variable_definitions_at limits.values limits.types)) }
+    ensures { Checks result parser.old parser.new
+        (opt_at (punct "(") (variable_definitions_at limits.values limits.types)) }
 {
     if !parser.is_at_punct("(") {
         return Ok(());

@@ -67,7 +67,8 @@ impl<V: Literal> Production for ArgumentPhrase<V> {
 /// `Arguments : '(' Argument+ ')'` (GraphQL October 2021, section 2.6)
 #[inline(never)]
 pub fn read_arguments<V: Literal>(parser: &mut Parser, limits: Limits) -> Reading<Arguments<V>>
-    ensures { Gives (trees_in (in_argument V.tree)) result parser.old parser.new (arguments_at V.VARIABLES limits.values) }
+    ensures { Gives (trees_in (in_argument V.tree)) result parser.old parser.new
+        (arguments_at V.VARIABLES limits.values) }
 {
     bracketed::<ArgumentPhrase<V>>(parser, "(", ")", limits)
 }
@@ -81,7 +82,8 @@ pub fn read_maybe_arguments<V: Literal>(
     parser: &mut Parser,
     limits: Limits,
 ) -> Reading<Arguments<V>>
-    ensures { Gives (trees_in (in_argument V.tree)) result parser.old parser.new (mapped_at given (maybe_arguments_at V.VARIABLES limits.values)) }
+    ensures { Gives (trees_in (in_argument V.tree)) result parser.old parser.new
+        (mapped_at given (maybe_arguments_at V.VARIABLES limits.values)) }
 {
     if !parser.is_at_punct("(") {
         return Ok(parser.empty_list());
@@ -91,7 +93,8 @@ pub fn read_maybe_arguments<V: Literal>(
 
 /// `Directive : '@' Name Arguments?`
 fn read_directive_of<V: Literal>(parser: &mut Parser, limits: Limits) -> Reading<DirectiveOf<V>>
-    ensures { Gives (in_directive V.tree) result parser.old parser.new (directive_at V.VARIABLES limits.values) }
+    ensures { Gives (in_directive V.tree) result parser.old parser.new
+        (directive_at V.VARIABLES limits.values) }
 {
     let sign = parser.expect_punct("@")?;
     let token = parser.expect_name()?;
@@ -141,7 +144,8 @@ impl Production for DirectivePhrase {
 /// `Directives? : Directive*` (GraphQL October 2021, section 2.12)
 #[inline(always)]
 pub fn read_directives(parser: &mut Parser, limits: Limits) -> Reading<Vec<Positioned<Directive>>>
-    ensures { Gives (trees_in (placed directive_tree)) result parser.old parser.new (directives_at true limits.values) }
+    ensures { Gives (trees_in (placed directive_tree)) result parser.old parser.new
+        (directives_at true limits.values) }
 {
     any_number::<DirectivePhrase>(parser, limits)
 }
@@ -182,7 +186,8 @@ pub fn read_const_directives(
     parser: &mut Parser,
     limits: Limits,
 ) -> Reading<Vec<Positioned<ConstDirective>>>
-    ensures { Gives (trees_in (placed const_directive_tree)) result parser.old parser.new (directives_at false limits.values) }
+    ensures { Gives (trees_in (placed const_directive_tree)) result parser.old parser.new
+        (directives_at false limits.values) }
 {
     any_number::<ConstDirectivePhrase>(parser, limits)
 }
@@ -222,7 +227,8 @@ pub fn read_maybe_default(
     parser: &mut Parser,
     limits: Limits,
 ) -> Reading<Option<Positioned<ConstValue>>>
-    ensures { Gives (option_map (placed const_tree)) result parser.old parser.new (maybe_default_at limits.values) }
+    ensures { Gives (option_map (placed const_tree)) result parser.old parser.new
+        (maybe_default_at limits.values) }
 {
     optional::<DefaultPhrase>(parser, limits)
 }

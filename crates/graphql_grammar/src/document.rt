@@ -43,16 +43,20 @@ pub trait Kept<'a>: Drop {
 
     /// Reads the definitions of a text, up to its end.
     fn read_all(parser: &mut Parser<'a>, limits: Limits) -> Reading<Self>
-        ensures { Gives Self.kept result parser.old parser.new (mapped_at Self.sum (Self.reader limits)) };
+        ensures { Gives Self.kept result parser.old parser.new
+            (mapped_at Self.sum (Self.reader limits)) };
 
     /// The document of the definitions, or the first of the rules that they break, in source order.
     fn into_document(self, memory: &mut Memory) -> Result<Self::Document>
-        ensures document { (ds : List Self.Tree) → Self.kept self ≡ Self.sum ds → IsDocumentOf Self.language ds result }
-        ensures refused { (ds : List Self.Tree) → Self.kept self ≡ Self.sum ds → result ≡ Err OutOfMemory → Refused memory.new };
+        ensures document { (ds : List Self.Tree) → Self.kept self ≡ Self.sum ds →
+            IsDocumentOf Self.language ds result }
+        ensures refused { (ds : List Self.Tree) → Self.kept self ≡ Self.sum ds →
+            result ≡ Err OutOfMemory → Refused memory.new };
 }
 
 fn read_whole<'a, K: Kept<'a>>(parser: &mut Parser<'a>, limits: Limits) -> Reading<K>
-    ensures { GivesWhole K.kept result parser.old parser.new (mapped_at K.sum (whole_at (K.reader limits))) }
+    ensures { GivesWhole K.kept result parser.old parser.new
+        (mapped_at K.sum (whole_at (K.reader limits))) }
 {
     let kept = K::read_all(parser, limits)?;
     parser.expect_end()?;

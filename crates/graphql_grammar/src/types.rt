@@ -100,7 +100,8 @@ fn close_list(parser: &mut Parser, item: Type) -> Reading<Type>
 ///
 /// `(']' '!'?)*`
 fn close_lists(parser: &mut Parser, item: Type, depth: Depth) -> Reading<Type>
-    ensures { Gives type_tree result parser.old parser.new (closes_at depth.opened (type_tree item)) }
+    ensures { Gives type_tree result parser.old parser.new
+        (closes_at depth.opened (type_tree item)) }
 {
     let mut ty = item;
     for _ in 0..depth.opened {

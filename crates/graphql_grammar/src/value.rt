@@ -28,7 +28,8 @@ enum Stop<V> {
 
 /// Reads on in a list or an object, inside which so many levels are left.
 fn go_on<V: Literal>(parser: &mut Parser, innermost: Open<V>, left: usize) -> Reading<Stop<V>>
-    ensures { Meets V.VARIABLES left (met V.tree) result parser.old parser.new (open_rest V.VARIABLES left (opened V.tree innermost)) }
+    ensures { Meets V.VARIABLES left (met V.tree) result parser.old parser.new
+        (open_rest V.VARIABLES left (opened V.tree innermost)) }
 {
     match innermost {
         Open::List(mut items) => match read_items(parser, &mut items, left)? {
@@ -45,7 +46,8 @@ fn go_on<V: Literal>(parser: &mut Parser, innermost: Open<V>, left: usize) -> Re
 /// The rest of a list or an object after its first token.
 fn read_open<V: Literal>(parser: &mut Parser, first: Open<V>, limit: usize) -> Reading<V>
     requires { 0 < limit }
-    ensures { Gives V.tree result parser.old parser.new (open_rest V.VARIABLES (pred limit) (opened V.tree first)) }
+    ensures { Gives V.tree result parser.old parser.new
+        (open_rest V.VARIABLES (pred limit) (opened V.tree first)) }
 {
     let mut frames = Frames::new(parser.heap(), limit);
     let mut innermost = first;
@@ -78,7 +80,8 @@ fn read_node<V: Literal>(parser: &mut Parser, limit: usize) -> Reading<V>
 /// `Value : Variable | IntValue | FloatValue | StringValue | BooleanValue | NullValue | EnumValue | ListValue |
 /// ObjectValue`
 pub fn read_value<V: Literal>(parser: &mut Parser, limits: Limits) -> Reading<Positioned<V>>
-    ensures { Gives (placed V.tree) result parser.old parser.new (value_at V.VARIABLES limits.values) }
+    ensures { Gives (placed V.tree) result parser.old parser.new
+        (value_at V.VARIABLES limits.values) }
 {
     let pos = parser.hand().pos;
     let node = read_node(parser, limits.values())?;

@@ -10,7 +10,8 @@ use std::alloc::Global;
 
 /// The message of an error, and its places where it has some.
 pub fn write_error(alloc: Global, sheet: &mut Sheet, error: &Error) -> Outcome
-    ensures { Adds result sheet.old sheet.new (json_tokens (error_value (error_text error.now) (error_places error.now))) }
+    ensures { Adds result sheet.old sheet.new
+        (json_tokens (error_value (error_text error.now) (error_places error.now))) }
 {
     let message = format!(in alloc; "{error}")?;
     sheet.open()?;

@@ -50,7 +50,8 @@ pub fn request_json(
     document: &ExecutableDocument,
     places: Places,
 ) -> Result<Vec<u8>, AllocError>
-    ensures text { IfOk result (λ json. json.items ≡ json_text (request_value places (document_tree document.now))) }
+    ensures text { IfOk result (λ json. json.items ≡
+        json_text (request_value places (document_tree document.now))) }
     ensures utf8 { IfOk result (λ json. IsUtf8 json.items) }
 {
     let mut sheet = Sheet::new(alloc);
@@ -69,7 +70,8 @@ pub fn schema_json(
     document: &ServiceDocument,
     places: Places,
 ) -> Result<Vec<u8>, AllocError>
-    ensures text { IfOk result (λ json. json.items ≡ json_text (schema_value places (schema_document_tree document.now))) }
+    ensures text { IfOk result (λ json. json.items ≡
+        json_text (schema_value places (schema_document_tree document.now))) }
     ensures utf8 { IfOk result (λ json. IsUtf8 json.items) }
 {
     let mut sheet = Sheet::new(alloc);
@@ -83,7 +85,8 @@ pub fn schema_json(
 /// first, each with its `line` and `column`. An error that names no place has no `locations`. It fails only where memory
 /// runs out.
 pub fn error_json(alloc: Global, error: &Error) -> Result<Vec<u8>, AllocError>
-    ensures text { IfOk result (λ json. json.items ≡ json_text (error_value (error_text error.now) (error_places error.now))) }
+    ensures text { IfOk result (λ json. json.items ≡
+        json_text (error_value (error_text error.now) (error_places error.now))) }
     ensures utf8 { IfOk result (λ json. IsUtf8 json.items) }
 {
     let mut sheet = Sheet::new(alloc);

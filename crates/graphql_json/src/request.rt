@@ -23,7 +23,8 @@ use std::alloc::AllocError;
 
 /// The tree of a request: its operations in their order and its fragments in theirs, merged by their places.
 pub fn write_document(sheet: &mut Sheet, document: &ExecutableDocument, places: Places) -> Outcome
-    ensures { Adds result sheet.old sheet.new (json_tokens (request_value places (document_tree document.now))) }
+    ensures { Adds result sheet.old sheet.new
+        (json_tokens (request_value places (document_tree document.now))) }
 {
     let place = Place::none(places);
     sheet.begin("Document", place)?;
@@ -34,7 +35,10 @@ pub fn write_document(sheet: &mut Sheet, document: &ExecutableDocument, places: 
 // The member `definitions`: each operation after the fragments whose places are smaller.
 #[tactic(auto, using(crate::proofs::Operations::operations_walked))]
 fn write_definitions(sheet: &mut Sheet, document: &ExecutableDocument, place: Place) -> Outcome
-    ensures { Adds result sheet.old sheet.new (member_tokens (codes "definitions") (array (definitions_json place (operations_of (document_tree document.now).operations) (document_tree document.now).fragments))) }
+    ensures { Adds result sheet.old sheet.new
+        (member_tokens (codes "definitions")
+        (array (definitions_json place (operations_of (document_tree document.now).operations)
+        (document_tree document.now).fragments))) }
 {
     sheet.open_list("definitions")?;
     let fragments = &document.fragments;
@@ -78,7 +82,10 @@ fn write_fragments(
     from: usize,
     place: Place,
 ) -> Outcome
-    ensures { OnOk result (sheet.new ++ items_tokens no_items ≡ sheet.old ++ items_tokens (items_of (fragment_json place) (map (entry_tree fragment_tree) (drop from fragments.now.entries)))) }
+    ensures { OnOk result (sheet.new ++ items_tokens no_items ≡ sheet.old ++
+        items_tokens
+        (items_of (fragment_json place)
+        (map (entry_tree fragment_tree) (drop from fragments.now.entries)))) }
 {
     for index in from..fragments.len() {
         let Some((name, fragment)) = fragments.get_index(index) else {
@@ -95,7 +102,9 @@ fn write_operation(
     operation: &Positioned<OperationDefinition>,
     place: Place,
 ) -> Outcome
-    ensures { Adds result sheet.old sheet.new (json_tokens (operation_json place (lent_name name.entry, placed operation_tree operation.now))) }
+    ensures { Adds result sheet.old sheet.new
+        (json_tokens
+        (operation_json place (lent_name name.entry, placed operation_tree operation.now))) }
 {
     sheet.begin("OperationDefinition", place.at(operation.pos))?;
     sheet.text("operation", operation_word(operation.node.ty))?;
@@ -111,7 +120,8 @@ fn write_operation(
 }
 
 fn write_optional_name(sheet: &mut Sheet, name: Option<&Name>, place: Place) -> Outcome
-    ensures { Adds result sheet.old sheet.new (optional_tokens (codes "name") (name_json (nowhere place)) (lent_name name.entry)) }
+    ensures { Adds result sheet.old sheet.new
+        (optional_tokens (codes "name") (name_json (nowhere place)) (lent_name name.entry)) }
 {
     match name {
         Some(name) => write_name(sheet, name, place.nowhere()),
@@ -125,7 +135,8 @@ fn write_fragment(
     fragment: &Positioned<FragmentDefinition>,
     place: Place,
 ) -> Outcome
-    ensures { Adds result sheet.old sheet.new (json_tokens (fragment_json place (name.now, placed fragment_tree fragment.now))) }
+    ensures { Adds result sheet.old sheet.new
+        (json_tokens (fragment_json place (name.now, placed fragment_tree fragment.now))) }
 {
     sheet.begin("FragmentDefinition", place.at(fragment.pos))?;
     write_name(sheet, name, place.nowhere())?;
@@ -159,7 +170,10 @@ impl Node for VariableDefinition {
 }
 
 fn write_variable(sheet: &mut Sheet, name: &Positioned<Name>, place: Place) -> Outcome
-    ensures { Adds result sheet.old sheet.new (json_tokens (node (codes "Variable") place (member (codes "name") (placed_json name_json place name.now) no_members))) }
+    ensures { Adds result sheet.old sheet.new
+        (json_tokens
+        (node (codes "Variable") place
+        (member (codes "name") (placed_json name_json place name.now) no_members))) }
 {
     sheet.begin("Variable", place)?;
     sheet.node("name", name, place)?;
@@ -171,7 +185,9 @@ fn write_condition(
     condition: &Positioned<TypeCondition>,
     place: Place,
 ) -> Outcome
-    ensures { Adds result sheet.old sheet.new (member_tokens (codes "typeCondition") (condition_json place (placed type_condition_tree condition.now))) }
+    ensures { Adds result sheet.old sheet.new
+        (member_tokens (codes "typeCondition")
+        (condition_json place (placed type_condition_tree condition.now))) }
 {
     let name = &condition.node.on;
     sheet.key("typeCondition")?;
@@ -183,7 +199,9 @@ fn write_optional_condition(
     condition: &Option<Positioned<TypeCondition>>,
     place: Place,
 ) -> Outcome
-    ensures { Adds result sheet.old sheet.new (optional_tokens (codes "typeCondition") (condition_json place) (option_map (placed type_condition_tree) condition.now)) }
+    ensures { Adds result sheet.old sheet.new
+        (optional_tokens (codes "typeCondition") (condition_json place)
+        (option_map (placed type_condition_tree) condition.now)) }
 {
     match condition {
         Some(condition) => write_condition(sheet, condition, place),
@@ -194,7 +212,9 @@ fn write_optional_condition(
 // The member `selectionSet`.
 #[cycle(set)]
 fn write_set(sheet: &mut Sheet, set: &Positioned<SelectionSet>, place: Place) -> Outcome
-    ensures { Adds result sheet.old sheet.new (member_tokens (codes "selectionSet") (set_json place (placed selection_set_tree set.now))) }
+    ensures { Adds result sheet.old sheet.new
+        (member_tokens (codes "selectionSet")
+        (set_json place (placed selection_set_tree set.now))) }
 {
     sheet.key("selectionSet")?;
     sheet.begin("SelectionSet", place.at(set.pos))?;
@@ -204,7 +224,9 @@ fn write_set(sheet: &mut Sheet, set: &Positioned<SelectionSet>, place: Place) ->
 
 #[cycle(set)]
 fn write_selections(sheet: &mut Sheet, set: &SelectionSet, place: Place) -> Outcome
-    ensures { Adds result sheet.old sheet.new (member_tokens (codes "selections") (array (selections_json place (selection_set_tree set.now)))) }
+    ensures { Adds result sheet.old sheet.new
+        (member_tokens (codes "selections")
+        (array (selections_json place (selection_set_tree set.now)))) }
 {
     sheet.open_list("selections")?;
     for item in &set.items {
@@ -215,7 +237,8 @@ fn write_selections(sheet: &mut Sheet, set: &SelectionSet, place: Place) -> Outc
 
 #[cycle(set)]
 fn write_selection(sheet: &mut Sheet, selection: &Selection, place: Place) -> Outcome
-    ensures { Adds result sheet.old sheet.new (json_tokens (selection_json place (selection_tree selection.now))) }
+    ensures { Adds result sheet.old sheet.new
+        (json_tokens (selection_json place (selection_tree selection.now))) }
 {
     match selection {
         Selection::Field(field) => write_field(sheet, field, place),
@@ -226,7 +249,8 @@ fn write_selection(sheet: &mut Sheet, selection: &Selection, place: Place) -> Ou
 
 #[cycle(set)]
 fn write_field(sheet: &mut Sheet, field: &Positioned<Field>, place: Place) -> Outcome
-    ensures { Adds result sheet.old sheet.new (json_tokens (selection_json place (of_field (placed field_tree field.now)))) }
+    ensures { Adds result sheet.old sheet.new
+        (json_tokens (selection_json place (of_field (placed field_tree field.now)))) }
 {
     sheet.begin("Field", place.at(field.pos))?;
     sheet.optional("alias", &field.node.alias, place)?;
@@ -240,7 +264,9 @@ fn write_field(sheet: &mut Sheet, field: &Positioned<Field>, place: Place) -> Ou
 // A field that selects nothing has no `selectionSet`.
 #[cycle(set)]
 fn write_optional_set(sheet: &mut Sheet, set: &Positioned<SelectionSet>, place: Place) -> Outcome
-    ensures { Adds result sheet.old sheet.new (optional_tokens (codes "selectionSet") (set_node (at place set.now.pos)) (some_of (selections_json place (selection_set_tree set.now.node)))) }
+    ensures { Adds result sheet.old sheet.new
+        (optional_tokens (codes "selectionSet") (set_node (at place set.now.pos))
+        (some_of (selections_json place (selection_set_tree set.now.node)))) }
 {
     if set.node.items.is_empty() {
         return Ok(());
@@ -273,7 +299,9 @@ fn write_inline_fragment(
     fragment: &Positioned<InlineFragment>,
     place: Place,
 ) -> Outcome
-    ensures { Adds result sheet.old sheet.new (json_tokens (selection_json place (of_inline_fragment (placed inline_fragment_tree fragment.now)))) }
+    ensures { Adds result sheet.old sheet.new
+        (json_tokens
+        (selection_json place (of_inline_fragment (placed inline_fragment_tree fragment.now)))) }
 {
     sheet.begin("InlineFragment", place.at(fragment.pos))?;
     write_optional_condition(sheet, &fragment.node.type_condition, place)?;

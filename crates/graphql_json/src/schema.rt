@@ -22,7 +22,8 @@ use graphql_parser::value::Name;
 
 /// The tree of a schema file, its definitions and extensions in their order.
 pub fn write_document(sheet: &mut Sheet, document: &ServiceDocument, places: Places) -> Outcome
-    ensures { Adds result sheet.old sheet.new (json_tokens (schema_value places (schema_document_tree document.now))) }
+    ensures { Adds result sheet.old sheet.new
+        (json_tokens (schema_value places (schema_document_tree document.now))) }
 {
     let place = Place::none(places);
     sheet.begin("Document", place)?;
@@ -35,7 +36,9 @@ fn write_definitions(
     definitions: &Vec<TypeSystemDefinition>,
     place: Place,
 ) -> Outcome
-    ensures { Adds result sheet.old sheet.new (member_tokens (codes "definitions") (array (items_of (definition_json place) (map definition_tree definitions.now.items)))) }
+    ensures { Adds result sheet.old sheet.new
+        (member_tokens (codes "definitions")
+        (array (items_of (definition_json place) (map definition_tree definitions.now.items)))) }
 {
     sheet.open_list("definitions")?;
     for definition in definitions {
@@ -45,7 +48,8 @@ fn write_definitions(
 }
 
 fn write_definition(sheet: &mut Sheet, definition: &TypeSystemDefinition, place: Place) -> Outcome
-    ensures { Adds result sheet.old sheet.new (json_tokens (definition_json place (definition_tree definition.now))) }
+    ensures { Adds result sheet.old sheet.new
+        (json_tokens (definition_json place (definition_tree definition.now))) }
 {
     match definition {
         TypeSystemDefinition::Schema(schema) => schema.node.write(sheet, place.at(schema.pos)),
@@ -91,7 +95,9 @@ type Root<'a> = (OperationType, &'a Option<Positioned<Name>>);
 
 // The roots, in the order of their places.
 fn write_roots(sheet: &mut Sheet, schema: &SchemaDefinition, place: Place) -> Outcome
-    ensures { Adds result sheet.old sheet.new (member_tokens (codes "operationTypes") (array (items_of (root_json place) (roots_of (schema_definition_tree schema.now))))) }
+    ensures { Adds result sheet.old sheet.new
+        (member_tokens (codes "operationTypes")
+        (array (items_of (root_json place) (roots_of (schema_definition_tree schema.now))))) }
 {
     let query = (OperationType::Query, &schema.query);
     let mutation = (OperationType::Mutation, &schema.mutation);
@@ -111,7 +117,12 @@ fn write_third(
     third: Root<'_>,
     place: Place,
 ) -> Outcome
-    ensures { Adds result sheet.old sheet.new (member_tokens (codes "operationTypes") (array (items_of (root_json place) (with_root third.entry.0 third.entry.1.now (and_then first.entry.0 first.entry.1.now (and_then second.entry.0 second.entry.1.now [])))))) }
+    ensures { Adds result sheet.old sheet.new
+        (member_tokens (codes "operationTypes")
+        (array (items_of (root_json place)
+        (with_root third.entry.0 third.entry.1.now
+        (and_then first.entry.0 first.entry.1.now
+        (and_then second.entry.0 second.entry.1.now [])))))) }
 {
     if goes_before(third.1, first.1) {
         write_ordered(sheet, third, first, second, place)
@@ -139,7 +150,12 @@ fn write_ordered(
     third: Root<'_>,
     place: Place,
 ) -> Outcome
-    ensures { Adds result sheet.old sheet.new (member_tokens (codes "operationTypes") (array (items_of (root_json place) (and_then first.entry.0 first.entry.1.now (and_then second.entry.0 second.entry.1.now (and_then third.entry.0 third.entry.1.now [])))))) }
+    ensures { Adds result sheet.old sheet.new
+        (member_tokens (codes "operationTypes")
+        (array (items_of (root_json place)
+        (and_then first.entry.0 first.entry.1.now
+        (and_then second.entry.0 second.entry.1.now
+        (and_then third.entry.0 third.entry.1.now [])))))) }
 {
     sheet.open_list("operationTypes")?;
     write_root(sheet, first, place)?;
@@ -215,7 +231,9 @@ fn kind_word(kind: &TypeKind, is_extension: bool) -> &'static str
 
 // The member `interfaces`, where the kind of type may have some.
 fn write_interfaces(sheet: &mut Sheet, kind: &TypeKind, place: Place) -> Outcome
-    ensures { Adds result sheet.old sheet.new (optional_tokens (codes "interfaces") (named_types_json place) (interfaces (kind_tree kind.now))) }
+    ensures { Adds result sheet.old sheet.new
+        (optional_tokens (codes "interfaces") (named_types_json place)
+        (interfaces (kind_tree kind.now))) }
 {
     match kind {
         TypeKind::Object(object) => {
@@ -230,7 +248,8 @@ fn write_interfaces(sheet: &mut Sheet, kind: &TypeKind, place: Place) -> Outcome
 
 // The member that comes last in this kind of type, and what closes the node.
 fn write_contents(sheet: &mut Sheet, kind: &TypeKind, place: Place) -> Outcome
-    ensures { Adds result sheet.old sheet.new (members_tokens (contents place (kind_tree kind.now))) }
+    ensures { Adds result sheet.old sheet.new
+        (members_tokens (contents place (kind_tree kind.now))) }
 {
     match kind {
         TypeKind::Scalar => sheet.close(),
@@ -249,7 +268,10 @@ fn write_last<N: Node>(
     nodes: &Vec<Positioned<N>>,
     place: Place,
 ) -> Outcome
-    ensures { Adds result sheet.old sheet.new (members_tokens (member key.now (placed_list N.json place (map (placed N.tree) nodes.now.items)) no_members)) }
+    ensures { Adds result sheet.old sheet.new
+        (members_tokens
+        (member key.now (placed_list N.json place (map (placed N.tree) nodes.now.items))
+        no_members)) }
 {
     sheet.nodes(key, nodes, place)?;
     sheet.close()
@@ -257,7 +279,9 @@ fn write_last<N: Node>(
 
 // The types of a union, its last member, and what closes the node.
 fn write_types(sheet: &mut Sheet, names: &Vec<Positioned<Name>>, place: Place) -> Outcome
-    ensures { Adds result sheet.old sheet.new (members_tokens (member (codes "types") (named_types_json place names.now.items) no_members)) }
+    ensures { Adds result sheet.old sheet.new
+        (members_tokens
+        (member (codes "types") (named_types_json place names.now.items) no_members)) }
 {
     write_named_types(sheet, "types", names, place)?;
     sheet.close()
@@ -270,7 +294,8 @@ fn write_named_types(
     names: &Vec<Positioned<Name>>,
     place: Place,
 ) -> Outcome
-    ensures { Adds result sheet.old sheet.new (member_tokens key.now (named_types_json place names.now.items)) }
+    ensures { Adds result sheet.old sheet.new
+        (member_tokens key.now (named_types_json place names.now.items)) }
 {
     sheet.open_list(key)?;
     for name in names {

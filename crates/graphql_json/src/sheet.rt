@@ -151,7 +151,8 @@ impl Sheet {
 
     /// A member that is a node.
     pub fn node<N: Node>(&mut self, key: &str, node: &Positioned<N>, place: Place) -> Outcome
-        ensures { Adds result self.old self.new (member_tokens key.now (placed_json N.json place (placed N.tree node.now))) }
+        ensures { Adds result self.old self.new
+            (member_tokens key.now (placed_json N.json place (placed N.tree node.now))) }
     {
         self.key(key)?;
         node.node.write(self, place.at(node.pos))
@@ -164,7 +165,9 @@ impl Sheet {
         node: &Option<Positioned<N>>,
         place: Place,
     ) -> Outcome
-        ensures { Adds result self.old self.new (optional_tokens key.now (placed_json N.json place) (option_map (placed N.tree) node.now)) }
+        ensures { Adds result self.old self.new
+            (optional_tokens key.now (placed_json N.json place)
+            (option_map (placed N.tree) node.now)) }
     {
         match node {
             Some(node) => self.node(key, node, place),
@@ -174,7 +177,9 @@ impl Sheet {
 
     /// A member that is a list of nodes.
     pub fn nodes<N: Node>(&mut self, key: &str, nodes: &Vec<Positioned<N>>, place: Place) -> Outcome
-        ensures { Adds result self.old self.new (member_tokens key.now (placed_list N.json place (map (placed N.tree) nodes.now.items))) }
+        ensures { Adds result self.old self.new
+            (member_tokens key.now
+            (placed_list N.json place (map (placed N.tree) nodes.now.items))) }
     {
         self.open_list(key)?;
         for node in nodes {

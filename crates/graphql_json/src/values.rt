@@ -92,7 +92,8 @@ pub fn write_text(sheet: &mut Sheet, kind: &str, place: Place, text: &str) -> Ou
 
 /// A member that is a name.
 pub fn write_name(sheet: &mut Sheet, name: &Name, place: Place) -> Outcome
-    ensures { Adds result sheet.old sheet.new (member_tokens (codes "name") (name_json place name.now)) }
+    ensures { Adds result sheet.old sheet.new
+        (member_tokens (codes "name") (name_json place name.now)) }
 {
     sheet.key("name")?;
     name.write(sheet, place)
@@ -135,7 +136,8 @@ fn write_boolean(sheet: &mut Sheet, value: bool, place: Place) -> Outcome
 
 #[cycle(value)]
 fn write_value(sheet: &mut Sheet, value: &ValueView<'_>, place: Place) -> Outcome
-    ensures { Adds result sheet.old sheet.new (json_tokens (value_json place (view_tree value.now))) }
+    ensures { Adds result sheet.old sheet.new
+        (json_tokens (value_json place (view_tree value.now))) }
 {
     match value {
         ValueView::Variable(name) => write_variable(sheet, name, place),
@@ -155,7 +157,8 @@ fn write_value(sheet: &mut Sheet, value: &ValueView<'_>, place: Place) -> Outcom
 // What is inside a list or an object has no place of its own.
 #[cycle(value)]
 fn write_list(sheet: &mut Sheet, items: &ListView<'_>, place: Place) -> Outcome
-    ensures { Adds result sheet.old sheet.new (json_tokens (value_json place (list (trees_of (list_items items.now))))) }
+    ensures { Adds result sheet.old sheet.new
+        (json_tokens (value_json place (list (trees_of (list_items items.now))))) }
 {
     sheet.begin("ListValue", place)?;
     write_items(sheet, items, place.nowhere())?;
@@ -164,7 +167,9 @@ fn write_list(sheet: &mut Sheet, items: &ListView<'_>, place: Place) -> Outcome
 
 #[cycle(value)]
 fn write_items(sheet: &mut Sheet, items: &ListView<'_>, place: Place) -> Outcome
-    ensures { Adds result sheet.old sheet.new (member_tokens (codes "values") (array (items_json place (trees_of (list_items items.now))))) }
+    ensures { Adds result sheet.old sheet.new
+        (member_tokens (codes "values")
+        (array (items_json place (trees_of (list_items items.now))))) }
 {
     sheet.open_list("values")?;
     for item in items.iter() {
@@ -175,7 +180,8 @@ fn write_items(sheet: &mut Sheet, items: &ListView<'_>, place: Place) -> Outcome
 
 #[cycle(value)]
 fn write_object(sheet: &mut Sheet, fields: &ObjectView<'_>, place: Place) -> Outcome
-    ensures { Adds result sheet.old sheet.new (json_tokens (value_json place (object (fields_of (object_fields fields.now))))) }
+    ensures { Adds result sheet.old sheet.new
+        (json_tokens (value_json place (object (fields_of (object_fields fields.now))))) }
 {
     sheet.begin("ObjectValue", place)?;
     write_fields(sheet, fields, place.nowhere())?;
@@ -184,7 +190,9 @@ fn write_object(sheet: &mut Sheet, fields: &ObjectView<'_>, place: Place) -> Out
 
 #[cycle(value)]
 fn write_fields(sheet: &mut Sheet, fields: &ObjectView<'_>, place: Place) -> Outcome
-    ensures { Adds result sheet.old sheet.new (member_tokens (codes "fields") (array (fields_json place (fields_of (object_fields fields.now))))) }
+    ensures { Adds result sheet.old sheet.new
+        (member_tokens (codes "fields")
+        (array (fields_json place (fields_of (object_fields fields.now))))) }
 {
     sheet.open_list("fields")?;
     for (name, value) in fields.iter() {
@@ -195,7 +203,8 @@ fn write_fields(sheet: &mut Sheet, fields: &ObjectView<'_>, place: Place) -> Out
 
 #[cycle(value)]
 fn write_field(sheet: &mut Sheet, name: &Name, value: &ValueView<'_>, place: Place) -> Outcome
-    ensures { Adds result sheet.old sheet.new (json_tokens (field_node place name.now (value_json place (view_tree value.now)))) }
+    ensures { Adds result sheet.old sheet.new
+        (json_tokens (field_node place name.now (value_json place (view_tree value.now)))) }
 {
     sheet.begin("ObjectField", place)?;
     write_name(sheet, name, place)?;
@@ -210,7 +219,10 @@ pub fn write_arguments<V: Node>(
     arguments: &Vec<(Positioned<Name>, Positioned<V>)>,
     place: Place,
 ) -> Outcome
-    ensures { Adds result sheet.old sheet.new (member_tokens (codes "arguments") (array (items_of (argument_with V.json place) (map (argument_tree V.tree) arguments.now.items)))) }
+    ensures { Adds result sheet.old sheet.new
+        (member_tokens (codes "arguments")
+        (array (items_of (argument_with V.json place)
+        (map (argument_tree V.tree) arguments.now.items)))) }
 {
     sheet.open_list("arguments")?;
     for argument in arguments {
@@ -225,7 +237,8 @@ fn write_argument<V: Node>(
     value: &Positioned<V>,
     place: Place,
 ) -> Outcome
-    ensures { Adds result sheet.old sheet.new (json_tokens (argument_with V.json place (name.now, placed V.tree value.now))) }
+    ensures { Adds result sheet.old sheet.new
+        (json_tokens (argument_with V.json place (name.now, placed V.tree value.now))) }
 {
     sheet.begin("Argument", place.at(name.pos))?;
     sheet.node("name", name, place)?;
@@ -311,7 +324,8 @@ fn write_type(sheet: &mut Sheet, ty: &Type, place: Place) -> Outcome
 
 #[cycle(types)]
 fn write_base(sheet: &mut Sheet, base: &BaseType, place: Place) -> Outcome
-    ensures { Adds result sheet.old sheet.new (json_tokens (type_json place (base_tree base.now true))) }
+    ensures { Adds result sheet.old sheet.new
+        (json_tokens (type_json place (base_tree base.now true))) }
 {
     match base {
         BaseType::Named(name) => write_named_type(sheet, name, place),

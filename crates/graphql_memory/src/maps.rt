@@ -28,8 +28,10 @@ impl Memory {
     ) -> Result<Option<V>, AllocError>
         ensures old { IfOk result (λ old. old ≡ indexed.get K.eq map.old key) }
         ensures updates { OnOk result (indexed.Updates K.eq map.old map.new key (Some value)) }
-        ensures entries { OnOk result (map.new.entries ≡ indexed.insert_entry K.eq map.old.entries key value) }
-        ensures len { IfOk result (λ old. indexed.index_map_len map.new ≡ indexed.index_map_len map.old + (if is_some old then 0 else 1)) }
+        ensures entries { OnOk result (map.new.entries ≡
+            indexed.insert_entry K.eq map.old.entries key value) }
+        ensures len { IfOk result (λ old. indexed.index_map_len map.new ≡
+            indexed.index_map_len map.old + (if is_some old then 0 else 1)) }
         ensures refused { OnErr result (Refused self.new) }
         ensures granted { OnOk result (Refused self.new → Refused self.old) }
     {
@@ -49,8 +51,10 @@ impl Memory {
     ) -> Result<Option<V>, AllocError>
         ensures old { IfOk result (λ old. old ≡ ordered.get K.cmp map.old key) }
         ensures updates { OnOk result (ordered.Updates K.cmp map.old map.new key (Some value)) }
-        ensures entries { OnOk result (map.new.entries ≡ ordered.insert_entry K.cmp map.old.entries key value) }
-        ensures len { IfOk result (λ old. ordered.btree_map_len map.new ≡ ordered.btree_map_len map.old + (if is_some old then 0 else 1)) }
+        ensures entries { OnOk result (map.new.entries ≡
+            ordered.insert_entry K.cmp map.old.entries key value) }
+        ensures len { IfOk result (λ old. ordered.btree_map_len map.new ≡
+            ordered.btree_map_len map.old + (if is_some old then 0 else 1)) }
         ensures refused { OnErr result (Refused self.new) }
         ensures granted { OnOk result (Refused self.new → Refused self.old) }
     {

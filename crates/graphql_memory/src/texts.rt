@@ -62,7 +62,8 @@ impl Memory {
     /// Puts a character after a text.
     #[inline(always)]
     pub fn push_char(&mut self, text: &mut String, c: char) -> Result<(), AllocError>
-        ensures text { OnOk result (string_bytes text.new ≡ string_bytes text.old ++ encode_utf8 c) }
+        ensures text { OnOk result (string_bytes text.new ≡ string_bytes text.old ++
+            encode_utf8 c) }
         ensures ascii { c < 128 → encode_utf8 c ≡ c ∷ [] }
         ensures refused { OnErr result (Refused self.new) }
         ensures granted { OnOk result (Refused self.new → Refused self.old) }

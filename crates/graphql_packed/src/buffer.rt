@@ -113,7 +113,8 @@ impl Buffer {
 
     /// A node that may be missing.
     pub fn optional<N: Packed>(&mut self, node: &Option<Positioned<N>>) -> Outcome
-        ensures { Adds result self.old self.new (optional_bytes (node_bytes N.bytes) (option_map (placed N.tree) node.now)) }
+        ensures { Adds result self.old self.new
+            (optional_bytes (node_bytes N.bytes) (option_map (placed N.tree) node.now)) }
     {
         self.flag(node.is_some())?;
         match node {
@@ -124,7 +125,8 @@ impl Buffer {
 
     /// A list of nodes.
     pub fn nodes<N: Packed>(&mut self, nodes: &Vec<Positioned<N>>) -> Outcome
-        ensures { Adds result self.old self.new (list_bytes (node_bytes N.bytes) (map (placed N.tree) nodes.now.items)) }
+        ensures { Adds result self.old self.new
+            (list_bytes (node_bytes N.bytes) (map (placed N.tree) nodes.now.items)) }
     {
         self.number(nodes.len())?;
         for node in nodes {

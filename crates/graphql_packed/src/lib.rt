@@ -40,7 +40,8 @@ pub fn packed_request(alloc: Global, document: &ExecutableDocument) -> Result<Ve
 
 /// The tree of a schema file as bytes. It fails only where memory runs out.
 pub fn packed_schema(alloc: Global, document: &ServiceDocument) -> Result<Vec<u8>, AllocError>
-    ensures { IfOk result (λ packed. packed.items ≡ schema_bytes (schema_document_tree document.now)) }
+    ensures { IfOk result (λ packed. packed.items ≡
+        schema_bytes (schema_document_tree document.now)) }
 {
     let mut buffer = Buffer::new(alloc);
     schema::pack_document(&mut buffer, document)?;

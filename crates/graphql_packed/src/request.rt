@@ -130,7 +130,8 @@ impl Packed for TypeCondition {
 // A selection set, with its place.
 #[cycle(set)]
 fn pack_set(buffer: &mut Buffer, set: &Positioned<SelectionSet>) -> Outcome
-    ensures { Adds result buffer.old buffer.new (node_bytes set_bytes (placed selection_set_tree set.now)) }
+    ensures { Adds result buffer.old buffer.new
+        (node_bytes set_bytes (placed selection_set_tree set.now)) }
 {
     buffer.place(set.pos)?;
     pack_selections(buffer, &set.node)
@@ -163,7 +164,8 @@ fn pack_selection(buffer: &mut Buffer, selection: &Selection) -> Outcome
 
 #[cycle(set)]
 fn pack_field(buffer: &mut Buffer, field: &Positioned<Field>) -> Outcome
-    ensures { Adds result buffer.old buffer.new (selection_bytes (of_field (placed field_tree field.now))) }
+    ensures { Adds result buffer.old buffer.new
+        (selection_bytes (of_field (placed field_tree field.now))) }
 {
     buffer.choice(0)?;
     buffer.place(field.pos)?;
@@ -193,7 +195,8 @@ impl Packed for FragmentSpread {
 
 #[cycle(set)]
 fn pack_inline_fragment(buffer: &mut Buffer, fragment: &Positioned<InlineFragment>) -> Outcome
-    ensures { Adds result buffer.old buffer.new (selection_bytes (of_inline_fragment (placed inline_fragment_tree fragment.now))) }
+    ensures { Adds result buffer.old buffer.new
+        (selection_bytes (of_inline_fragment (placed inline_fragment_tree fragment.now))) }
 {
     buffer.choice(2)?;
     buffer.place(fragment.pos)?;

@@ -22,7 +22,8 @@ pub fn pack_document(buffer: &mut Buffer, document: &ServiceDocument) -> Outcome
 }
 
 fn pack_definition(buffer: &mut Buffer, definition: &TypeSystemDefinition) -> Outcome
-    ensures { Adds result buffer.old buffer.new (definition_bytes (definition_tree definition.now)) }
+    ensures { Adds result buffer.old buffer.new
+        (definition_bytes (definition_tree definition.now)) }
 {
     match definition {
         TypeSystemDefinition::Schema(schema) => {

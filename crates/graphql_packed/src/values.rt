@@ -103,7 +103,8 @@ fn pack_value(buffer: &mut Buffer, value: &ValueView<'_>) -> Outcome
 
 #[cycle(value)]
 fn pack_items(buffer: &mut Buffer, items: &ListView<'_>) -> Outcome
-    ensures { Adds result buffer.old buffer.new (value_bytes (list (trees_of (list_items items.now)))) }
+    ensures { Adds result buffer.old buffer.new
+        (value_bytes (list (trees_of (list_items items.now)))) }
 {
     buffer.choice(7)?;
     buffer.number(items.len())?;
@@ -115,7 +116,8 @@ fn pack_items(buffer: &mut Buffer, items: &ListView<'_>) -> Outcome
 
 #[cycle(value)]
 fn pack_fields(buffer: &mut Buffer, fields: &ObjectView<'_>) -> Outcome
-    ensures { Adds result buffer.old buffer.new (value_bytes (object (fields_of (object_fields fields.now)))) }
+    ensures { Adds result buffer.old buffer.new
+        (value_bytes (object (fields_of (object_fields fields.now)))) }
 {
     buffer.choice(8)?;
     buffer.number(fields.len())?;
@@ -131,7 +133,8 @@ pub fn pack_arguments<V: Packed>(
     buffer: &mut Buffer,
     arguments: &Vec<(Positioned<Name>, Positioned<V>)>,
 ) -> Outcome
-    ensures { Adds result buffer.old buffer.new (list_bytes (argument_with V.bytes) (map (argument_tree V.tree) arguments.now.items)) }
+    ensures { Adds result buffer.old buffer.new
+        (list_bytes (argument_with V.bytes) (map (argument_tree V.tree) arguments.now.items)) }
 {
     buffer.number(arguments.len())?;
     for argument in arguments {
@@ -148,7 +151,9 @@ fn pack_directive<V: Packed>(
     name: &Positioned<Name>,
     arguments: &Vec<(Positioned<Name>, Positioned<V>)>,
 ) -> Outcome
-    ensures { Adds result buffer.old buffer.new (node_bytes text_bytes name.now ++ list_bytes (argument_with V.bytes) (map (argument_tree V.tree) arguments.now.items)) }
+    ensures { Adds result buffer.old buffer.new
+        (node_bytes text_bytes name.now ++
+        list_bytes (argument_with V.bytes) (map (argument_tree V.tree) arguments.now.items)) }
 {
     buffer.node(name)?;
     pack_arguments(buffer, arguments)

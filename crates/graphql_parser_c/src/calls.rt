@@ -25,7 +25,8 @@ pub fn check_text<D: Document>(
     memory: usize,
     room: Room,
 ) -> Told
-    ensures told { IsTold (checked D.language) (limits_of selections values types) text.bytes result.number result.places }
+    ensures told { IsTold (checked D.language) (limits_of selections values types) text.bytes
+        result.number result.places }
     ensures back { IsBack text room result }
 {
     let (lent, count) = text.lent();
@@ -53,8 +54,10 @@ pub fn parse_text<D: Document>(
     room: Room,
     json: &mut Block,
 ) -> Told
-    ensures told { IsTold D.language (limits_of selections values types) text.bytes result.number result.places }
-    ensures handed { IsAnswered D.language (D.value (places_asked with_places)) (limits_of selections values types) text.bytes result.number json.new }
+    ensures told { IsTold D.language (limits_of selections values types) text.bytes result.number
+        result.places }
+    ensures handed { IsAnswered D.language (D.value (places_asked with_places))
+        (limits_of selections values types) text.bytes result.number json.new }
     ensures back { IsBack text room result }
 {
     let (lent, count) = text.lent();
@@ -81,8 +84,10 @@ pub fn explain_text<D: Document>(
     room: Room,
     report: &mut Block,
 ) -> Told
-    ensures told { IsTold (checked D.language) (limits_of selections values types) text.bytes result.number result.places }
-    ensures handed { IsExplained (checked D.language) (limits_of selections values types) text.bytes result.number report.new }
+    ensures told { IsTold (checked D.language) (limits_of selections values types) text.bytes
+        result.number result.places }
+    ensures handed { IsExplained (checked D.language) (limits_of selections values types) text.bytes
+        result.number report.new }
     ensures back { IsBack text room result }
 {
     let (lent, count) = text.lent();
@@ -109,8 +114,10 @@ pub fn pack_text<D: Document>(
     room: Room,
     packed: &mut Block,
 ) -> Told
-    ensures told { IsTold D.language (limits_of selections values types) text.bytes result.number result.places }
-    ensures handed { IsPacked D.language D.bytes (limits_of selections values types) text.bytes result.number packed.new }
+    ensures told { IsTold D.language (limits_of selections values types) text.bytes result.number
+        result.places }
+    ensures handed { IsPacked D.language D.bytes (limits_of selections values types) text.bytes
+        result.number packed.new }
     ensures back { IsBack text room result }
 {
     let (lent, count) = text.lent();

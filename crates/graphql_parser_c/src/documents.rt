@@ -49,11 +49,13 @@ pub trait Document: Drop {
 
     /// Reads a text.
     fn read(memory: &mut Memory, text: &str, limits: Limits) -> Result<Self>
-        ensures { (tokens : List Token) → IsCutInto text.now tokens → Answers Self.language limits tokens result };
+        ensures { (tokens : List Token) → IsCutInto text.now tokens →
+            Answers Self.language limits tokens result };
 
     /// Checks a text: the same, without a tree.
     fn check(memory: &mut Memory, text: &str, limits: Limits) -> Result<()>
-        ensures { (tokens : List Token) → IsCutInto text.now tokens → Answers (checked Self.language) limits tokens result };
+        ensures { (tokens : List Token) → IsCutInto text.now tokens →
+            Answers (checked Self.language) limits tokens result };
 
     /// The tree as JSON.
     fn json(&self, alloc: Global, places: Places) -> std::result::Result<Vec<u8>, AllocError>

@@ -43,8 +43,12 @@ pub fn explain<D: Document>(
     places: &mut Places,
     report: &mut Block,
 ) -> u32
-    ensures told { IsTold (checked D.language) (limits_of question.now.selections question.now.values question.now.types) question.now.text.now result places.new }
-    ensures handed { IsExplained (checked D.language) (limits_of question.now.selections question.now.values question.now.types) question.now.text.now result report.new }
+    ensures told { IsTold (checked D.language)
+        (limits_of question.now.selections question.now.values question.now.types)
+        question.now.text.now result places.new }
+    ensures handed { IsExplained (checked D.language)
+        (limits_of question.now.selections question.now.values question.now.types)
+        question.now.text.now result report.new }
 {
     let ReadableText { text, limits } = match question.readable() {
         Ok(readable) => readable,

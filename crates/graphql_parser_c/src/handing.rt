@@ -24,7 +24,9 @@ pub fn hand_over<T>(
     block: &mut Block,
 ) -> Status
     requires { answer.now ≡ Err OutOfMemory → IsErr made }
-    ensures told { (told : SpecResult T SpecError) × ((told ≡ answer.now) ⊎ (told ≡ Err OutOfMemory)) × (result ≡ status_of told) × (places.new ≡ places_of told) }
+    ensures told { (told : SpecResult T SpecError) ×
+        ((told ≡ answer.now) ⊎ (told ≡ Err OutOfMemory)) × (result ≡ status_of told) ×
+        (places.new ≡ places_of told) }
     ensures handed { IsHanded made (number_of result) block.new }
 {
     let Ok(made) = made else {
@@ -42,7 +44,8 @@ fn written<D: Document>(
     answer: &Result<D>,
     with_places: bool,
 ) -> std::result::Result<Vec<u8>, AllocError>
-    ensures text { IfOk result (λ json. json.items ≡ json_text (answer_value (D.value (places_asked with_places)) answer.now)) }
+    ensures text { IfOk result (λ json. json.items ≡
+        json_text (answer_value (D.value (places_asked with_places)) answer.now)) }
     ensures memory { answer.now ≡ Err OutOfMemory → IsErr result }
 {
     match answer {
@@ -59,7 +62,8 @@ fn json_of<D: Document>(
     answer: &Result<D>,
     with_places: bool,
 ) -> std::result::Result<Block, AllocError>
-    ensures text { IfOk result (λ json. json.text ≡ Some (json_text (answer_value (D.value (places_asked with_places)) answer.now))) }
+    ensures text { IfOk result (λ json. json.text ≡
+        Some (json_text (answer_value (D.value (places_asked with_places)) answer.now))) }
     ensures memory { answer.now ≡ Err OutOfMemory → IsErr result }
 {
     let json = written(alloc, answer, with_places)?;
@@ -74,8 +78,12 @@ pub fn parse<D: Document>(
     places: &mut Places,
     json: &mut Block,
 ) -> u32
-    ensures told { IsTold D.language (limits_of question.now.selections question.now.values question.now.types) question.now.text.now result places.new }
-    ensures handed { IsAnswered D.language (D.value (places_asked with_places)) (limits_of question.now.selections question.now.values question.now.types) question.now.text.now result json.new }
+    ensures told { IsTold D.language
+        (limits_of question.now.selections question.now.values question.now.types)
+        question.now.text.now result places.new }
+    ensures handed { IsAnswered D.language (D.value (places_asked with_places))
+        (limits_of question.now.selections question.now.values question.now.types)
+        question.now.text.now result json.new }
 {
     let ReadableText { text, limits } = match question.readable() {
         Ok(readable) => readable,

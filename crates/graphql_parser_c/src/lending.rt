@@ -69,7 +69,8 @@ impl Model for Told {
 impl Text {
     /// The text, to be read, and the number of its bytes.
     pub fn lent(self) -> (Lent, usize)
-        ensures { (result.0.bytes ≡ self.bytes) × (result.0.life ≡ self.life) × (result.1 ≡ length self.bytes) }
+        ensures { (result.0.bytes ≡ self.bytes) × (result.0.life ≡ self.life) ×
+            (result.1 ≡ length self.bytes) }
     {
         let Text { start, length } = self;
         (Lent { start }, length)
@@ -100,7 +101,8 @@ impl Lent {
 impl Told {
     /// Writes the places where there is room for them, and gives back what was lent.
     pub fn of(number: u32, places: Places, room: Room, lent: Lent) -> Told
-        ensures { (result.number ≡ number) × (result.places ≡ places) × (result.at ≡ room.at) × (result.life ≡ lent.life) }
+        ensures { (result.number ≡ number) × (result.places ≡ places) × (result.at ≡ room.at) ×
+            (result.life ≡ lent.life) }
     {
         let Lent { start: _ } = lent;
         let Room { at } = room;

@@ -73,7 +73,8 @@ pub extern "C" fn graphql_parser_check_query(
     types: usize,
     places: Room,
 ) -> Told
-    ensures told { IsTold (checked requests) (limits_of selections values types) text.bytes result.number result.places }
+    ensures told { IsTold (checked requests) (limits_of selections values types) text.bytes
+        result.number result.places }
     ensures back { IsBack text places result }
 {
     check_text::<ExecutableDocument>(alloc, text, selections, values, types, usize::MAX, places)
@@ -91,7 +92,8 @@ pub extern "C" fn graphql_parser_check_schema(
     types: usize,
     places: Room,
 ) -> Told
-    ensures told { IsTold (checked schemas) (limits_of selections values types) text.bytes result.number result.places }
+    ensures told { IsTold (checked schemas) (limits_of selections values types) text.bytes
+        result.number result.places }
     ensures back { IsBack text places result }
 {
     check_text::<ServiceDocument>(alloc, text, selections, values, types, usize::MAX, places)
@@ -109,7 +111,8 @@ pub extern "C" fn graphql_parser_check_query_within(
     memory: usize,
     places: Room,
 ) -> Told
-    ensures told { IsTold (checked requests) (limits_of selections values types) text.bytes result.number result.places }
+    ensures told { IsTold (checked requests) (limits_of selections values types) text.bytes
+        result.number result.places }
     ensures back { IsBack text places result }
 {
     check_text::<ExecutableDocument>(alloc, text, selections, values, types, memory, places)
@@ -126,7 +129,8 @@ pub extern "C" fn graphql_parser_check_schema_within(
     memory: usize,
     places: Room,
 ) -> Told
-    ensures told { IsTold (checked schemas) (limits_of selections values types) text.bytes result.number result.places }
+    ensures told { IsTold (checked schemas) (limits_of selections values types) text.bytes
+        result.number result.places }
     ensures back { IsBack text places result }
 {
     check_text::<ServiceDocument>(alloc, text, selections, values, types, memory, places)
@@ -149,8 +153,11 @@ pub extern "C" fn graphql_parser_parse_query(
     places: Room,
     json: &mut Block,
 ) -> Told
-    ensures told { IsTold requests (limits_of selections values types) text.bytes result.number result.places }
-    ensures handed { IsAnswered requests (λ document. request_value (places_asked with_places) (document_tree document)) (limits_of selections values types) text.bytes result.number json.new }
+    ensures told { IsTold requests (limits_of selections values types) text.bytes result.number
+        result.places }
+    ensures handed { IsAnswered requests
+        (λ document. request_value (places_asked with_places) (document_tree document))
+        (limits_of selections values types) text.bytes result.number json.new }
     ensures back { IsBack text places result }
 {
     parse_text::<ExecutableDocument>(
@@ -179,8 +186,11 @@ pub extern "C" fn graphql_parser_parse_schema(
     places: Room,
     json: &mut Block,
 ) -> Told
-    ensures told { IsTold schemas (limits_of selections values types) text.bytes result.number result.places }
-    ensures handed { IsAnswered schemas (λ document. schema_value (places_asked with_places) (schema_document_tree document)) (limits_of selections values types) text.bytes result.number json.new }
+    ensures told { IsTold schemas (limits_of selections values types) text.bytes result.number
+        result.places }
+    ensures handed { IsAnswered schemas
+        (λ document. schema_value (places_asked with_places) (schema_document_tree document))
+        (limits_of selections values types) text.bytes result.number json.new }
     ensures back { IsBack text places result }
 {
     parse_text::<ServiceDocument>(
@@ -210,8 +220,11 @@ pub extern "C" fn graphql_parser_parse_query_within(
     places: Room,
     json: &mut Block,
 ) -> Told
-    ensures told { IsTold requests (limits_of selections values types) text.bytes result.number result.places }
-    ensures handed { IsAnswered requests (λ document. request_value (places_asked with_places) (document_tree document)) (limits_of selections values types) text.bytes result.number json.new }
+    ensures told { IsTold requests (limits_of selections values types) text.bytes result.number
+        result.places }
+    ensures handed { IsAnswered requests
+        (λ document. request_value (places_asked with_places) (document_tree document))
+        (limits_of selections values types) text.bytes result.number json.new }
     ensures back { IsBack text places result }
 {
     parse_text::<ExecutableDocument>(
@@ -240,8 +253,11 @@ pub extern "C" fn graphql_parser_parse_schema_within(
     places: Room,
     json: &mut Block,
 ) -> Told
-    ensures told { IsTold schemas (limits_of selections values types) text.bytes result.number result.places }
-    ensures handed { IsAnswered schemas (λ document. schema_value (places_asked with_places) (schema_document_tree document)) (limits_of selections values types) text.bytes result.number json.new }
+    ensures told { IsTold schemas (limits_of selections values types) text.bytes result.number
+        result.places }
+    ensures handed { IsAnswered schemas
+        (λ document. schema_value (places_asked with_places) (schema_document_tree document))
+        (limits_of selections values types) text.bytes result.number json.new }
     ensures back { IsBack text places result }
 {
     parse_text::<ServiceDocument>(
@@ -273,8 +289,10 @@ pub extern "C" fn graphql_parser_explain_query(
     places: Room,
     report: &mut Block,
 ) -> Told
-    ensures told { IsTold (checked requests) (limits_of selections values types) text.bytes result.number result.places }
-    ensures handed { IsExplained (checked requests) (limits_of selections values types) text.bytes result.number report.new }
+    ensures told { IsTold (checked requests) (limits_of selections values types) text.bytes
+        result.number result.places }
+    ensures handed { IsExplained (checked requests) (limits_of selections values types) text.bytes
+        result.number report.new }
     ensures back { IsBack text places result }
 {
     explain_text::<ExecutableDocument>(
@@ -301,8 +319,10 @@ pub extern "C" fn graphql_parser_explain_schema(
     places: Room,
     report: &mut Block,
 ) -> Told
-    ensures told { IsTold (checked schemas) (limits_of selections values types) text.bytes result.number result.places }
-    ensures handed { IsExplained (checked schemas) (limits_of selections values types) text.bytes result.number report.new }
+    ensures told { IsTold (checked schemas) (limits_of selections values types) text.bytes
+        result.number result.places }
+    ensures handed { IsExplained (checked schemas) (limits_of selections values types) text.bytes
+        result.number report.new }
     ensures back { IsBack text places result }
 {
     explain_text::<ServiceDocument>(
@@ -332,8 +352,10 @@ pub extern "C" fn graphql_parser_pack_query(
     places: Room,
     packed: &mut Block,
 ) -> Told
-    ensures told { IsTold requests (limits_of selections values types) text.bytes result.number result.places }
-    ensures handed { IsPacked requests (λ document. request_bytes (document_tree document)) (limits_of selections values types) text.bytes result.number packed.new }
+    ensures told { IsTold requests (limits_of selections values types) text.bytes result.number
+        result.places }
+    ensures handed { IsPacked requests (λ document. request_bytes (document_tree document))
+        (limits_of selections values types) text.bytes result.number packed.new }
     ensures back { IsBack text places result }
 {
     pack_text::<ExecutableDocument>(
@@ -360,8 +382,10 @@ pub extern "C" fn graphql_parser_pack_schema(
     places: Room,
     packed: &mut Block,
 ) -> Told
-    ensures told { IsTold schemas (limits_of selections values types) text.bytes result.number result.places }
-    ensures handed { IsPacked schemas (λ document. schema_bytes (schema_document_tree document)) (limits_of selections values types) text.bytes result.number packed.new }
+    ensures told { IsTold schemas (limits_of selections values types) text.bytes result.number
+        result.places }
+    ensures handed { IsPacked schemas (λ document. schema_bytes (schema_document_tree document))
+        (limits_of selections values types) text.bytes result.number packed.new }
     ensures back { IsBack text places result }
 {
     pack_text::<ServiceDocument>(

@@ -37,8 +37,12 @@ pub fn pack<D: Document>(
     places: &mut Places,
     packed: &mut Block,
 ) -> u32
-    ensures told { IsTold D.language (limits_of question.now.selections question.now.values question.now.types) question.now.text.now result places.new }
-    ensures handed { IsPacked D.language D.bytes (limits_of question.now.selections question.now.values question.now.types) question.now.text.now result packed.new }
+    ensures told { IsTold D.language
+        (limits_of question.now.selections question.now.values question.now.types)
+        question.now.text.now result places.new }
+    ensures handed { IsPacked D.language D.bytes
+        (limits_of question.now.selections question.now.values question.now.types)
+        question.now.text.now result packed.new }
 {
     let ReadableText { text, limits } = match question.readable() {
         Ok(readable) => readable,

@@ -78,7 +78,10 @@ pub struct ReadableText<'a> {
 impl<'a> Question<'a> {
     /// The text and the limits, or the status that says why the text can't be read. The limits are looked at first.
     pub fn readable(&self) -> std::result::Result<ReadableText<'a>, Status>
-        ensures { let limits = limits_of self.now.selections self.now.values self.now.types in MatchResult result (λ r. (r.text.now ≡ self.now.text.now) × (r.limits ≡ limits) × IsAllowed limits × IsUtf8 self.now.text.now) (λ status. IsUnread limits self.now.text.now status) }
+        ensures { let limits = limits_of self.now.selections self.now.values self.now.types in
+            MatchResult result
+            (λ r. (r.text.now ≡ self.now.text.now) × (r.limits ≡ limits) × IsAllowed limits ×
+            IsUtf8 self.now.text.now) (λ status. IsUnread limits self.now.text.now status) }
     {
         let Some(limits) = Limits::new(self.selections, self.values, self.types) else {
             return Err(Status::LimitTooLarge);
@@ -112,7 +115,9 @@ pub fn tell<D>(answer: &Result<D>, places: &mut Places) -> Status
 
 /// Checks a text and tells the answer.
 pub fn check<D: Document>(alloc: Global, question: &Question<'_>, places: &mut Places) -> u32
-    ensures { IsTold (checked D.language) (limits_of question.now.selections question.now.values question.now.types) question.now.text.now result places.new }
+    ensures { IsTold (checked D.language)
+        (limits_of question.now.selections question.now.values question.now.types)
+        question.now.text.now result places.new }
 {
     let ReadableText { text, limits } = match question.readable() {
         Ok(readable) => readable,

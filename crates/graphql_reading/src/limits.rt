@@ -38,8 +38,11 @@ impl Model for Limits {
 impl Limits {
     /// These limits; None exactly where one of the numbers is over 256.
     pub fn new(selections: usize, values: usize, types: usize) -> Option<Limits>
-        ensures numbers { IfSome result (λ limits. limits ≡ record { selections = selections; values = values; types = types }) }
-        ensures allowed { IsSome result ↔ IsAllowed (record { selections = selections; values = values; types = types }) }
+        ensures numbers { IfSome result
+            (λ limits. limits ≡
+            record { selections = selections; values = values; types = types }) }
+        ensures allowed { IsSome result ↔
+            IsAllowed (record { selections = selections; values = values; types = types }) }
     {
         if selections > LARGEST || values > LARGEST || types > LARGEST {
             return None;

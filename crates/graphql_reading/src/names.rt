@@ -34,7 +34,8 @@ pub fn name_in(parser: &mut Parser, token: Token) -> Result<Positioned<Name>, Al
 /// `Name`
 #[inline(always)]
 pub fn read_name(parser: &mut Parser) -> Reading<Positioned<Name>>
-    ensures { Gives (λ name. name) result parser.old parser.new (mapped_at name_of (one_at any_name)) }
+    ensures { Gives (λ name. name) result parser.old parser.new
+        (mapped_at name_of (one_at any_name)) }
 {
     let token = parser.expect_name()?;
     let name = name_in(parser, token)?;

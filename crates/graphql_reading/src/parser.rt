@@ -220,7 +220,8 @@ impl<'a> Parser<'a> {
     /// Uses up this punctuator, where it is in hand, and tells whether it was.
     #[inline(always)]
     pub fn take_punct(&mut self, text: &str) -> bool
-        ensures { Gives (λ taken. taken) (Ok result) self.old self.new (take_at (punct_of text.now)) }
+        ensures { Gives (λ taken. taken) (Ok result) self.old self.new
+            (take_at (punct_of text.now)) }
     {
         let is_there = self.is_at_punct(text);
         if is_there {

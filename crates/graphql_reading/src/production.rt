@@ -46,7 +46,8 @@ pub trait Production {
 #[inline(always)]
 pub fn one_or_more<P: Production>(parser: &mut Parser, limits: Limits) -> Reading<Vec<P::Node>>
     requires { Takes (P.reader limits) }
-    ensures { Gives (trees_in P.tree) result parser.old parser.new (plus_at P.first (P.reader limits)) }
+    ensures { Gives (trees_in P.tree) result parser.old parser.new
+        (plus_at P.first (P.reader limits)) }
 {
     let mut nodes = parser.list_with_room(P::ROOM.min(8))?;
     loop {
@@ -68,7 +69,8 @@ pub fn separated<P: Production>(
     limits: Limits,
 ) -> Reading<Vec<P::Node>>
     requires { Takes (P.reader limits) }
-    ensures { Gives (trees_in P.tree) result parser.old parser.new (separated_at (punct_of mark.now) (P.reader limits)) }
+    ensures { Gives (trees_in P.tree) result parser.old parser.new
+        (separated_at (punct_of mark.now) (P.reader limits)) }
 {
     parser.take_punct(mark);
     let mut nodes = parser.list_with_room(P::ROOM.min(8))?;
@@ -85,7 +87,8 @@ pub fn separated<P: Production>(
 #[inline(always)]
 pub fn any_number<P: Production>(parser: &mut Parser, limits: Limits) -> Reading<Vec<P::Node>>
     requires { Takes (P.reader limits) }
-    ensures { Gives (trees_in P.tree) result parser.old parser.new (many_at P.first (P.reader limits)) }
+    ensures { Gives (trees_in P.tree) result parser.old parser.new
+        (many_at P.first (P.reader limits)) }
 {
     if !P::is_next(parser) {
         return Ok(parser.empty_list());
@@ -97,7 +100,8 @@ pub fn any_number<P: Production>(parser: &mut Parser, limits: Limits) -> Reading
 #[tactic(auto, unfolding(crate::specs::reading::Outcome::opt_at))]
 #[inline(always)]
 pub fn optional<P: Production>(parser: &mut Parser, limits: Limits) -> Reading<Option<P::Node>>
-    ensures { Gives (option_map P.tree) result parser.old parser.new (opt_at P.first (P.reader limits)) }
+    ensures { Gives (option_map P.tree) result parser.old parser.new
+        (opt_at P.first (P.reader limits)) }
 {
     if !P::is_next(parser) {
         return Ok(None);
@@ -114,7 +118,9 @@ pub fn bracketed<P: Production>(
     limits: Limits,
 ) -> Reading<Vec<P::Node>>
     requires { Takes (P.reader limits) }
-    ensures { Gives (trees_in P.tree) result parser.old parser.new (between_at (punct_of opening.now) (plus_at P.first (P.reader limits)) (punct_of closing.now)) }
+    ensures { Gives (trees_in P.tree) result parser.old parser.new
+        (between_at (punct_of opening.now) (plus_at P.first (P.reader limits))
+        (punct_of closing.now)) }
 {
     parser.expect_punct(opening)?;
     let nodes = one_or_more::<P>(parser, limits)?;
@@ -132,7 +138,11 @@ pub fn maybe_bracketed<P: Production>(
     limits: Limits,
 ) -> Reading<Vec<P::Node>>
     requires { Takes (P.reader limits) }
-    ensures { Gives (trees_in P.tree) result parser.old parser.new (mapped_at given (opt_at (punct_of opening.now) (between_at (punct_of opening.now) (plus_at P.first (P.reader limits)) (punct_of closing.now)))) }
+    ensures { Gives (trees_in P.tree) result parser.old parser.new
+        (mapped_at given
+        (opt_at (punct_of opening.now)
+        (between_at (punct_of opening.now) (plus_at P.first (P.reader limits))
+        (punct_of closing.now)))) }
 {
     if !parser.is_at_punct(opening) {
         return Ok(parser.empty_list());

@@ -119,8 +119,10 @@ impl Parser<'_> {
     ) -> Result<Option<V>, AllocError>
         ensures old { IfOk result (λ old. old ≡ ordered.get K.cmp map.old key) }
         ensures updates { OnOk result (ordered.Updates K.cmp map.old map.new key (Some value)) }
-        ensures entries { OnOk result (map.new.entries ≡ ordered.insert_entry K.cmp map.old.entries key value) }
-        ensures len { IfOk result (λ old. ordered.btree_map_len map.new ≡ ordered.btree_map_len map.old + (if is_some old then 0 else 1)) }
+        ensures entries { OnOk result (map.new.entries ≡
+            ordered.insert_entry K.cmp map.old.entries key value) }
+        ensures len { IfOk result (λ old. ordered.btree_map_len map.new ≡
+            ordered.btree_map_len map.old + (if is_some old then 0 else 1)) }
         ensures refused { OnErr result (Refused self.new.memory) }
         ensures stays { Stays self.old self.new }
     {
@@ -129,8 +131,10 @@ impl Parser<'_> {
 
     /// The value of a string with this content, as `string_value` gives it.
     pub fn string_value(&mut self, content: &str) -> Result<Option<String>, AllocError>
-        ensures some { IfOk result (λ value. IfSome value (λ s. StringMeans Current (chars content.now) (chars (string_bytes s)))) }
-        ensures none { IfOk result (λ value. IfNone value (¬ IsContent Current (chars content.now))) }
+        ensures some { IfOk result (λ value.
+            IfSome value (λ s. StringMeans Current (chars content.now) (chars (string_bytes s)))) }
+        ensures none { IfOk result (λ value.
+            IfNone value (¬ IsContent Current (chars content.now))) }
         ensures refused { OnErr result (Refused self.new.memory) }
         ensures stays { Stays self.old self.new }
     {
@@ -139,7 +143,8 @@ impl Parser<'_> {
 
     /// The value of a block string with this text between its quotes, as `block_string_value` gives it.
     pub fn block_string_value(&mut self, raw: &str) -> Result<String, AllocError>
-        ensures value { IfOk result (λ value. chars (string_bytes value) ≡ block_value (chars raw.now)) }
+        ensures value { IfOk result (λ value. chars (string_bytes value) ≡
+            block_value (chars raw.now)) }
         ensures refused { OnErr result (Refused self.new.memory) }
         ensures stays { Stays self.old self.new }
     {

@@ -16,7 +16,9 @@ fn taken(
     buffer: &mut String,
     samples: &[Sample],
 ) -> Result<Vec<&'static str>, AllocError>
-    ensures names { IfOk result (λ names. AreTaken language limits (string_bytes buffer.old) (samples_of samples.now) (texts names.items)) }
+    ensures names { IfOk result (λ names.
+        AreTaken language limits (string_bytes buffer.old) (samples_of samples.now)
+        (texts names.items)) }
     ensures kept { OnOk result (string_bytes buffer.new ≡ string_bytes buffer.old) }
 {
     let mut taken = Vec::new(alloc);

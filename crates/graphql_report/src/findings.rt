@@ -58,7 +58,8 @@ fn syntax_finding(
     error: &Error,
     start: Pos,
 ) -> Result<Finding, AllocError>
-    ensures { IfOk result (λ finding. (place : Pos) × (finding.place ≡ Some place) × IsToldAt text.now start place) }
+    ensures { IfOk result (λ finding. (place : Pos) × (finding.place ≡ Some place) ×
+        IsToldAt text.now start place) }
 {
     let token = refused_token(alloc, language, text, limits, error)?;
     let details = details_of(alloc, language, text, limits, token)?;
@@ -82,7 +83,8 @@ fn limit_finding(
     limits: Limits,
     error: &Error,
 ) -> Result<Finding, AllocError>
-    ensures { IfOk result (λ finding. (place : Pos) × (finding.place ≡ Some place) × IsPlaceIn text.now place) }
+    ensures { IfOk result (λ finding. (place : Pos) × (finding.place ≡ Some place) ×
+        IsPlaceIn text.now place) }
 {
     let status = status_of(error);
     let Some(token) = refused_token(alloc, language, text, limits, error)? else {

@@ -35,7 +35,8 @@ pub fn is_front(
     limits: Limits,
 ) -> Result<bool, AllocError>
     requires { LastIsLineFeed (chars text.now) }
-    ensures { IfOk result (λ answer. (tokens : List SpecToken) → IsCutInto text.now tokens → IsTrue answer ↔ IsFrontOf language limits tokens) }
+    ensures { IfOk result (λ answer. (tokens : List SpecToken) → IsCutInto text.now tokens →
+        IsTrue answer ↔ IsFrontOf language limits tokens) }
 {
     match language {
         Language::Requests => is_request_front(alloc, text, limits),
@@ -45,7 +46,8 @@ pub fn is_front(
 
 fn is_request_front(alloc: Global, text: &str, limits: Limits) -> Result<bool, AllocError>
     requires { LastIsLineFeed (chars text.now) }
-    ensures { IfOk result (λ answer. (tokens : List SpecToken) → IsCutInto text.now tokens → IsTrue answer ↔ IsFront requests limits tokens) }
+    ensures { IfOk result (λ answer. (tokens : List SpecToken) → IsCutInto text.now tokens →
+        IsTrue answer ↔ IsFront requests limits tokens) }
 {
     let end = end_of(text);
     match check_query_limited(alloc, text, limits) {
@@ -56,7 +58,8 @@ fn is_request_front(alloc: Global, text: &str, limits: Limits) -> Result<bool, A
 
 fn is_schema_front(alloc: Global, text: &str, limits: Limits) -> Result<bool, AllocError>
     requires { LastIsLineFeed (chars text.now) }
-    ensures { IfOk result (λ answer. (tokens : List SpecToken) → IsCutInto text.now tokens → IsTrue answer ↔ IsFront schemas limits tokens) }
+    ensures { IfOk result (λ answer. (tokens : List SpecToken) → IsCutInto text.now tokens →
+        IsTrue answer ↔ IsFront schemas limits tokens) }
 {
     let end = end_of(text);
     match check_schema_limited(alloc, text, limits) {
@@ -81,7 +84,8 @@ pub fn is_whole(
 }
 
 fn is_whole_request(alloc: Global, text: &str, limits: Limits) -> Result<bool, AllocError>
-    ensures { IfOk result (λ answer. (tokens : List SpecToken) → IsCutInto text.now tokens → IsTrue answer ↔ HasTree requests limits tokens) }
+    ensures { IfOk result (λ answer. (tokens : List SpecToken) → IsCutInto text.now tokens →
+        IsTrue answer ↔ HasTree requests limits tokens) }
 {
     match check_query_limited(alloc, text, limits) {
         Ok(_) => Ok(true),
@@ -90,7 +94,8 @@ fn is_whole_request(alloc: Global, text: &str, limits: Limits) -> Result<bool, A
 }
 
 fn is_whole_schema(alloc: Global, text: &str, limits: Limits) -> Result<bool, AllocError>
-    ensures { IfOk result (λ answer. (tokens : List SpecToken) → IsCutInto text.now tokens → IsTrue answer ↔ HasTree schemas limits tokens) }
+    ensures { IfOk result (λ answer. (tokens : List SpecToken) → IsCutInto text.now tokens →
+        IsTrue answer ↔ HasTree schemas limits tokens) }
 {
     match check_schema_limited(alloc, text, limits) {
         Ok(_) => Ok(true),

@@ -28,7 +28,8 @@ pub fn takes(
     buffer: &mut String,
     sample: &str,
 ) -> Result<bool, AllocError>
-    ensures answer { IfOk result (TellsFrontOf language limits (with_sample (string_bytes buffer.old) sample.now)) }
+    ensures answer { IfOk result (TellsFrontOf language limits
+        (with_sample (string_bytes buffer.old) sample.now)) }
     ensures kept { OnOk result (string_bytes buffer.new ≡ string_bytes buffer.old) }
 {
     let length = buffer.as_str().len();

@@ -57,7 +57,8 @@ pub fn explain(
     limits: Limits,
     error: &Error,
 ) -> Result<String, AllocError>
-    ensures { IfOk result (λ report. IsReport Plain file_name.now text.now error.now (string_bytes report)) }
+    ensures { IfOk result (λ report.
+        IsReport Plain file_name.now text.now error.now (string_bytes report)) }
 {
     explain_in(
         Style::Plain,
@@ -80,7 +81,8 @@ pub fn explain_in(
     limits: Limits,
     error: &Error,
 ) -> Result<String, AllocError>
-    ensures { IfOk result (λ report. IsReport style file_name.now text.now error.now (string_bytes report)) }
+    ensures { IfOk result (λ report.
+        IsReport style file_name.now text.now error.now (string_bytes report)) }
 {
     let source = &Source {
         style,
@@ -125,7 +127,8 @@ fn told_at(
     message: &str,
     more: &str,
 ) -> Result<String, AllocError>
-    ensures { IfOk result (λ part. Tells source.now.style source.now.file_name.now place message.now (string_bytes part)) }
+    ensures { IfOk result (λ part.
+        Tells source.now.style source.now.file_name.now place message.now (string_bytes part)) }
 {
     let file = named(alloc, source.file_name, ":")?;
     let file = file.as_str();
@@ -154,7 +157,8 @@ fn named(alloc: Global, file_name: &str, mark: &str) -> Result<String, AllocErro
 
 // An error without a place.
 fn explain_plain(alloc: Global, file_name: &str, error: &Error) -> Result<String, AllocError>
-    ensures { IfOk result (λ report. TellsPlaces Plain file_name.now (error_text error.now) [] (string_bytes report)) }
+    ensures { IfOk result (λ report.
+        TellsPlaces Plain file_name.now (error_text error.now) [] (string_bytes report)) }
 {
     let message = format!(in alloc; "{error}")?;
     let mut out = named(alloc, file_name, ": ")?;
@@ -174,7 +178,9 @@ fn explain_syntax(
     error: &Error,
     start: Pos,
 ) -> Result<String, AllocError>
-    ensures { IfOk result (λ report. TellsSyntax source.now.style source.now.file_name.now source.now.text.now start (string_bytes report)) }
+    ensures { IfOk result (λ report.
+        TellsSyntax source.now.style source.now.file_name.now source.now.text.now start
+        (string_bytes report)) }
 {
     let text = source.text;
     let token = refused_token(alloc, language, text, limits, error)?;
@@ -263,7 +269,9 @@ fn explain_limit(
     limits: Limits,
     error: &Error,
 ) -> Result<String, AllocError>
-    ensures { IfOk result (λ report. TellsLimit source.now.style source.now.file_name.now source.now.text.now (string_bytes report)) }
+    ensures { IfOk result (λ report.
+        TellsLimit source.now.style source.now.file_name.now source.now.text.now
+        (string_bytes report)) }
 {
     let text = source.text;
     let Some(token) = refused_token(alloc, language, text, limits, error)? else {
@@ -286,7 +294,9 @@ fn explain_place(
     error: &Error,
     place: Pos,
 ) -> Result<String, AllocError>
-    ensures { IfOk result (λ report. Tells source.now.style source.now.file_name.now place (error_text error.now) (string_bytes report)) }
+    ensures { IfOk result (λ report.
+        Tells source.now.style source.now.file_name.now place (error_text error.now)
+        (string_bytes report)) }
 {
     let offsets = offsets_of(alloc, source.text, error)?;
     let message = format!(in alloc; "{error}")?;
@@ -317,7 +327,9 @@ fn explain_places(
     second: Pos,
     remarks: Remarks,
 ) -> Result<String, AllocError>
-    ensures { IfOk result (λ report. TellsPlaces source.now.style source.now.file_name.now (error_text error.now) (first ∷ second ∷ []) (string_bytes report)) }
+    ensures { IfOk result (λ report.
+        TellsPlaces source.now.style source.now.file_name.now (error_text error.now)
+        (first ∷ second ∷ []) (string_bytes report)) }
 {
     let offsets = offsets_of(alloc, source.text, error)?;
     let message = format!(in alloc; "{error}")?;

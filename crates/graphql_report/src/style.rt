@@ -40,7 +40,8 @@ const USUAL: &str = "\u{1b}[0m";
 impl Style {
     /// Adds the text of a part.
     pub fn push(self, out: &mut String, part: Part, text: &str) -> Result<(), AllocError>
-        ensures { OnOk result (string_bytes out.new ≡ string_bytes out.old ++ styled self part text.now) }
+        ensures { OnOk result (string_bytes out.new ≡ string_bytes out.old ++
+            styled self part text.now) }
     {
         match self {
             Style::Plain => out.push_str(text),

@@ -340,7 +340,8 @@ impl Field {
 
     /// The value of the first argument of this name; None where there is none.
     pub fn get_argument(&self, name: &str) -> Option<&Positioned<Value>>
-        ensures { option_map (λ v. v.now) result ≡ argument_named name.now (out-Field self.now).arguments.items }
+        ensures { option_map (λ v. v.now) result ≡
+            argument_named name.now (out-Field self.now).arguments.items }
     {
         find_argument(&self.arguments, name)
     }

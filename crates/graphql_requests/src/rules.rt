@@ -45,7 +45,8 @@ impl Sorted {
 
     /// Where the first operation stands.
     fn first_operation(&self) -> Option<Pos>
-        ensures { result ≡ or_else (option_map (λ o. o.pos) self.now.anonymous) (first_place self.now.operations.entries) }
+        ensures { result ≡ or_else (option_map (λ o. o.pos) self.now.anonymous)
+            (first_place self.now.operations.entries) }
     {
         if let Some(operation) = &self.anonymous {
             return Some(operation.pos);
@@ -56,7 +57,8 @@ impl Sorted {
 
     /// Where the operation of this name stands.
     fn operation_named(&self, name: &Name) -> Option<Pos>
-        ensures { result ≡ option_map (λ o. o.pos) (lookup (bytes_eq name.now) self.now.operations.entries) }
+        ensures { result ≡ option_map (λ o. o.pos)
+            (lookup (bytes_eq name.now) self.now.operations.entries) }
     {
         let operation = self.operations.get(name)?;
         Some(operation.pos)
@@ -64,7 +66,8 @@ impl Sorted {
 
     /// Where the fragment of this name stands.
     fn fragment_named(&self, name: &Name) -> Option<Pos>
-        ensures { result ≡ option_map (λ f. f.pos) (lookup (bytes_eq name.now) self.now.fragments.entries) }
+        ensures { result ≡ option_map (λ f. f.pos)
+            (lookup (bytes_eq name.now) self.now.fragments.entries) }
     {
         let fragment = self.fragments.get(name)?;
         Some(fragment.pos)
@@ -72,7 +75,8 @@ impl Sorted {
 
     /// An operation without a name: no other operation may stand beside it.
     fn add_anonymous(&mut self, operation: Positioned<OperationDefinition>) -> Result<()>
-        ensures added { (ds : List SpecDefinition) → IsSorted ds self.old → IsAdded ds (an_operation None (placed operation_tree operation)) result self.new }
+        ensures added { (ds : List SpecDefinition) → IsSorted ds self.old →
+            IsAdded ds (an_operation None (placed operation_tree operation)) result self.new }
         ensures takes_none { result ≢ Err OutOfMemory }
     {
         if let Some(first) = self.first_operation() {
@@ -92,7 +96,9 @@ impl Sorted {
         name: Name,
         operation: Positioned<OperationDefinition>,
     ) -> Result<()>
-        ensures added { (ds : List SpecDefinition) → IsSorted ds self.old → IsAdded ds (an_operation (Some name) (placed operation_tree operation)) result self.new }
+        ensures added { (ds : List SpecDefinition) → IsSorted ds self.old →
+            IsAdded ds (an_operation (Some name) (placed operation_tree operation)) result
+            self.new }
         ensures refused { result ≡ Err OutOfMemory → Refused memory.new }
     {
         let second = operation.pos;
@@ -120,7 +126,8 @@ impl Sorted {
         name: Name,
         fragment: Positioned<FragmentDefinition>,
     ) -> Result<()>
-        ensures added { (ds : List SpecDefinition) → IsSorted ds self.old → IsAdded ds (a_fragment name (placed fragment_tree fragment)) result self.new }
+        ensures added { (ds : List SpecDefinition) → IsSorted ds self.old →
+            IsAdded ds (a_fragment name (placed fragment_tree fragment)) result self.new }
         ensures refused { result ≡ Err OutOfMemory → Refused memory.new }
     {
         if let Some(first) = self.fragment_named(&name) {
@@ -135,7 +142,8 @@ impl Sorted {
     }
 
     fn add(&mut self, memory: &mut Memory, definition: Definition) -> Result<()>
-        ensures added { (ds : List SpecDefinition) → IsSorted ds self.old → IsAdded ds (definition_tree definition) result self.new }
+        ensures added { (ds : List SpecDefinition) → IsSorted ds self.old →
+            IsAdded ds (definition_tree definition) result self.new }
         ensures refused { result ≡ Err OutOfMemory → Refused memory.new }
     {
         match definition {
@@ -149,7 +157,8 @@ impl Sorted {
 
     /// The document, which has an operation.
     fn into_document(self) -> Result<ExecutableDocument>
-        ensures document { (ds : List SpecDefinition) → IsSorted ds self → IsDocumentOf requests ds result }
+        ensures document { (ds : List SpecDefinition) → IsSorted ds self →
+            IsDocumentOf requests ds result }
         ensures takes_none { result ≢ Err OutOfMemory }
     {
         let Sorted {

@@ -29,7 +29,9 @@ fn read_default_and_directives(
     parser: &mut Parser,
     limits: Limits,
 ) -> Reading<(Option<Positioned<ConstValue>>, Vec<Positioned<Directive>>)>
-    ensures { Gives (λ both. (option_map (placed const_tree) both.0, trees_in (placed directive_tree) both.1)) result parser.old parser.new (default_and_directives_at limits.values) }
+    ensures { Gives (λ both.
+        (option_map (placed const_tree) both.0, trees_in (placed directive_tree) both.1)) result
+        parser.old parser.new (default_and_directives_at limits.values) }
 {
     if parser.is_at_punct("=") {
         let default_value = read_maybe_default(parser, limits)?;
@@ -86,7 +88,8 @@ pub fn read_maybe_variable_definitions(
     parser: &mut Parser,
     limits: Limits,
 ) -> Reading<Vec<Positioned<VariableDefinition>>>
-    ensures { Gives (trees_in (placed variable_definition_tree)) result parser.old parser.new (given_variables_at limits) }
+    ensures { Gives (trees_in (placed variable_definition_tree)) result parser.old parser.new
+        (given_variables_at limits) }
 {
     maybe_bracketed::<VariablePhrase>(parser, "(", ")", limits)
 }

@@ -97,7 +97,8 @@ fn read_locations(
 /// `'repeatable'?`
 #[tactic(auto, unfolding(graphql_reading::specs::reading::Outcome::opt_at))]
 fn read_is_repeatable(parser: &mut Parser) -> bool
-    ensures { Gives (λ is_repeatable. is_repeatable) (Ok result) parser.old parser.new repeatable_at }
+    ensures { Gives (λ is_repeatable. is_repeatable) (Ok result) parser.old parser.new
+        repeatable_at }
 {
     let is_repeatable = parser.is_at_keyword("repeatable");
     if is_repeatable {
@@ -115,7 +116,9 @@ pub fn read_directive_definition(
     limits: Limits,
     description: Option<Positioned<String>>,
 ) -> Reading<Positioned<DirectiveDefinition>>
-    ensures { Gives (placed directive_definition_tree) result parser.old parser.new (mapped_at (λ rest. grammar.directive_definition_of (description_tree description, rest)) (directive_rest_at limits)) }
+    ensures { Gives (placed directive_definition_tree) result parser.old parser.new
+        (mapped_at (λ rest. grammar.directive_definition_of (description_tree description, rest))
+        (directive_rest_at limits)) }
 {
     let word = parser.expect_keyword("directive")?;
     let pos = place_of(&description, word);

@@ -65,7 +65,8 @@ pub fn read_maybe_fields(
     parser: &mut Parser,
     limits: Limits,
 ) -> Reading<Vec<Positioned<FieldDefinition>>>
-    ensures { Gives (trees_in (placed field_definition_tree)) result parser.old parser.new (given_fields_at limits) }
+    ensures { Gives (trees_in (placed field_definition_tree)) result parser.old parser.new
+        (given_fields_at limits) }
 {
     maybe_bracketed::<FieldPhrase>(parser, "{", "}", limits)
 }

@@ -74,7 +74,8 @@ pub fn read_maybe_arguments_definition(
     parser: &mut Parser,
     limits: Limits,
 ) -> Reading<Vec<Positioned<InputValueDefinition>>>
-    ensures { Gives (trees_in (placed input_value_tree)) result parser.old parser.new (given_arguments_at limits) }
+    ensures { Gives (trees_in (placed input_value_tree)) result parser.old parser.new
+        (given_arguments_at limits) }
 {
     maybe_bracketed::<InputValuePhrase>(parser, "(", ")", limits)
 }
@@ -86,7 +87,8 @@ pub fn read_maybe_input_fields(
     parser: &mut Parser,
     limits: Limits,
 ) -> Reading<Vec<Positioned<InputValueDefinition>>>
-    ensures { Gives (trees_in (placed input_value_tree)) result parser.old parser.new (given_input_fields_at limits) }
+    ensures { Gives (trees_in (placed input_value_tree)) result parser.old parser.new
+        (given_input_fields_at limits) }
 {
     maybe_bracketed::<InputValuePhrase>(parser, "{", "}", limits)
 }

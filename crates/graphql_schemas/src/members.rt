@@ -129,7 +129,8 @@ pub fn read_maybe_enum_values(
     parser: &mut Parser,
     limits: Limits,
 ) -> Reading<Vec<Positioned<EnumValueDefinition>>>
-    ensures { Gives (trees_in (placed enum_value_tree)) result parser.old parser.new (given_enum_values_at limits) }
+    ensures { Gives (trees_in (placed enum_value_tree)) result parser.old parser.new
+        (given_enum_values_at limits) }
 {
     maybe_bracketed::<EnumValuePhrase>(parser, "{", "}", limits)
 }

@@ -54,7 +54,8 @@ impl Roots {
 
     /// Adds a root, or tells that its kind was there already.
     fn add(&mut self, root: Root, schema: Pos) -> Result<()>
-        ensures { (before : List SpecRoot) → Holds before self.old → IsAdded before (root_tree root) schema result self.new }
+        ensures { (before : List SpecRoot) → Holds before self.old →
+            IsAdded before (root_tree root) schema result self.new }
     {
         match root.kind {
             OperationType::Query => place(&mut self.query, root, schema),

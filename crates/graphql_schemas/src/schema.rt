@@ -95,7 +95,9 @@ pub fn read_schema(
     limits: Limits,
     description: Option<Positioned<String>>,
 ) -> Reading<Positioned<Schema>>
-    ensures { Gives (placed schema_tree) result parser.old parser.new (mapped_at (λ rest. grammar.schema_of (description_tree description, rest)) (schema_rest_at limits)) }
+    ensures { Gives (placed schema_tree) result parser.old parser.new
+        (mapped_at (λ rest. grammar.schema_of (description_tree description, rest))
+        (schema_rest_at limits)) }
 {
     let word = parser.expect_keyword("schema")?;
     let pos = place_of(&description, word);
@@ -119,7 +121,9 @@ pub fn read_schema_extension(
     limits: Limits,
     extend: Token,
 ) -> Reading<Positioned<Schema>>
-    ensures { Gives (placed schema_tree) result parser.old parser.new (mapped_at (λ rest. grammar.schema_extension_of (seen extend.entry, rest)) (extended_schema_at limits)) }
+    ensures { Gives (placed schema_tree) result parser.old parser.new
+        (mapped_at (λ rest. grammar.schema_extension_of (seen extend.entry, rest))
+        (extended_schema_at limits)) }
 {
     parser.expect_keyword("schema")?;
     if !(parser.is_at_punct("@") || parser.is_at_punct("{")) {

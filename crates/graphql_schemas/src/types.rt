@@ -251,7 +251,9 @@ pub fn read_type_definition(
     limits: Limits,
     description: Option<Positioned<String>>,
 ) -> Reading<Positioned<TypeDefinition>>
-    ensures { Gives (placed type_definition_tree) result parser.old parser.new (mapped_at (λ body. grammar.type_definition_of (description_tree description, body)) (body_at false limits)) }
+    ensures { Gives (placed type_definition_tree) result parser.old parser.new
+        (mapped_at (λ body. grammar.type_definition_of (description_tree description, body))
+        (body_at false limits)) }
 {
     let Body {
         word,
@@ -278,7 +280,9 @@ pub fn read_type_extension(
     limits: Limits,
     extend: Token,
 ) -> Reading<Positioned<TypeDefinition>>
-    ensures { Gives (placed type_definition_tree) result parser.old parser.new (mapped_at (λ body. grammar.type_extension_of (seen extend.entry, body)) (body_at true limits)) }
+    ensures { Gives (placed type_definition_tree) result parser.old parser.new
+        (mapped_at (λ body. grammar.type_extension_of (seen extend.entry, body))
+        (body_at true limits)) }
 {
     let Body {
         word: _,

@@ -95,7 +95,8 @@ pub struct Directive {
 impl ConstDirective {
     /// The value of the first argument of this name; None where there is none.
     pub fn get_argument(&self, name: &str) -> Option<&Positioned<ConstValue>>
-        ensures { option_map (λ v. v.now) result ≡ argument_named name.now self.now.arguments.items }
+        ensures { option_map (λ v. v.now) result ≡
+            argument_named name.now self.now.arguments.items }
     {
         lookup::find_argument(&self.arguments, name)
     }
@@ -104,7 +105,8 @@ impl ConstDirective {
 impl Directive {
     /// The value of the first argument of this name; None where there is none.
     pub fn get_argument(&self, name: &str) -> Option<&Positioned<Value>>
-        ensures { option_map (λ v. v.now) result ≡ argument_named name.now self.now.arguments.items }
+        ensures { option_map (λ v. v.now) result ≡
+            argument_named name.now self.now.arguments.items }
     {
         lookup::find_argument(&self.arguments, name)
     }

@@ -254,7 +254,8 @@ impl<'a> Tokens<'a> {
         // and no others.
         ensures only { (ts : List SpecToken) → IsCutInto text.entry.now ts → ts ≡ left result }
         // A text that the former edition cuts without a fault is cut into the same tokens now.
-        ensures former { (ts : List SpecToken) → HasNoFault ts → Cuts Former [] (chars text.entry.now) ts → ts ≡ left result }
+        ensures former { (ts : List SpecToken) → HasNoFault ts →
+            Cuts Former [] (chars text.entry.now) ts → ts ≡ left result }
         // One of them is an end or a fault, and it is the last.
         ensures ends { EndsOnce (left result) }
         // Each but a fault has a spelling of its kind.

@@ -32,7 +32,8 @@ fn byte(bytes: &[u8], at: usize) -> u8
 pub(crate) fn past_while<F: Fn(u8) -> bool>(bytes: &[u8], start: usize, test: F) -> usize
     requires from { start ≤ length bytes.now }
     requires callable { F.IsAlwaysCallable test }
-    ensures value { (p : ℕ → Bool) → ((b : ℕ) (r : Bool) → b < 256 → F.post test b r → r ≡ p b) → result ≡ start + prefix_len p (drop start bytes.now) }
+    ensures value { (p : ℕ → Bool) → ((b : ℕ) (r : Bool) → b < 256 → F.post test b r → r ≡ p b) →
+        result ≡ start + prefix_len p (drop start bytes.now) }
     ensures within { result ≤ length bytes.now }
 {
     let mut at = start;
@@ -61,16 +62,23 @@ fn past_plain(bytes: &[u8], start: usize) -> usize
 /// half of a pair is none, and that any character may stand in a string.
 pub fn string_value(alloc: Global, content: &str) -> Result<Option<String>, AllocError>
     // What it gives is the value of the content,
-    ensures some { IfOk result (λ value. IfSome value (λ s. StringMeans Current (chars content.now) (chars (string_bytes s)))) }
+    ensures some { IfOk result (λ value.
+        IfSome value (λ s. StringMeans Current (chars content.now) (chars (string_bytes s)))) }
     // and the content has no other.
-    ensures only { IfOk result (λ value. IfSome value (λ s. (other : List ℕ) → StringMeans Current (chars content.now) other → other ≡ chars (string_bytes s))) }
+    ensures only { IfOk result (λ value.
+        IfSome value
+        (λ s. (other : List ℕ) → StringMeans Current (chars content.now) other →
+        other ≡ chars (string_bytes s))) }
     ensures none { IfOk result (λ value. IfNone value (¬ IsContent Current (chars content.now))) }
     // The function `content_value` gives no value but that of the content,
-    ensures sound { (value : List ℕ) → content_value (chars content.now) ≡ Some value → StringMeans Current (chars content.now) value }
+    ensures sound { (value : List ℕ) → content_value (chars content.now) ≡ Some value →
+        StringMeans Current (chars content.now) value }
     // and gives it wherever there is one.
-    ensures complete { (value : List ℕ) → StringMeans Current (chars content.now) value → content_value (chars content.now) ≡ Some value }
+    ensures complete { (value : List ℕ) → StringMeans Current (chars content.now) value →
+        content_value (chars content.now) ≡ Some value }
     // What a content meant in the former edition, it means now.
-    ensures former { (value : List ℕ) → StringMeans Former (chars content.now) value → StringMeans Current (chars content.now) value }
+    ensures former { (value : List ℕ) → StringMeans Former (chars content.now) value →
+        StringMeans Current (chars content.now) value }
 {
     string_value_in(&mut Memory::new(alloc), content)
 }
@@ -79,16 +87,23 @@ pub fn string_value(alloc: Global, content: &str) -> Result<Option<String>, Allo
 #[tactic(auto, using(crate::proofs::Contents::former_means, crate::proofs::Meanings::content_means))]
 pub fn string_value_in(memory: &mut Memory, content: &str) -> Result<Option<String>, AllocError>
     // What it gives is the value of the content,
-    ensures some { IfOk result (λ value. IfSome value (λ s. StringMeans Current (chars content.now) (chars (string_bytes s)))) }
+    ensures some { IfOk result (λ value.
+        IfSome value (λ s. StringMeans Current (chars content.now) (chars (string_bytes s)))) }
     // and the content has no other.
-    ensures only { IfOk result (λ value. IfSome value (λ s. (other : List ℕ) → StringMeans Current (chars content.now) other → other ≡ chars (string_bytes s))) }
+    ensures only { IfOk result (λ value.
+        IfSome value
+        (λ s. (other : List ℕ) → StringMeans Current (chars content.now) other →
+        other ≡ chars (string_bytes s))) }
     ensures none { IfOk result (λ value. IfNone value (¬ IsContent Current (chars content.now))) }
     // The function `content_value` gives no value but that of the content,
-    ensures sound { (value : List ℕ) → content_value (chars content.now) ≡ Some value → StringMeans Current (chars content.now) value }
+    ensures sound { (value : List ℕ) → content_value (chars content.now) ≡ Some value →
+        StringMeans Current (chars content.now) value }
     // and gives it wherever there is one.
-    ensures complete { (value : List ℕ) → StringMeans Current (chars content.now) value → content_value (chars content.now) ≡ Some value }
+    ensures complete { (value : List ℕ) → StringMeans Current (chars content.now) value →
+        content_value (chars content.now) ≡ Some value }
     // What a content meant in the former edition, it means now.
-    ensures former { (value : List ℕ) → StringMeans Former (chars content.now) value → StringMeans Current (chars content.now) value }
+    ensures former { (value : List ℕ) → StringMeans Former (chars content.now) value →
+        StringMeans Current (chars content.now) value }
     ensures refused { OnErr result (Refused memory.new) }
 {
     let bytes = content.as_bytes();
@@ -120,7 +135,8 @@ pub fn string_value_in(memory: &mut Memory, content: &str) -> Result<Option<Stri
 /// GraphQL October 2021, section 2.9.4. It departs in one thing: a blank line that is shorter than the common
 /// indent stays as it is (this project's choice).
 pub fn block_string_value(alloc: Global, raw: &str) -> Result<String, AllocError>
-    ensures value { IfOk result (λ value. chars (string_bytes value) ≡ block_value (chars raw.now)) }
+    ensures value { IfOk result (λ value. chars (string_bytes value) ≡
+        block_value (chars raw.now)) }
     // An empty value, as that of white space alone, takes no memory.
     ensures empty { block_value (chars raw.now) ≡ [] → IsOk result }
 {
@@ -129,7 +145,8 @@ pub fn block_string_value(alloc: Global, raw: &str) -> Result<String, AllocError
 
 /// As [`block_string_value`], in this memory.
 pub fn block_string_value_in(memory: &mut Memory, raw: &str) -> Result<String, AllocError>
-    ensures value { IfOk result (λ value. chars (string_bytes value) ≡ block_value (chars raw.now)) }
+    ensures value { IfOk result (λ value. chars (string_bytes value) ≡
+        block_value (chars raw.now)) }
     // An empty value, as that of white space alone, takes no memory.
     ensures empty { block_value (chars raw.now) ≡ [] → IsOk result }
     ensures refused { OnErr result (Refused memory.new) }

@@ -47,13 +47,15 @@ impl Literal for Plain {
     }
 
     fn list(items: Vec<Self>) -> Self
-        ensures { ⟦<Plain as Literal>⟧.tree result ≡ list (trees_of (map ⟦<Plain as Literal>⟧.tree items.items)) }
+        ensures { ⟦<Plain as Literal>⟧.tree result ≡
+            list (trees_of (map ⟦<Plain as Literal>⟧.tree items.items)) }
     {
         Plain::List(items)
     }
 
     fn object(fields: Vec<(Name, Self)>) -> Self
-        ensures { ⟦<Plain as Literal>⟧.tree result ≡ object (fields_of (map (λ f. (f.0, ⟦<Plain as Literal>⟧.tree f.1)) fields.items)) }
+        ensures { ⟦<Plain as Literal>⟧.tree result ≡
+            object (fields_of (map (λ f. (f.0, ⟦<Plain as Literal>⟧.tree f.1)) fields.items)) }
     {
         Plain::Object(fields)
     }

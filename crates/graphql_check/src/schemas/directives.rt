@@ -49,7 +49,8 @@ fn check_locations(parser: &mut Parser, limits: Limits) -> Reading<()>
 /// `'repeatable'?`
 #[tactic(auto, unfolding(graphql_reading::specs::reading::Outcome::opt_at))]
 fn pass_repeatable(parser: &mut Parser)
-    ensures { Checks (Ok result) parser.old parser.new (opt_at (keyword "repeatable") (one_at (keyword "repeatable"))) }
+    ensures { Checks (Ok result) parser.old parser.new
+        (opt_at (keyword "repeatable") (one_at (keyword "repeatable"))) }
 {
     if parser.is_at_keyword("repeatable") {
         parser.advance();

@@ -41,7 +41,8 @@ impl Phrase for InputValuePhrase {
 /// `ArgumentsDefinition? : ('(' InputValueDefinition+ ')')?` (GraphQL October 2021, section 3.6.1)
 #[tactic(auto, unfolding(graphql_reading::specs::reading::Outcome::opt_at))]
 pub fn check_maybe_arguments_definition(parser: &mut Parser, limits: Limits) -> Reading<()>
-    ensures { Checks result parser.old parser.new (opt_at (punct "(") (arguments_definition_at limits)) }
+    ensures { Checks result parser.old parser.new
+        (opt_at (punct "(") (arguments_definition_at limits)) }
 {
     if !parser.is_at_punct("(") {
         return Ok(());

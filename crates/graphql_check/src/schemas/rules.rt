@@ -67,7 +67,8 @@ impl Roots {
 
     /// This root, if another of its kind is there.
     fn again(self, root: Root) -> Option<Root>
-        ensures { (roots : List SpecRoot) → self ≡ roots_of roots → result ≡ cond (has_kind root.kind roots) (Some root) None }
+        ensures { (roots : List SpecRoot) → self ≡ roots_of roots →
+            result ≡ cond (has_kind root.kind roots) (Some root) None }
     {
         if self.has(root.kind) {
             return Some(root);
@@ -77,7 +78,8 @@ impl Roots {
 
     /// With one root more at the end.
     pub fn with(self, root: Root) -> Roots
-        ensures { (roots : List SpecRoot) (last : SpecRoot) → self ≡ roots_of roots → root ≡ head_of last → result ≡ roots_of (roots ++ last ∷ []) }
+        ensures { (roots : List SpecRoot) (last : SpecRoot) → self ≡ roots_of roots →
+            root ≡ head_of last → result ≡ roots_of (roots ++ last ∷ []) }
     {
         Roots {
             query: is_met(self.query, OperationType::Query, root.kind),
@@ -90,7 +92,8 @@ impl Roots {
     /// The rule that a definition or an extension with these roots breaks, if it breaks one: a kind of root comes once,
     /// and only an extension may leave the query root out.
     pub fn breach(self, schema: Pos, extend: bool) -> Option<Error>
-        ensures { (s : Positioned SpecSchema) → schema ≡ s.pos → extend ≡ s.node.extend → self ≡ roots_of s.node.roots → result ≡ breach_of_schema s }
+        ensures { (s : Positioned SpecSchema) → schema ≡ s.pos → extend ≡ s.node.extend →
+            self ≡ roots_of s.node.roots → result ≡ breach_of_schema s }
     {
         if let Some(root) = self.repeated {
             return Some(Error::MultipleRoots {

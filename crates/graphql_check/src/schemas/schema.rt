@@ -36,7 +36,8 @@ fn check_root(parser: &mut Parser) -> Reading<Root>
 
 /// `RootOperationTypeDefinition+`
 fn check_root_list(parser: &mut Parser) -> Reading<Roots>
-    ensures { Gives (λ roots. roots) result parser.old parser.new (mapped_at roots_of (plus_at root_first root_at)) }
+    ensures { Gives (λ roots. roots) result parser.old parser.new
+        (mapped_at roots_of (plus_at root_first root_at)) }
 {
     let mut roots = Roots::new();
     loop {
@@ -60,7 +61,8 @@ fn check_roots(parser: &mut Parser) -> Reading<Roots>
 /// `Roots?`
 #[tactic(auto, unfolding(graphql_reading::specs::reading::Outcome::opt_at))]
 fn check_maybe_roots(parser: &mut Parser) -> Reading<Roots>
-    ensures { Gives (λ roots. roots) result parser.old parser.new (mapped_at (λ roots. roots_of (given roots)) (opt_at (punct "{") roots_at)) }
+    ensures { Gives (λ roots. roots) result parser.old parser.new
+        (mapped_at (λ roots. roots_of (given roots)) (opt_at (punct "{") roots_at)) }
 {
     if !parser.is_at_punct("{") {
         return Ok(Roots::new());
@@ -71,7 +73,8 @@ fn check_maybe_roots(parser: &mut Parser) -> Reading<Roots>
 /// A definition of a schema after its description: `'schema' Directives[Const]? Roots` (GraphQL October 2021, section
 /// 3.3)
 pub fn check_schema_definition(parser: &mut Parser, limits: Limits) -> Reading<Roots>
-    ensures { Gives (λ roots. roots) result parser.old parser.new (mapped_at (λ rest. roots_of rest.1.1) (schema_rest_at limits)) }
+    ensures { Gives (λ roots. roots) result parser.old parser.new
+        (mapped_at (λ rest. roots_of rest.1.1) (schema_rest_at limits)) }
 {
     parser.expect_keyword("schema")?;
     check_const_directives(parser, limits)?;
@@ -81,7 +84,8 @@ pub fn check_schema_definition(parser: &mut Parser, limits: Limits) -> Reading<R
 /// An extension of a schema after its `extend`: `'schema' Directives[Const] Roots? | 'schema' Roots` (GraphQL October
 /// 2021, section 3.3.2)
 pub fn check_schema_extension(parser: &mut Parser, limits: Limits) -> Reading<Roots>
-    ensures { Gives (λ roots. roots) result parser.old parser.new (mapped_at (λ rest. roots_of rest.1.1) (extended_schema_at limits)) }
+    ensures { Gives (λ roots. roots) result parser.old parser.new
+        (mapped_at (λ rest. roots_of rest.1.1) (extended_schema_at limits)) }
 {
     parser.expect_keyword("schema")?;
     if !(parser.is_at_punct("@") || parser.is_at_punct("{")) {

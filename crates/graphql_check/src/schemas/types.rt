@@ -57,7 +57,8 @@ fn is_at_part(parser: &Parser, opening: &str) -> bool
 
 /// `Directives[Const]? UnionMemberTypes?`; an extension has at least one of them.
 fn check_union_rest(parser: &mut Parser, limits: Limits, extend: bool) -> Reading<()>
-    ensures { Checks result parser.old parser.new (some_parts_at extend limits (punct "=") members_at) }
+    ensures { Checks result parser.old parser.new
+        (some_parts_at extend limits (punct "=") members_at) }
 {
     expect_part(extend, is_at_part(parser, "="))?;
     check_const_directives(parser, limits)?;
@@ -66,7 +67,8 @@ fn check_union_rest(parser: &mut Parser, limits: Limits, extend: bool) -> Readin
 
 /// `Directives[Const]? EnumValuesDefinition?`; an extension has at least one of them.
 fn check_enum_rest(parser: &mut Parser, limits: Limits, extend: bool) -> Reading<()>
-    ensures { Checks result parser.old parser.new (some_parts_at extend limits (punct "{") (enum_values_at limits)) }
+    ensures { Checks result parser.old parser.new
+        (some_parts_at extend limits (punct "{") (enum_values_at limits)) }
 {
     expect_part(extend, is_at_part(parser, "{"))?;
     check_const_directives(parser, limits)?;
@@ -75,7 +77,8 @@ fn check_enum_rest(parser: &mut Parser, limits: Limits, extend: bool) -> Reading
 
 /// `Directives[Const]? InputFieldsDefinition?`; an extension has at least one of them.
 fn check_input_rest(parser: &mut Parser, limits: Limits, extend: bool) -> Reading<()>
-    ensures { Checks result parser.old parser.new (some_parts_at extend limits (punct "{") (input_fields_at limits)) }
+    ensures { Checks result parser.old parser.new
+        (some_parts_at extend limits (punct "{") (input_fields_at limits)) }
 {
     expect_part(extend, is_at_part(parser, "{"))?;
     check_const_directives(parser, limits)?;

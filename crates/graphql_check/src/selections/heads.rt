@@ -32,7 +32,8 @@ fn check_names(parser: &mut Parser) -> Reading<()>
 /// The `{` of a set, if one follows.
 #[inline(always)]
 fn take_brace(parser: &mut Parser, nests: bool) -> Reading<bool>
-    ensures { Gives (λ follows. follows) result parser.old parser.new (mapped_at is_some (maybe_brace_at nests)) }
+    ensures { Gives (λ follows. follows) result parser.old parser.new
+        (mapped_at is_some (maybe_brace_at nests)) }
 {
     if !parser.is_at_punct("{") {
         return Ok(false);
@@ -48,7 +49,8 @@ fn take_brace(parser: &mut Parser, nests: bool) -> Reading<bool>
 ///
 /// `Field : Alias? Name Arguments? Directives? SelectionSet?` (GraphQL October 2021, section 2.5)
 fn check_field(parser: &mut Parser, limits: Limits, nests: bool) -> Reading<bool>
-    ensures { Gives (λ follows. follows) result parser.old parser.new (entered_at (field_head_at limits.values nests)) }
+    ensures { Gives (λ follows. follows) result parser.old parser.new
+        (entered_at (field_head_at limits.values nests)) }
 {
     check_names(parser)?;
     check_maybe_arguments(parser, limits)?;
@@ -93,7 +95,8 @@ fn check_inline(parser: &mut Parser, limits: Limits) -> Reading<()>
 ///
 /// `FragmentName Directives? | TypeCondition? Directives? SelectionSet`
 fn check_behind_dots(parser: &mut Parser, limits: Limits, nests: bool) -> Reading<bool>
-    ensures { Gives (λ follows. follows) result parser.old parser.new (entered_at (behind_dots_at limits.values nests nowhere)) }
+    ensures { Gives (λ follows. follows) result parser.old parser.new
+        (entered_at (behind_dots_at limits.values nests nowhere)) }
 {
     if is_at_fragment_name(parser) {
         parser.advance();
@@ -115,7 +118,8 @@ fn check_behind_dots(parser: &mut Parser, limits: Limits, nests: bool) -> Readin
 ///
 /// `Selection : Field | FragmentSpread | InlineFragment` (GraphQL October 2021, section 2.4)
 pub(super) fn check_head(parser: &mut Parser, limits: Limits, nests: bool) -> Reading<bool>
-    ensures { Gives (λ follows. follows) result parser.old parser.new (entered_at (head_at limits.values nests)) }
+    ensures { Gives (λ follows. follows) result parser.old parser.new
+        (entered_at (head_at limits.values nests)) }
 {
     if parser.is_at_punct("...") {
         parser.advance();

@@ -51,7 +51,8 @@ pub fn read_items<V: Literal>(
     items: &mut Vec<V>,
     left: usize,
 ) -> Reading<Option<Open<V>>>
-    ensures { Meets V.VARIABLES left (list_stop V.tree items.new.items) result parser.old parser.new (list_rest V.VARIABLES left (map V.tree items.old.items)) }
+    ensures { Meets V.VARIABLES left (list_stop V.tree items.new.items) result parser.old parser.new
+        (list_rest V.VARIABLES left (map V.tree items.old.items)) }
 {
     while !parser.take_punct("]") {
         if let Some(inner) = enter(parser, left)? {
@@ -71,7 +72,8 @@ pub fn read_fields<V: Literal>(
     fields: &mut Vec<(Name, V)>,
     left: usize,
 ) -> Reading<Option<(Name, Open<V>)>>
-    ensures { Meets V.VARIABLES left (object_stop V.tree fields.new.items) result parser.old parser.new (object_rest V.VARIABLES left (map (field_tree V.tree) fields.old.items)) }
+    ensures { Meets V.VARIABLES left (object_stop V.tree fields.new.items) result parser.old
+        parser.new (object_rest V.VARIABLES left (map (field_tree V.tree) fields.old.items)) }
 {
     while let Some(name) = read_key(parser)? {
         if let Some(inner) = enter(parser, left)? {

@@ -49,7 +49,8 @@ impl<V: Literal> Frame<V> {
     /// With the value for which it waits.
     #[inline(always)]
     pub fn fill(self, parser: &mut Parser, value: V) -> Result<Open<V>, AllocError>
-        ensures filled { IfOk result (λ o. opened V.tree o ≡ add (waiting V.tree self) (V.tree value)) }
+        ensures filled { IfOk result (λ o. opened V.tree o ≡
+            add (waiting V.tree self) (V.tree value)) }
         ensures refused { OnErr result (Refused parser.new.memory) }
         ensures stays { Stays parser.old parser.new }
     {
@@ -98,7 +99,8 @@ impl<V: Literal> Frames<V> {
 
     pub fn push(&mut self, parser: &mut Parser, frame: Frame<V>) -> Result<(), AllocError>
         requires { length self.old.outer.items + 1 < self.old.limit }
-        ensures outer { IfOk result (λ _. self.new.outer.items ≡ self.old.outer.items ++ frame ∷ []) }
+        ensures outer { IfOk result (λ _. self.new.outer.items ≡ self.old.outer.items ++ frame ∷
+            []) }
         ensures limit { self.new.limit ≡ self.old.limit }
         ensures refused { OnErr result (Refused parser.new.memory) }
         ensures stays { Stays parser.old parser.new }

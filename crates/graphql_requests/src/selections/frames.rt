@@ -50,8 +50,10 @@ impl OpenSet {
         items: &mut Vec<Positioned<Selection>>,
     ) -> Result<Positioned<SelectionSet>, AllocError>
         requires { self.now.first ≤ vec_len items.old }
-        ensures set { IfOk result (λ set. placed selection_set_tree set ≡ closed (part self.now (selection_trees items.old.items))) }
-        ensures rest { IfOk result (λ _. selection_trees items.new.items ≡ take self.now.first (selection_trees items.old.items)) }
+        ensures set { IfOk result (λ set. placed selection_set_tree set ≡
+            closed (part self.now (selection_trees items.old.items))) }
+        ensures rest { IfOk result (λ _. selection_trees items.new.items ≡
+            take self.now.first (selection_trees items.old.items)) }
         ensures refused { OnErr result (Refused parser.new.memory) }
         ensures stays { Stays parser.old parser.new }
     {
@@ -61,7 +63,8 @@ impl OpenSet {
 }
 
 fn give_set(selection: &mut Selection, set: Positioned<SelectionSet>)
-    ensures { selection_tree selection.new ≡ with_set (placed selection_set_tree set) (selection_tree selection.old) }
+    ensures { selection_tree selection.new ≡
+        with_set (placed selection_set_tree set) (selection_tree selection.old) }
 {
     match selection {
         Selection::Field(field) => field.node.selection_set = set,
@@ -72,7 +75,8 @@ fn give_set(selection: &mut Selection, set: Positioned<SelectionSet>)
 
 /// Gives the last selection its set.
 pub(super) fn fill_last(items: &mut Vec<Positioned<Selection>>, set: Positioned<SelectionSet>)
-    ensures { selection_trees items.new.items ≡ fill_last (selection_trees items.old.items) (placed selection_set_tree set) }
+    ensures { selection_trees items.new.items ≡
+        fill_last (selection_trees items.old.items) (placed selection_set_tree set) }
 {
     if let Some(last) = items.last_mut() {
         give_set(&mut last.node, set);
@@ -134,7 +138,8 @@ impl Frames {
 
     /// The set around the one that was read.
     pub(super) fn leave(&mut self) -> Option<OpenSet>
-        ensures { MatchOption result (self.old.outer ≡ []) (λ o. (self.old.outer ≡ o ∷ self.new.outer) × (self.new.left ≡ suc self.old.left)) }
+        ensures { MatchOption result (self.old.outer ≡ [])
+            (λ o. (self.old.outer ≡ o ∷ self.new.outer) × (self.new.left ≡ suc self.old.left)) }
     {
         self.outer.pop()
     }

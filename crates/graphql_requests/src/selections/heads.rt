@@ -64,7 +64,8 @@ fn add_selection(
     items: &mut Selections,
     selection: Positioned<Selection>,
 ) -> Result<(), AllocError>
-    ensures items { IfOk result (λ _. selection_trees items.new.items ≡ selection_trees items.old.items ++ placed selection_tree selection ∷ []) }
+    ensures items { IfOk result (λ _. selection_trees items.new.items ≡
+        selection_trees items.old.items ++ placed selection_tree selection ∷ []) }
     ensures refused { OnErr result (Refused parser.new.memory) }
     ensures stays { Stays parser.old parser.new }
 {
@@ -109,7 +110,8 @@ fn bare_field(
     arguments: Arguments,
     directives: Vec<Positioned<Directive>>,
 ) -> Positioned<Selection>
-    ensures { placed selection_tree result ≡ bare_field names (arguments_tree arguments.items) (directives_tree directives.items) }
+    ensures { placed selection_tree result ≡
+        bare_field names (arguments_tree arguments.items) (directives_tree directives.items) }
 {
     let (alias, name) = names;
     let pos = match &alias {
@@ -135,7 +137,8 @@ fn read_field(
     nests: bool,
     items: &mut Selections,
 ) -> Reading<Option<Pos>>
-    ensures { Gives (λ place. (selection_trees items.new.items, place)) result parser.old parser.new (onto (selection_trees items.old.items) (field_head_at limits.values nests)) }
+    ensures { Gives (λ place. (selection_trees items.new.items, place)) result parser.old parser.new
+        (onto (selection_trees items.old.items) (field_head_at limits.values nests)) }
 {
     let names = read_names(parser)?;
     let arguments = read_maybe_arguments(parser, limits)?;
@@ -157,7 +160,8 @@ fn read_spread(
     items: &mut Selections,
 ) -> Reading<Option<Pos>>
     requires { StandsIn parser.old.text (seen name) }
-    ensures { Gives (λ place. (selection_trees items.new.items, place)) result parser.old parser.new (onto (selection_trees items.old.items) (spread_at limits.values dots (seen name.entry))) }
+    ensures { Gives (λ place. (selection_trees items.new.items, place)) result parser.old parser.new
+        (onto (selection_trees items.old.items) (spread_at limits.values dots (seen name.entry))) }
 {
     let fragment_name = name_in(parser, name)?;
     let directives = read_directives(parser, limits)?;
@@ -183,7 +187,8 @@ pub fn read_type_condition(parser: &mut Parser) -> Reading<Positioned<TypeCondit
 
 /// `TypeCondition?`
 fn read_maybe_condition(parser: &mut Parser) -> Reading<Option<Positioned<TypeCondition>>>
-    ensures { Gives (option_map (placed type_condition_tree)) result parser.old parser.new maybe_condition_at }
+    ensures { Gives (option_map (placed type_condition_tree)) result parser.old parser.new
+        maybe_condition_at }
 {
     if !parser.is_at_keyword("on") {
         return Ok(None);
@@ -198,7 +203,9 @@ fn bare_inline(
     type_condition: Option<Positioned<TypeCondition>>,
     directives: Vec<Positioned<Directive>>,
 ) -> Positioned<Selection>
-    ensures { placed selection_tree result ≡ bare_inline dots (option_map (placed type_condition_tree) type_condition) (directives_tree directives.items) }
+    ensures { placed selection_tree result ≡
+        bare_inline dots (option_map (placed type_condition_tree) type_condition)
+        (directives_tree directives.items) }
 {
     let inline = InlineFragment {
         type_condition,
@@ -220,7 +227,8 @@ fn read_inline(
     dots: Pos,
     items: &mut Selections,
 ) -> Reading<Pos>
-    ensures { Gives (λ place. (selection_trees items.new.items, Some place)) result parser.old parser.new (onto (selection_trees items.old.items) (inline_head_at limits.values dots)) }
+    ensures { Gives (λ place. (selection_trees items.new.items, Some place)) result parser.old
+        parser.new (onto (selection_trees items.old.items) (inline_head_at limits.values dots)) }
 {
     let condition = read_maybe_condition(parser)?;
     let directives = read_directives(parser, limits)?;
@@ -240,7 +248,8 @@ fn read_behind_dots(
     dots: Pos,
     items: &mut Selections,
 ) -> Reading<Option<Pos>>
-    ensures { Gives (λ place. (selection_trees items.new.items, place)) result parser.old parser.new (onto (selection_trees items.old.items) (behind_dots_at limits.values nests dots)) }
+    ensures { Gives (λ place. (selection_trees items.new.items, place)) result parser.old parser.new
+        (onto (selection_trees items.old.items) (behind_dots_at limits.values nests dots)) }
 {
     if is_at_fragment_name(parser) {
         let name = parser.take();
@@ -267,7 +276,8 @@ pub(super) fn read_head(
     nests: bool,
     items: &mut Selections,
 ) -> Reading<Option<Pos>>
-    ensures { Gives (λ place. (selection_trees items.new.items, place)) result parser.old parser.new (onto (selection_trees items.old.items) (head_at limits.values nests)) }
+    ensures { Gives (λ place. (selection_trees items.new.items, place)) result parser.old parser.new
+        (onto (selection_trees items.old.items) (head_at limits.values nests)) }
 {
     if parser.is_at_punct("...") {
         let dots = parser.take();

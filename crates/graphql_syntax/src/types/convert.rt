@@ -15,8 +15,10 @@ impl ConstDirective {
     /// Fails only where no memory is left; the directive is then gone.
     #[tactic(auto, using(crate::proofs::Constant::constant_arguments))]
     pub fn into_directive(self, alloc: Global) -> Result<Directive, AllocError>
-        ensures value { IfOk result (λ directive. directive_tree directive ≡ const_directive_tree self) }
-        ensures constant { IfOk result (λ directive. directive_has_variable (directive_tree directive) ≡ false) }
+        ensures value { IfOk result (λ directive. directive_tree directive ≡
+            const_directive_tree self) }
+        ensures constant { IfOk result (λ directive.
+            directive_has_variable (directive_tree directive) ≡ false) }
     {
         let ConstDirective { name, arguments } = self;
         let arguments = arguments_of(arguments, alloc)?;
@@ -64,7 +66,8 @@ fn arguments_of(
     arguments: Vec<(Positioned<Name>, Positioned<ConstValue>)>,
     alloc: Global,
 ) -> Result<Vec<(Positioned<Name>, Positioned<Value>)>, AllocError>
-    ensures { IfOk result (λ made. arguments_tree made.items ≡ const_arguments_tree arguments.items) }
+    ensures { IfOk result (λ made. arguments_tree made.items ≡
+        const_arguments_tree arguments.items) }
 {
     let mut made = Vec::with_capacity(alloc, arguments.len())?;
     for (name, value) in arguments {
@@ -81,7 +84,8 @@ fn const_arguments_of(
     alloc: Global,
 ) -> Result<Vec<(Positioned<Name>, Positioned<ConstValue>)>, AllocError>
     requires { arguments_have_variable (arguments_tree arguments.items) ≡ false }
-    ensures { IfOk result (λ made. const_arguments_tree made.items ≡ arguments_tree arguments.items) }
+    ensures { IfOk result (λ made. const_arguments_tree made.items ≡
+        arguments_tree arguments.items) }
 {
     let mut made = Vec::with_capacity(alloc, arguments.len())?;
     for (name, value) in arguments {

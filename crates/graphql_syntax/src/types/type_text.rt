@@ -78,7 +78,8 @@ fn type_of(alloc: Global, text: &str, nullable: bool) -> Result<Option<Type>, Al
     ensures shown { IfOk result (λ answer. MatchOption answer
         ((t : TypeTree) → ¬ IsTypeOf (text.now ++ mark nullable) t)
         (λ t. IsTypeOf (text.now ++ mark nullable) (type_tree t))) }
-    ensures refused { ((t : TypeTree) → ¬ IsTypeOf (text.now ++ mark nullable) t) → result ≡ Ok None }
+    ensures refused { ((t : TypeTree) → ¬ IsTypeOf (text.now ++ mark nullable) t) →
+        result ≡ Ok None }
 {
     let Some(after) = text.strip_prefix('[') else {
         let base = BaseType::Named(Name::new(alloc, text)?);

@@ -50,7 +50,8 @@ pub trait Literal: Sized + Drop {
 
     /// The variable of this name, without its `$`: Some exactly where `VARIABLES` is true.
     fn variable(n: Name) -> Option<Self>
-        ensures { MatchOption result (VARIABLES ≡ false) (λ v. (VARIABLES ≡ true) × (tree v ≡ variable n)) };
+        ensures { MatchOption result (VARIABLES ≡ false)
+            (λ v. (VARIABLES ≡ true) × (tree v ≡ variable n)) };
 }
 
 impl Literal for ConstValue {

@@ -26,10 +26,13 @@ impl fmt::Display for ValueView<'_> {
 
     #[tactic(auto, using(crate::proofs::StringTexts::content_means))]
     fn fmt<W: fmt::Write>(&self, f: &mut fmt::Formatter<W>) -> fmt::Result
-        ensures writes { DisplaysOnOk W.write_str_gives f.old result (Some (value_text (view_tree self.now))) f.new }
-        ensures styled { DisplaysStyledOnOk W.write_str_gives f.old result (Some (value_text (view_tree self.now))) f.new }
+        ensures writes { DisplaysOnOk W.write_str_gives f.old result
+            (Some (value_text (view_tree self.now))) f.new }
+        ensures styled { DisplaysStyledOnOk W.write_str_gives f.old result
+            (Some (value_text (view_tree self.now))) f.new }
         // What stands between the quotes of a string means its text, in each edition.
-        ensures string_back { (edition : Edition) (value : List ℕ) → StringMeans edition (content_for value) value }
+        ensures string_back { (edition : Edition) (value : List ℕ) →
+            StringMeans edition (content_for value) value }
     {
         write_view(self, f)
     }
@@ -59,7 +62,8 @@ impl fmt::Display for ConstValue {
 
 #[cycle(write)]
 fn write_view<W: fmt::Write>(view: &ValueView<'_>, f: &mut fmt::Formatter<W>) -> fmt::Result
-    ensures { WritesStyledOnOk W.write_str_gives f.old result (value_text (view_tree view.now)) f.new }
+    ensures { WritesStyledOnOk W.write_str_gives f.old result (value_text (view_tree view.now))
+        f.new }
 {
     match view {
         ValueView::Variable(name) => {
@@ -78,7 +82,8 @@ fn write_view<W: fmt::Write>(view: &ValueView<'_>, f: &mut fmt::Formatter<W>) ->
 
 #[cycle(write)]
 fn write_list<W: fmt::Write>(items: &ListView<'_>, f: &mut fmt::Formatter<W>) -> fmt::Result
-    ensures { WritesStyledOnOk W.write_str_gives f.old result (value_text (list (trees_of (list_items items.now)))) f.new }
+    ensures { WritesStyledOnOk W.write_str_gives f.old result
+        (value_text (list (trees_of (list_items items.now)))) f.new }
 {
     f.write_str("[")?;
     let mut before = "";
@@ -92,7 +97,8 @@ fn write_list<W: fmt::Write>(items: &ListView<'_>, f: &mut fmt::Formatter<W>) ->
 
 #[cycle(write)]
 fn write_object<W: fmt::Write>(fields: &ObjectView<'_>, f: &mut fmt::Formatter<W>) -> fmt::Result
-    ensures { WritesStyledOnOk W.write_str_gives f.old result (value_text (object (fields_of (object_fields fields.now)))) f.new }
+    ensures { WritesStyledOnOk W.write_str_gives f.old result
+        (value_text (object (fields_of (object_fields fields.now)))) f.new }
 {
     f.write_str("{")?;
     let mut before = "";

@@ -42,7 +42,8 @@ pub fn pass_class<C: ByteClass>(bytes: &[u8], places: &mut RunningPlace)
     requires runs { RunsOver bytes.now places.old }
     requires within { IsWithinLines C.has }
     ensures runs { RunsOver bytes.now places.new }
-    ensures rest { ahead places.new ≡ drop (prefix_len C.has (ahead places.old)) (ahead places.old) }
+    ensures rest { ahead places.new ≡
+        drop (prefix_len C.has (ahead places.old)) (ahead places.old) }
     ensures forward { places.old.walk.offset ≤ places.new.walk.offset }
 {
     let start = places.offset();

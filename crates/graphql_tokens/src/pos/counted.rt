@@ -56,7 +56,8 @@ impl<'a> CountedPlace<'a> {
         ensures passed { ahead self.old.place ≡ result ∷ ahead self.new.place }
         ensures counted { self.new.place.walk.count ≡ self.old.place.walk.count + 1 }
         // No place where a character begins is gone over.
-        ensures one { (at : ℕ) → IsCharBoundary self.old.place.walk.text.now at → self.old.place.walk.offset < at → self.new.place.walk.offset ≤ at }
+        ensures one { (at : ℕ) → IsCharBoundary self.old.place.walk.text.now at →
+            self.old.place.walk.offset < at → self.new.place.walk.offset ≤ at }
         ensures forward { self.old.place.walk.offset < self.new.place.walk.offset }
     {
         self.place.pass()
@@ -74,7 +75,8 @@ impl<'a> CountedPlace<'a> {
     pub fn count(&self) -> usize
         requires { IsRunning self.now.place }
         ensures count { result ≡ self.now.place.walk.count }
-        ensures once { result ≡ length (chars (take self.now.place.walk.offset self.now.place.walk.text.now)) }
+        ensures once { result ≡ length
+            (chars (take self.now.place.walk.offset self.now.place.walk.text.now)) }
     {
         self.place.count()
     }

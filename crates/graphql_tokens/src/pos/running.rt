@@ -66,7 +66,8 @@ impl<'a> RunningPlace<'a> {
         ensures passed { ahead self.old ≡ result ∷ ahead self.new }
         ensures counted { self.new.walk.count ≡ self.old.walk.count + 1 }
         // No place where a character begins is gone over.
-        ensures one { (at : ℕ) → IsCharBoundary self.old.walk.text.now at → self.old.walk.offset < at → self.new.walk.offset ≤ at }
+        ensures one { (at : ℕ) → IsCharBoundary self.old.walk.text.now at →
+            self.old.walk.offset < at → self.new.walk.offset ≤ at }
         ensures forward { self.old.walk.offset < self.new.walk.offset }
     {
         let c = self.walk.pass();

@@ -91,7 +91,8 @@ fn next_line(bytes: &[u8], end: usize) -> usize
 // Where the first line begins that isn't blank.
 pub fn first_text(bytes: &[u8]) -> Option<usize>
     requires { IsUtf8 bytes.now }
-    ensures { MatchOption result (spec.from_text (spec.lines_of bytes.now) ≡ []) (λ at. StartsText bytes.now at) }
+    ensures { MatchOption result (spec.from_text (spec.lines_of bytes.now) ≡ [])
+        (λ at. StartsText bytes.now at) }
 {
     let mut start = 0;
     loop {
@@ -179,7 +180,8 @@ fn next_quotes(bytes: &[u8], start: usize) -> usize
 
 // Adds the text, with each `\"""` as `"""`.
 fn push_unquoted(memory: &mut Memory, value: &mut String, text: &str) -> Result<(), AllocError>
-    ensures value { OnOk result (string_bytes value.new ≡ string_bytes value.old ++ spec.unquoted text.now) }
+    ensures value { OnOk result (string_bytes value.new ≡ string_bytes value.old ++
+        spec.unquoted text.now) }
     ensures refused { OnErr result (Refused memory.new) }
 {
     let bytes = text.as_bytes();
@@ -213,7 +215,8 @@ pub fn push_lines(
     first_indent: usize,
     indent: usize,
 ) -> Result<(), AllocError>
-    ensures value { OnOk result (string_bytes value.new ≡ string_bytes value.old ++ written first_indent indent (spec.lines_of text.now)) }
+    ensures value { OnOk result (string_bytes value.new ≡ string_bytes value.old ++
+        written first_indent indent (spec.lines_of text.now)) }
     ensures refused { OnErr result (Refused memory.new) }
 {
     let bytes = text.as_bytes();
