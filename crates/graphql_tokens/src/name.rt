@@ -70,23 +70,8 @@ impl Name {
         Ok(Name(SmallText::new(memory, text)?))
     }
 
-    /// The name with this text, which stands in `whole` from this offset on: as `new`, and quicker, as it may copy what
-    /// follows the text in `whole` along.
-    #[inline(always)]
-    pub fn new_within(
-        alloc: Global,
-        text: &str,
-        whole: &str,
-        start: usize,
-    ) -> Result<Name, AllocError>
-        requires { StandsAt text.now whole.now start }
-        ensures name { IfOk result (λ name. name ≡ text.now) }
-        ensures short { length text.now ≤ 22 → IsOk result }
-    {
-        Name::cut_in(&mut Memory::new(alloc), text, whole, start)
-    }
-
-    /// As `new_within`, in this memory.
+    /// The name with this text, which stands in `whole` from this offset on, in this memory: as `new_in`, and quicker, as
+    /// it may copy what follows the text in `whole` along.
     #[inline(always)]
     pub fn cut_in(
         memory: &mut Memory,

@@ -76,24 +76,8 @@ impl Number {
         Ok(Number(SmallText::new(&mut Memory::new(alloc), literal)?))
     }
 
-    /// The number of a literal that stands in `whole` from this offset on: as `of_literal`, and quicker, as it may copy
-    /// what follows the literal in `whole` along.
-    #[inline(always)]
-    pub fn of_literal_within(
-        alloc: Global,
-        literal: &str,
-        whole: &str,
-        start: usize,
-    ) -> Result<Number, AllocError>
-        requires literal { IsNumber literal.now }
-        requires stands { StandsAt literal.now whole.now start }
-        ensures number { IfOk result (λ number. number ≡ literal.now) }
-        ensures short { length literal.now ≤ 22 → IsOk result }
-    {
-        Number::cut_in(&mut Memory::new(alloc), literal, whole, start)
-    }
-
-    /// As `of_literal_within`, in this memory.
+    /// The number of a literal that stands in `whole` from this offset on, in this memory: as `of_literal`, and quicker, as
+    /// it may copy what follows the literal in `whole` along.
     #[inline(always)]
     pub fn cut_in(
         memory: &mut Memory,
