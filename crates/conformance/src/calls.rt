@@ -4,7 +4,7 @@ use crate::requests::{
     REQUESTS, chosen, definitions, errors, hostile, limits, selections, sent, taken, values, views,
 };
 use crate::schemas;
-use rows::{Subject, compared, failure, failures, pair};
+use rows::{Subject, failure, failures};
 use std::alloc::Global;
 use std::test::Fail;
 
@@ -39,24 +39,17 @@ enum Part {
 
 impl Subject for Part {
     fn answer(&self, alloc: Global, text: &str) -> Result<String, Fail> {
-        Ok(match self {
-            Part::NewLimits => chosen::new(alloc, text)?,
-            Part::Error => errors::printed(alloc, &errors::made(alloc, text)?)?,
-            Part::ErrorEquality => {
-                let (one, other) = pair(text, " and ")?;
-                let other = errors::made(alloc, other)?;
-                compared(alloc, &errors::made(alloc, one)?, &other)?
-            }
-            Part::ErrorPlaces => {
-                let (error, steps) = pair(text, ": ")?;
-                errors::stepped(alloc, errors::made(alloc, error)?.positions(), steps)?
-            }
-        })
+        match self {
+            Part::NewLimits => Ok(chosen::new(alloc, text)?),
+            Part::Error => errors::printed(alloc, text),
+            Part::ErrorEquality => errors::two_compared(alloc, text),
+            Part::ErrorPlaces => errors::places(alloc, text),
+        }
     }
 }
 
 #[test]
-fn texts_are_answered(rt: HostRuntime) -> Result<(), Fail> {
+fn requests_are_answered(rt: HostRuntime) -> Result<(), Fail> {
     let tables = [
         (query(Asked::Whole), REQUESTS),
         (query(Asked::Whole), definitions::DEFINITIONS),
@@ -70,6 +63,15 @@ fn texts_are_answered(rt: HostRuntime) -> Result<(), Fail> {
         (query(Asked::Budgets), chosen::BUDGETS),
         (query(Asked::Taken), taken::TAKEN),
         (query(Asked::InTurn), taken::IN_TURN),
+    ];
+    let failures = failures(rt.alloc(), &tables)?;
+    assert_eq!(rt; failures.as_str(), "");
+    Ok(())
+}
+
+#[test]
+fn schema_files_are_answered(rt: HostRuntime) -> Result<(), Fail> {
+    let tables = [
         (schema(Asked::Whole), schemas::roots::ROOTS),
         (schema(Asked::Whole), schemas::kinds::KINDS),
         (schema(Asked::Whole), schemas::kinds::NAMES),
@@ -87,6 +89,11 @@ fn texts_are_answered(rt: HostRuntime) -> Result<(), Fail> {
     ];
     let failures = failures(rt.alloc(), &tables)?;
     assert_eq!(rt; failures.as_str(), "");
+    Ok(())
+}
+
+#[test]
+fn long_requests_are_answered(rt: HostRuntime) -> Result<(), Fail> {
     for (name, request, tree) in sent::REQUESTS {
         let failure = failure(rt.alloc(), &query(Asked::Whole), request, tree, name)?;
         assert_eq!(rt; failure.as_str(), "");

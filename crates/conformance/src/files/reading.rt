@@ -51,45 +51,80 @@ fn tree(alloc: Global, document: &ServiceDocument) -> Result<String, AllocError>
     shown.finish()
 }
 
+// What is read otherwise of a file; empty where nothing is.
+fn failures(alloc: Global, text: &str, lines: &str, parts: &[&str]) -> Result<String, AllocError> {
+    if check_schema(alloc, text).is_err() {
+        return String::from_str(alloc, "refused by the check");
+    }
+    match &parse_schema(alloc, text) {
+        Ok(document) => failures_of(alloc, document, lines, parts),
+        Err(_) => String::from_str(alloc, "refused"),
+    }
+}
+
+fn failures_of(
+    alloc: Global,
+    document: &ServiceDocument,
+    lines: &str,
+    parts: &[&str],
+) -> Result<String, AllocError> {
+    let found = schema_lines(alloc, document)?;
+    let tree = tree(alloc, document)?;
+    let mut failures = Shown::new(alloc, true);
+    if found.as_str().trim_ascii() != lines.trim_ascii() {
+        failures.item("the lines are\n", &found);
+    }
+    for part in parts {
+        if !tree.as_str().contains(part) {
+            failures.item("\nnot in the tree: ", part);
+        }
+    }
+    failures.finish()
+}
+
 #[test]
 fn files_are_read(rt: HostRuntime) -> Result<(), Fail> {
-    let alloc = rt.alloc();
     for files in [FILES, WRITTEN] {
         for (name, text, lines, parts) in files {
-            let document = parse_schema(alloc, text).ok().ok_or(*name)?;
-            assert!(rt; check_schema(alloc, text).is_ok(), "check of {name}");
-            let found = schema_lines(alloc, &document)?;
-            assert_eq!(rt;
-                found.as_str().trim_ascii(),
-                lines.trim_ascii(),
-                "of {name}"
-            );
-            let found = tree(alloc, &document)?;
-            for part in *parts {
-                assert!(rt; found.as_str().contains(part), "{part} of {name}: {found}");
-            }
+            let failures = failures(rt.alloc(), text, lines, parts)?;
+            assert_eq!(rt; failures.as_str(), "", "of {name}");
         }
     }
     Ok(())
 }
 
 // Two thousand definitions, a line each.
-#[test]
-fn a_long_file_is_read(rt: HostRuntime) -> Result<(), Fail> {
-    let alloc = rt.alloc();
+fn long_text(alloc: Global) -> Result<String, AllocError> {
     let mut text = String::new(alloc);
+    for index in 0..1000usize {
+        writeln!(
+            text,
+            "  type T{index}{{a(b:Int={index}):[T{index}!]}}
+\"Of {index}.\" enum E{index}{{A B}}"
+        )?;
+    }
+    Ok(text)
+}
+
+// The lines for them.
+fn long_lines(alloc: Global) -> Result<String, AllocError> {
     let mut lines = String::new(alloc);
     for index in 0..1000usize {
         let first = index * 2 + 1;
         let second = index * 2 + 2;
-        writeln!(text, "  type T{index}{{a(b:Int={index}):[T{index}!]}}")?;
-        writeln!(text, "\"Of {index}.\" enum E{index}{{A B}}")?;
-        writeln!(lines, "type T{index} {first}:3")?;
-        writeln!(lines, "enum E{index} {second}:1")?;
+        writeln!(lines, "type T{index} {first}:3\nenum E{index} {second}:1")?;
     }
-    let document = parse_schema(alloc, text.as_str()).ok().ok_or("refused")?;
+    Ok(lines)
+}
+
+#[test]
+fn a_long_file_is_read(rt: HostRuntime) -> Result<(), Fail> {
+    let alloc = rt.alloc();
+    let text = long_text(alloc)?;
     assert!(rt; check_schema(alloc, text.as_str()).is_ok());
+    let document = parse_schema(alloc, text.as_str()).ok().ok_or("refused")?;
     assert_eq!(rt; document.definitions.len(), 2000);
-    assert_eq!(rt; schema_lines(alloc, &document)?.as_str(), lines.as_str());
+    let found = schema_lines(alloc, &document)?;
+    assert_eq!(rt; found.as_str(), long_lines(alloc)?.as_str());
     Ok(())
 }

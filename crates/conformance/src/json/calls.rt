@@ -2,7 +2,8 @@
 use super::{errors, requests, schemas, values};
 use crate::parser::{OTHERWISE, are_alike};
 use graphql_json::{Places, error_json, request_json, schema_json};
-use graphql_parser::{check_query, check_schema, parse_query, parse_schema};
+use graphql_parser::types::{ExecutableDocument, ServiceDocument};
+use graphql_parser::{Result as Answer, check_query, check_schema, parse_query, parse_schema};
 use rows::{Subject, failures};
 use std::alloc::{AllocError, Global};
 use std::test::Fail;
@@ -44,25 +45,51 @@ impl Part {
 
 // The JSON of a request, or of its error.
 fn request(alloc: Global, text: &str, places: Places) -> Result<String, Fail> {
-    let answer = parse_query(alloc, text);
-    if !are_alike(&answer, &check_query(alloc, text)) {
+    of_request(
+        alloc,
+        &parse_query(alloc, text),
+        &check_query(alloc, text),
+        places,
+    )
+}
+
+fn of_request(
+    alloc: Global,
+    answer: &Answer<ExecutableDocument>,
+    checked: &Answer<()>,
+    places: Places,
+) -> Result<String, Fail> {
+    if !are_alike(answer, checked) {
         return Ok(String::from_str(alloc, OTHERWISE)?);
     }
     text_of(match answer {
-        Ok(document) => request_json(alloc, &document, places)?,
-        Err(error) => error_json(alloc, &error)?,
+        Ok(document) => request_json(alloc, document, places)?,
+        Err(error) => error_json(alloc, error)?,
     })
 }
 
 // The JSON of a schema file, or of its error.
 fn schema(alloc: Global, text: &str, places: Places) -> Result<String, Fail> {
-    let answer = parse_schema(alloc, text);
-    if !are_alike(&answer, &check_schema(alloc, text)) {
+    of_file(
+        alloc,
+        &parse_schema(alloc, text),
+        &check_schema(alloc, text),
+        places,
+    )
+}
+
+fn of_file(
+    alloc: Global,
+    answer: &Answer<ServiceDocument>,
+    checked: &Answer<()>,
+    places: Places,
+) -> Result<String, Fail> {
+    if !are_alike(answer, checked) {
         return Ok(String::from_str(alloc, OTHERWISE)?);
     }
     text_of(match answer {
-        Ok(document) => schema_json(alloc, &document, places)?,
-        Err(error) => error_json(alloc, &error)?,
+        Ok(document) => schema_json(alloc, document, places)?,
+        Err(error) => error_json(alloc, error)?,
     })
 }
 

@@ -33,14 +33,19 @@ impl Parser {
         text: &str,
     ) -> Result<String, AllocError> {
         match self {
-            Parser::Query => {
-                let checked = check_query(alloc, text);
-                of_request(alloc, view, asked, parse_query(alloc, text), &checked)
-            }
-            Parser::Schema => {
-                let checked = check_schema(alloc, text);
-                of_file(alloc, view, parse_schema(alloc, text), &checked)
-            }
+            Parser::Query => of_request(
+                alloc,
+                view,
+                asked,
+                &parse_query(alloc, text),
+                &check_query(alloc, text),
+            ),
+            Parser::Schema => of_file(
+                alloc,
+                view,
+                &parse_schema(alloc, text),
+                &check_schema(alloc, text),
+            ),
         }
     }
 
@@ -53,20 +58,19 @@ impl Parser {
         limits: Limits,
     ) -> Result<String, AllocError> {
         match self {
-            Parser::Query => {
-                let checked = check_query_limited(alloc, text, limits);
-                let answer = parse_query_limited(alloc, text, limits);
-                of_request(alloc, view, "", answer, &checked)
-            }
-            Parser::Schema => {
-                let checked = check_schema_limited(alloc, text, limits);
-                of_file(
-                    alloc,
-                    view,
-                    parse_schema_limited(alloc, text, limits),
-                    &checked,
-                )
-            }
+            Parser::Query => of_request(
+                alloc,
+                view,
+                "",
+                &parse_query_limited(alloc, text, limits),
+                &check_query_limited(alloc, text, limits),
+            ),
+            Parser::Schema => of_file(
+                alloc,
+                view,
+                &parse_schema_limited(alloc, text, limits),
+                &check_schema_limited(alloc, text, limits),
+            ),
         }
     }
 
@@ -79,18 +83,9 @@ impl Parser {
         tokens: &mut Tokens<'_>,
         others: &mut Tokens<'_>,
     ) -> Result<String, AllocError> {
-        if tokens.is_ended() || others.is_ended() {
-            return Ok(String::new(alloc));
-        }
         let seen = match self {
-            Parser::Query => {
-                let checked = check_query_from(alloc, others);
-                of_request(alloc, view, "", parse_query_from(alloc, tokens), &checked)?
-            }
-            Parser::Schema => {
-                let checked = check_schema_from(alloc, others);
-                of_file(alloc, view, parse_schema_from(alloc, tokens), &checked)?
-            }
+            Parser::Query => of_request_tokens(alloc, view, tokens, others)?,
+            Parser::Schema => of_file_tokens(alloc, view, tokens, others)?,
         };
         if others.taken() != tokens.taken() {
             return String::from_str(alloc, OTHERWISE);
@@ -126,33 +121,59 @@ pub fn are_alike<T>(answer: &Answer<T>, checked: &Answer<()>) -> bool {
     }
 }
 
+fn of_request_tokens(
+    alloc: Global,
+    view: View,
+    tokens: &mut Tokens<'_>,
+    others: &mut Tokens<'_>,
+) -> Result<String, AllocError> {
+    if tokens.is_ended() || others.is_ended() {
+        return Ok(String::new(alloc));
+    }
+    let checked = check_query_from(alloc, others);
+    of_request(alloc, view, "", &parse_query_from(alloc, tokens), &checked)
+}
+
+fn of_file_tokens(
+    alloc: Global,
+    view: View,
+    tokens: &mut Tokens<'_>,
+    others: &mut Tokens<'_>,
+) -> Result<String, AllocError> {
+    if tokens.is_ended() || others.is_ended() {
+        return Ok(String::new(alloc));
+    }
+    let checked = check_schema_from(alloc, others);
+    of_file(alloc, view, &parse_schema_from(alloc, tokens), &checked)
+}
+
 fn of_request(
     alloc: Global,
     view: View,
     asked: &str,
-    answer: Answer<ExecutableDocument>,
+    answer: &Answer<ExecutableDocument>,
     checked: &Answer<()>,
 ) -> Result<String, AllocError> {
-    if !are_alike(&answer, checked) {
+    if !are_alike(answer, checked) {
         return String::from_str(alloc, OTHERWISE);
     }
     match answer {
         Ok(document) => view.of_document(alloc, asked, document),
-        Err(error) => shown(alloc, !matches!(view, View::Placeless), &error),
+        Err(error) => shown(alloc, !matches!(view, View::Placeless), error),
     }
 }
 
 fn of_file(
     alloc: Global,
     view: View,
-    answer: Answer<ServiceDocument>,
+    answer: &Answer<ServiceDocument>,
     checked: &Answer<()>,
 ) -> Result<String, AllocError> {
-    if !are_alike(&answer, checked) {
+    if !are_alike(answer, checked) {
         return String::from_str(alloc, OTHERWISE);
     }
     match answer {
-        Ok(document) => view.of_file(alloc, &document),
-        Err(error) => shown(alloc, !matches!(view, View::Placeless), &error),
+        Ok(document) => view.of_file(alloc, document),
+        Err(error) => shown(alloc, !matches!(view, View::Placeless), error),
     }
 }

@@ -56,15 +56,19 @@ impl Subject for Call {
             Asked::Lines => hostile::lines(alloc, parser, text)?,
             Asked::ShortTexts => hostile::short_texts(alloc, parser, text)?,
             Asked::Budgets => budgets::answers(alloc, parser, text)?,
-            Asked::InTurn => {
-                let (passed, text) = pair(text, " in ")?;
-                taken::in_turn(alloc, parser, passed.parse()?, text)?
-            }
-            Asked::Limited => {
-                let (limits, text) = pair(text, " in ")?;
-                let limits = chosen::limits(limits).ok_or("no such limits")?;
-                parser.limited(alloc, View::Acceptance, text, limits)?
-            }
+            Asked::InTurn => in_turn(alloc, parser, text)?,
+            Asked::Limited => limited(alloc, parser, text)?,
         })
     }
+}
+
+fn in_turn(alloc: Global, parser: Parser, row: &str) -> Result<String, Fail> {
+    let (passed, text) = pair(row, " in ")?;
+    Ok(taken::in_turn(alloc, parser, passed.parse()?, text)?)
+}
+
+fn limited(alloc: Global, parser: Parser, row: &str) -> Result<String, Fail> {
+    let (limits, text) = pair(row, " in ")?;
+    let limits = chosen::limits(limits).ok_or("no such limits")?;
+    Ok(parser.limited(alloc, View::Acceptance, text, limits)?)
 }

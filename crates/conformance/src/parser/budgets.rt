@@ -7,8 +7,8 @@ use graphql_parser::{
 };
 use std::alloc::{AllocError, Global};
 
-// How many budgets are tried, and how many bytes each has more than the one before: the first has none.
-const BUDGETS: usize = 1025;
+// How many steps a budget grows by, and how many bytes each of them is: 64 KiB in all.
+const STEPS: usize = 1024;
 
 const STEP: usize = 64;
 
@@ -27,13 +27,10 @@ fn in_turn(
 ) -> Result<String, AllocError> {
     let mut all = String::new(alloc);
     let mut last = String::new(alloc);
-    for step in 0..BUDGETS {
-        let mut memory = Memory::with_budget(alloc, step.saturating_mul(STEP));
-        let answer = told(alloc, answered(parser, is_check, &mut memory, text))?;
+    for step in 0..=STEPS {
+        let answer = told(alloc, &answered(alloc, parser, is_check, step * STEP, text))?;
         if answer.as_str() != last.as_str() {
-            if !all.is_empty() {
-                all.push_str(", then ")?;
-            }
+            all.push_str(if step == 0 { "" } else { ", then " })?;
             all.push_str(&answer)?;
             last = answer;
         }
@@ -41,16 +38,23 @@ fn in_turn(
     Ok(all)
 }
 
-fn answered(parser: Parser, is_check: bool, memory: &mut Memory, text: &str) -> Answer<()> {
+fn answered(
+    alloc: Global,
+    parser: Parser,
+    is_check: bool,
+    budget: usize,
+    text: &str,
+) -> Answer<()> {
+    let memory = &mut Memory::with_budget(alloc, budget);
     let limits = Limits::default();
-    match (parser, is_check) {
-        (Parser::Query, true) => check_query_within(memory, text, limits),
-        (Parser::Schema, true) => check_schema_within(memory, text, limits),
-        (Parser::Query, false) => {
+    match parser {
+        Parser::Query if is_check => check_query_within(memory, text, limits),
+        Parser::Query => {
             parse_query_within(memory, text, limits)?;
             Ok(())
         }
-        (Parser::Schema, false) => {
+        Parser::Schema if is_check => check_schema_within(memory, text, limits),
+        Parser::Schema => {
             parse_schema_within(memory, text, limits)?;
             Ok(())
         }
@@ -58,9 +62,9 @@ fn answered(parser: Parser, is_check: bool, memory: &mut Memory, text: &str) -> 
 }
 
 // The word `accepted`, or the error.
-fn told(alloc: Global, answer: Answer<()>) -> Result<String, AllocError> {
+fn told(alloc: Global, answer: &Answer<()>) -> Result<String, AllocError> {
     match answer {
         Ok(()) => String::from_str(alloc, "accepted"),
-        Err(error) => shown(alloc, true, &error),
+        Err(error) => shown(alloc, true, error),
     }
 }

@@ -13,18 +13,39 @@ pub fn shown(alloc: Global, has_places: bool, error: &Error) -> Result<String, A
             start,
             end,
         } => {
-            shown.place("syntax ", start);
-            if format!(in alloc; "syntax error at {start}")?.as_str() != message.as_str() {
-                shown.item(" '", message);
-                shown.word("'");
-            }
-            if let Some(end) = end {
-                shown.place(" end ", end);
-            }
+            let usual = format!(in alloc; "syntax error at {start}")?;
+            let is_usual = usual.as_str() == message.as_str();
+            write_syntax(
+                &mut shown,
+                start,
+                if is_usual { None } else { Some(message) },
+                end,
+            );
         }
+        other => write_rule(&mut shown, other),
+    }
+    shown.finish()
+}
+
+// An error of syntax, with its message where that is not the usual one.
+fn write_syntax(shown: &mut Shown, start: &Pos, own: Option<&String>, end: &Option<Pos>) {
+    shown.place("syntax ", start);
+    if let Some(message) = own {
+        shown.item(" '", message);
+        shown.word("'");
+    }
+    if let Some(end) = end {
+        shown.place(" end ", end);
+    }
+}
+
+// Any other error.
+fn write_rule(shown: &mut Shown, error: &Error) {
+    match error {
+        Error::Syntax { .. } => {}
         Error::MultipleRoots { root, schema, pos } => {
             shown.item("multiple roots ", root);
-            write_two(&mut shown, " schema ", *schema, " pos ", *pos);
+            write_two(shown, " schema ", *schema, " pos ", *pos);
         }
         Error::MissingQueryRoot { pos } => shown.place("missing query root pos ", pos),
         Error::MultipleOperations {
@@ -32,29 +53,22 @@ pub fn shown(alloc: Global, has_places: bool, error: &Error) -> Result<String, A
             operation,
         } => {
             shown.word("multiple operations");
-            write_two(
-                &mut shown,
-                " anonymous ",
-                *anonymous,
-                " operation ",
-                *operation,
-            );
+            write_two(shown, " anonymous ", *anonymous, " operation ", *operation);
         }
         Error::OperationDuplicated {
             operation,
             first,
             second,
-        } => write_duplicated(&mut shown, "operation ", operation, *first, *second),
+        } => write_duplicated(shown, "operation ", operation, *first, *second),
         Error::FragmentDuplicated {
             fragment,
             first,
             second,
-        } => write_duplicated(&mut shown, "fragment ", fragment, *first, *second),
+        } => write_duplicated(shown, "fragment ", fragment, *first, *second),
         Error::MissingOperation => shown.word("missing operation"),
         Error::RecursionLimitExceeded => shown.word("recursion limit exceeded"),
         Error::OutOfMemory => shown.word("out of memory"),
     }
-    shown.finish()
 }
 
 fn write_two(shown: &mut Shown, before: &str, first: Pos, between: &str, second: Pos) {

@@ -5,7 +5,7 @@ use graphql_parser::types::{
     Directive, ExecutableDocument, Field, OperationDefinition, OperationsIter, Selection,
     ServiceDocument,
 };
-use graphql_parser::value::{Name, Value, ValueView};
+use graphql_parser::value::{ConstValue, Name, Value, ValueView};
 use rows::Shown;
 use std::alloc::{AllocError, Global};
 use std::borrow::Cow;
@@ -67,31 +67,41 @@ impl View {
         shown.finish()
     }
 
-    /// What is seen of a document, which is let go; `asked` is the name that is looked up in it.
+    /// What is seen of a document; `asked` is the name that is looked up in it.
     pub fn of_document(
         self,
         alloc: Global,
         asked: &str,
-        document: ExecutableDocument,
+        document: &ExecutableDocument,
     ) -> Result<String, AllocError> {
         let mut shown = Shown::new(alloc, !matches!(self, View::Placeless));
+        self.write_document(alloc, &mut shown, asked, document)?;
+        shown.finish()
+    }
+
+    fn write_document(
+        self,
+        alloc: Global,
+        shown: &mut Shown,
+        asked: &str,
+        document: &ExecutableDocument,
+    ) -> Outcome {
         match self {
-            View::Whole | View::Placeless => write_request(&mut shown, &document),
+            View::Whole | View::Placeless => write_request(shown, document),
             View::Acceptance => shown.word("accepted"),
-            View::Sizes => write_request_sizes(&mut shown, &document),
-            View::Operations => write_operations(&mut shown, document.operations.iter())?,
+            View::Sizes => write_request_sizes(shown, document),
+            View::Operations => return write_operations(shown, document.operations.iter()),
             View::Named => {
-                write_named(&mut shown, asked, &document);
-                shown.word(", copied");
-                write_named(&mut shown, asked, &document.clone()?);
+                write_named(shown, asked, document);
+                return write_named_of_copy(shown, asked, document);
             }
             _ => {
                 if let Some((_, operation)) = document.operations.iter().next() {
-                    self.write_first(alloc, &mut shown, asked, &operation.node)?;
+                    return self.write_first(alloc, shown, asked, &operation.node);
                 }
             }
         }
-        shown.finish()
+        Ok(())
     }
 
     // What is seen of the first operation.
@@ -102,53 +112,78 @@ impl View {
         asked: &str,
         operation: &OperationDefinition,
     ) -> Outcome {
-        if matches!(self, View::Defaults) {
-            write_defaults(shown, operation);
-        } else if matches!(self, View::SetsOfSelections) {
-            write_sets(shown, operation);
-        } else if let Some(selection) = operation.selection_set.node.items.first() {
-            match &selection.node {
-                selection if matches!(self, View::Directives) => {
-                    write_grown(shown, selection)?;
+        match self {
+            View::Defaults => write_defaults(shown, operation),
+            View::SetsOfSelections => write_sets(shown, operation),
+            _ => {
+                if let Some(selection) = operation.selection_set.node.items.first() {
+                    return self.write_selection(alloc, shown, asked, &selection.node);
                 }
-                Selection::Field(field) => self.write_field(alloc, shown, asked, &field.node)?,
-                _ => {}
             }
         }
         Ok(())
     }
 
+    // What is seen of the first selection.
+    fn write_selection(
+        self,
+        alloc: Global,
+        shown: &mut Shown,
+        asked: &str,
+        selection: &Selection,
+    ) -> Outcome {
+        if matches!(self, View::Directives) {
+            return write_grown(shown, selection);
+        }
+        match selection {
+            Selection::Field(field) => self.write_field(alloc, shown, asked, &field.node),
+            _ => Ok(()),
+        }
+    }
+
     // What is seen of the first field.
     fn write_field(self, alloc: Global, shown: &mut Shown, asked: &str, field: &Field) -> Outcome {
-        match (self, field.arguments.as_slice(), field.directives.first()) {
-            (View::Argument, _, directive) => {
+        match self {
+            View::Argument => {
                 write_found(shown, field.get_argument(asked));
-                if let Some(directive) = directive {
-                    write_argument(alloc, shown, asked, &directive.node)?;
-                }
+                write_argument(alloc, shown, asked, field.directives.first())
             }
-            (View::ResponseKey, _, _) => {
+            View::ResponseKey => {
                 let key = field.response_key();
                 shown.item("", &key.node);
                 shown.place("@", &key.pos);
+                Ok(())
             }
-            (View::IntoConst, [argument, ..], _) => {
-                write_there_and_back(alloc, shown, argument.1.node.clone()?)?;
-            }
-            (View::Text, [argument, ..], _) => write_text(alloc, shown, &argument.1.node)?,
-            (View::Viewed, [argument, ..], _) => write_viewed(alloc, shown, &argument.1.node)?,
-            (View::FieldViewed, [argument, ..], _) => {
-                write_field_viewed(shown, asked, argument.1.node.as_view());
-            }
-            (View::Equality, [one, other], _) => {
-                write_equality(alloc, shown, &one.1.node, &other.1.node)?;
-            }
-            (View::DirectiveIntoConst, _, Some(directive)) => {
-                write_directive(alloc, shown, directive.node.clone()?)?;
-            }
-            _ => {}
+            View::DirectiveIntoConst => write_directive(alloc, shown, field.directives.first()),
+            View::Equality => match field.arguments.as_slice() {
+                [one, other] => write_equality(alloc, shown, &one.1.node, &other.1.node),
+                _ => Ok(()),
+            },
+            _ => match field.arguments.first() {
+                Some(argument) => self.write_first_argument(alloc, shown, asked, &argument.1.node),
+                None => Ok(()),
+            },
         }
-        Ok(())
+    }
+
+    // What is seen of the first argument.
+    fn write_first_argument(
+        self,
+        alloc: Global,
+        shown: &mut Shown,
+        asked: &str,
+        value: &Value,
+    ) -> Outcome {
+        match self {
+            View::IntoConst => write_there_and_back(alloc, shown, value),
+            View::Text => write_text(alloc, shown, value),
+            View::Viewed => write_viewed(alloc, shown, value),
+            View::FieldViewed => {
+                write_field_viewed(shown, asked, value.as_view());
+                Ok(())
+            }
+            _ => Ok(()),
+        }
     }
 }
 
@@ -159,12 +194,21 @@ fn write_found<V: Written>(shown: &mut Shown, value: Option<&Positioned<V>>) {
     }
 }
 
-fn write_argument(alloc: Global, shown: &mut Shown, asked: &str, directive: &Directive) -> Outcome {
+// The argument of a directive, where there is one, and of it as one without variables.
+fn write_argument(
+    alloc: Global,
+    shown: &mut Shown,
+    asked: &str,
+    directive: Option<&Positioned<Directive>>,
+) -> Outcome {
+    let Some(directive) = directive else {
+        return Ok(());
+    };
     shown.word(", ");
-    write_found(shown, directive.get_argument(asked));
+    write_found(shown, directive.node.get_argument(asked));
     shown.word(", ");
-    match directive.clone()?.into_const(alloc)? {
-        Some(directive) => write_found(shown, directive.get_argument(asked)),
+    match directive.node.clone()?.into_const(alloc)? {
+        Some(constant) => write_found(shown, constant.get_argument(asked)),
         None => shown.word("not constant"),
     }
     Ok(())
@@ -238,8 +282,20 @@ fn write_named(shown: &mut Shown, asked: &str, document: &ExecutableDocument) {
     }
 }
 
-fn write_there_and_back(alloc: Global, shown: &mut Shown, value: Value) -> Outcome {
-    match value.into_const(alloc)? {
+fn write_named_of_copy(shown: &mut Shown, asked: &str, document: &ExecutableDocument) -> Outcome {
+    let copy = document.clone()?;
+    shown.word(", copied");
+    write_named(shown, asked, &copy);
+    Ok(())
+}
+
+// The value as one without variables.
+fn constant_of(alloc: Global, value: &Value) -> Result<Option<ConstValue>, AllocError> {
+    value.clone()?.into_const(alloc)
+}
+
+fn write_there_and_back(alloc: Global, shown: &mut Shown, value: &Value) -> Outcome {
+    match constant_of(alloc, value)? {
         Some(constant) => {
             constant.write(shown);
             shown.word(" and ");
@@ -252,15 +308,23 @@ fn write_there_and_back(alloc: Global, shown: &mut Shown, value: Value) -> Outco
 
 fn write_equality(alloc: Global, shown: &mut Shown, one: &Value, other: &Value) -> Outcome {
     let is_same = one == other;
-    let is_same_constant = one.clone()?.into_const(alloc)? == other.clone()?.into_const(alloc)?;
+    let constant = constant_of(alloc, one)?;
+    let is_same_constant = constant == constant_of(alloc, other)?;
     for is_same in [is_same, is_same_constant] {
         shown.word(if is_same { " equal" } else { " different" });
     }
     Ok(())
 }
 
-fn write_directive(alloc: Global, shown: &mut Shown, directive: Directive) -> Outcome {
-    match directive.into_const(alloc)? {
+fn write_directive(
+    alloc: Global,
+    shown: &mut Shown,
+    directive: Option<&Positioned<Directive>>,
+) -> Outcome {
+    let Some(directive) = directive else {
+        return Ok(());
+    };
+    match directive.node.clone()?.into_const(alloc)? {
         Some(constant) => {
             constant.write(shown);
             shown.word(" and");
@@ -285,7 +349,7 @@ fn write_sets(shown: &mut Shown, operation: &OperationDefinition) {
 
 fn write_text(alloc: Global, shown: &mut Shown, value: &Value) -> Outcome {
     shown.item("", value);
-    match value.clone()?.into_const(alloc)? {
+    match constant_of(alloc, value)? {
         Some(constant) => shown.item(" and ", &constant),
         None => shown.word(" and none"),
     }
@@ -294,7 +358,7 @@ fn write_text(alloc: Global, shown: &mut Shown, value: &Value) -> Outcome {
 
 fn write_viewed(alloc: Global, shown: &mut Shown, value: &Value) -> Outcome {
     write_view(shown, value.as_view());
-    match value.clone()?.into_const(alloc)? {
+    match constant_of(alloc, value)? {
         Some(constant) => {
             shown.word(" and");
             write_view(shown, constant.as_view());

@@ -3,7 +3,7 @@ use crate::parser::shown;
 use graphql_parser::types::OperationType;
 use graphql_parser::value::Name;
 use graphql_parser::{Error, ErrorPositions, Pos};
-use rows::Shown;
+use rows::{Shown, compared, pair};
 use std::alloc::{AllocError, Global};
 use std::test::Fail;
 
@@ -13,8 +13,8 @@ const B: Pos = Pos { line: 3, column: 4 };
 
 const C: Pos = Pos { line: 1, column: 5 };
 
-/// The error that a row speaks of.
-pub fn made(alloc: Global, what: &str) -> Result<Error, Fail> {
+// The error that a row speaks of.
+fn made(alloc: Global, what: &str) -> Result<Error, Fail> {
     let (message, end) = match what {
         "syntax" => ("syntax error at 1:2", None),
         "syntax with an end" => ("syntax error at 1:2", Some(B)),
@@ -70,11 +70,29 @@ fn of_request(alloc: Global, what: &str) -> Result<Error, Fail> {
     })
 }
 
-/// What an error prints, and its places as JSON; and whether a copy is equal and shown as the error is.
-pub fn printed(alloc: Global, error: &Error) -> Result<String, Fail> {
+/// What the error of a row prints, and its places as JSON; and whether a copy is equal and shown as the error is.
+pub fn printed(alloc: Global, row: &str) -> Result<String, Fail> {
+    let error = made(alloc, row)?;
+    with_places(alloc, &error)
+}
+
+/// How the two errors of a row compare.
+pub fn two_compared(alloc: Global, row: &str) -> Result<String, Fail> {
+    let (one, other) = pair(row, " and ")?;
+    let one = made(alloc, one)?;
+    Ok(compared(alloc, &one, &made(alloc, other)?)?)
+}
+
+/// What the places of the error of a row give when they are taken from both ends.
+pub fn places(alloc: Global, row: &str) -> Result<String, Fail> {
+    let (error, steps) = pair(row, ": ")?;
+    let error = made(alloc, error)?;
+    Ok(stepped(alloc, error.positions(), steps)?)
+}
+
+fn with_places(alloc: Global, error: &Error) -> Result<String, Fail> {
     let places = serde_json::to_string(alloc, &error.positions())?;
-    let copy = error.clone()?;
-    let of_copy = if copy == *error && shown(alloc, true, error)? == shown(alloc, true, &copy)? {
+    let of_copy = if equals_its_copy(alloc, error)? {
         ""
     } else {
         " with another copy"
@@ -82,12 +100,15 @@ pub fn printed(alloc: Global, error: &Error) -> Result<String, Fail> {
     Ok(format!(in alloc; "{error} {places}{of_copy}")?)
 }
 
-/// What places give when they are taken from both ends, and what is left after each.
-pub fn stepped(
-    alloc: Global,
-    mut places: ErrorPositions,
-    steps: &str,
-) -> Result<String, AllocError> {
+fn equals_its_copy(alloc: Global, error: &Error) -> Result<bool, AllocError> {
+    let copy = error.clone()?;
+    let shown_error = shown(alloc, true, error)?;
+    let shown_copy = shown(alloc, true, &copy)?;
+    Ok(copy == *error && shown_copy == shown_error)
+}
+
+// What places give when they are taken from both ends, and what is left after each.
+fn stepped(alloc: Global, mut places: ErrorPositions, steps: &str) -> Result<String, AllocError> {
     let mut shown = Shown::new(alloc, true);
     shown.word("all");
     write_left(&mut shown, &places)?;
