@@ -1,5 +1,5 @@
 #!/usr/bin/env python3
-"""Makes docs/MESSAGES.md: each text of crates/conformance_reports/src/messages.rt with our messages, which it has,
+"""Makes docs/MESSAGES.md: each text of crates/conformance/src/reports/messages.rt with our messages, which it has,
 and the message of graphql-core, the port of GraphQL.js to Python. `tests/messages.py > docs/MESSAGES.md`."""
 import re
 from pathlib import Path
@@ -8,7 +8,7 @@ import graphql
 from graphql.validation import LoneAnonymousOperationRule, UniqueFragmentNamesRule, UniqueOperationNamesRule
 
 ROOT = Path(__file__).resolve().parent.parent
-ROWS = ROOT / "crates/conformance_reports/src/messages.rt"
+ROWS = ROOT / "crates/conformance/src/reports/messages.rt"
 RULES = [UniqueOperationNamesRule, LoneAnonymousOperationRule, UniqueFragmentNamesRule]
 SCHEMA = graphql.build_schema("type Query { a: Int }")
 
@@ -19,7 +19,7 @@ quotes for double ones, without `Syntax Error: `, at our first place unless it g
 text: it has no limit of depth, reads type definitions too, and asks for no operation. Each line of ours comes after the file's
 name and, if it has a place, before [the text's line with a caret](../README.md#try-it).
 
-`tests/messages.py` makes this page of the tested rows of `crates/conformance_reports/src/messages.rt` and of graphql-core's
+`tests/messages.py` makes this page of the tested rows of `crates/conformance/src/reports/messages.rt` and of graphql-core's
 parser and its three rules on names."""
 SYNTAX = "syntax error: "
 

@@ -1,5 +1,5 @@
 //! Tables of cases with expected answers: requests and schema files, what the calls of their trees and of their errors give,
-//! and their JSON. The answers were worked out by hand from the rules of `docs/GRAMMAR.md`, and never taken from what the
+//! their JSON, and the reports of refused texts. The answers were worked out by hand from the rules of `docs/GRAMMAR.md`, and never taken from what the
 //! crates print.
 #![tactic(auto)]
 
@@ -11,6 +11,8 @@ mod files;
 mod json;
 #[cfg(test)]
 mod parser;
+#[cfg(test)]
+mod reports;
 #[cfg(test)]
 mod requests;
 #[cfg(test)]

@@ -4,10 +4,10 @@ ghost use Rattle.graphql_syntax.specs.trees.ValueTree.{null, boolean, list, obje
 
 use graphql_syntax::value::{ConstValue, Literal, Name, Value};
 use rows::Shown;
+use rows::trees::Written;
+use rows::trees::plain::Plain;
 use std::alloc::{AllocError, Global};
 use std::test::Fail;
-use tree_text::Written;
-use tree_text::plain::Plain;
 
 // `{name: [boolean, null]}`, at any type of values.
 fn example<V: Literal>(alloc: Global, name: Name, b: bool) -> Result<V, AllocError>

@@ -5,11 +5,11 @@ use graphql_memory::Memory;
 use graphql_reading::limits::Limits;
 use graphql_reading::parser::{Parser, Reading, Refusal};
 use graphql_tokens::lexer::Tokens;
+use rows::trees::Written;
+use rows::trees::plain::Plain;
 use rows::{Shown, Subject, failures};
 use std::alloc::{AllocError, Global};
 use std::test::Fail;
-use tree_text::Written;
-use tree_text::plain::Plain;
 
 /// What stands first in a text, arguments or else a value, where values may nest so deep; and the place of
 /// the next token after it, or of the refused one.

@@ -18,7 +18,7 @@
 //! both languages and at all limits; what is expected is exactly those of the samples, in their order, that can stand
 //! after the text before the refused token, a keyword only where a name can't, and the end of the text where that text is a
 //! whole document; a report begins with the place of the error and its message, and a finding stands at that place; and
-//! every call is safe and ends. What a report says in words besides is tested, in `conformance_reports`.
+//! every call is safe and ends. What a report says in words besides is tested, in `conformance`.
 #![tactic(auto)]
 
 mod definitions;

@@ -11,9 +11,9 @@ use graphql_parser::{
     parse_query_limited, parse_schema, parse_schema_from, parse_schema_limited,
 };
 use rows::Shown;
+use rows::trees::{Written, write_file, write_request};
 use std::alloc::{AllocError, Global};
 use std::fmt;
-use tree_text::{Written, write_file, write_request};
 
 /// A call.
 #[derive(Clone, Copy, PartialEq)]

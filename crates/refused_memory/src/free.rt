@@ -8,11 +8,11 @@ use graphql_parser::types::{
 use graphql_parser::value::{ConstValue, Literal, Name, Value};
 use graphql_parser::{Error, Limits, Pos, Positioned};
 use rows::Shown;
+use rows::trees::{Written, write_directives};
 use std::alloc::{AllocError, Global};
 use std::borrow::Cow;
 use std::cmp::Ordering;
 use std::hash::{DefaultHasher, Hash, Hasher};
-use tree_text::{Written, write_directives};
 
 /// The places of a text's tokens, how many were taken, and whether they have ended.
 pub fn show_tokens(shown: &mut Shown, text: &str) {

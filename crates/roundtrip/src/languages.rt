@@ -9,8 +9,8 @@ use graphql_parser::{
     parse_query_limited, parse_schema, parse_schema_from, parse_schema_limited,
 };
 use rows::Shown;
+use rows::trees::{write_file, write_request};
 use std::alloc::{AllocError, Global};
-use tree_text::{write_file, write_request};
 
 /// A form of a call, of a parser and of its check.
 #[derive(Clone, Copy, PartialEq)]

@@ -21,6 +21,7 @@
 
 mod notation;
 mod shown;
+pub mod trees;
 
 use notation::in_one_line;
 pub use notation::meant;

@@ -14,7 +14,7 @@ pub fn path(inside: &str) -> PathBuf {
 
 /// All texts of the tables, and all raw strings.
 pub fn texts() -> Vec<String> {
-    let crates = ["conformance", "conformance_parts", "conformance_reports"];
+    let crates = ["conformance", "conformance_parts"];
     let mut texts = Vec::new();
     for name in crates {
         for file in files(&path("crates").join(name).join("src")) {

@@ -4,9 +4,9 @@ use super::written::WRITTEN;
 use graphql_parser::types::{ServiceDocument, TypeSystemDefinition};
 use graphql_parser::{check_schema, parse_schema};
 use rows::Shown;
+use rows::trees::{keyword, write_file};
 use std::alloc::{AllocError, Global};
 use std::test::Fail;
-use tree_text::{keyword, write_file};
 
 /// A file: its name, its text, a line for each of its definitions, and parts of its tree.
 pub type File = (

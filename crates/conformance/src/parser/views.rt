@@ -7,9 +7,9 @@ use graphql_parser::types::{
 };
 use graphql_parser::value::{ConstValue, Name, Value, ValueView};
 use rows::Shown;
+use rows::trees::{Written, write_directives, write_file, write_request, write_value};
 use std::alloc::{AllocError, Global};
 use std::borrow::Cow;
-use tree_text::{Written, write_directives, write_file, write_request, write_value};
 
 /// What is looked at in a tree. The first four are for schema files too.
 #[derive(Clone, Copy)]

@@ -1,11 +1,13 @@
 //! The tree of a request, as text.
-use crate::parts::{write_arguments, write_default, write_directives, write_node, write_places};
+use crate::Shown;
+use crate::trees::parts::{
+    write_arguments, write_default, write_directives, write_node, write_places,
+};
 use graphql_request_trees::{
     DocumentOperations, ExecutableDocument, Field, InlineFragment, OperationDefinition, Selection,
     SelectionSet, TypeCondition,
 };
 use graphql_syntax::pos::{Pos, Positioned};
-use rows::Shown;
 
 /// The tree of a request: its operations, and then its fragments, each after its name.
 pub fn write_request(shown: &mut Shown, document: &ExecutableDocument) {

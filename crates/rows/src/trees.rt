@@ -5,8 +5,6 @@
 //! leaves it out: then it is empty and stands at 0:0. An argument is `name@1:4=value@1:6`. Strings are
 //! written between `'` as they are, an enum's name after a point. Where two places belong to one node, as
 //! those of a selection and of the field in it, both are written only where they differ, as `1:2/1:3`.
-#![tactic(auto)]
-
 mod parts;
 pub mod plain;
 mod request;

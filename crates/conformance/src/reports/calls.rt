@@ -1,5 +1,5 @@
 //! What the tables are about.
-use crate::{limits, messages, places, requests, schemas};
+use super::{limits, messages, places, requests, schemas};
 use graphql_parser::{
     Error, Limits, check_query_limited, check_schema_limited, parse_query_limited,
     parse_schema_limited,

@@ -1,12 +1,12 @@
 //! The tree of a schema file, as text.
-use crate::parts::{write_default, write_directives, write_node};
+use crate::Shown;
+use crate::trees::parts::{write_default, write_directives, write_node};
 use graphql_schema_trees::{
     DirectiveDefinition, FieldDefinition, InputValueDefinition, SchemaDefinition, ServiceDocument,
     TypeDefinition, TypeKind, TypeSystemDefinition,
 };
 use graphql_syntax::pos::Positioned;
 use graphql_syntax::value::Name;
-use rows::Shown;
 
 /// The tree of a schema file: its definitions in order, after the word `file`.
 pub fn write_file(shown: &mut Shown, document: &ServiceDocument) {
