@@ -3,6 +3,5 @@ pub mod Steps
 pub mod Types
 pub mod Selections
 pub mod Fragments
-pub mod Operations
 pub mod Errors
 pub mod Schemas

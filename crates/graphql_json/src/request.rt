@@ -1,11 +1,11 @@
 //! Requests.
 ghost use Rattle.std.specs.Prelude.{◌≡◌, ◌++◌, List, option_map, IfOk, OnOk, map, drop, codes};
 ghost use Rattle.graphql_parser.specs.trees.Parts.{placed};
-ghost use Rattle.graphql_parser.specs.trees.Request.{of_field, of_inline_fragment};
+ghost use Rattle.graphql_parser.specs.trees.Request.{of_field, of_inline_fragment, operations_of};
 ghost use Rattle.graphql_parser.specs.trees.RequestViews.{document_tree, entry_tree, field_tree, fragment_tree, inline_fragment_tree, operation_tree, selection_tree, selection_set_tree, type_condition_tree};
 ghost use Rattle.graphql_json.specs.inner.Written.{Adds, lent_name, member_tokens, optional_tokens};
 ghost use Rattle.graphql_json.specs.nodes.Nodes.{at, nowhere, node, items_of, placed_json};
-ghost use Rattle.graphql_json.specs.nodes.Requests.{Fragment as FragmentTree, after_fragments, condition_json, definitions_json, fragment_json, operation_json, operations_of, request_value, selection_json, selections_json, set_json, set_node, some_of};
+ghost use Rattle.graphql_json.specs.nodes.Requests.{Fragment as FragmentTree, after_fragments, condition_json, definitions_json, fragment_json, operation_json, request_value, selection_json, selections_json, set_json, set_node, some_of};
 ghost use Rattle.graphql_json.specs.nodes.Values.{name_json};
 ghost use Rattle.json.specs.Json.{Json, Items, no_items, item, array, member, no_members};
 ghost use Rattle.json.specs.Tree.{json_tokens, items_tokens};
@@ -33,7 +33,7 @@ pub fn write_document(sheet: &mut Sheet, document: &ExecutableDocument, places: 
 }
 
 // The member `definitions`: each operation after the fragments whose places are smaller.
-#[tactic(auto, using(crate::proofs::Operations::operations_walked))]
+#[tactic(auto, using(graphql_parser::proofs::Requests::operations_walked))]
 fn write_definitions(sheet: &mut Sheet, document: &ExecutableDocument, place: Place) -> Outcome
     ensures { Adds result sheet.old sheet.new
         (member_tokens (codes "definitions")

@@ -1,4 +1,3 @@
 -- What the answers share.
 pub mod Steps
 pub mod Counts
-pub mod Operations

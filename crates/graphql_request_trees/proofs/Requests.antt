@@ -1,17 +1,21 @@
 -- The equations of the trees of a request, at values that code makes and takes apart.
-use Rattle.std.proofs.Common.{◌≡◌, ap, sym, ◌∙◌, option_map}
+use Rattle.std.proofs.Common.{◌≡◌, List, [], ◌∷◌, map, Option, Some, ap, refl, sym, ◌∙◌, option_map}
 use Rattle.graphql_tokens.specs.declared.pos.Positioned.{Positioned}
+use Rattle.graphql_request_trees.specs.calls.Operations.{NamedOperation, operations_list, with_name}
+use Rattle.graphql_request_trees.specs.declared.executable.DocumentOperations.{DocumentOperations}
+use Rattle.graphql_request_trees.specs.declared.executable.DocumentOperations.TheVariants.{Single, Multiple}
 use Rattle.graphql_request_trees.specs.declared.executable.Field.{Field, out-Field, roll-Field, fold-roll-Field, fold_out-Field}
 use Rattle.graphql_request_trees.specs.declared.executable.InlineFragment.{InlineFragment, out-InlineFragment, roll-InlineFragment, fold-roll-InlineFragment, fold_out-InlineFragment}
+use Rattle.graphql_request_trees.specs.declared.executable.OperationDefinition.{OperationDefinition}
 use Rattle.graphql_request_trees.specs.declared.executable.Selection.{Selection, fold-roll-Selection}
 use Rattle.graphql_request_trees.specs.declared.executable.Selection.TheOpen.{Selection-F, Field-F, InlineFragment-F, SelectionSet-F}
 use Rattle.graphql_request_trees.specs.declared.executable.Selection.TheVariants as selections
 use Rattle.graphql_request_trees.specs.declared.executable.Selection.TheViews.{rolls-Field, rolls-InlineFragment}
 use Rattle.graphql_request_trees.specs.declared.executable.SelectionSet.{SelectionSet, out-SelectionSet, roll-SelectionSet, fold-roll-SelectionSet, fold_out-SelectionSet}
 use Rattle.graphql_request_trees.specs.trees.Request as request
-use Rattle.graphql_syntax.specs.trees.Parts.{placed}
+use Rattle.graphql_syntax.specs.trees.Parts.{Name, placed}
 use Rattle.graphql_syntax.specs.trees.PartViews.{arguments_tree, directives_tree}
-use Rattle.graphql_request_trees.specs.trees.RequestViews.{selection_step, field_step, inline_fragment_step, selection_set_step, selection_tree, field_tree, inline_fragment_tree, selection_set_tree, selection_trees, type_condition_tree}
+use Rattle.graphql_request_trees.specs.trees.RequestViews.{selection_step, field_step, inline_fragment_step, selection_set_step, selection_tree, field_tree, inline_fragment_tree, selection_set_tree, selection_trees, type_condition_tree, entry_tree, operation_tree, operations_tree}
 
 -- ---- a set: that of its items
 
@@ -72,3 +76,18 @@ pub inline_fragment_tree_out : (i : InlineFragment) →
       selection_set = placed selection_set_tree (out-InlineFragment i).selection_set;
     }
 inline_fragment_tree_out = fold_out-InlineFragment request.Selection request.Field request.InlineFragment request.SelectionSet selection_step field_step inline_fragment_step selection_set_step
+
+-- ---- operations as they are walked: those of the tree
+
+abbrev pub operation_trees : List NamedOperation → List (Option Name × Positioned request.OperationDefinition)
+operation_trees os = map (λ (o : NamedOperation). (o.0, placed operation_tree o.1)) os
+
+entries_walked : (es : List (Name × Positioned OperationDefinition)) →
+    operation_trees (map with_name es) ≡ map (λ operation. (Some operation.0, operation.1)) (map (entry_tree operation_tree) es)
+entries_walked [] = refl
+entries_walked (e ∷ es) = ap (λ os. (Some e.0, placed operation_tree e.1) ∷ os) (entries_walked es)
+
+pub operations_walked : (os : DocumentOperations) →
+    operation_trees (operations_list os) ≡ request.operations_of (operations_tree os)
+operations_walked (Single o) = refl
+operations_walked (Multiple m) = entries_walked m.entries

@@ -3,7 +3,7 @@
 use Rattle.std.specs.Prelude.{List, [], ◌∷◌, Option, Some, None, map, if◌then◌else◌, codes}
 use Rattle.graphql_parser.specs.calls.Words.{operation_word}
 use Rattle.graphql_parser.specs.trees.Parts.{Name}
-use Rattle.graphql_parser.specs.trees.Request.{Document, Operations, single, multiple, OperationDefinition, FragmentDefinition, VariableDefinition, TypeCondition, FragmentSpread, Selection, field, fragment_spread, inline_fragment, SelectionSet, no_selections, selection_and}
+use Rattle.graphql_parser.specs.trees.Request.{Document, operations_of, OperationDefinition, FragmentDefinition, VariableDefinition, TypeCondition, FragmentSpread, Selection, field, fragment_spread, inline_fragment, SelectionSet, no_selections, selection_and}
 use Rattle.graphql_parser.specs.types.Pos.{Pos}
 use Rattle.graphql_parser.specs.types.Positioned.{Positioned}
 use Rattle.graphql_json.specs.declared.place.Place.{Place}
@@ -92,10 +92,6 @@ fragment_json place fragment =
     (member (codes "selectionSet") (set_json place definition.selection_set) no_members))))
 
 -- ---- documents
-
-abbrev pub operations_of : Operations → List Operation
-operations_of (single operation) = (None, operation) ∷ []
-operations_of (multiple operations) = map (λ operation. (Some operation.0, operation.1)) operations
 
 -- A definition at this place, after the fragments that are left and whose places are smaller. `others` gives the JSON of
 -- the definitions after it.

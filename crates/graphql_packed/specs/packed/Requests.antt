@@ -1,8 +1,8 @@
 -- The bytes of requests.
 -- Source: this project's choice.
-use Rattle.std.specs.Prelude.{ℕ, suc, List, [], ◌∷◌, ◌++◌, Option, Some, None, map}
+use Rattle.std.specs.Prelude.{ℕ, suc, List, [], ◌∷◌, ◌++◌, Option}
 use Rattle.graphql_parser.specs.trees.Parts.{Name}
-use Rattle.graphql_parser.specs.trees.Request.{Document, Operations, single, multiple, OperationDefinition, FragmentDefinition, VariableDefinition, TypeCondition, FragmentSpread, Selection, field, fragment_spread, inline_fragment, SelectionSet, no_selections, selection_and}
+use Rattle.graphql_parser.specs.trees.Request.{Document, operations_of, OperationDefinition, FragmentDefinition, VariableDefinition, TypeCondition, FragmentSpread, Selection, field, fragment_spread, inline_fragment, SelectionSet, no_selections, selection_and}
 use Rattle.graphql_parser.specs.types.OperationType.{OperationType}
 use Rattle.graphql_parser.specs.types.OperationType.TheVariants.{Query, Mutation, Subscription}
 use Rattle.graphql_parser.specs.types.Positioned.{Positioned}
@@ -60,11 +60,6 @@ abbrev pub fragment_bytes : FragmentDefinition → Bytes
 fragment_bytes fragment = node_bytes condition_bytes fragment.type_condition ++ directives_bytes fragment.directives ++ node_bytes set_bytes fragment.selection_set
 
 -- ---- documents
-
--- the operations, each with its name where it has one
-abbrev pub operations_of : Operations → List (Option Name × Positioned OperationDefinition)
-operations_of (single operation) = (None, operation) ∷ []
-operations_of (multiple operations) = map (λ operation. (Some operation.0, operation.1)) operations
 
 -- a definition after its name, over the bytes of either
 abbrev pub named_bytes : {N D : Type 0} → (N → Bytes) → (D → Bytes) → N × Positioned D → Bytes

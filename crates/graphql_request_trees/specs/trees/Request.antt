@@ -1,7 +1,7 @@
 -- Request trees: what a request stands for, as plain data with every place.
 -- Source: GraphQL October 2021, sections 2.2 to 2.8 (Document to Fragments), and 2.10 (Variables).
 -- The places, and that operations and fragments keep their source order, are this project's choice.
-use Rattle.std.specs.Prelude.{List, [], ◌∷◌, Option}
+use Rattle.std.specs.Prelude.{List, [], ◌∷◌, Option, None, Some, map}
 use Rattle.graphql_tokens.specs.declared.pos.Pos.{Pos}
 use Rattle.graphql_tokens.specs.declared.pos.Positioned.{Positioned}
 use Rattle.graphql_syntax.specs.declared.types.OperationType.{OperationType}
@@ -92,6 +92,11 @@ pub record FragmentDefinition : Type 0 where
 pub data Operations : Type 0 where
   single : Positioned OperationDefinition → Operations
   multiple : List (Name × Positioned OperationDefinition) → Operations
+
+-- the operations, each with its name where it has one
+abbrev pub operations_of : Operations → List (Option Name × Positioned OperationDefinition)
+operations_of (single operation) = (None, operation) ∷ []
+operations_of (multiple operations) = map (λ operation. (Some operation.0, operation.1)) operations
 
 -- a request: its operations, and its fragments under their names, in source order
 pub record Document : Type 0 where

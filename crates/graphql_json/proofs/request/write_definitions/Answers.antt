@@ -1,8 +1,9 @@
 use Rattle.std.proofs.Common.{◌++◌, drop, map, ap, sym, ◌∙◌, refl}
 use Rattle.graphql_parser.specs.trees.RequestViews.{document_tree, entry_tree, fragment_tree}
-use Rattle.graphql_json.proofs.Operations.{operation_trees}
+use Rattle.graphql_parser.proofs.Requests.{operation_trees}
 use Rattle.graphql_json.proofs.Steps.{whole_list}
-use Rattle.graphql_json.specs.nodes.Requests.{definitions_json, operations_of}
+use Rattle.graphql_json.specs.nodes.Requests.{definitions_json}
+use Rattle.graphql_parser.specs.trees.Request.{operations_of}
 use Rattle.json.specs.Json.{no_items}
 use Rattle.json.specs.Tree.{items_tokens}
 use Rattle.graphql_json.proofs.request.write_definitions.Goals as goal

@@ -1,7 +1,8 @@
 use Rattle.std.proofs.Common.{◌≡◌, ◌++◌, drop, map}
 use Rattle.graphql_parser.specs.trees.RequestViews.{document_tree, entry_tree, fragment_tree}
-use Rattle.graphql_json.specs.nodes.Requests.{definitions_json, operations_of}
-use Rattle.graphql_json.proofs.Operations.{operation_trees}
+use Rattle.graphql_json.specs.nodes.Requests.{definitions_json}
+use Rattle.graphql_parser.specs.trees.Request.{operations_of}
+use Rattle.graphql_parser.proofs.Requests.{operation_trees}
 use Rattle.json.specs.Tree.{items_tokens}
 use Rattle.graphql_json.proofs.request.write_definitions.Given as goal
 

@@ -2,7 +2,8 @@ use Rattle.std.proofs.Common.{ap, codes}
 use Rattle.graphql_parser.specs.trees.RequestViews.{document_tree}
 use Rattle.graphql_json.proofs.Steps.{next, as_tokens, whole_node}
 use Rattle.graphql_json.specs.inner.Written.{member_tokens, opening}
-use Rattle.graphql_json.specs.nodes.Requests.{definitions_json, operations_of}
+use Rattle.graphql_json.specs.nodes.Requests.{definitions_json}
+use Rattle.graphql_parser.specs.trees.Request.{operations_of}
 use Rattle.json.specs.Json.{array}
 use Rattle.graphql_json.proofs.request.write_document.Goals as goal
 

@@ -1,8 +1,9 @@
 use Rattle.std.proofs.Common.{◌≡◌, ◌++◌, map}
 use Rattle.graphql_parser.specs.trees.RequestViews.{entry_tree, fragment_tree, operations_tree}
-use Rattle.graphql_packed.proofs.Operations.{operation_trees}
+use Rattle.graphql_parser.proofs.Requests.{operation_trees}
 use Rattle.graphql_packed.specs.packed.Bytes.{each_bytes, optional_bytes, text_bytes}
-use Rattle.graphql_packed.specs.packed.Requests.{fragment_bytes, named_bytes, operation_bytes, operations_of}
+use Rattle.graphql_packed.specs.packed.Requests.{fragment_bytes, named_bytes, operation_bytes}
+use Rattle.graphql_parser.specs.trees.Request.{operations_of}
 use Rattle.graphql_packed.proofs.request.pack_document.Given as goal
 
 abbrev pub invariant-loop-name : goal.invariant-loop-name
