@@ -8,9 +8,8 @@ use graphql_parser::types::{
 use graphql_parser::value::{ConstValue, Literal, Name, Value};
 use graphql_parser::{Error, Limits, Pos, Positioned};
 use rows::Shown;
-use rows::trees::{Written, write_directives};
+use rows::trees::{Written, write_default_value, write_directives};
 use std::alloc::{AllocError, Global};
-use std::borrow::Cow;
 use std::cmp::Ordering;
 use std::hash::{DefaultHasher, Hash, Hasher};
 
@@ -118,17 +117,7 @@ pub fn show_found(shown: &mut Shown, document: &ExecutableDocument) {
 
 fn show_defaults(shown: &mut Shown, operation: &OperationDefinition) {
     for variable in &operation.variable_definitions {
-        match variable.node.default_value() {
-            None => shown.word(" none"),
-            Some(Cow::Borrowed(value)) => {
-                shown.word(" lent ");
-                value.write(shown);
-            }
-            Some(Cow::Owned(value)) => {
-                shown.word(" made ");
-                value.write(shown);
-            }
-        }
+        write_default_value(shown, &variable.node);
     }
 }
 

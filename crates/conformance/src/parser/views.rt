@@ -7,9 +7,10 @@ use graphql_parser::types::{
 };
 use graphql_parser::value::{ConstValue, Name, Value, ValueView};
 use rows::Shown;
-use rows::trees::{Written, write_directives, write_file, write_request, write_value};
+use rows::trees::{
+    Written, write_default_value, write_directives, write_file, write_request, write_value,
+};
 use std::alloc::{AllocError, Global};
-use std::borrow::Cow;
 
 /// What is looked at in a tree. The first four are for schema files too.
 #[derive(Clone, Copy)]
@@ -217,17 +218,7 @@ fn write_argument(
 fn write_defaults(shown: &mut Shown, operation: &OperationDefinition) {
     for variable in &operation.variable_definitions {
         shown.item("", &variable.node.name.node);
-        match variable.node.default_value() {
-            None => shown.word(" none "),
-            Some(Cow::Borrowed(value)) => {
-                shown.word(" lent ");
-                value.write(shown);
-            }
-            Some(Cow::Owned(value)) => {
-                shown.word(" made ");
-                value.write(shown);
-            }
-        }
+        write_default_value(shown, &variable.node);
         shown.word(";");
     }
 }

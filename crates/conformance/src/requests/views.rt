@@ -25,8 +25,8 @@ pub const RESPONSE_KEYS: &str = r"
 /// Requests, and the defaults of their variables.
 pub const DEFAULTS: &str = r"
 -- The default of a variable.
-query($a:Int $b:Int! $c:Int!=1){a} ⇒ a made null;b none ;c lent 1;
-query($a:Int=red $b:[Int!] $c:[Int]!){a} ⇒ a lent .red;b made null;c none ;
+query($a:Int $b:Int! $c:Int!=1){a} ⇒ a made null;b none;c lent 1;
+query($a:Int=red $b:[Int!] $c:[Int]!){a} ⇒ a lent .red;b made null;c none;
 query($a:Int=null){a} ⇒ a lent null;
 ";
 

@@ -3,11 +3,13 @@ use crate::Shown;
 use crate::trees::parts::{
     write_arguments, write_default, write_directives, write_node, write_places,
 };
+use crate::trees::values::Written;
 use graphql_request_trees::{
     DocumentOperations, ExecutableDocument, Field, InlineFragment, OperationDefinition, Selection,
-    SelectionSet, TypeCondition,
+    SelectionSet, TypeCondition, VariableDefinition,
 };
 use graphql_syntax::pos::{Pos, Positioned};
+use std::borrow::Cow;
 
 /// The tree of a request: its operations, and then its fragments, each after its name.
 pub fn write_request(shown: &mut Shown, document: &ExecutableDocument) {
@@ -28,6 +30,21 @@ pub fn write_request(shown: &mut Shown, document: &ExecutableDocument) {
         write_directives(shown, &fragment.node.directives);
         write_set(shown, &fragment.node.selection_set);
         shown.word(")");
+    }
+}
+
+/// The default value that a variable has in effect, after whether it is lent or made; or that it has none.
+pub fn write_default_value(shown: &mut Shown, variable: &VariableDefinition) {
+    match variable.default_value() {
+        None => shown.word(" none"),
+        Some(Cow::Borrowed(value)) => {
+            shown.word(" lent ");
+            value.write(shown);
+        }
+        Some(Cow::Owned(value)) => {
+            shown.word(" made ");
+            value.write(shown);
+        }
     }
 }
 
