@@ -7,20 +7,19 @@ ghost use Rattle.gql.specs.declared.check.Found.TheVariants.{Good};
 use crate::command::{Call, Format};
 use crate::language::read_as;
 use crate::output::shown_name;
-use crate::telling::{Reading, Told, tell_all, tell_unread};
+use crate::telling::{Names, Reading, Teller, tell_all, tell_unread};
 use crate::texts::{Texts, Unread};
 use graphql_parser::{Error, Limits, Memory, check_query_within, check_schema_within};
-use graphql_report::{Language, Style};
+use graphql_report::Language;
 use std::alloc::{AllocError, Global};
 use std::io::Write;
 
-/// How many files were good, refused, and without a text, and how many findings were told of those that were refused.
+/// How many files were good, refused, and without a text.
 #[derive(Clone, Copy)]
 pub struct Tally {
     pub good: usize,
     pub refused: usize,
     pub unread: usize,
-    pub findings: usize,
 }
 
 /// What was found of all files: the exit status, and how many there were.
@@ -82,15 +81,13 @@ pub fn error_of(
 }
 
 /// Reads each of these files and checks it, one after another, and tells what is wrong with it: reports go to `err`, and
-/// what is for standard output is added to `lines`. No text is kept while the next one is read. The status is 0 only where
-/// each file has a text that is good. An error says that memory was refused.
+/// what is for standard output is kept. No text is kept while the next one is read. The status is 0 only where each file
+/// has a text that is good. An error says that memory was refused.
 pub fn check_files<T: Texts, E: Write>(
-    alloc: Global,
     call: &Call<'_>,
-    style: Style,
     files: &Vec<&str>,
     texts: &mut T,
-    lines: &mut String,
+    teller: &mut Teller,
     err: &mut E,
 ) -> Result<Outcome, AllocError>
     ensures status { IfOk result (λ outcome. outcome.status ≤ 2) }
@@ -102,18 +99,16 @@ pub fn check_files<T: Texts, E: Write>(
         good: 0,
         refused: 0,
         unread: 0,
-        findings: 0,
     };
     let mut worst: u8 = 0;
     for name in files {
-        let text = texts.text(alloc, name);
-        let shown = shown_name(alloc, name)?;
-        let told = told_of(call, style, name, shown.as_str());
-        let found = check_text(alloc, call, &told, &text, &mut tally.findings, lines, err)?;
+        let text = texts.text(teller.alloc, name);
+        let shown = shown_name(teller.alloc, name)?;
+        let found = check_text(call, names_of(name, shown.as_str()), &text, teller, err)?;
         worst = worst.max(found.status());
         tally = counted(tally, found);
-        if found == Found::Good && call.is_verbose && told.format == Format::Text {
-            writeln!(lines, "{shown}: good")?;
+        if found == Found::Good && call.is_verbose && teller.format == Format::Text {
+            writeln!(teller.lines, "{shown}: good")?;
         }
     }
     Ok(Outcome {
@@ -122,14 +117,11 @@ pub fn check_files<T: Texts, E: Write>(
     })
 }
 
-/// How a file is told of.
-pub fn told_of<'a>(call: &Call<'_>, style: Style, name: &'a str, shown: &'a str) -> Told<'a> {
-    Told {
+/// The names of a file that a call names so, and that is shown so.
+pub fn names_of<'a>(name: &'a str, shown: &'a str) -> Names<'a> {
+    Names {
         shown,
         name: if name == "-" { shown } else { name },
-        format: call.format,
-        style,
-        is_quiet: call.is_quiet,
     }
 }
 
@@ -144,83 +136,77 @@ fn counted(tally: Tally, found: Found) -> Tally {
     tally
 }
 
-// What is found of the text of a file, or of there being none. The number of findings that were told is added.
+// What is found of the text of a file, or of there being none.
 fn check_text<E: Write>(
-    alloc: Global,
     call: &Call<'_>,
-    told: &Told<'_>,
+    names: Names<'_>,
     text: &Result<String, Unread>,
-    findings: &mut usize,
-    lines: &mut String,
+    teller: &mut Teller,
     err: &mut E,
 ) -> Result<Found, AllocError>
     ensures { (result ≡ Ok Good) → IsGood call.now.takes_fragments call.now.limits text.now }
 {
     match text {
         Err(why) => {
-            tell_unread(alloc, told, *why, lines, err)?;
+            tell_unread(teller, names, *why, err)?;
             Ok(Found::Unread)
         }
         Ok(text) => {
             let text = text.as_str();
             let reading = Reading {
-                language: read_as(alloc, call.language, told.name, text)?,
+                language: read_as(teller.alloc, call.language, names.name, text)?,
                 limits: call.limits,
             };
-            check_read(alloc, call, told, &reading, text, findings, lines, err)
+            check_read(call, names, &reading, text, teller, err)
         }
     }
 }
 
 // What is found of a text. Where memory is refused, a budget stops the check of this text alone.
 fn check_read<E: Write>(
-    alloc: Global,
     call: &Call<'_>,
-    told: &Told<'_>,
+    names: Names<'_>,
     reading: &Reading,
     text: &str,
-    findings: &mut usize,
-    lines: &mut String,
+    teller: &mut Teller,
     err: &mut E,
 ) -> Result<Found, AllocError>
     ensures { (result ≡ Ok Good) →
         IsGoodText call.now.takes_fragments reading.now.language reading.now.limits text.now }
 {
     let Reading { language, limits } = *reading;
-    let mut memory = Memory::with_budget(alloc, call.memory.unwrap_or(usize::MAX));
+    let mut memory = Memory::with_budget(teller.alloc, call.memory.unwrap_or(usize::MAX));
     match error_of(&mut memory, language, text, limits, call.takes_fragments) {
         Ok(None) => Ok(Found::Good),
         Ok(Some(error)) => {
-            let count = tell_all(alloc, told, reading, text, &error, lines, err)?;
-            *findings = findings.saturating_add(count);
+            tell_all(teller, names, reading, text, &error, err)?;
             Ok(Found::Refused)
         }
         Err(_) if call.memory.is_some() => {
-            tell_unread(alloc, told, Unread::OverBudget, lines, err)?;
+            tell_unread(teller, names, Unread::OverBudget, err)?;
             Ok(Found::Unread)
         }
         Err(refused) => Err(refused),
     }
 }
 
-/// How many files there were, as `3 files: 1 good, 1 refused (2 findings), 1 not read`.
-pub fn summary(alloc: Global, tally: Tally) -> Result<String, AllocError> {
+/// Tells how many files there were, as `3 files: 1 good, 1 refused (2 findings), 1 not read`.
+pub fn tell_tally(teller: &mut Teller, tally: Tally) -> Result<(), AllocError> {
     let Tally {
         good,
         refused,
         unread,
-        findings,
     } = tally;
+    let findings = teller.findings;
     let count = good.saturating_add(refused).saturating_add(unread);
     let files = if count == 1 { "file" } else { "files" };
-    let mut line = format!(in alloc; "{count} {files}: {good} good")?;
+    write!(teller.lines, "{count} {files}: {good} good")?;
     if refused > 0 {
         let word = if findings == 1 { "finding" } else { "findings" };
-        write!(line, ", {refused} refused ({findings} {word})")?;
+        write!(teller.lines, ", {refused} refused ({findings} {word})")?;
     }
     if unread > 0 {
-        write!(line, ", {unread} not read")?;
+        write!(teller.lines, ", {unread} not read")?;
     }
-    line.push('\n')?;
-    Ok(line)
+    teller.lines.push('\n')
 }

@@ -1,12 +1,12 @@
 //! The program's work, over any source of texts and any writers.
 ghost use Rattle.std.specs.Prelude.{◌≤◌, IfOk};
 
-use crate::check::{check_files, summary, told_of};
+use crate::check::{check_files, names_of, tell_tally};
 use crate::command::{Asked, Call, Command, Format, Wrong, command_of};
 use crate::language::read_as;
 use crate::listed::token_lines;
 use crate::output::{Stop, complain, complain_of_call, put, shown_name};
-use crate::telling::{Told, tell_unread};
+use crate::telling::{Teller, tell_unread};
 use crate::texts::Texts;
 use graphql_json::{Places, request_json, schema_json};
 use graphql_parser::{Error, parse_query_limited, parse_schema_limited};
@@ -130,18 +130,25 @@ fn check<T: Texts, O: Write, E: Write>(
 ) -> Result<u8, Stop>
     ensures { IfOk result (λ status. status ≤ 2) }
 {
-    let mut lines = String::new(alloc);
+    let mut teller = Teller {
+        alloc,
+        format: call.format,
+        style,
+        is_quiet: call.is_quiet,
+        lines: String::new(alloc),
+        findings: 0,
+    };
     let mut files: Vec<String> = Vec::new(alloc);
-    let unlisted = push_files(alloc, call, style, texts, &mut files, &mut lines, err)?;
+    let unlisted = push_files(call, texts, &mut files, &mut teller, err)?;
     let names = texts_of(alloc, &files)?;
-    let outcome = check_files(alloc, call, style, &names, texts, &mut lines, err)?;
+    let outcome = check_files(call, &names, texts, &mut teller, err)?;
     let mut tally = outcome.tally;
     tally.unread = tally.unread.saturating_add(unlisted);
     if call.format == Format::Text {
-        lines.push_str(summary(alloc, tally)?.as_str())?;
+        tell_tally(&mut teller, tally)?;
     }
     if !call.is_quiet {
-        put(out, lines.as_str().as_bytes())?;
+        put(out, teller.lines.as_str().as_bytes())?;
     }
     Ok(if unlisted > 0 { 2 } else { outcome.status })
 }
@@ -157,14 +164,13 @@ fn texts_of<'a>(alloc: Global, strings: &'a Vec<String>) -> Result<Vec<&'a str>,
 // Adds the files that are checked: those of the call, and in place of a folder those below it. Tells of each folder that
 // has none or can't be listed, and gives how many there were.
 fn push_files<T: Texts, E: Write>(
-    alloc: Global,
     call: &Call<'_>,
-    style: Style,
     texts: &mut T,
     files: &mut Vec<String>,
-    lines: &mut String,
+    teller: &mut Teller,
     err: &mut E,
 ) -> Result<usize, AllocError> {
+    let alloc = teller.alloc;
     let mut unlisted = 0usize;
     for name in &call.files {
         match texts.files_below(alloc, name) {
@@ -176,8 +182,7 @@ fn push_files<T: Texts, E: Write>(
             Ok(None) => files.push(String::from_str(alloc, name)?)?,
             Err(why) => {
                 let shown = shown_name(alloc, name)?;
-                let told = told_of(call, style, name, shown.as_str());
-                tell_unread(alloc, &told, why, lines, err)?;
+                tell_unread(teller, names_of(name, shown.as_str()), why, err)?;
                 unlisted = unlisted.saturating_add(1);
             }
         }
@@ -201,8 +206,8 @@ fn print_one<T: Texts, O: Write, E: Write>(
     let text = match texts.text(alloc, name) {
         Ok(text) => text,
         Err(why) => {
-            let told = told_for_people(style, shown.as_str());
-            tell_unread(alloc, &told, why, &mut String::new(alloc), err)?;
+            let mut teller = teller_of_people(alloc, style);
+            tell_unread(&mut teller, names_of(name, shown.as_str()), why, err)?;
             return Ok(2);
         }
     };
@@ -227,14 +232,15 @@ fn print_one<T: Texts, O: Write, E: Write>(
     }
 }
 
-// How a file is told of where findings have no other form.
-fn told_for_people(style: Style, shown: &str) -> Told<'_> {
-    Told {
-        shown,
-        name: shown,
+// Tells of files where findings have no other form.
+fn teller_of_people(alloc: Global, style: Style) -> Teller {
+    Teller {
+        alloc,
         format: Format::Text,
         style,
         is_quiet: false,
+        lines: String::new(alloc),
+        findings: 0,
     }
 }
 

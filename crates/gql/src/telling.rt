@@ -13,16 +13,25 @@ use std::io::Write;
 /// So many findings of a file are told at most.
 pub const MOST_FINDINGS: usize = 100;
 
-/// A file, and how it is told what is wrong with it.
+/// The names of a file: the one that people are told, and the one that programs are told.
 #[derive(Clone, Copy)]
-pub struct Told<'a> {
-    /// The name by which it is told to people.
+pub struct Names<'a> {
     pub shown: &'a str,
-    /// The name by which it is told to programs.
     pub name: &'a str,
+}
+
+/// Tells what is wrong with files: in which form, and what was told so far. Reports go to standard error at once; the lines
+/// for programs are kept until standard output is written.
+#[derive(Drop)]
+pub struct Teller {
+    pub alloc: Global,
     pub format: Format,
     pub style: Style,
     pub is_quiet: bool,
+    /// What goes to standard output.
+    pub lines: String,
+    /// How many findings were told.
+    pub findings: usize,
 }
 
 /// What a text is read as, and how deep it may nest.
@@ -32,56 +41,50 @@ pub struct Reading {
     pub limits: Limits,
 }
 
-/// Tells the error of a text, and then the first error of each definition after it. Gives how many errors were told.
+/// Tells the error of a text, and then the first error of each definition after it.
 ///
 /// A refused text is read again from the next definition on, and so on. What the definitions before the refused one lack, or
 /// have twice, is no matter then, and neither is that an operation without a name isn't alone: a brace at the beginning of a
 /// line may belong to a definition that is refused before it.
 pub fn tell_all<E: Write>(
-    alloc: Global,
-    told: &Told<'_>,
+    teller: &mut Teller,
+    names: Names<'_>,
     reading: &Reading,
     text: &str,
     error: &Error,
-    lines: &mut String,
     err: &mut E,
-) -> Result<usize, AllocError> {
-    if told.is_quiet {
-        return Ok(0);
+) -> Result<(), AllocError> {
+    if teller.is_quiet {
+        return Ok(());
     }
-    tell(alloc, told, reading, text, error, lines, err)?;
-    match rest_after(alloc, reading, text, error)? {
-        None => Ok(1),
-        Some(rest) => {
-            let count = tell_rest(alloc, told, reading, rest, lines, err)?;
-            Ok(count.saturating_add(1))
-        }
+    tell(teller, names, reading, text, error, err)?;
+    match rest_after(teller.alloc, reading, text, error)? {
+        None => Ok(()),
+        Some(rest) => tell_rest(teller, names, reading, rest, err),
     }
 }
 
-// Tells the first error of each definition in the rest of a text. Gives how many errors were told.
+// Tells the first error of each definition in the rest of a text.
 fn tell_rest<E: Write>(
-    alloc: Global,
-    told: &Told<'_>,
+    teller: &mut Teller,
+    names: Names<'_>,
     reading: &Reading,
     rest: String,
-    lines: &mut String,
     err: &mut E,
-) -> Result<usize, AllocError> {
+) -> Result<(), AllocError> {
+    let alloc = teller.alloc;
     let mut rest = rest;
-    let mut count = 0usize;
     for _ in 1..MOST_FINDINGS {
         let Some(error) = next_error(alloc, reading, rest.as_str())? else {
             break;
         };
-        tell(alloc, told, reading, rest.as_str(), &error, lines, err)?;
-        count = count.saturating_add(1);
+        tell(teller, names, reading, rest.as_str(), &error, err)?;
         let Some(next) = rest_after(alloc, reading, rest.as_str(), &error)? else {
             break;
         };
         rest = next;
     }
-    Ok(count)
+    Ok(())
 }
 
 // The error of the rest of a text, if it is one to be told.
@@ -115,39 +118,47 @@ fn rest_after(
 
 // Tells the error of a text: a report goes to `err`, and a line for programs is added to the lines.
 fn tell<E: Write>(
-    alloc: Global,
-    told: &Told<'_>,
+    teller: &mut Teller,
+    names: Names<'_>,
     reading: &Reading,
     text: &str,
     error: &Error,
-    lines: &mut String,
     err: &mut E,
 ) -> Result<(), AllocError> {
     let Reading { language, limits } = *reading;
-    if told.format == Format::Text {
-        let report = explain_in(told.style, alloc, language, told.shown, text, limits, error)?;
+    let alloc = teller.alloc;
+    teller.findings = teller.findings.saturating_add(1);
+    if teller.format == Format::Text {
+        let report = explain_in(
+            teller.style,
+            alloc,
+            language,
+            names.shown,
+            text,
+            limits,
+            error,
+        )?;
         complain(err, report.as_str());
         return Ok(());
     }
     let finding = finding_of(alloc, language, text, limits, error)?;
-    push_finding(alloc, told, &finding, lines)
+    push_finding(teller, names, &finding)
 }
 
 /// Tells why there is no text in a file.
 pub fn tell_unread<E: Write>(
-    alloc: Global,
-    told: &Told<'_>,
+    teller: &mut Teller,
+    names: Names<'_>,
     why: Unread,
-    lines: &mut String,
     err: &mut E,
 ) -> Result<(), AllocError> {
     let why_told = why.words().ok_or(AllocError)?;
-    if told.is_quiet {
+    if teller.is_quiet {
         return Ok(());
     }
-    if told.format == Format::Text {
-        let shown = told.shown;
-        let line = format!(in alloc; "gql: {shown} {why_told}\n")?;
+    if teller.format == Format::Text {
+        let shown = names.shown;
+        let line = format!(in teller.alloc; "gql: {shown} {why_told}\n")?;
         complain(err, line.as_str());
         return Ok(());
     }
@@ -155,22 +166,21 @@ pub fn tell_unread<E: Write>(
         place: None,
         end: None,
         status: why.status(),
-        message: String::from_str(alloc, why_told)?,
+        message: String::from_str(teller.alloc, why_told)?,
     };
-    push_finding(alloc, told, &finding, lines)
+    push_finding(teller, names, &finding)
 }
 
 // Adds the line of a finding for programs.
 fn push_finding(
-    alloc: Global,
-    told: &Told<'_>,
+    teller: &mut Teller,
+    names: Names<'_>,
     finding: &Finding,
-    lines: &mut String,
 ) -> Result<(), AllocError> {
-    if told.format == Format::Github {
-        push_command(alloc, told.shown, finding, lines)
+    if teller.format == Format::Github {
+        push_command(teller.alloc, names.shown, finding, &mut teller.lines)
     } else {
-        push_json(alloc, told.name, finding, lines)
+        push_json(teller.alloc, names.name, finding, &mut teller.lines)
     }
 }
 
