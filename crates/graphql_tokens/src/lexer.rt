@@ -220,7 +220,8 @@ pub struct Tokens<'a> {
     text: &'a str,
     places: RunningPlace<'a>,
     taken: usize,
-    is_ended: bool,
+    // The kind of the token that was given last; before the first, one after which others come.
+    last: TokenKind,
 }
 
 impl<'a> Model for Tokens<'a> {
@@ -268,7 +269,7 @@ impl<'a> Tokens<'a> {
             text,
             places: RunningPlace::new(text),
             taken: 0,
-            is_ended: false,
+            last: TokenKind::Punct,
         }
     }
 
@@ -298,7 +299,7 @@ impl<'a> Tokens<'a> {
         let end = if is_last { start } else { places.offset() };
         self.places = places;
         self.taken += 1;
-        self.is_ended = is_last;
+        self.last = kind;
         Token {
             kind,
             text: &self.text[start..end],
@@ -333,7 +334,7 @@ impl<'a> Tokens<'a> {
         // It has given no more tokens than there are.
         ensures within { self.now.taken ≤ length self.now.whole }
     {
-        self.is_ended
+        self.last.is_last()
     }
 }
 

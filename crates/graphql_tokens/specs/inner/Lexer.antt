@@ -1,6 +1,7 @@
 -- What a lexer shows.
 use Rattle.std.specs.Prelude.{◌≡◌, ◌≤◌, ℕ, false, if◌then◌else◌, List, [], length, take, drop}
 use Rattle.std.specs.Str.{chars}
+use Rattle.graphql_tokens.specs.tokens.Cuts.{is_last}
 use Rattle.graphql_tokens.specs.tokens.Token.{Token, Lexing}
 use Rattle.graphql_tokens.specs.inner.Reading.{tokens}
 use Rattle.graphql_tokens.specs.inner.Lexing.{RunsOver}
@@ -16,6 +17,6 @@ shown a = record { text = a.text.now; whole = tokens_at a.text.now 0; taken = a.
 pub record IsLexing (a : Inside) : Type 0 where
   pub runs : RunsOver a.text.now a.places
   -- so many tokens are before the offset, and all where the last was given
-  pub given : drop a.taken (tokens_at a.text.now 0) ≡ (if a.is_ended then [] else tokens_at a.text.now a.places.walk.offset)
-  pub counted : a.is_ended ≡ false → a.taken ≤ a.places.walk.offset
+  pub given : drop a.taken (tokens_at a.text.now 0) ≡ (if is_last a.last then [] else tokens_at a.text.now a.places.walk.offset)
+  pub counted : is_last a.last ≡ false → a.taken ≤ a.places.walk.offset
   pub within : a.taken ≤ length (tokens_at a.text.now 0)

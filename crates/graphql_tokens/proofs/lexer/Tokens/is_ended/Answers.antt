@@ -1,7 +1,7 @@
 use Rattle.std.proofs.Common.{◌≡◌, ◌∙◌, ap, drop, [], refl, sym, subst}
 use Rattle.std.specs.Str.{chars, IsUtf8}
 use Rattle.graphql_tokens.specs.tokens.Edition.{Current}
-use Rattle.graphql_tokens.specs.tokens.Cuts.{EndsOnce}
+use Rattle.graphql_tokens.specs.tokens.Cuts.{is_last, EndsOnce}
 use Rattle.graphql_tokens.specs.tokens.Proper.{AreProperButFaults}
 use Rattle.graphql_tokens.specs.tokens.Token.{left}
 use Rattle.graphql_tokens.specs.inner.Reading.{tokens}
@@ -11,12 +11,12 @@ use Rattle.graphql_tokens.proofs.Propers.{cuts_proper, proper_drop, text_scalars
 use Rattle.graphql_tokens.proofs.lexer.Tokens.is_ended.Goals as goal
 
 -- what is left, of the text's whole list
-rest : (c : goal.After-self) → left c.args.self.now ≡ drop c.self.inside.taken (tokens [] (chars c.self.inside.text.now))
+rest : (c : goal.After-is_last) → left c.args.self.now ≡ drop c.self.inside.taken (tokens [] (chars c.self.inside.text.now))
 rest c = sym (ap left c.self.view_is) ∙ ap (drop c.self.inside.taken) (at_start c.self.inside.text.now 0 refl)
 
 pub returns-clause-ended : goal.returns-clause-ended
 returns-clause-ended c =
-    rw (← c.self.view_is, c.self.invariant.given) (tokens_left c.self.inside.text.now c.self.inside.places.walk.offset c.self.inside.is_ended)
+    rw (c.is_last.ensures, ← c.self.view_is, c.self.invariant.given) (tokens_left c.self.inside.text.now c.self.inside.places.walk.offset (is_last c.self.inside.last))
 
 pub returns-clause-ends : goal.returns-clause-ends
 returns-clause-ends c some =

@@ -36,10 +36,10 @@ passed c =
       other_end = λ l. elim c.if-is_last.branch [ then-is_last w ↦ let f = w.if-is_last.true in let g = sym c.is_last-is_last.ensures ∙ f in absurd (cc) | else-is_last w ↦ w.end-is ∙ w.offset-end.ensures ];
     }
 
-not_ended : (c : goal.After-t21-1) → c.self.inside.is_ended ≡ false
-not_ended c = by c.self.inside.is_ended refl
+not_ended : (c : goal.After-t21-1) → is_last c.self.inside.last ≡ false
+not_ended c = by (is_last c.self.inside.last) refl
   where
-    by : (b : Bool) → c.self.inside.is_ended ≡ b → c.self.inside.is_ended ≡ false
+    by : (b : Bool) → is_last c.self.inside.last ≡ b → is_last c.self.inside.last ≡ false
     by false e = e
     by true e =
         absurd (c.requires (sym (ap left c.self.view_is) ∙ c.self.invariant.given ∙ ap (λ b. cond b [] (tokens_at c.self.inside.text.now c.self.inside.places.walk.offset)) e))
@@ -57,9 +57,9 @@ behind c =
 pub invariant_of-self : goal.invariant_of-self
 invariant_of-self c = record {
   runs = (passed c).at_behind;
-  given = behind c ∙ ap (λ b. cond b [] (tokens_at c.self.inside.text.now c.pass_token-kind.new.places.walk.offset)) (sym c.is_last-is_last.ensures);
+  given = behind c;
   counted = λ l.
-      (let m = pass_moves _ _ _ _ _ _ (passed c) (sym c.is_last-is_last.ensures ∙ l) in
+      (let m = pass_moves _ _ _ _ _ _ (passed c) l in
       let n = c.self.invariant.counted (not_ended c) in
       omega arith);
   within =
