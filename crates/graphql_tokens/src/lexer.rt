@@ -297,7 +297,7 @@ impl<'a> Tokens<'a> {
         let kind = pass_token(bytes, &mut places);
         let is_last = kind.is_last();
         let end = if is_last { start } else { places.offset() };
-        self.places = places;
+        self.places.go_to(&places);
         self.taken += 1;
         self.last = kind;
         Token {

@@ -31,6 +31,20 @@ impl<'a> RunningPlace<'a> {
         }
     }
 
+    // Goes to where another place in the same text is. The text isn't written again.
+    #[inline(always)]
+    pub fn go_to(&mut self, other: &RunningPlace)
+        requires running { IsRunning other.now }
+        requires same { self.old.walk.text.now ≡ other.now.walk.text.now }
+        ensures same { self.new.walk.text.now ≡ self.old.walk.text.now }
+        ensures running { IsRunning self.new }
+        ensures offset { self.new.walk.offset ≡ other.now.walk.offset }
+    {
+        self.walk.go_to(&other.walk);
+        self.line = other.line;
+        self.before = other.before;
+    }
+
     #[inline(always)]
     pub fn offset(&self) -> usize
         ensures { result ≡ self.now.walk.offset }

@@ -6,7 +6,7 @@ ghost use Rattle.std.specs.Str.{IsCharBoundary};
 ghost use Rattle.graphql_tokens.specs.inner.TextWalk.{IsWalking, Passes};
 
 // The text, how many of its bytes were passed, and how many characters. It hands the text out nowhere. A copy
-// of it goes on by itself, and what a copy passes is counted by that copy alone.
+// of it goes on by itself, and what a copy passes is counted by that copy alone, unless the walk goes to where it is.
 #[derive(Clone, Copy, Debug)]
 pub struct TextWalk<'a> {
     text: &'a str,
@@ -73,6 +73,20 @@ impl<'a> TextWalk<'a> {
     {
         self.offset += len;
         self.count += len;
+    }
+
+    // Goes to where another walk over the same text is, which isn't written again.
+    #[inline(always)]
+    pub fn go_to(&mut self, other: &TextWalk)
+        requires walking { IsWalking other.now }
+        requires same { self.old.text.now ≡ other.now.text.now }
+        ensures same { self.new.text.now ≡ self.old.text.now }
+        ensures walking { IsWalking self.new }
+        ensures offset { self.new.offset ≡ other.now.offset }
+        ensures count { self.new.count ≡ other.now.count }
+    {
+        self.offset = other.offset;
+        self.count = other.count;
     }
 
     #[inline(always)]

@@ -17,7 +17,7 @@ use Rattle.graphql_tokens.proofs.Propers.{cuts_proper, proper_drop, text_scalars
 use Rattle.graphql_tokens.proofs.lexer.Tokens.next_token.Goals as goal
 use Rattle.graphql_tokens.proofs.lexer.Tokens.next_token.Goals.{then-is_last, else-is_last}
 
-passed : (c : goal.After-t21-1) → Passed c.self.inside.text.now c.self.inside.places c.pass_ignored.new.places c.pass_token-kind.new.places c.pass_token-kind.result c.if-is_last.end
+passed : (c : goal.After-t23-1) → Passed c.self.inside.text.now c.self.inside.places c.pass_ignored.new.places c.pass_token-kind.new.places c.pass_token-kind.result c.if-is_last.end
 passed c =
     let bs = c.self.inside.text.now in
     let same = c.as_bytes-bytes.ensures.value in
@@ -36,7 +36,7 @@ passed c =
       other_end = λ l. elim c.if-is_last.branch [ then-is_last w ↦ let f = w.if-is_last.true in let g = sym c.is_last-is_last.ensures ∙ f in absurd (cc) | else-is_last w ↦ w.end-is ∙ w.offset-end.ensures ];
     }
 
-not_ended : (c : goal.After-t21-1) → is_last c.self.inside.last ≡ false
+not_ended : (c : goal.After-t23-1) → is_last c.self.inside.last ≡ false
 not_ended c = by (is_last c.self.inside.last) refl
   where
     by : (b : Bool) → is_last c.self.inside.last ≡ b → is_last c.self.inside.last ≡ false
@@ -45,23 +45,23 @@ not_ended c = by (is_last c.self.inside.last) refl
         absurd (c.requires (sym (ap left c.self.view_is) ∙ c.self.invariant.given ∙ ap (λ b. cond b [] (tokens_at c.self.inside.text.now c.self.inside.places.walk.offset)) e))
 
 -- the tokens still to come, by the place that is reached
-still : (c : goal.After-t21-1) → drop c.self.inside.taken (tokens_at c.self.inside.text.now 0) ≡ tokens_at c.self.inside.text.now c.self.inside.places.walk.offset
+still : (c : goal.After-t23-1) → drop c.self.inside.taken (tokens_at c.self.inside.text.now 0) ≡ tokens_at c.self.inside.text.now c.self.inside.places.walk.offset
 still c = c.self.invariant.given ∙ ap (λ b. cond b [] (tokens_at c.self.inside.text.now c.self.inside.places.walk.offset)) (not_ended c)
 
 -- without the token that is passed
-behind : (c : goal.After-t21-1) → drop (c.self.inside.taken + 1) (tokens_at c.self.inside.text.now 0) ≡ cond (is_last c.pass_token-kind.result) [] (tokens_at c.self.inside.text.now c.pass_token-kind.new.places.walk.offset)
+behind : (c : goal.After-t23-1) → drop (c.self.inside.taken + 1) (tokens_at c.self.inside.text.now 0) ≡ cond (is_last c.pass_token-kind.result) [] (tokens_at c.self.inside.text.now c.pass_token-kind.new.places.walk.offset)
 behind c =
     sym (drop-drop 1 c.self.inside.taken (tokens_at c.self.inside.text.now 0))
     ∙ ap (drop 1) (still c ∙ pass_gives _ _ _ _ _ _ (passed c))
 
 pub invariant_of-self : goal.invariant_of-self
 invariant_of-self c = record {
-  runs = (passed c).at_behind;
-  given = behind c;
+  runs = record { running = c.go_to.ensures.running; same = c.go_to.ensures.same ∙ c.self.invariant.runs.same };
+  given = behind c ∙ ap (λ at. cond (is_last c.pass_token-kind.result) [] (tokens_at c.self.inside.text.now at)) (sym c.go_to.ensures.offset);
   counted = λ l.
       (let m = pass_moves _ _ _ _ _ _ (passed c) l in
       let n = c.self.invariant.counted (not_ended c) in
-      omega arith);
+      omega (arith, c.go_to.ensures.offset));
   within =
       (let l = ap length (still c ∙ pass_gives _ _ _ _ _ _ (passed c)) in
       omega (arith, l, length-drop c.self.inside.taken (tokens_at c.self.inside.text.now 0)));
@@ -86,7 +86,7 @@ returns-clause-token c =
     ∙ ap (λ l. seen (record { kind = kind; text = c.range.result; start = c.offset-start.result; pos = c.pos-pos.result }) ∷ l) (sym (behind c))
 
 -- what is left, of the text's whole list
-rest : (c : goal.After-t21-1) → left c.args.self.now ≡ drop c.self.inside.taken (tokens [] (chars c.self.inside.text.now))
+rest : (c : goal.After-t23-1) → left c.args.self.now ≡ drop c.self.inside.taken (tokens [] (chars c.self.inside.text.now))
 rest c = sym (ap left c.self.view_is) ∙ ap (drop c.self.inside.taken) (at_start c.self.inside.text.now 0 refl)
 
 pub returns-clause-ends : goal.returns-clause-ends
