@@ -7,7 +7,7 @@ ghost use Rattle.gql.specs.declared.check.Found.TheVariants.{Good};
 use crate::command::{Call, Format};
 use crate::language::read_as;
 use crate::output::shown_name;
-use crate::telling::{Names, Reading, Teller, tell_all, tell_unread};
+use crate::telling::{Names, Reading, Teller};
 use crate::texts::{Texts, Unread};
 use graphql_parser::{Error, Limits, Memory, check_query_within, check_schema_within};
 use graphql_report::Language;
@@ -148,7 +148,7 @@ fn check_text<E: Write>(
 {
     match text {
         Err(why) => {
-            tell_unread(teller, names, *why, err)?;
+            teller.tell_unread(names, *why, err)?;
             Ok(Found::Unread)
         }
         Ok(text) => {
@@ -179,11 +179,11 @@ fn check_read<E: Write>(
     match error_of(&mut memory, language, text, limits, call.takes_fragments) {
         Ok(None) => Ok(Found::Good),
         Ok(Some(error)) => {
-            tell_all(teller, names, reading, text, &error, err)?;
+            teller.tell_all(names, reading, text, &error, err)?;
             Ok(Found::Refused)
         }
         Err(_) if call.memory.is_some() => {
-            tell_unread(teller, names, Unread::OverBudget, err)?;
+            teller.tell_unread(names, Unread::OverBudget, err)?;
             Ok(Found::Unread)
         }
         Err(refused) => Err(refused),

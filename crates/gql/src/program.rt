@@ -6,7 +6,7 @@ use crate::command::{Asked, Call, Command, Format, Wrong, command_of};
 use crate::language::read_as;
 use crate::listed::token_lines;
 use crate::output::{Stop, complain, complain_of_call, put, shown_name};
-use crate::telling::{Teller, tell_unread};
+use crate::telling::Teller;
 use crate::texts::Texts;
 use graphql_json::{Places, request_json, schema_json};
 use graphql_parser::{Error, parse_query_limited, parse_schema_limited};
@@ -130,14 +130,7 @@ fn check<T: Texts, O: Write, E: Write>(
 ) -> Result<u8, Stop>
     ensures { IfOk result (λ status. status ≤ 2) }
 {
-    let mut teller = Teller {
-        alloc,
-        format: call.format,
-        style,
-        is_quiet: call.is_quiet,
-        lines: String::new(alloc),
-        findings: 0,
-    };
+    let mut teller = Teller::new(alloc, call.format, style, call.is_quiet);
     let mut files: Vec<String> = Vec::new(alloc);
     let unlisted = push_files(call, texts, &mut files, &mut teller, err)?;
     let names = texts_of(alloc, &files)?;
@@ -182,7 +175,7 @@ fn push_files<T: Texts, E: Write>(
             Ok(None) => files.push(String::from_str(alloc, name)?)?,
             Err(why) => {
                 let shown = shown_name(alloc, name)?;
-                tell_unread(teller, names_of(name, shown.as_str()), why, err)?;
+                teller.tell_unread(names_of(name, shown.as_str()), why, err)?;
                 unlisted = unlisted.saturating_add(1);
             }
         }
@@ -206,8 +199,8 @@ fn print_one<T: Texts, O: Write, E: Write>(
     let text = match texts.text(alloc, name) {
         Ok(text) => text,
         Err(why) => {
-            let mut teller = teller_of_people(alloc, style);
-            tell_unread(&mut teller, names_of(name, shown.as_str()), why, err)?;
+            let mut teller = Teller::new(alloc, Format::Text, style, false);
+            teller.tell_unread(names_of(name, shown.as_str()), why, err)?;
             return Ok(2);
         }
     };
@@ -229,18 +222,6 @@ fn print_one<T: Texts, O: Write, E: Write>(
             complain(err, report.as_str());
             Ok(1)
         }
-    }
-}
-
-// Tells of files where findings have no other form.
-fn teller_of_people(alloc: Global, style: Style) -> Teller {
-    Teller {
-        alloc,
-        format: Format::Text,
-        style,
-        is_quiet: false,
-        lines: String::new(alloc),
-        findings: 0,
     }
 }
 

@@ -41,50 +41,128 @@ pub struct Reading {
     pub limits: Limits,
 }
 
-/// Tells the error of a text, and then the first error of each definition after it.
-///
-/// A refused text is read again from the next definition on, and so on. What the definitions before the refused one lack, or
-/// have twice, is no matter then, and neither is that an operation without a name isn't alone: a brace at the beginning of a
-/// line may belong to a definition that is refused before it.
-pub fn tell_all<E: Write>(
-    teller: &mut Teller,
-    names: Names<'_>,
-    reading: &Reading,
-    text: &str,
-    error: &Error,
-    err: &mut E,
-) -> Result<(), AllocError> {
-    if teller.is_quiet {
-        return Ok(());
+impl Teller {
+    /// Has told nothing yet.
+    pub fn new(alloc: Global, format: Format, style: Style, is_quiet: bool) -> Teller {
+        Teller {
+            alloc,
+            format,
+            style,
+            is_quiet,
+            lines: String::new(alloc),
+            findings: 0,
+        }
     }
-    tell(teller, names, reading, text, error, err)?;
-    match rest_after(teller.alloc, reading, text, error)? {
-        None => Ok(()),
-        Some(rest) => tell_rest(teller, names, reading, rest, err),
-    }
-}
 
-// Tells the first error of each definition in the rest of a text.
-fn tell_rest<E: Write>(
-    teller: &mut Teller,
-    names: Names<'_>,
-    reading: &Reading,
-    rest: String,
-    err: &mut E,
-) -> Result<(), AllocError> {
-    let alloc = teller.alloc;
-    let mut rest = rest;
-    for _ in 1..MOST_FINDINGS {
-        let Some(error) = next_error(alloc, reading, rest.as_str())? else {
-            break;
-        };
-        tell(teller, names, reading, rest.as_str(), &error, err)?;
-        let Some(next) = rest_after(alloc, reading, rest.as_str(), &error)? else {
-            break;
-        };
-        rest = next;
+    /// Tells the error of a text, and then the first error of each definition after it.
+    ///
+    /// A refused text is read again from the next definition on, and so on. What the definitions before the refused one lack, or
+    /// have twice, is no matter then, and neither is that an operation without a name isn't alone: a brace at the beginning of a
+    /// line may belong to a definition that is refused before it.
+    pub fn tell_all<E: Write>(
+        &mut self,
+        names: Names<'_>,
+        reading: &Reading,
+        text: &str,
+        error: &Error,
+        err: &mut E,
+    ) -> Result<(), AllocError> {
+        if self.is_quiet {
+            return Ok(());
+        }
+        self.tell(names, reading, text, error, err)?;
+        match rest_after(self.alloc, reading, text, error)? {
+            None => Ok(()),
+            Some(rest) => self.tell_rest(names, reading, rest, err),
+        }
     }
-    Ok(())
+
+    // Tells the first error of each definition in the rest of a text.
+    fn tell_rest<E: Write>(
+        &mut self,
+        names: Names<'_>,
+        reading: &Reading,
+        rest: String,
+        err: &mut E,
+    ) -> Result<(), AllocError> {
+        let alloc = self.alloc;
+        let mut rest = rest;
+        for _ in 1..MOST_FINDINGS {
+            let Some(error) = next_error(alloc, reading, rest.as_str())? else {
+                break;
+            };
+            self.tell(names, reading, rest.as_str(), &error, err)?;
+            let Some(next) = rest_after(alloc, reading, rest.as_str(), &error)? else {
+                break;
+            };
+            rest = next;
+        }
+        Ok(())
+    }
+
+    // Tells the error of a text: a report goes to `err`, and a line for programs is added to the lines.
+    fn tell<E: Write>(
+        &mut self,
+        names: Names<'_>,
+        reading: &Reading,
+        text: &str,
+        error: &Error,
+        err: &mut E,
+    ) -> Result<(), AllocError> {
+        let Reading { language, limits } = *reading;
+        let alloc = self.alloc;
+        self.findings = self.findings.saturating_add(1);
+        if self.format == Format::Text {
+            let report = explain_in(
+                self.style,
+                alloc,
+                language,
+                names.shown,
+                text,
+                limits,
+                error,
+            )?;
+            complain(err, report.as_str());
+            return Ok(());
+        }
+        let finding = finding_of(alloc, language, text, limits, error)?;
+        self.push_finding(names, &finding)
+    }
+
+    /// Tells why there is no text in a file.
+    pub fn tell_unread<E: Write>(
+        &mut self,
+        names: Names<'_>,
+        why: Unread,
+        err: &mut E,
+    ) -> Result<(), AllocError> {
+        let why_told = why.words().ok_or(AllocError)?;
+        if self.is_quiet {
+            return Ok(());
+        }
+        if self.format == Format::Text {
+            let shown = names.shown;
+            let line = format!(in self.alloc; "gql: {shown} {why_told}\n")?;
+            complain(err, line.as_str());
+            return Ok(());
+        }
+        let finding = Finding {
+            place: None,
+            end: None,
+            status: why.status(),
+            message: String::from_str(self.alloc, why_told)?,
+        };
+        self.push_finding(names, &finding)
+    }
+
+    // Adds the line of a finding for programs.
+    fn push_finding(&mut self, names: Names<'_>, finding: &Finding) -> Result<(), AllocError> {
+        if self.format == Format::Github {
+            push_command(self.alloc, names.shown, finding, &mut self.lines)
+        } else {
+            push_json(self.alloc, names.name, finding, &mut self.lines)
+        }
+    }
 }
 
 // The error of the rest of a text, if it is one to be told.
@@ -113,74 +191,6 @@ fn rest_after(
     match next_definition(language, text, token.start) {
         Some(offset) => rest_at(alloc, text, offset),
         None => Ok(None),
-    }
-}
-
-// Tells the error of a text: a report goes to `err`, and a line for programs is added to the lines.
-fn tell<E: Write>(
-    teller: &mut Teller,
-    names: Names<'_>,
-    reading: &Reading,
-    text: &str,
-    error: &Error,
-    err: &mut E,
-) -> Result<(), AllocError> {
-    let Reading { language, limits } = *reading;
-    let alloc = teller.alloc;
-    teller.findings = teller.findings.saturating_add(1);
-    if teller.format == Format::Text {
-        let report = explain_in(
-            teller.style,
-            alloc,
-            language,
-            names.shown,
-            text,
-            limits,
-            error,
-        )?;
-        complain(err, report.as_str());
-        return Ok(());
-    }
-    let finding = finding_of(alloc, language, text, limits, error)?;
-    push_finding(teller, names, &finding)
-}
-
-/// Tells why there is no text in a file.
-pub fn tell_unread<E: Write>(
-    teller: &mut Teller,
-    names: Names<'_>,
-    why: Unread,
-    err: &mut E,
-) -> Result<(), AllocError> {
-    let why_told = why.words().ok_or(AllocError)?;
-    if teller.is_quiet {
-        return Ok(());
-    }
-    if teller.format == Format::Text {
-        let shown = names.shown;
-        let line = format!(in teller.alloc; "gql: {shown} {why_told}\n")?;
-        complain(err, line.as_str());
-        return Ok(());
-    }
-    let finding = Finding {
-        place: None,
-        end: None,
-        status: why.status(),
-        message: String::from_str(teller.alloc, why_told)?,
-    };
-    push_finding(teller, names, &finding)
-}
-
-// Adds the line of a finding for programs.
-fn push_finding(
-    teller: &mut Teller,
-    names: Names<'_>,
-    finding: &Finding,
-) -> Result<(), AllocError> {
-    if teller.format == Format::Github {
-        push_command(teller.alloc, names.shown, finding, &mut teller.lines)
-    } else {
-        push_json(teller.alloc, names.name, finding, &mut teller.lines)
     }
 }
 
