@@ -38,18 +38,18 @@ module _ {Y : Type 0} (first : Test) (r : Reader Y) {initial now : Ahead} (kept 
   goes takes h on at =
       let read = is-read (r (tokens now)) (tokens next) h in
       record {
-        told = kept.told ∙ ap ended (loop-goes first r takes (plus_at first r (tokens now)) [] (tokens now) read.tree next.hand next.behind (loop-starts _) read.is at) ∙ front-ended (read.tree ∷ []) (plus_at first r (tokens next));
+        told = kept.told ∙ ap ended (loop-goes first r takes (plus_at first r (tokens now)) [] (tokens now) read.tree next.hand next.after (loop-starts _) read.is at) ∙ front-ended (read.tree ∷ []) (plus_at first r (tokens next));
         on = go-on initial now next kept.on on;
       }
 
   pub ends : rest_of (r (tokens now)) ≡ Some (tokens next) → GoesOn now next → first next.hand.bare ≡ false → (rest_of (plus_at first r (tokens initial)) ≡ Some (tokens next)) × GoesOn initial next
   ends h on at =
       let read = is-read (r (tokens now)) (tokens next) h in (
-        ended-read _ (tokens next) (kept.told ∙ ap ended (loop-ends first r (plus_at first r (tokens now)) [] (tokens now) read.tree next.hand next.behind (loop-starts _) read.is at)),
+        ended-read _ (tokens next) (kept.told ∙ ap ended (loop-ends first r (plus_at first r (tokens now)) [] (tokens now) read.tree next.hand next.after (loop-starts _) read.is at)),
         go-on initial now next kept.on on,
       )
 
-pub shorter : {Y : Type 0} (r : Reader Y) (now next : Ahead) → Takes r → rest_of (r (tokens now)) ≡ Some (tokens next) → suc (length next.behind) ≤ length now.behind
+pub shorter : {Y : Type 0} (r : Reader Y) (now next : Ahead) → Takes r → rest_of (r (tokens now)) ≡ Some (tokens next) → suc (length next.after) ≤ length now.after
 shorter r now next takes h =
     let read = is-read (r (tokens now)) (tokens next) h in
     let less = takes (tokens now) read.tree (tokens next) read.is in

@@ -101,5 +101,5 @@ module _ {Y : Type 0} {vars : Bool} {most : ℕ} {whole : Reader Y} {initial now
         by Limit h = refused limit h
 
 -- fewer tokens are ahead
-pub shorter : (vars : Bool) (left : ℕ) (object : Bool) (now next : Ahead) (m : Met) → step_at vars left object (tokens now) ≡ Read m (tokens next) → suc (length next.behind) ≤ length now.behind
+pub shorter : (vars : Bool) (left : ℕ) (object : Bool) (now next : Ahead) (m : Met) → step_at vars left object (tokens now) ≡ Read m (tokens next) → suc (length next.after) ≤ length now.after
 shorter vars left object now next m h = let less = step-shorter vars left object (tokens now) m (tokens next) h in omega (arith, less)

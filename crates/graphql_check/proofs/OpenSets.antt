@@ -16,7 +16,7 @@ use Rattle.graphql_reading.proofs.Loop.{rest-more, rest-stops}
 use Rattle.graphql_reading.proofs.Loops.{go-on}
 use Rattle.graphql_requests.specs.grammar.Selections.{Set}
 use Rattle.graphql_requests.specs.reading.Selections.{selection_first, selection_set_at}
-use Rattle.graphql_requests.specs.reading.SelectionSteps.{Heading, with_set, may_nest, head_at, item_at, Opened, closed, close_at, behind_rest, more, begun, wanted_rest, headed}
+use Rattle.graphql_requests.specs.reading.SelectionSteps.{Heading, with_set, may_nest, head_at, item_at, Opened, closed, close_at, after_rest, more, begun, wanted_rest, headed}
 use Rattle.graphql_requests.proofs.Heads.{set-law, item-law}
 use Rattle.graphql_requests.proofs.HeadTakes.{head-nests, item-takes, onto-takes}
 use Rattle.graphql_check.specs.Checked.{rest_of}
@@ -31,12 +31,12 @@ fresh = begun nowhere
 -- To the end of so many sets around one in which sets may nest b deep, after a selection in each,
 abbrev pub outs : ℕ → ℕ → ℕ → List Token → Outcome (Unit {0})
 outs values b zero ts = Read tt ts
-outs values b (suc n) ts = ended (behind_rest values (suc b) fresh ts) >>= λ _ rest. outs values (suc b) n rest
+outs values b (suc n) ts = ended (after_rest values (suc b) fresh ts) >>= λ _ rest. outs values (suc b) n rest
 
 -- and from inside that one, where a selection has to follow or may.
 abbrev pub sets : ℕ → ℕ → ℕ → Bool → List Token → Outcome (Unit {0})
 sets values b n true ts = ended (wanted_rest values b fresh ts) >>= λ _ rest. outs values b n rest
-sets values b n false ts = ended (behind_rest values b fresh ts) >>= λ _ rest. outs values b n rest
+sets values b n false ts = ended (after_rest values b fresh ts) >>= λ _ rest. outs values b n rest
 
 -- from a head on, whose set follows or doesn't
 abbrev pub headed-on : ℕ → ℕ → ℕ → Bool → List Token → Outcome (Unit {0})
@@ -45,9 +45,9 @@ headed-on values b n false ts = sets values b n false ts
 
 -- ---- what was read of a set doesn't matter
 
-behind-any : (values b : ℕ) (o : Opened) (ts : List Token) → ended (behind_rest values b o ts) ≡ ended (behind_rest values b fresh ts)
-unfolding behind_rest
-behind-any values b o ts = go (many_at selection_first (item_at values b) ts)
+after-any : (values b : ℕ) (o : Opened) (ts : List Token) → ended (after_rest values b o ts) ≡ ended (after_rest values b fresh ts)
+unfolding after_rest
+after-any values b o ts = go (many_at selection_first (item_at values b) ts)
   where
     closes : (front items : List (Positioned Selection)) (c : Outcome Token) → ended (c >>= λ _ rest. Read (closed (record { place = o.place; items = front })) rest) ≡ ended (c >>= λ _ rest. Read (closed (record { place = nowhere; items = items })) rest)
     closes front items (Read t rest) = refl
@@ -60,8 +60,8 @@ behind-any values b o ts = go (many_at selection_first (item_at values b) ts)
 wanted-any : (values b : ℕ) (o : Opened) (ts : List Token) → ended (wanted_rest values b o ts) ≡ ended (wanted_rest values b fresh ts)
 wanted-any values b o ts = go (item_at values b ts)
   where
-    go : (read : Outcome (Positioned Selection)) → ended (read >>= λ x rest. behind_rest values b (more o x) rest) ≡ ended (read >>= λ x rest. behind_rest values b (more fresh x) rest)
-    go (Read x rest) = behind-any values b (more o x) rest ∙ sym (behind-any values b (more fresh x) rest)
+    go : (read : Outcome (Positioned Selection)) → ended (read >>= λ x rest. after_rest values b (more o x) rest) ≡ ended (read >>= λ x rest. after_rest values b (more fresh x) rest)
+    go (Read x rest) = after-any values b (more o x) rest ∙ sym (after-any values b (more fresh x) rest)
     go (Refused v rest) = refl
 
 -- ---- a head
@@ -72,21 +72,21 @@ nests values b x place ts rest e = head-nests values (may_nest b) [] (x ∷ []) 
 
 module _ (values : ℕ) where
   abbrev next : ℕ → Positioned Selection → List Token → Outcome Set
-  next b x rest = behind_rest values b (more fresh x) rest
+  next b x rest = after_rest values b (more fresh x) rest
 
   abbrev outside : ℕ → ℕ → Outcome (Unit {0}) → Outcome (Unit {0})
   outside b n o = o >>= λ _ rest. outs values b n rest
 
   -- the selection has its set
   with-own : (b n : ℕ) (x : Positioned Selection) (own : Outcome Set) → outside (suc b) n (ended ((own >>= λ set rest. Read (placed (with_set set) x) rest) >>= next (suc b))) ≡ (ended own >>= λ _ rest. outs values b (suc n) rest)
-  with-own b n x (Read set rest) = ap (outside (suc b) n) (behind-any values (suc b) (more fresh (placed (with_set set) x)) rest)
+  with-own b n x (Read set rest) = ap (outside (suc b) n) (after-any values (suc b) (more fresh (placed (with_set set) x)) rest)
   with-own b n x (Refused v rest) = refl
 
   pub head-law : (b n : ℕ) (ts : List Token) → sets values b n true ts ≡ (entered_at (head_at values (may_nest b)) ts >>= headed-on values b n)
   head-law b n ts = ap (λ (o : Outcome (Positioned Selection)). outside b n (ended (o >>= next b))) (item-law values b ts) ∙ go b (head_at values (may_nest b) ts) (λ x place rest e. nests values b x place ts rest e)
     where
       go : (b : ℕ) (o : Outcome Heading) → ((x : Positioned Selection) (place : Pos) (rest : List Token) → o ≡ Read (x, Some place) rest → may_nest b ≡ true) → outside b n (ended ((o >>= headed values b) >>= next b)) ≡ ((o >>= λ x rest. Read (is_some x.1) rest) >>= headed-on values b n)
-      go b (Read (x, None) rest) may = ap (outside b n) (behind-any values b (more fresh x) rest)
+      go b (Read (x, None) rest) may = ap (outside b n) (after-any values b (more fresh x) rest)
       go zero (Read (x, Some place) rest) may = absurd (let no : may_nest zero ≡ true = may x place rest refl in cc)
       go (suc b) (Read (x, Some place) rest) may =
           with-own b n x (wanted_rest values b (begun place) rest)
@@ -96,11 +96,11 @@ module _ (values : ℕ) where
   -- ---- after a selection
 
   pub more-law : (b n : ℕ) (t : Token) (ts : List Token) → selection_first t.bare ≡ true → sets values b n false (t ∷ ts) ≡ sets values b n true (t ∷ ts)
-  unfolding behind_rest
+  unfolding after_rest
   more-law b n t ts e = ap (λ (o : Outcome Set). outside b n (ended o)) (rest-more selection_first (item_at values b) (close_at nowhere) (item-takes values b) [] t ts e)
 
   pub end-law : (b n : ℕ) (t : Token) (ts : List Token) → selection_first t.bare ≡ false → sets values b n false (t ∷ ts) ≡ (one_at (punct "}") (t ∷ ts) >>= λ _ rest. outs values b n rest)
-  unfolding behind_rest
+  unfolding after_rest
   end-law b n t ts e = ap (λ (o : Outcome Set). outside b n (ended o)) (rest-stops selection_first (item_at values b) (close_at nowhere) [] t ts e) ∙ go (one_at (punct "}") (t ∷ ts))
     where
       go : (o : Outcome Token) → outside b n (ended (o >>= λ _ rest. Read (closed fresh) rest)) ≡ (o >>= λ _ rest. outs values b n rest)
@@ -159,7 +159,7 @@ module _ {values selections outer : ℕ} {start now : Ahead} where
   pub goes-on : {wanted : Bool} → Kept values selections start now outer wanted → wanted ≡ false → selection_first now.hand.bare ≡ true → Kept values selections start now outer true
   goes-on kept is at = record {
     left = kept.left;
-    told = kept.told ∙ ap (λ (w : Bool). sets values kept.left outer w (tokens now)) is ∙ more-law values kept.left outer now.hand now.behind at;
+    told = kept.told ∙ ap (λ (w : Bool). sets values kept.left outer w (tokens now)) is ∙ more-law values kept.left outer now.hand now.after at;
     shared = kept.shared;
     on = kept.on;
   }
@@ -215,10 +215,10 @@ module _ {values selections outer : ℕ} {start now : Ahead} where
             on = go-on start now after kept.on on;
           }
 
-      pub head-shorter : suc (length after.behind) ≤ length now.behind
+      pub head-shorter : suc (length after.after) ≤ length now.after
       head-shorter = go (head_at values may (tokens now)) refl h
         where
-          go : (o : Outcome Heading) → head_at values may (tokens now) ≡ o → (o >>= λ x rest. Read (is_some x.1) rest) ≡ Read entered (tokens after) → suc (length after.behind) ≤ length now.behind
+          go : (o : Outcome Heading) → head_at values may (tokens now) ≡ o → (o >>= λ x rest. Read (is_some x.1) rest) ≡ Read entered (tokens after) → suc (length after.after) ≤ length now.after
           go (Read x rest) e k =
               let same : rest ≡ tokens after = cc in
               let less = onto-takes values may [] (tokens now) (x.0 ∷ [], x.1) rest (rw e refl) in
@@ -228,7 +228,7 @@ module _ {values selections outer : ℕ} {start now : Ahead} where
 
   module _ {wanted : Bool} (kept : Kept values selections start now outer wanted) (is : wanted ≡ false) (none : selection_first now.hand.bare ≡ false) (after : Ahead) where
     end : ended (selection_set_at values selections (tokens start)) ≡ (one_at (punct "}") (tokens now) >>= λ _ rest. outs values kept.left outer rest)
-    end = kept.told ∙ ap (λ (w : Bool). sets values kept.left outer w (tokens now)) is ∙ end-law values kept.left outer now.hand now.behind none
+    end = kept.told ∙ ap (λ (w : Bool). sets values kept.left outer w (tokens now)) is ∙ end-law values kept.left outer now.hand now.after none
 
     pub end-not : (e : Refusal) → Refuses e now after (one_at (punct "}")) → GoesOn now after → Refuses e start after (selection_set_at values selections) × GoesOn start after
     end-not e h on = stops-as e start now after (selection_set_at values selections) (one_at (punct "}")) (λ v k. end ∙ ap (λ (o : Outcome Token). o >>= λ _ rest. outs values kept.left outer rest) k) kept.on h on

@@ -112,13 +112,13 @@ described-schema limits old mid new roots breach h at read by =
   where
     go : (description : Description) → maybe_description_at (tokens old) ≡ Read description (tokens mid) → (rest : Token × (Directives × List Root)) → schema_rest_at limits (tokens mid) ≡ Read rest (tokens new) → roots ≡ roots-in rest → mapped_at (breach_of []) (described_at limits) (tokens old) ≡ Read breach (tokens new)
     go description d (word, (directives, list)) m is =
-        let first : word ≡ mid.hand = first-word (keyword "schema") (then_at (directives_at false limits.values) roots_at) mid.hand mid.behind word (directives, list) (tokens new) m in
+        let first : word ≡ mid.hand = first-word (keyword "schema") (then_at (directives_at false limits.values) roots_at) mid.hand mid.after word (directives, list) (tokens new) m in
         let s : Positioned Schema = schema_of (description, (word, (directives, list))) in
-        let here : old.hand.pos ≡ s.pos = sym (ap (λ (w : Token). place_of description w) first ∙ stands old.hand old.behind description mid.hand mid.behind d) in
+        let here : old.hand.pos ≡ s.pos = sym (ap (λ (w : Token). place_of description w) first ∙ stands old.hand old.after description mid.hand mid.after d) in
         made (breach_of []) (described_at limits) (tokens old) (schema s) (tokens new)
         (made with_description (then_at maybe_description_at (undescribed_at limits)) (tokens old) (description, of_schema (word, (directives, list))) (tokens new)
         (both maybe_description_at (undescribed_at limits) (tokens old) description (tokens mid) (of_schema (word, (directives, list))) (tokens new) d
-        (chosen (keyword "schema") (mapped_at of_schema (schema_rest_at limits)) (choose_at (keyword "directive") (mapped_at of_directive (directive_rest_at limits)) (mapped_at of_type (body_at false limits))) mid.hand mid.behind (Read (of_schema (word, (directives, list))) (tokens new)) at (made of_schema (schema_rest_at limits) (tokens mid) (word, (directives, list)) (tokens new) m))))
+        (chosen (keyword "schema") (mapped_at of_schema (schema_rest_at limits)) (choose_at (keyword "directive") (mapped_at of_directive (directive_rest_at limits)) (mapped_at of_type (body_at false limits))) mid.hand mid.after (Read (of_schema (word, (directives, list))) (tokens new)) at (made of_schema (schema_rest_at limits) (tokens mid) (word, (directives, list)) (tokens new) m))))
         ∙ ap (λ (b : Option Error). Read b (tokens new)) (sym (by s here refl is))
 
 pub extended-schema : (limits : Limits) (old mid new : Ahead) (extend : Token) (roots : code_roots.Roots) (breach : Option Error) → one_at (keyword "extend") (tokens old) ≡ Read extend (tokens mid) → keyword "schema" mid.hand.bare ≡ true → mapped_at roots-in (extended_schema_at limits) (tokens mid) ≡ Read roots (tokens new) → ((s : Positioned Schema) → extend.pos ≡ s.pos → true ≡ s.node.extend → roots ≡ roots_of s.node.roots → breach ≡ breach_of_schema s) → mapped_at (breach_of []) (extension_at limits) (tokens old) ≡ Read breach (tokens new)
@@ -135,7 +135,7 @@ extended-schema limits old mid new extend roots breach h at read by =
         made (breach_of []) (extension_at limits) (tokens old) (schema s) (tokens new)
         (made extension_of (then_at (one_at (keyword "extend")) extended_at) (tokens old) (extend, a_schema (word, (directives, list))) (tokens new)
         (both (one_at (keyword "extend")) extended_at (tokens old) extend (tokens mid) (a_schema (word, (directives, list))) (tokens new) h
-        (chosen (keyword "schema") (mapped_at a_schema (extended_schema_at limits)) (mapped_at a_type (body_at true limits)) mid.hand mid.behind (Read (a_schema (word, (directives, list))) (tokens new)) at (made a_schema (extended_schema_at limits) (tokens mid) (word, (directives, list)) (tokens new) m))))
+        (chosen (keyword "schema") (mapped_at a_schema (extended_schema_at limits)) (mapped_at a_type (body_at true limits)) mid.hand mid.after (Read (a_schema (word, (directives, list))) (tokens new)) at (made a_schema (extended_schema_at limits) (tokens mid) (word, (directives, list)) (tokens new) m))))
         ∙ ap (λ (b : Option Error). Read b (tokens new)) (sym (by s refl refl is))
 
 -- ---- the first breach

@@ -39,7 +39,7 @@ module _ {Y : Type 0} (mark : Test) (r : Reader Y) {initial now : Ahead} (kept :
         let all = ends-members itself mark r initial now next again kept.items (kept.items ++ read.tree ∷ []) read.tree taken kept.kept (read.is, on) marked is-left refl in
         (ap rest_of all.0, all.1)
 
-    pub shorter-some : Takes r → taken ≡ true → suc (length again.behind) ≤ length now.behind
+    pub shorter-some : Takes r → taken ≡ true → suc (length again.after) ≤ length now.after
     shorter-some takes is-taken =
         let read = is-read (r (tokens now)) (tokens next) h in
         shorter-members itself mark r now next again read.tree taken takes (read.is, on) marked is-taken

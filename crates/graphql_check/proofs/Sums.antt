@@ -39,7 +39,7 @@ module _ {Y X Z : Type 0} (item : Y → X) (of : List Y → Z) (first : Test) (r
         record {
           items = kept.items ++ m.tree ∷ [];
           kept = record {
-            told = loop-goes first r takes _ kept.items (tokens now) m.tree next.hand next.behind kept.kept.told m.is at;
+            told = loop-goes first r takes _ kept.items (tokens now) m.tree next.hand next.after kept.kept.told m.is at;
             on = go-on initial now next kept.kept.on on;
           };
           is = adds kept.items m.tree kept.is m.made;
@@ -48,13 +48,13 @@ module _ {Y X Z : Type 0} (item : Y → X) (of : List Y → Z) (first : Test) (r
     pub sum-ends : first next.hand.bare ≡ false → (mapped_at of (plus_at first r) (tokens initial) ≡ Read more (tokens next)) × GoesOn initial next
     sum-ends at =
         let m = is-made item (r (tokens now)) x (tokens next) read in (
-          ap (λ (o : Outcome (List Y)). o >>= λ a rest. Read (of a) rest) (loop-ends first r _ kept.items (tokens now) m.tree next.hand next.behind kept.kept.told m.is at)
+          ap (λ (o : Outcome (List Y)). o >>= λ a rest. Read (of a) rest) (loop-ends first r _ kept.items (tokens now) m.tree next.hand next.after kept.kept.told m.is at)
               ∙ ap (λ (z : Z). Read z (tokens next)) (sym (adds kept.items m.tree kept.is m.made)),
           go-on initial now next kept.kept.on on,
         )
 
 -- fewer tokens are ahead
-pub sum-shorter : {Y X : Type 0} (item : Y → X) (r : Reader Y) (now next : Ahead) (x : X) → Takes r → mapped_at item r (tokens now) ≡ Read x (tokens next) → suc (length next.behind) ≤ length now.behind
+pub sum-shorter : {Y X : Type 0} (item : Y → X) (r : Reader Y) (now next : Ahead) (x : X) → Takes r → mapped_at item r (tokens now) ≡ Read x (tokens next) → suc (length next.after) ≤ length now.after
 sum-shorter item r now next x takes h =
     let m = is-made item (r (tokens now)) x (tokens next) h in
     let less = takes (tokens now) m.tree (tokens next) m.is in

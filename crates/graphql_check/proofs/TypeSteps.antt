@@ -29,10 +29,10 @@ closes-any (suc opened) item other ts = go (λ a b rest. closes-any opened a b r
     go same (Refused v rest) = refl
 
 -- what follows where so many lists are open
-abbrev pub behind : ℕ → List Token → Outcome (Unit {0})
-behind opened ts = ended (named_at ts) >>= λ _ rest. ended (closes_at opened some_type rest)
+abbrev pub after : ℕ → List Token → Outcome (Unit {0})
+after-brackets opened ts = ended (named_at ts) >>= λ _ rest. ended (closes_at opened some_type rest)
 
-pub type-law : (n : ℕ) (ts : List Token) → ended (type_at n ts) ≡ (opens_at 0 n ts >>= behind)
+pub type-law : (n : ℕ) (ts : List Token) → ended (type_at n ts) ≡ (opens_at 0 n ts >>= after-brackets)
 unfolding opens_at type_at
 type-law zero [] = refl
 type-law (suc n) [] = refl
@@ -46,7 +46,7 @@ type-law n (t ∷ ts) = ap ended (sym (steps n (t ∷ ts))) ∙ go (opens_at 0 n
     named opened (Read item rest) = stands (closes_at opened item rest) ∙ closes-any opened item some_type rest
     named opened (Refused v rest) = refl
 
-    go : (o : Outcome ℕ) → ended (o >>= λ opened inside. named_at inside >>= λ item rest. closes_at opened item rest >>= λ whole rest'. Read (at t whole) rest') ≡ (o >>= behind)
+    go : (o : Outcome ℕ) → ended (o >>= λ opened inside. named_at inside >>= λ item rest. closes_at opened item rest >>= λ whole rest'. Read (at t whole) rest') ≡ (o >>= after-brackets)
     go (Read opened inside) = named opened (named_at inside)
     go (Refused v rest) = refl
 
@@ -54,11 +54,11 @@ type-law n (t ∷ ts) = ap ended (sym (steps n (t ∷ ts))) ∙ go (opens_at 0 n
 
 module _ (n : ℕ) (old mid : Ahead) where
   pub opens-not : (e : Refusal) → Refuses e old mid (opens_at 0 n) → GoesOn old mid → Refuses e old mid (type_at n) × GoesOn old mid
-  opens-not e h on = stops-as e old old mid (type_at n) (opens_at 0 n) (λ v k. type-law n (tokens old) ∙ ap (λ (o : Outcome ℕ). o >>= behind) k) (stays old) h on
+  opens-not e h on = stops-as e old old mid (type_at n) (opens_at 0 n) (λ v k. type-law n (tokens old) ∙ ap (λ (o : Outcome ℕ). o >>= after-brackets) k) (stays old) h on
 
   module _ (opened : ℕ) (opens : opens_at 0 n (tokens old) ≡ Read opened (tokens mid)) where
-    inside : ended (type_at n (tokens old)) ≡ behind opened (tokens mid)
-    inside = type-law n (tokens old) ∙ ap (λ (o : Outcome ℕ). o >>= behind) opens
+    inside : ended (type_at n (tokens old)) ≡ after-brackets opened (tokens mid)
+    inside = type-law n (tokens old) ∙ ap (λ (o : Outcome ℕ). o >>= after-brackets) opens
 
     pub named-not : (e : Refusal) (new : Ahead) → GoesOn old mid → Refuses e mid new named_at → GoesOn mid new → Refuses e old new (type_at n) × GoesOn old new
     named-not e new on h on' = stops-as e old mid new (type_at n) named_at (λ v k. inside ∙ ap (λ (o : Outcome TypeTree). ended o >>= λ _ rest. ended (closes_at opened some_type rest)) k) on h on'

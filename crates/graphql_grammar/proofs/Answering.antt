@@ -47,10 +47,10 @@ breaks language ds before d after error split unbroken e = inl (record { before 
 
 refusal-answers : {D Document : Type 0} (language : Language D Document) (reader : Limits → Reader (List D)) → IsReadBy language reader → (limits : Limits) (old new : Ahead) (stop : Refusal) (error : Error) → EndsOnce (tokens old) → AreProperButFaults (tokens old) → Refuses stop old new (whole_at (reader limits)) → IsErrorOf stop new.hand.pos error → Answers language limits (tokens old) (Err error)
 refusal-answers language reader read limits old new stop (errors.Syntax message start end) ends proper h is =
-    let m = read.refuses limits (tokens old) ends proper syntax new.hand new.behind (subst (λ (s : Refusal). Refuses s old new (whole_at (reader limits))) is.0 h) in
+    let m = read.refuses limits (tokens old) ends proper syntax new.hand new.after (subst (λ (s : Refusal). Refuses s old new (whole_at (reader limits))) is.0 h) in
     (m.0, is.1 ∙ ap (λ (t : Token). t.pos) (sym m.1), is.2, is.3)
 refusal-answers language reader read limits old new stop errors.RecursionLimitExceeded ends proper h is =
-    (read.refuses limits (tokens old) ends proper limit new.hand new.behind (subst (λ (s : Refusal). Refuses s old new (whole_at (reader limits))) is h)).0
+    (read.refuses limits (tokens old) ends proper limit new.hand new.after (subst (λ (s : Refusal). Refuses s old new (whole_at (reader limits))) is h)).0
 refusal-answers language reader read limits old new stop errors.OutOfMemory ends proper h is = tt
 refusal-answers language reader read limits old new stop error ends proper h is = absurd is
 
@@ -61,23 +61,23 @@ up-to language limits ts after t v count long h =
     let same : suc (length h.0.before) ≡ count = omega (arith, long, all) in
     subst (λ (n : ℕ). IsRefused (grammar language Current) limits ts n v) same h.0.refused
 
-refusal-taken : {D Document : Type 0} (language : Language D Document) (reader : Limits → Reader (List D)) → IsReadBy language reader → (limits : Limits) (old new : Ahead) (stop : Refusal) (error : Error) (count : ℕ) → length (tokens old) ≡ count + length new.behind → EndsOnce (tokens old) → AreProperButFaults (tokens old) → Refuses stop old new (whole_at (reader limits)) → IsErrorOf stop new.hand.pos error → TakenFor language limits (tokens old) (Err error) count
+refusal-taken : {D Document : Type 0} (language : Language D Document) (reader : Limits → Reader (List D)) → IsReadBy language reader → (limits : Limits) (old new : Ahead) (stop : Refusal) (error : Error) (count : ℕ) → length (tokens old) ≡ count + length new.after → EndsOnce (tokens old) → AreProperButFaults (tokens old) → Refuses stop old new (whole_at (reader limits)) → IsErrorOf stop new.hand.pos error → TakenFor language limits (tokens old) (Err error) count
 refusal-taken language reader read limits old new stop (errors.Syntax message start end) count long ends proper h is =
-    up-to language limits (tokens old) new.behind new.hand syntax count long
-    (read.refuses limits (tokens old) ends proper syntax new.hand new.behind (subst (λ (s : Refusal). Refuses s old new (whole_at (reader limits))) is.0 h))
+    up-to language limits (tokens old) new.after new.hand syntax count long
+    (read.refuses limits (tokens old) ends proper syntax new.hand new.after (subst (λ (s : Refusal). Refuses s old new (whole_at (reader limits))) is.0 h))
 refusal-taken language reader read limits old new stop errors.RecursionLimitExceeded count long ends proper h is =
-    up-to language limits (tokens old) new.behind new.hand limit count long
-    (read.refuses limits (tokens old) ends proper limit new.hand new.behind (subst (λ (s : Refusal). Refuses s old new (whole_at (reader limits))) is h))
+    up-to language limits (tokens old) new.after new.hand limit count long
+    (read.refuses limits (tokens old) ends proper limit new.hand new.after (subst (λ (s : Refusal). Refuses s old new (whole_at (reader limits))) is h))
 refusal-taken language reader read limits old new stop errors.OutOfMemory count long ends proper h is = omega (arith, long)
 refusal-taken language reader read limits old new stop error count long ends proper h is = absurd is
 
 -- ---- counts
 
 -- between two counts of tokens of one list stand as many as the one is more than the other
-pub taken-between : (whole old behind : List Token) (before now : ℕ) → old ≡ drop before whole → behind ≡ drop now whole → before ≤ now → now ≤ length whole → length old ≡ (now - before) + length behind
-taken-between whole old behind before now o b le within =
+pub taken-between : (whole old later : List Token) (before now : ℕ) → old ≡ drop before whole → later ≡ drop now whole → before ≤ now → now ≤ length whole → length old ≡ (now - before) + length later
+taken-between whole old later before now o b le within =
     let p : length old ≡ length whole - before = ap length o ∙ length-drop before whole in
-    let q : length behind ≡ length whole - now = ap length b ∙ length-drop now whole in
+    let q : length later ≡ length whole - now = ap length b ∙ length-drop now whole in
     omega (arith, p, q, le, within)
 
 -- the lexer from which a parser began, and the one that it left, where it stopped
@@ -87,18 +87,18 @@ pub record Goes (from to : Lexing) (start stop : Ahead) : Type 0 where
   pub proper : AreProperButFaults (tokens start)
   pub whole : GoesOn start stop → to.whole ≡ from.whole
   pub sums : GoesOn start stop → to.taken ≡ from.taken + (to.taken - from.taken)
-  pub counted : GoesOn start stop → length (tokens start) ≡ (to.taken - from.taken) + length stop.behind
+  pub counted : GoesOn start stop → length (tokens start) ≡ (to.taken - from.taken) + length stop.after
 
-pub goes-of : (from given to : Lexing) (start stop : Ahead) → given ≡ from → tokens start ≡ left given → EndsOnce (left given) → AreProperButFaults (left given) → start.whole ≡ given.whole → start.taken ≡ given.taken + 1 → left to ≡ stop.behind → to.whole ≡ stop.whole → to.taken ≡ stop.taken → to.taken ≤ length to.whole → Goes from to start stop
-goes-of from given to start stop is begins ends proper whole taken behind last stopped within = record {
+pub goes-of : (from given to : Lexing) (start stop : Ahead) → given ≡ from → tokens start ≡ left given → EndsOnce (left given) → AreProperButFaults (left given) → start.whole ≡ given.whole → start.taken ≡ given.taken + 1 → left to ≡ stop.after → to.whole ≡ stop.whole → to.taken ≡ stop.taken → to.taken ≤ length to.whole → Goes from to start stop
+goes-of from given to start stop is begins ends proper whole taken later last stopped within = record {
   same = begins ∙ ap left is;
   ends = subst EndsOnce (sym begins) ends;
   proper = subst AreProperButFaults (sym begins) proper;
   whole = one-text;
   sums = λ on. omega (arith, forward on);
   counted = λ on.
-      taken-between from.whole (tokens start) stop.behind from.taken to.taken
-      (begins ∙ ap left is) (sym behind ∙ ap (drop to.taken) (one-text on))
+      taken-between from.whole (tokens start) stop.after from.taken to.taken
+      (begins ∙ ap left is) (sym later ∙ ap (drop to.taken) (one-text on))
       (forward on) (subst (λ (l : List Token). to.taken ≤ length l) (one-text on) within);
 }
   where
@@ -109,7 +109,7 @@ goes-of from given to start stop is begins ends proper whole taken behind last s
     one-text on = last ∙ on.0 ∙ whole ∙ ap (λ (l : Lexing). l.whole) is
 
 -- all are taken where none is left
-all-taken : (from to : Lexing) (start stop : Ahead) → Goes from to start stop → GoesOn start stop → stop.behind ≡ [] → to.taken - from.taken ≡ length (tokens start)
+all-taken : (from to : Lexing) (start stop : Ahead) → Goes from to start stop → GoesOn start stop → stop.after ≡ [] → to.taken - from.taken ≡ length (tokens start)
 all-taken from to start stop g on empty = let t = g.counted on in let n = ap length empty in omega (arith, t, n)
 
 -- ---- what is said of the tokens that were left
@@ -127,9 +127,9 @@ reads-tokens language reader read limits from to start stop goes on result answe
 }
 
 -- where there is a tree
-pub reads-document : {D Document : Type 0} (language : Language D Document) (reader : Limits → Reader (List D)) → IsReadBy language reader → (limits : Limits) (from to : Lexing) (start stop : Ahead) → Goes from to start stop → GoesOn start stop → (ds : List D) (result : Result Document Error) → whole_at (reader limits) (tokens start) ≡ Read ds stop.behind → IsDocumentOf language ds result → ReadsTokens language limits from to result
+pub reads-document : {D Document : Type 0} (language : Language D Document) (reader : Limits → Reader (List D)) → IsReadBy language reader → (limits : Limits) (from to : Lexing) (start stop : Ahead) → Goes from to start stop → GoesOn start stop → (ds : List D) (result : Result Document Error) → whole_at (reader limits) (tokens start) ≡ Read ds stop.after → IsDocumentOf language ds result → ReadsTokens language limits from to result
 reads-document language reader read limits from to start stop goes on ds result h is =
-    let accepted = read.accepts limits (tokens start) goes.ends goes.proper ds stop.behind h in
+    let accepted = read.accepts limits (tokens start) goes.ends goes.proper ds stop.after h in
     reads-tokens language reader read limits from to start stop goes on result
     (document-answers language limits (tokens start) ds result accepted.1 is)
     (document-taken language limits (tokens start) ds result (to.taken - from.taken) (all-taken from to start stop goes on accepted.0) is)

@@ -32,14 +32,14 @@ without-put-other {A} n (q ∷ qs) p e = go (without-put-other n qs p e) (bytes_
     go more false h true k = rw k more
     go more false h false k = rw (k, h) (ap (λ (l : List (List ℕ × A)). q ∷ l) more)
 
-last-behind : {A : Type 0} (n : List ℕ) (a : A) (ps : List (List ℕ × A)) (p : List ℕ × A) → last_value n a (ps ++ p ∷ []) ≡ cond (has_name n p) p.1 (last_value n a ps)
-last-behind n a [] p = refl
-last-behind n a (q ∷ ps) p = last-behind n (cond (has_name n q) q.1 a) ps p
+last-after : {A : Type 0} (n : List ℕ) (a : A) (ps : List (List ℕ × A)) (p : List ℕ × A) → last_value n a (ps ++ p ∷ []) ≡ cond (has_name n p) p.1 (last_value n a ps)
+last-after n a [] p = refl
+last-after n a (q ∷ ps) p = last-after n (cond (has_name n q) q.1 a) ps p
 
 -- one pair more
-merged-behind : {A : Type 0} (ps : List (List ℕ × A)) (p : List ℕ × A) → merged (ps ++ p ∷ []) ≡ put (merged ps) p
-merged-behind [] p = refl
-merged-behind {A} (q ∷ qs) p = ap₂ (λ (a : A) (l : List (List ℕ × A)). (q.0, a) ∷ l) (last-behind q.0 q.1 qs p) (ap (without q.0) (merged-behind qs p)) ∙ go (bytes_eq p.0 q.0) refl
+merged-after : {A : Type 0} (ps : List (List ℕ × A)) (p : List ℕ × A) → merged (ps ++ p ∷ []) ≡ put (merged ps) p
+merged-after [] p = refl
+merged-after {A} (q ∷ qs) p = ap₂ (λ (a : A) (l : List (List ℕ × A)). (q.0, a) ∷ l) (last-after q.0 q.1 qs p) (ap (without q.0) (merged-after qs p)) ∙ go (bytes_eq p.0 q.0) refl
   where
     go : (w : Bool) → bytes_eq p.0 q.0 ≡ w → (q.0, cond w p.1 (last_value q.0 q.1 qs)) ∷ without q.0 (put (merged qs) p) ≡ cond w ((q.0, p.1) ∷ without q.0 (merged qs)) ((q.0, last_value q.0 q.1 qs) ∷ put (without q.0 (merged qs)) p)
     go true e = ap (λ (l : List (List ℕ × A)). (q.0, p.1) ∷ l) (without-put-same q.0 (merged qs) p e)
@@ -47,7 +47,7 @@ merged-behind {A} (q ∷ qs) p = ap₂ (λ (a : A) (l : List (List ℕ × A)). (
 
 put-all-merged : {A : Type 0} (front ps : List (List ℕ × A)) → put_all (merged front) ps ≡ merged (front ++ ps)
 put-all-merged front [] = ap merged (sym (append-nil front))
-put-all-merged {A} front (p ∷ ps) = ap (λ (l : List (List ℕ × A)). put_all l ps) (sym (merged-behind front p)) ∙ put-all-merged (front ++ p ∷ []) ps ∙ ap merged (append_assoc front (p ∷ []) ps)
+put-all-merged {A} front (p ∷ ps) = ap (λ (l : List (List ℕ × A)). put_all l ps) (sym (merged-after front p)) ∙ put-all-merged (front ++ p ∷ []) ps ∙ ap merged (append_assoc front (p ∷ []) ps)
 
 pub merged-by-putting : {A : Type 0} (ps : List (List ℕ × A)) → put_all [] ps ≡ merged ps
 merged-by-putting ps = put-all-merged [] ps

@@ -29,13 +29,13 @@ exact-mark away = exact-opt begins-one away (exact-punct "!")
 exact-named_type : {b : Limits} {f : Test} → IsSubset f (outside (punct "!")) → ReadsExactly (λ c. a_named_type) b f named_type_at
 exact-named_type away = exact-mapped (exact-next has-opt exact-name (exact-mark away))
 
-has-behind : HasPhrase (λ c. one (punct "]") ⨾ opt (one (punct "!")))
-has-behind = has-pair has-close_list (has-opt {p = λ c. one (punct "!")})
+has-tokens-after : HasPhrase (λ c. one (punct "]") ⨾ opt (one (punct "!")))
+has-tokens-after = has-pair has-close_list (has-opt {p = λ c. one (punct "!")})
 
 exact-list_type : {item : Limits → Rel (Positioned TypeTree)} {b : Limits} {f : Test} {r : Reader (Positioned TypeTree)} → IsSubset f (outside (punct "!")) → HasPhrase item → ReadsExactly item b (punct "]") r → ReadsExactly (λ c. a_list_type (item c)) b f (list_type_at r)
 exact-list_type away has h =
-    exact-mapped (exact-next (has-pair has has-behind) (exact-punct "[")
-    (exact-then-some (begins-then begins-one) has-behind h
+    exact-mapped (exact-next (has-pair has has-tokens-after) (exact-punct "[")
+    (exact-then-some (begins-then begins-one) has-tokens-after h
     (exact-next has-opt (exact-punct "]") (exact-mark away))))
 
 begins-named_type : BeginsWith (λ c. a_named_type) any_name
@@ -80,7 +80,7 @@ exact-by-first away h = exact-same is-type (exact-choose begins-named_type (begi
 
 exact-within : (n : ℕ) (b : Limits) {f : Test} → b.types ≡ n → IsSubset f (outside (punct "!")) → ReadsExactly types b f (type_at n)
 unfolding type_at
-exact-within zero b e away = exact-by-first away (exact-deep of_types e (extends-one (punct "[") (has-pair has-type has-behind)) (begins-list_type {item = types}))
+exact-within zero b e away = exact-by-first away (exact-deep of_types e (extends-one (punct "[") (has-pair has-type has-tokens-after)) (begins-list_type {item = types}))
 exact-within (suc n) b {f} e away =
     let inner : Limits = record b { types = n } in
     subst (λ (k : ℕ). ReadsExactly types (record b { types = k }) f (type_at (suc n))) (sym e)

@@ -61,11 +61,11 @@ close-end {A} item first k ts =
 -- ---- levels
 
 -- what follows where so many lists are open
-abbrev behind : ℕ → Reader TypeTree
-behind opened ts = named_at ts >>= closes_at opened
+abbrev after-brackets : ℕ → Reader TypeTree
+after-brackets opened ts = named_at ts >>= closes_at opened
 
 abbrev inside : ℕ → ℕ → Reader TypeTree
-inside opened more ts = opens_at opened more ts >>= behind
+inside opened more ts = opens_at opened more ts >>= after-brackets
 
 opens-more : (opened more : ℕ) (t : Token) (ts : List Token) → punct "[" t.bare ≡ true → opens_at opened (suc more) (t ∷ ts) ≡ opens_at (suc opened) more ts
 unfolding opens_at
@@ -89,7 +89,7 @@ opens-no-more opened (suc more) t ts e = rw e refl
 
 -- where no list opens, a name stands
 inside-name : (opened more : ℕ) (t : Token) (ts : List Token) → punct "[" t.bare ≡ false → inside opened more (t ∷ ts) ≡ on-node (closes_at opened) (named_type_at (t ∷ ts))
-inside-name opened more t ts e = ap (λ (o : Outcome ℕ). o >>= behind) (opens-no-more opened more t ts e) ∙ sym (named-node (closes_at opened) (t ∷ ts))
+inside-name opened more t ts e = ap (λ (o : Outcome ℕ). o >>= after-brackets) (opens-no-more opened more t ts e) ∙ sym (named-node (closes_at opened) (t ∷ ts))
 
 -- a list that is open and closes
 one-level : (opened : ℕ) (t : Token) (ts : List Token) (r : Reader (Positioned TypeTree)) → on-node (closes_at (suc opened)) (r ts) ≡ (then_at r (then_at (one_at (punct "]")) mark_at) ts >>= λ x. closes_at opened (list_type_of (t, x)).node)
@@ -114,14 +114,14 @@ by-levels zero opened (t ∷ ts) = go (any_name t.bare) (punct "[" t.bare) refl 
   where
     go : (n w : Bool) → any_name t.bare ≡ n → punct "[" t.bare ≡ w → inside opened 0 (t ∷ ts) ≡ on-node (closes_at opened) (type_at 0 (t ∷ ts))
     go true w e h = inside-name opened 0 t ts (name-no-punct "[" t.bare e) ∙ rw e refl
-    go false true e h = ap (λ (o : Outcome ℕ). o >>= behind) (opens-full opened t ts h) ∙ rw (e, h) refl
+    go false true e h = ap (λ (o : Outcome ℕ). o >>= after-brackets) (opens-full opened t ts h) ∙ rw (e, h) refl
     go false false e h = inside-name opened 0 t ts h ∙ rw (e, h) refl
 by-levels (suc more) opened (t ∷ ts) = go (by-levels more (suc opened) ts) (any_name t.bare) (punct "[" t.bare) refl refl
   where
     go : inside (suc opened) more ts ≡ on-node (closes_at (suc opened)) (type_at more ts) → (n w : Bool) → any_name t.bare ≡ n → punct "[" t.bare ≡ w → inside opened (suc more) (t ∷ ts) ≡ on-node (closes_at opened) (type_at (suc more) (t ∷ ts))
     go below true w e h = inside-name opened (suc more) t ts (name-no-punct "[" t.bare e) ∙ rw e refl
     go below false true e h =
-        ap (λ (o : Outcome ℕ). o >>= behind) (opens-more opened more t ts h)
+        ap (λ (o : Outcome ℕ). o >>= after-brackets) (opens-more opened more t ts h)
         ∙ below
         ∙ one-level opened t ts (type_at more)
         ∙ sym (list-on t ts (type_at more) (λ x. closes_at opened x.node) h)
@@ -172,7 +172,7 @@ unfolding closes_at type_at
 steps zero [] = refl
 steps (suc n) [] = refl
 steps n (t ∷ ts) =
-    sym (grouped (opens_at 0 n (t ∷ ts)) behind (set-at t) ∙ on-same (opens_at 0 n (t ∷ ts)) (λ opened rest. behind opened rest >>= set-at t) (λ opened rest. named_at rest >>= λ item rest'. closes_at opened item rest' >>= set-at t) (λ opened rest. grouped (named_at rest) (closes_at opened) (set-at t)))
+    sym (grouped (opens_at 0 n (t ∷ ts)) after-brackets (set-at t) ∙ on-same (opens_at 0 n (t ∷ ts)) (λ opened rest. after-brackets opened rest >>= set-at t) (λ opened rest. named_at rest >>= λ item rest'. closes_at opened item rest' >>= set-at t) (λ opened rest. grouped (named_at rest) (closes_at opened) (set-at t)))
     ∙ ap (λ (o : Outcome TypeTree). o >>= set-at t) (by-levels n 0 (t ∷ ts))
     ∙ grouped (type_at n (t ∷ ts)) (λ x. closes_at 0 x.node) (set-at t)
     ∙ sym (at-first n t ts)
@@ -188,24 +188,24 @@ pub becomes-itself : {Y : Type 0} (r : Reader Y) (initial : Ahead) → Becomes r
 becomes-itself r initial = record { told = refl; on = stays initial }
 
 -- one more is open
-pub opens-goes : (n opened next : ℕ) (initial now after : Ahead) → Becomes (opens_at 0 n) initial (opens_at opened (n - opened)) now → next ≤ n → next ≡ opened + 1 → punct "[" now.hand.bare ≡ true → tokens after ≡ now.behind → GoesOn now after → Becomes (opens_at 0 n) initial (opens_at next (n - next)) after
+pub opens-goes : (n opened next : ℕ) (initial now after : Ahead) → Becomes (opens_at 0 n) initial (opens_at opened (n - opened)) now → next ≤ n → next ≡ opened + 1 → punct "[" now.hand.bare ≡ true → tokens after ≡ now.after → GoesOn now after → Becomes (opens_at 0 n) initial (opens_at next (n - next)) after
 opens-goes n opened next initial now after kept within more at left on =
     let one-less : n - opened ≡ suc (n - next) = omega (arith, within, more) in
     let is-next : suc opened ≡ next = omega (arith, more) in
     record {
-      told = kept.told ∙ ap (λ (k : ℕ). opens_at opened k (tokens now)) one-less ∙ opens-more opened (n - next) now.hand now.behind at ∙ ap (λ (k : ℕ). opens_at k (n - next) now.behind) is-next ∙ ap (opens_at next (n - next)) (sym left);
+      told = kept.told ∙ ap (λ (k : ℕ). opens_at opened k (tokens now)) one-less ∙ opens-more opened (n - next) now.hand now.after at ∙ ap (λ (k : ℕ). opens_at k (n - next) now.after) is-next ∙ ap (opens_at next (n - next)) (sym left);
       on = go-on initial now after kept.on on;
     }
 
 -- no more are open
 pub opens-ends : (n opened : ℕ) (initial now : Ahead) → Becomes (opens_at 0 n) initial (opens_at opened (n - opened)) now → punct "[" now.hand.bare ≡ false → (opens_at 0 n (tokens initial) ≡ Read opened (tokens now)) × GoesOn initial now
-opens-ends n opened initial now kept at = (kept.told ∙ opens-no-more opened (n - opened) now.hand now.behind at, kept.on)
+opens-ends n opened initial now kept at = (kept.told ∙ opens-no-more opened (n - opened) now.hand now.after at, kept.on)
 
 -- or no more may be
 pub opens-stops : (n opened : ℕ) (initial now : Ahead) → Becomes (opens_at 0 n) initial (opens_at opened (n - opened)) now → opened ≡ n → punct "[" now.hand.bare ≡ true → (opens_at 0 n (tokens initial) ≡ Refused limit (tokens now)) × GoesOn initial now
 opens-stops n opened initial now kept full at =
     let no-more : n - opened ≡ 0 = omega (arith, full) in
-    (kept.told ∙ ap (λ (k : ℕ). opens_at opened k (tokens now)) no-more ∙ opens-full opened now.hand now.behind at, kept.on)
+    (kept.told ∙ ap (λ (k : ℕ). opens_at opened k (tokens now)) no-more ∙ opens-full opened now.hand now.after at, kept.on)
 
 -- one list closes
 pub closes-goes : (total left next : ℕ) (first item whole : TypeTree) (initial now after : Ahead) → Becomes (closes_at total first) initial (closes_at left item) now → left ≡ suc next → (close_at item (tokens now) ≡ Read whole (tokens after)) × GoesOn now after → Becomes (closes_at total first) initial (closes_at next whole) after

@@ -119,8 +119,8 @@ stripped o = o >>= λ v rest. Read (node_of v) rest
 abbrev and-close : {A : Type 0} → List A → Outcome Token → Outcome (List A × Token)
 and-close items o = o >>= λ c rest. Read (items, c) rest
 
-abbrev behind-open : {A : Type 0} → Token → Outcome (List A × Token) → Outcome (Token × (List A × Token))
-behind-open t o = o >>= λ b rest. Read (t, b) rest
+abbrev after-open : {A : Type 0} → Token → Outcome (List A × Token) → Outcome (Token × (List A × Token))
+after-open t o = o >>= λ b rest. Read (t, b) rest
 
 list-reads : (vars : Bool) (b : ℕ) (t : Token) (ts : List Token) → punct "[" t.bare ≡ true → node_at (list_at vars (value_at vars b)) (t ∷ ts) ≡ list_rest vars b [] ts
 unfolding list_rest
@@ -128,11 +128,11 @@ list-reads vars b t ts e =
     rw e (go (many_at (value_first vars) (value_at vars b) ts)
     ∙ ap (λ (o : Outcome (List Tree)). with_front [] o >>= close_list) (sym (many-each node_of (value_first vars) (value_at vars b) ts)))
   where
-    closing : (items : List Value) (o : Outcome Token) → stripped (behind-open t (and-close items o) >>= λ x rest. Read (list_of x) rest) ≡ (o >>= λ _ rest. Read (list_tree (map node_of items)) rest)
+    closing : (items : List Value) (o : Outcome Token) → stripped (after-open t (and-close items o) >>= λ x rest. Read (list_of x) rest) ≡ (o >>= λ _ rest. Read (list_tree (map node_of items)) rest)
     closing items (Read c rest) = refl
     closing items (Refused v rest) = refl
 
-    go : (o : Outcome (List Value)) → stripped (behind-open t (o >>= λ items rest. and-close items (one_at (punct "]") rest)) >>= λ x rest. Read (list_of x) rest) ≡ (with_front [] (each node_of o) >>= close_list)
+    go : (o : Outcome (List Value)) → stripped (after-open t (o >>= λ items rest. and-close items (one_at (punct "]") rest)) >>= λ x rest. Read (list_of x) rest) ≡ (with_front [] (each node_of o) >>= close_list)
     go (Read items rest) = closing items (one_at (punct "]") rest)
     go (Refused v rest) = refl
 
@@ -140,11 +140,11 @@ object-reads : (vars : Bool) (b : ℕ) (t : Token) (ts : List Token) → punct "
 unfolding object_rest
 object-reads vars b t ts e = rw e (go (many_at any_name (field_at (value_at vars b)) ts))
   where
-    closing : (fields : List Field) (o : Outcome Token) → stripped (behind-open t (and-close fields o) >>= λ x rest. Read (object_of x) rest) ≡ (o >>= λ _ rest. Read (object_tree fields) rest)
+    closing : (fields : List Field) (o : Outcome Token) → stripped (after-open t (and-close fields o) >>= λ x rest. Read (object_of x) rest) ≡ (o >>= λ _ rest. Read (object_tree fields) rest)
     closing fields (Read c rest) = refl
     closing fields (Refused v rest) = refl
 
-    go : (o : Outcome (List Field)) → stripped (behind-open t (o >>= λ fields rest. and-close fields (one_at (punct "}") rest)) >>= λ x rest. Read (object_of x) rest) ≡ (with_front [] o >>= close_object)
+    go : (o : Outcome (List Field)) → stripped (after-open t (o >>= λ fields rest. and-close fields (one_at (punct "}") rest)) >>= λ x rest. Read (object_of x) rest) ≡ (with_front [] o >>= close_object)
     go (Read fields rest) = closing fields (one_at (punct "}") rest)
     go (Refused v rest) = refl
 
@@ -268,11 +268,11 @@ object-wants : (vars : Bool) (b : ℕ) (front : List Field) (t : Token) (ts : Li
 unfolding object_rest
 object-wants vars b front t ts e = go (any_name t.bare) refl
   where
-    behind : List Field → List Token → Outcome Tree
-    behind = rest-of any_name (field_at (value_at vars b)) close_object
+    after : List Field → List Token → Outcome Tree
+    after = rest-of any_name (field_at (value_at vars b)) close_object
 
-    go : (w : Bool) → any_name t.bare ≡ w → behind front (t ∷ ts) ≡ (one_at any_name (t ∷ ts) >>= λ n rest. one_at (punct ":") rest >>= λ c rest'. node_at (value_at vars b) rest' >>= λ v rest''. behind (front ++ (n.bare.spelling, v) ∷ []) rest'')
-    go true h = rest-more any_name (field_at (value_at vars b)) close_object (takes-field vars b) front t ts h ∙ field-flat (value_at vars b) (λ a rest. behind (front ++ a ∷ []) rest) (t ∷ ts)
+    go : (w : Bool) → any_name t.bare ≡ w → after front (t ∷ ts) ≡ (one_at any_name (t ∷ ts) >>= λ n rest. one_at (punct ":") rest >>= λ c rest'. node_at (value_at vars b) rest' >>= λ v rest''. after (front ++ (n.bare.spelling, v) ∷ []) rest'')
+    go true h = rest-more any_name (field_at (value_at vars b)) close_object (takes-field vars b) front t ts h ∙ field-flat (value_at vars b) (λ a rest. after (front ++ a ∷ []) rest) (t ∷ ts)
     go false h = rest-stops any_name (field_at (value_at vars b)) close_object front t ts h ∙ rw (e, h) refl
 
 -- ---- the end of a list or an object, or its next value

@@ -141,6 +141,6 @@ value-enters tree vars b result old mid new o h = goes-as tree result old mid ne
 
 pub value-stands : {V : Type 0} (tree : V → Tree) (vars : Bool) (b : ℕ) (old new : Ahead) (p : Positioned V) → p.pos ≡ old.hand.pos → node_at (value_at vars b) (tokens old) ≡ Read (tree p.node) (tokens new) → value_at vars b (tokens old) ≡ Read (placed tree p) (tokens new)
 value-stands tree vars b old new p e h =
-    value-placed vars b old.hand old.behind
+    value-placed vars b old.hand old.after
     ∙ ap (λ (o : Outcome Tree). o >>= λ n rest. Read (at old.hand n) rest) h
     ∙ ap (λ (place : Pos). Read (record { pos = place; node = tree p.node }) (tokens new)) (sym e)

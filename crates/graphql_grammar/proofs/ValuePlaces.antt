@@ -27,12 +27,12 @@ stands-one f test h = record { by = λ t ts. go t ts (test t.bare) }
 stands-then : {A : Type 0} (f : Token × A → Value) (test : Test) (s : Reader A) → ((x : Token × A) → (f x).pos ≡ x.0.pos) → Stands (mapped_at f (then_at (one_at test) s))
 stands-then {A} f test s h = record { by = λ t ts. go t ts (test t.bare) }
   where
-    behind : (t : Token) (o : Outcome A) → StandsAt t ((o >>= λ b rest. Read (t, b) rest) >>= λ x rest. Read (f x) rest)
-    behind t (Read b rest) = h (t, b)
-    behind t (Refused v rest) = tt
+    after : (t : Token) (o : Outcome A) → StandsAt t ((o >>= λ b rest. Read (t, b) rest) >>= λ x rest. Read (f x) rest)
+    after t (Read b rest) = h (t, b)
+    after t (Refused v rest) = tt
 
     go : (t : Token) (ts : List Token) (w : Bool) → StandsAt t ((cond w (Read t ts) (Refused syntax (t ∷ ts)) >>= λ a rest. s rest >>= λ b rest'. Read (a, b) rest') >>= λ x rest. Read (f x) rest)
-    go t ts true = behind t (s ts)
+    go t ts true = after t (s ts)
     go t ts false = tt
 
 stands-meaning : {A : Type 0} (f : Token × A → Value) (test : Test) (value : Bare → Option A) → ((x : Token × A) → (f x).pos ≡ x.0.pos) → Stands (mapped_at f (meaning_at test value))

@@ -109,8 +109,8 @@ factored {A} {B} {C} {X} {D} p q r i j f g h first second x t = (to, from)
     from (inr m) = record { value = (m.value.0, j m.value.1); holds = record { front = m.holds.front; back = m.holds.back; joined = m.holds.joined; first = m.holds.first; second = inr (record { value = m.value.1; holds = m.holds.second; is = refl }) }; is = m.is ∙ sym (second m.value.0 m.value.1) }
 
 -- a part, and one a level deeper: the whole is one level deeper
-pub nested-behind : {A B : Type 0} (k : Nesting) (p : Rel A) (q : Limits → Rel B) (c : Limits) (x : List Token) (t : A × B) → nested k (λ c. p ⨾ q c) c x t ↔ (p ⨾ nested k q c) x t
-nested-behind {A} {B} k p q c x t = (to (left k c), from (left k c))
+pub nested-after : {A B : Type 0} (k : Nesting) (p : Rel A) (q : Limits → Rel B) (c : Limits) (x : List Token) (t : A × B) → nested k (λ c. p ⨾ q c) c x t ↔ (p ⨾ nested k q c) x t
+nested-after {A} {B} k p q c x t = (to (left k c), from (left k c))
   where
     to : (n : ℕ) → below k (λ c. p ⨾ q c) c n x t → (p ⨾ below k q c n) x t
     to zero h = absurd h
@@ -121,8 +121,8 @@ nested-behind {A} {B} k p q c x t = (to (left k c), from (left k c))
     from (suc n) h = record { front = h.front; back = h.back; joined = h.joined; first = h.first; second = h.second }
 
 -- the same, where the part has its own budgets
-pub sets-behind : {A B : Type 0} (p : ℕ → Rel A) (q : Limits → Rel B) (c : Limits) (x : List Token) (t : A × B) → nested of_selections (λ c. p c.values ⨾ q c) c x t ↔ (p c.values ⨾ nested of_selections q c) x t
-sets-behind {A} {B} p q c x t = (to c.selections, from c.selections)
+pub sets-after : {A B : Type 0} (p : ℕ → Rel A) (q : Limits → Rel B) (c : Limits) (x : List Token) (t : A × B) → nested of_selections (λ c. p c.values ⨾ q c) c x t ↔ (p c.values ⨾ nested of_selections q c) x t
+sets-after {A} {B} p q c x t = (to c.selections, from c.selections)
   where
     to : (n : ℕ) → below of_selections (λ c. p c.values ⨾ q c) c n x t → (p c.values ⨾ below of_selections q c n) x t
     to zero h = absurd h

@@ -22,26 +22,26 @@ cons-read x rest = Read (x.0 ∷ x.1) rest
 abbrev cons-all : {A : Type 0} → Outcome (A × List A) → Outcome (List A)
 cons-all o = o >>= λ x rest. cons-read x rest
 
-abbrev behind : {A : Type 0} → Outcome A → (List Token → Outcome (List A)) → Outcome (A × List A)
-behind o more = o >>= λ a rest. more rest >>= λ others rest'. pair-read a others rest'
+abbrev after : {A : Type 0} → Outcome A → (List Token → Outcome (List A)) → Outcome (A × List A)
+after o more = o >>= λ a rest. more rest >>= λ others rest'. pair-read a others rest'
 
-behind-same : {A : Type 0} (r : Reader A) → Takes r → (ts : List Token) (more again : List Token → Outcome (List A)) → ((rest : List Token) → length rest < length ts → more rest ≡ again rest) → (o : Outcome A) → r ts ≡ o → behind o more ≡ behind o again
-behind-same r takes ts more again same (Read a rest) e = ap (λ (k : Outcome (List _)). k >>= λ others rest'. pair-read a others rest') (same rest (takes ts a rest e))
-behind-same r takes ts more again same (Refused v rest) e = refl
+after-same : {A : Type 0} (r : Reader A) → Takes r → (ts : List Token) (more again : List Token → Outcome (List A)) → ((rest : List Token) → length rest < length ts → more rest ≡ again rest) → (o : Outcome A) → r ts ≡ o → after o more ≡ after o again
+after-same r takes ts more again same (Read a rest) e = ap (λ (k : Outcome (List _)). k >>= λ others rest'. pair-read a others rest') (same rest (takes ts a rest e))
+after-same r takes ts more again same (Refused v rest) e = refl
 
 repeat-fuel : {A : Type 0} (first : Test) (r : Reader A) → Takes r → (n m : ℕ) (ts : List Token) → length ts < n → length ts < m → repeat_at n first r ts ≡ repeat_at m first r ts
 repeat-fuel first r takes zero m ts h k = absurd (omega (arith, h))
 repeat-fuel first r takes (suc n) zero ts h k = absurd (omega (arith, k))
 repeat-fuel first r takes (suc n) (suc m) [] h k = refl
 repeat-fuel first r takes (suc n) (suc m) (t ∷ ts) h k =
-    let same = behind-same r takes (t ∷ ts) (repeat_at n first r) (repeat_at m first r) (λ rest less. repeat-fuel first r takes n m rest (omega (arith, h, less)) (omega (arith, k, less))) (r (t ∷ ts)) refl in
+    let same = after-same r takes (t ∷ ts) (repeat_at n first r) (repeat_at m first r) (λ rest less. repeat-fuel first r takes n m rest (omega (arith, h, less)) (omega (arith, k, less))) (r (t ∷ ts)) refl in
     ap (λ (k : Outcome (_ × List _)). cond (first t.bare) (cons-all k) (Read [] (t ∷ ts))) same
 
-pub many-more : {A : Type 0} (first : Test) (r : Reader A) → Takes r → (t : Token) (ts : List Token) → first t.bare ≡ true → many_at first r (t ∷ ts) ≡ cons-all (behind (r (t ∷ ts)) (many_at first r))
+pub many-more : {A : Type 0} (first : Test) (r : Reader A) → Takes r → (t : Token) (ts : List Token) → first t.bare ≡ true → many_at first r (t ∷ ts) ≡ cons-all (after (r (t ∷ ts)) (many_at first r))
 unfolding many_at
 many-more first r takes t ts e =
     let n = length (t ∷ ts) in
-    let same = behind-same r takes (t ∷ ts) (repeat_at n first r) (many_at first r) (λ rest less. repeat-fuel first r takes n (suc (length rest)) rest less (omega arith)) (r (t ∷ ts)) refl in
+    let same = after-same r takes (t ∷ ts) (repeat_at n first r) (many_at first r) (λ rest less. repeat-fuel first r takes n (suc (length rest)) rest less (omega arith)) (r (t ∷ ts)) refl in
     rw e (ap (λ (k : Outcome (_ × List _)). cons-all k) same)
 
 pub many-stops : {A : Type 0} (first : Test) (r : Reader A) (t : Token) (ts : List Token) → first t.bare ≡ false → many_at first r (t ∷ ts) ≡ Read [] (t ∷ ts)
@@ -67,7 +67,7 @@ rest-more {A} {B} first r close takes front t ts e = ap (λ (k : Outcome (List A
     one-more a (Read others rest) = ap (λ (l : List A). Read l rest) (sym (append_assoc front (a ∷ []) others))
     one-more a (Refused v rest) = refl
 
-    go : (o : Outcome A) → (with_front front (cons-all (behind o (many_at first r))) >>= close) ≡ (o >>= λ a rest. rest-of first r close (front ++ a ∷ []) rest)
+    go : (o : Outcome A) → (with_front front (cons-all (after o (many_at first r))) >>= close) ≡ (o >>= λ a rest. rest-of first r close (front ++ a ∷ []) rest)
     go (Read a rest) = ap (λ (k : Outcome (List A)). k >>= close) (one-more a (many_at first r rest))
     go (Refused v rest) = refl
 
@@ -83,7 +83,7 @@ two-fronts xs ys (Refused v rest) = refl
 plus-again : {A : Type 0} (first : Test) (r : Reader A) → Takes r → (ts : List Token) (a : A) (t : Token) (rest : List Token) → r ts ≡ Read a (t ∷ rest) → first t.bare ≡ true → plus_at first r ts ≡ with_front (a ∷ []) (plus_at first r (t ∷ rest))
 unfolding plus_at
 plus-again {A} first r takes ts a t rest e h =
-    ap (λ (o : Outcome A). cons-all (behind o (many_at first r))) e
+    ap (λ (o : Outcome A). cons-all (after o (many_at first r))) e
     ∙ go (many_at first r (t ∷ rest))
     ∙ ap (λ (o : Outcome (List A)). with_front (a ∷ []) o) (many-more first r takes t rest h)
   where
@@ -94,12 +94,12 @@ plus-again {A} first r takes ts a t rest e h =
 plus-once : {A : Type 0} (first : Test) (r : Reader A) (ts : List Token) (a : A) (t : Token) (rest : List Token) → r ts ≡ Read a (t ∷ rest) → first t.bare ≡ false → plus_at first r ts ≡ Read (a ∷ []) (t ∷ rest)
 unfolding plus_at
 plus-once {A} first r ts a t rest e h =
-    ap (λ (o : Outcome A). cons-all (behind o (many_at first r))) e
+    ap (λ (o : Outcome A). cons-all (after o (many_at first r))) e
     ∙ ap (λ (o : Outcome (List A)). cons-all (o >>= λ others rest'. pair-read a others rest')) (many-stops first r t rest h)
 
 plus-not : {A : Type 0} (first : Test) (r : Reader A) (ts : List Token) (v : Verdict) (rest : List Token) → r ts ≡ Refused v rest → plus_at first r ts ≡ Refused v rest
 unfolding plus_at
-plus-not {A} first r ts v rest e = ap (λ (o : Outcome A). cons-all (behind o (many_at first r))) e
+plus-not {A} first r ts v rest e = ap (λ (o : Outcome A). cons-all (after o (many_at first r))) e
 
 -- The loop has read `items`, and `whole` is what all of the tokens give.
 -- It goes on with one more,

@@ -66,20 +66,20 @@ one-more view (y ∷ xs) x = ap (λ (l : List _). view y ∷ l) (one-more view x
 pub goes : {X Y : Type 0} (view : X → Y) (first : Test) (r : Reader Y) (initial now next : Ahead) (items more : List X) (x : X) → Takes r → Kept first r initial now (map view items) → Gives view (Ok x) now next r → first next.hand.bare ≡ true → more ≡ items ++ x ∷ [] → Kept first r initial next (map view more)
 goes view first r initial now next items more x takes kept h at is = record {
   told =
-      loop-goes first r takes _ (map view items) (tokens now) (view x) next.hand next.behind kept.told h.0 at
+      loop-goes first r takes _ (map view items) (tokens now) (view x) next.hand next.after kept.told h.0 at
       ∙ ap (λ (l : List _). with_front l (plus_at first r (tokens next))) (sym (ap (map view) is ∙ one-more view items x));
   on = go-on initial now next kept.on h.1;
 }
 
 pub ends : {X Y : Type 0} (view : X → Y) (first : Test) (r : Reader Y) (initial now next : Ahead) (items more : List X) (x : X) → Kept first r initial now (map view items) → Gives view (Ok x) now next r → first next.hand.bare ≡ false → more ≡ items ++ x ∷ [] → (plus_at first r (tokens initial) ≡ Read (map view more) (tokens next)) × GoesOn initial next
 ends view first r initial now next items more x kept h at is = (
-  loop-ends first r _ (map view items) (tokens now) (view x) next.hand next.behind kept.told h.0 at
+  loop-ends first r _ (map view items) (tokens now) (view x) next.hand next.after kept.told h.0 at
       ∙ ap (λ (l : List _). Read l (tokens next)) (sym (ap (map view) is ∙ one-more view items x)),
   go-on initial now next kept.on h.1,
 )
 
 -- fewer tokens are ahead
-pub shorter : {X Y : Type 0} (view : X → Y) (r : Reader Y) (now next : Ahead) (x : X) → Takes r → Gives view (Ok x) now next r → suc (length next.behind) ≤ length now.behind
+pub shorter : {X Y : Type 0} (view : X → Y) (r : Reader Y) (now next : Ahead) (x : X) → Takes r → Gives view (Ok x) now next r → suc (length next.after) ≤ length now.after
 shorter view r now next x takes h = let less = takes (tokens now) (view x) (tokens next) h.0 in omega (arith, less)
 
 -- ---- any number
@@ -93,8 +93,8 @@ there view (Err Limit) old new r s e h = (sym e ∙ h.0, h.1)
 
 -- where one begins, any number is one or more
 pub any-number : {X Y : Type 0} (view : X → List Y) (result : Result X Refusal) (first : Test) (r : Reader Y) (old new : Ahead) → Takes r → first old.hand.bare ≡ true → Gives view result old new (plus_at first r) → Gives view result old new (many_at first r)
-any-number view result first r old new takes at h = there view result old new (plus_at first r) (many_at first r) (sym (many-plus first r takes old.hand old.behind at)) h
+any-number view result first r old new takes at h = there view result old new (plus_at first r) (many_at first r) (sym (many-plus first r takes old.hand old.after at)) h
 
 -- and where none begins, it is none
 pub none-there : {Y : Type 0} (first : Test) (r : Reader Y) (now : Ahead) → first now.hand.bare ≡ false → (many_at first r (tokens now) ≡ Read [] (tokens now)) × GoesOn now now
-none-there first r now at = (many-stops first r now.hand now.behind at, stays now)
+none-there first r now at = (many-stops first r now.hand now.after at, stays now)

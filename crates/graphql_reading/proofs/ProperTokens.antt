@@ -107,8 +107,8 @@ pub proper-block : (t : Token) → is_block t.bare.kind ≡ true → IsProper t 
 proper-block t e h = block-bytes t.bare.spelling (as-block t.bare.kind t.bare.spelling e h)
 
 -- a character begins after the first quotes
-pub behind-quotes : (quotes : ℕ) (text : List ℕ) → IsQuoted quotes text → IsUtf8 (take (length text - quotes) text) → 0 < quotes → IsCharBoundary (take (length text - quotes) text) quotes
-behind-quotes quotes text q utf8 some =
+pub after-quotes : (quotes : ℕ) (text : List ℕ) → IsQuoted quotes text → IsUtf8 (take (length text - quotes) text) → 0 < quotes → IsCharBoundary (take (length text - quotes) text) quotes
+after-quotes quotes text q utf8 some =
     let marks : List ℕ = replicate quotes 34 in
     let before : List ℕ = marks ++ q.0 in
     let split : text ≡ before ++ marks = q.1 ∙ sym (append_assoc marks q.0 marks) in

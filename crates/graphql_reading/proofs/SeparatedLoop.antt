@@ -109,7 +109,7 @@ pub record KeptMembers {Y : Type 0} (mark : Test) (r : Reader Y) (initial now : 
 -- before the first member
 pub begins-members : {Y : Type 0} (mark : Test) (r : Reader Y) (initial now : Ahead) (taken : Bool) → Gives (λ taken. taken) (Ok taken) initial now (take_at mark) → KeptMembers mark r initial now []
 begins-members mark r initial now taken h = record {
-  told = separated-members mark r initial.hand initial.behind taken (tokens now) h.0 ∙ loop-starts (members_at mark r (tokens now));
+  told = separated-members mark r initial.hand initial.after taken (tokens now) h.0 ∙ loop-starts (members_at mark r (tokens now));
   on = h.1;
 }
 
@@ -125,13 +125,13 @@ stops-members view all mark r initial now next items e kept h = (refuses-member 
 -- a member is there, and after it a mark
 pub goes-members : {X Y : Type 0} (view : X → Y) (mark : Test) (r : Reader Y) (initial now next again : Ahead) (items more : List X) (x : X) (taken : Bool) → Takes r → KeptMembers mark r initial now (map view items) → Gives view (Ok x) now next r → Gives (λ taken. taken) (Ok taken) next again (take_at mark) → taken ≡ true → more ≡ items ++ x ∷ [] → KeptMembers mark r initial again (map view more)
 goes-members view mark r initial now next again items more x taken takes kept h marked is-taken is =
-    let there = took mark next.hand next.behind taken (tokens again) is-taken marked.0 in
+    let there = took mark next.hand next.after taken (tokens again) is-taken marked.0 in
     record {
       told =
           kept.told
-          ∙ ap (with_front (map view items)) (members-again mark r takes (tokens now) (view x) next.hand next.behind h.0 there.0)
-          ∙ two-fronts (map view items) (view x ∷ []) (members_at mark r next.behind)
-          ∙ ap (λ (l : List _). with_front l (members_at mark r next.behind)) (sym (ap (map view) is ∙ one-more view items x))
+          ∙ ap (with_front (map view items)) (members-again mark r takes (tokens now) (view x) next.hand next.after h.0 there.0)
+          ∙ two-fronts (map view items) (view x ∷ []) (members_at mark r next.after)
+          ∙ ap (λ (l : List _). with_front l (members_at mark r next.after)) (sym (ap (map view) is ∙ one-more view items x))
           ∙ ap (λ (l : List Token). with_front (map view more) (members_at mark r l)) (sym there.1);
       on = go-on initial next again (go-on initial now next kept.on h.1) marked.1;
     }
@@ -139,18 +139,18 @@ goes-members view mark r initial now next again items more x taken takes kept h 
 -- a member is there, and no mark after it
 pub ends-members : {X Y : Type 0} (view : X → Y) (mark : Test) (r : Reader Y) (initial now next last : Ahead) (items more : List X) (x : X) (taken : Bool) → KeptMembers mark r initial now (map view items) → Gives view (Ok x) now next r → Gives (λ taken. taken) (Ok taken) next last (take_at mark) → taken ≡ false → more ≡ items ++ x ∷ [] → (separated_at mark r (tokens initial) ≡ Read (map view more) (tokens last)) × GoesOn initial last
 ends-members view mark r initial now next last items more x taken kept h unmarked is-left is =
-    let there = left-there mark next.hand next.behind taken (tokens last) is-left unmarked.0 in (
+    let there = left-there mark next.hand next.after taken (tokens last) is-left unmarked.0 in (
       kept.told
-          ∙ ap (with_front (map view items)) (members-once mark r (tokens now) (view x) next.hand next.behind h.0 there.0)
+          ∙ ap (with_front (map view items)) (members-once mark r (tokens now) (view x) next.hand next.after h.0 there.0)
           ∙ ap (λ (l : List _). Read l (tokens next)) (sym (ap (map view) is ∙ one-more view items x))
           ∙ ap (λ (l : List Token). Read (map view more) l) (sym there.1),
       go-on initial next last (go-on initial now next kept.on h.1) unmarked.1,
     )
 
 -- fewer tokens are ahead after a member and a mark
-pub shorter-members : {X Y : Type 0} (view : X → Y) (mark : Test) (r : Reader Y) (now next again : Ahead) (x : X) (taken : Bool) → Takes r → Gives view (Ok x) now next r → Gives (λ taken. taken) (Ok taken) next again (take_at mark) → taken ≡ true → suc (length again.behind) ≤ length now.behind
+pub shorter-members : {X Y : Type 0} (view : X → Y) (mark : Test) (r : Reader Y) (now next again : Ahead) (x : X) (taken : Bool) → Takes r → Gives view (Ok x) now next r → Gives (λ taken. taken) (Ok taken) next again (take_at mark) → taken ≡ true → suc (length again.after) ≤ length now.after
 shorter-members view mark r now next again x taken takes h marked is-taken =
     let less = takes (tokens now) (view x) (tokens next) h.0 in
-    let there = took mark next.hand next.behind taken (tokens again) is-taken marked.0 in
+    let there = took mark next.hand next.after taken (tokens again) is-taken marked.0 in
     let same = ap (λ (l : List Token). length l) there.1 in
     omega (arith, less, same)

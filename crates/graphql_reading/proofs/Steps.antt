@@ -7,12 +7,12 @@ use Rattle.graphql_reading.specs.reading.Given.{Gives, Told, GoesOn}
 use Rattle.graphql_reading.specs.reading.Outcome.{Reader}
 use Rattle.graphql_reading.proofs.Loops.{go-on}
 
-told-behind : {X Y : Type 0} (view : X → Y) (result : Result X Refusal) (old middle new : Ahead) (whole rest : Reader Y) → whole (tokens old) ≡ rest (tokens middle) → Told view result middle new rest → Told view result old new whole
-told-behind view (Ok x) old middle new whole rest e h = e ∙ h
-told-behind view (Err Memory) old middle new whole rest e h = h
-told-behind view (Err Syntax) old middle new whole rest e h = e ∙ h
-told-behind view (Err Limit) old middle new whole rest e h = e ∙ h
+told-after : {X Y : Type 0} (view : X → Y) (result : Result X Refusal) (old middle new : Ahead) (whole rest : Reader Y) → whole (tokens old) ≡ rest (tokens middle) → Told view result middle new rest → Told view result old new whole
+told-after view (Ok x) old middle new whole rest e h = e ∙ h
+told-after view (Err Memory) old middle new whole rest e h = h
+told-after view (Err Syntax) old middle new whole rest e h = e ∙ h
+told-after view (Err Limit) old middle new whole rest e h = e ∙ h
 
 -- the step takes tokens, and the rest is what the whole gives
-pub gives-behind : {X Y : Type 0} (view : X → Y) (result : Result X Refusal) (old middle new : Ahead) (whole rest : Reader Y) → whole (tokens old) ≡ rest (tokens middle) → GoesOn old middle → Gives view result middle new rest → Gives view result old new whole
-gives-behind view result old middle new whole rest e on h = (told-behind view result old middle new whole rest e h.0, go-on old middle new on h.1)
+pub gives-after : {X Y : Type 0} (view : X → Y) (result : Result X Refusal) (old middle new : Ahead) (whole rest : Reader Y) → whole (tokens old) ≡ rest (tokens middle) → GoesOn old middle → Gives view result middle new rest → Gives view result old new whole
+gives-after view result old middle new whole rest e on h = (told-after view result old middle new whole rest e h.0, go-on old middle new on h.1)

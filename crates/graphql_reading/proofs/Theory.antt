@@ -120,8 +120,8 @@ Extends-then p q front m n = record {
   proper = proper-append m.tail n.tail m.proper n.proper;
 }
 
-Extends-behind : {A B : Type 0} (p : Rel A) (q : Rel B) (used front : List Token) (a : A) → p used a → Extends q front → Extends (p ⨾ q) (used ++ front)
-Extends-behind p q used front a first n = record {
+Extends-after : {A B : Type 0} (p : Rel A) (q : Rel B) (used front : List Token) (a : A) → p used a → Extends q front → Extends (p ⨾ q) (used ++ front)
+Extends-after p q used front a first n = record {
   tail = n.tail;
   tree = (a, n.tree);
   holds = record { front = used; back = front ++ n.tail; joined = append_assoc used front n.tail; first = first; second = n.holds };
@@ -150,7 +150,7 @@ Then-refused-second {A} {B} p q b f g ts rest₁ a v rest starts has r k = recor
   before = r.used ++ k.before;
   split = r.split ∙ ap (λ (l : List Token). r.used ++ l) k.split ∙ sym (append_assoc r.used k.before rest);
   quiet = quiet-append r.used k.before r.quiet k.quiet;
-  alive = inr (Extends-behind (p b) (q b) r.used k.before a (r.holds b (at-most b)) (elim k.alive [ inl e ↦ subst (λ (l : List Token). Extends (q b) l) (sym e) (has b) | inr m ↦ m ]));
+  alive = inr (Extends-after (p b) (q b) r.used k.before a (r.holds b (at-most b)) (elim k.alive [ inl e ↦ subst (λ (l : List Token). Extends (q b) l) (sym e) (has b) | inr m ↦ m ]));
   dead = IfHead-map rest (go v) k.dead;
 }
   where
@@ -164,7 +164,7 @@ Then-refused-second {A} {B} p q b f g ts rest₁ a v rest starts has r k = recor
 
     go : (v : Verdict) → Dead q b f v (k.before ++ peek rest) → Dead (λ c. p c ⨾ q c) b f v ((r.used ++ k.before) ++ peek rest)
     go syntax d = λ c. one-dead c (d c)
-    go limit d = (one-dead b d.0, λ c lt. subst (λ (l : List Token). Extends (p c ⨾ q c) l) (sym regroup) (Extends-behind (p c) (q c) r.used (k.before ++ peek rest) a (r.holds c (above b c lt)) (d.1 c lt)))
+    go limit d = (one-dead b d.0, λ c lt. subst (λ (l : List Token). Extends (p c ⨾ q c) l) (sym regroup) (Extends-after (p c) (q c) r.used (k.before ++ peek rest) a (r.holds c (above b c lt)) (d.1 c lt)))
 
 Then-read : {A B : Type 0} (p : Limits → Rel A) (q : Limits → Rel B) (b : Limits) (f g : Test) (ts rest₁ : List Token) (a : A) (e : B) (rest : List Token) → Starts q f g → IsRead p b g ts a rest₁ → IsRead q b f rest₁ e rest → IsRead (λ c. p c ⨾ q c) b f ts (a, e) rest
 Then-read p q b f g ts rest₁ a e rest starts r k = record {
@@ -181,12 +181,12 @@ Then-read p q b f g ts rest₁ a e rest starts r k = record {
 pub then-exact : {A B : Type 0} (p : Limits → Rel A) (q : Limits → Rel B) (b : Limits) (f g : Test) (r : Reader A) (s : Reader B) (ts : List Token) → Starts q f g → HasPhrases q → Exact p b g ts (r ts) → ((a : A) (rest : List Token) → IsRead p b g ts a rest → Exact q b f rest (s rest)) → Exact (λ c. p c ⨾ q c) b f ts (then_at r s ts)
 then-exact {A} {B} p q b f g r s ts starts has first second = go (r ts) first
   where
-    behind : (a : A) (rest₁ : List Token) → IsRead p b g ts a rest₁ → (o : Outcome B) → Exact q b f rest₁ o → Exact (λ c. p c ⨾ q c) b f ts (o >>= λ e rest. Read (a, e) rest)
-    behind a rest₁ h (Read e rest) k = Then-read p q b f g ts rest₁ a e rest starts h k
-    behind a rest₁ h (Refused v rest) k = Then-refused-second p q b f g ts rest₁ a v rest starts has h k
+    after : (a : A) (rest₁ : List Token) → IsRead p b g ts a rest₁ → (o : Outcome B) → Exact q b f rest₁ o → Exact (λ c. p c ⨾ q c) b f ts (o >>= λ e rest. Read (a, e) rest)
+    after a rest₁ h (Read e rest) k = Then-read p q b f g ts rest₁ a e rest starts h k
+    after a rest₁ h (Refused v rest) k = Then-refused-second p q b f g ts rest₁ a v rest starts has h k
 
     go : (o : Outcome A) → Exact p b g ts o → Exact (λ c. p c ⨾ q c) b f ts (o >>= λ a rest₁. s rest₁ >>= λ e rest. Read (a, e) rest)
-    go (Read a rest₁) h = behind a rest₁ h (s rest₁) (second a rest₁ h)
+    go (Read a rest₁) h = after a rest₁ h (s rest₁) (second a rest₁ h)
     go (Refused v rest) h = Then-refused-first p q b f g ts v rest starts has h
 
 -- ---- one relation in place of another

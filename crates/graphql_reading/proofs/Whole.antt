@@ -73,9 +73,9 @@ quiet-proper : (u w : List Token) → Quiet u → AreProperButFaults (u ++ w) �
 quiet-proper [] w q c = tt
 quiet-proper (t ∷ u) w q c = (proper-here t q.0 c.0, quiet-proper u w q.1 c.1)
 
-cut-behind : (u w : List Token) → AreProperButFaults (u ++ w) → AreProperButFaults w
-cut-behind [] w c = c
-cut-behind (t ∷ u) w c = cut-behind u w c.1
+cut-after : (u w : List Token) → AreProperButFaults (u ++ w) → AreProperButFaults w
+cut-after [] w c = c
+cut-after (t ∷ u) w c = cut-after u w c.1
 
 bares-append : (u v : List Token) → bares (u ++ v) ≡ bares u ++ bares v
 bares-append [] v = refl
@@ -122,19 +122,19 @@ proper-drop (suc k) (t ∷ u) h = proper-drop k u h.1
 -- ---- fronts
 
 pub viable-bare : {A : Type 0} {p : Rel A} (front other : List Token) → bares front ≡ bares other → Completes p front → Completes p other
-viable-bare front other e m = record { begun = m.begun; behind = m.behind; tree = m.tree; alike = m.alike ∙ e; proper = m.proper; holds = m.holds }
+viable-bare front other e m = record { begun = m.begun; after = m.after; tree = m.tree; alike = m.alike ∙ e; proper = m.proper; holds = m.holds }
 
 completes-viable : {A : Type 0} {p : Rel A} (front : List Token) → Extends p front → Completes p front
-completes-viable front m = record { begun = front; behind = m.tail; tree = m.tree; alike = refl; proper = m.proper; holds = m.holds }
+completes-viable front m = record { begun = front; after = m.tail; tree = m.tree; alike = refl; proper = m.proper; holds = m.holds }
 
 -- and back: to a relation that ignores places, a front's own places do
 pub viable-completes : {A : Type 0} {p : Limits → Rel A} {placeless : A → A} → IgnoresPlaces p placeless → (c : Limits) (front : List Token) → Completes (p c) front → Extends (p c) front
 viable-completes {p = p} ignores c front m =
-    let s = ignores.by c (m.begun ++ m.behind) (front ++ m.behind) m.tree m.holds (bares-append m.begun m.behind ∙ ap (λ (l : List Bare). l ++ bares m.behind) m.alike ∙ sym (bares-append front m.behind)) in
-    record { tail = m.behind; tree = s.tree; holds = s.holds; proper = m.proper }
+    let s = ignores.by c (m.begun ++ m.after) (front ++ m.after) m.tree m.holds (bares-append m.begun m.after ∙ ap (λ (l : List Bare). l ++ bares m.after) m.alike ∙ sym (bares-append front m.after)) in
+    record { tail = m.after; tree = s.tree; holds = s.holds; proper = m.proper }
 
 shorter : {A : Type 0} {p : Rel A} (u rest front : List Token) → u ≡ front ++ rest → AreProper rest → Extends p u → Completes p front
-shorter {p = p} u rest front e h m = record { begun = front; behind = rest ++ m.tail; tree = m.tree; alike = refl; proper = proper-append rest m.tail h m.proper; holds = subst (λ (l : List Token). p l m.tree) (ap (λ (l : List Token). l ++ m.tail) e ∙ append_assoc front rest m.tail) m.holds }
+shorter {p = p} u rest front e h m = record { begun = front; after = rest ++ m.tail; tree = m.tree; alike = refl; proper = proper-append rest m.tail h m.proper; holds = subst (λ (l : List Token). p l m.tree) (ap (λ (l : List Token). l ++ m.tail) e ∙ append_assoc front rest m.tail) m.holds }
 
 -- any token, which stands after a whole phrase
 marker : Token
@@ -175,18 +175,18 @@ refused {A} p placeless b ts v (t ∷ after) has ignores ends cuts r = record {
     dead-here limit d = d.0
 
     told : (v : Verdict) → Dead p b anything v (r.before ++ t ∷ []) → IsVerdict p (take (suc (length r.before)) ts) v
-    told syntax d = λ m. dead-viable p placeless ignores m.holds.0 (r.before ++ t ∷ []) (d m.holds.0) (subst (Completes (p m.holds.0)) first (record { begun = m.begun; behind = m.behind; tree = m.tree; alike = m.alike; proper = m.proper; holds = m.holds.1 }))
+    told syntax d = λ m. dead-viable p placeless ignores m.holds.0 (r.before ++ t ∷ []) (d m.holds.0) (subst (Completes (p m.holds.0)) first (record { begun = m.begun; after = m.after; tree = m.tree; alike = m.alike; proper = m.proper; holds = m.holds.1 }))
     told limit d =
         let c : Limits = record { selections = suc b.selections; values = suc b.values; types = suc b.types } in
         let m = d.1 c (omega arith) in
-        subst (ViableUnlimited p) (sym first) (record { begun = r.before ++ t ∷ []; behind = m.tail; tree = m.tree; alike = refl; proper = m.proper; holds = (c, m.holds) })
+        subst (ViableUnlimited p) (sym first) (record { begun = r.before ++ t ∷ []; after = m.tail; tree = m.tree; alike = refl; proper = m.proper; holds = (c, m.holds) })
 
 -- ---- trees
 
 accepts : {A : Type 0} (p : Limits → Rel A) (placeless : A → A) (b : Limits) (ts : List Token) (a : A) → IgnoresPlaces p placeless → AreProper ts → p b ts a → ((c : Limits) (other : A) → p c ts other → other ≡ a) → ((c : Limits) (other another : A) → p b (without_places ts) another → p c (without_places ts) other → other ≡ another) → Accepts p placeless b ts a
 accepts p placeless b ts a ignores proper holds only only-bare = record {
   tree = record { within = holds; only = λ other h. only h.0 other h.1; within_placeless = bare-holds; only_placeless = λ other h. only-bare h.0 other (placeless a) bare-holds h.1 };
-  none = λ k v r. r.not_viable (record { begun = take k ts; behind = drop k ts; tree = a; alike = refl; proper = proper-drop k ts proper; holds = subst (λ (l : List Token). p b l a) (sym (take-append-drop k ts)) holds });
+  none = λ k v r. r.not_viable (record { begun = take k ts; after = drop k ts; tree = a; alike = refl; proper = proper-drop k ts proper; holds = subst (λ (l : List Token). p b l a) (sym (take-append-drop k ts)) holds });
 }
   where
     bare-holds : p b (without_places ts) (placeless a)
@@ -215,12 +215,12 @@ ignores-whole h = ignores-mapped (λ a. refl) (ignores-then h (ignores-one the_e
 pub one-tree : {A : Type 0} (p : Limits → Rel A) (b : Limits) (r : Reader A) → ReadsExactly p b the_end r → (ts : List Token) (c : Limits) (x y : A) → whole p b ts x → whole p c ts y → y ≡ x
 one-tree {A} p b r exact ts c x y h k = go (r ts) (exact.at ts)
   where
-    behind : (n : List Token) (e : Token) → one the_end n e → Begins the_end n
-    behind n e m = subst (λ (l : List Token). Begins the_end l) (sym m.0) m.1
+    begins-the-end : (n : List Token) (e : Token) → one the_end n e → Begins the_end n
+    begins-the-end n e m = subst (λ (l : List Token). Begins the_end l) (sym m.0) m.1
 
     go : (o : Outcome A) → Exact p b the_end ts o → y ≡ x
     go (Read a rest) m =
-        let one-of : (c : Limits) (y : A) → whole p c ts y → y ≡ a = λ c y k. k.is ∙ (m.only c k.holds.front k.holds.back (tail-of rest) k.value.0 k.holds.first (behind k.holds.back k.value.1 k.holds.second) (sym k.holds.joined ∙ m.split ∙ regroup m.used rest)).1 in
+        let one-of : (c : Limits) (y : A) → whole p c ts y → y ≡ a = λ c y k. k.is ∙ (m.only c k.holds.front k.holds.back (tail-of rest) k.value.0 k.holds.first (begins-the-end k.holds.back k.value.1 k.holds.second) (sym k.holds.joined ∙ m.split ∙ regroup m.used rest)).1 in
         one-of c y k ∙ sym (one-of b x h)
       where
         tail-of : List Token → List Token
@@ -234,7 +234,7 @@ one-tree {A} p b r exact ts c x y h k = go (r ts) (exact.at ts)
     go (Refused v (t ∷ after)) m = absurd (dead-here v m.dead)
       where
         kill : IsDead (p b) the_end (m.before ++ t ∷ []) → ⊥
-        kill d = d h.holds.front h.holds.back after h.value.0 h.holds.first (behind h.holds.back h.value.1 h.holds.second) (sym h.holds.joined ∙ m.split ∙ sym (append_assoc m.before (t ∷ []) after))
+        kill d = d h.holds.front h.holds.back after h.value.0 h.holds.first (begins-the-end h.holds.back h.value.1 h.holds.second) (sym h.holds.joined ∙ m.split ∙ sym (append_assoc m.before (t ∷ []) after))
 
         dead-here : (v : Verdict) → Dead p b the_end v (m.before ++ t ∷ []) → ⊥
         dead-here syntax d = kill (d b)
@@ -252,7 +252,7 @@ whole-answers {A} {p} {placeless} {b} {r} has ignores exact ts ends cuts = go (r
         let joined : ts ≡ r.used ++ e ∷ [] = r.split ∙ ap (λ (l : List Token). r.used ++ e ∷ l) nothing in
         let holds : whole p b ts d = record { value = (d, e); holds = record { front = r.used; back = e ∷ []; joined = joined; first = r.holds b (omega arith); second = (refl, is-end) }; is = refl } in (
           nothing,
-          accepts (whole p) placeless b ts d (ignores-whole ignores) (subst AreProper (sym joined) (proper-append r.used (e ∷ []) (quiet-proper r.used (e ∷ after) r.quiet (subst AreProperButFaults r.split cuts)) (end-proper e is-end (cut-behind r.used (e ∷ after) (subst AreProperButFaults r.split cuts)).0, tt))) holds
+          accepts (whole p) placeless b ts d (ignores-whole ignores) (subst AreProper (sym joined) (proper-append r.used (e ∷ []) (quiet-proper r.used (e ∷ after) r.quiet (subst AreProperButFaults r.split cuts)) (end-proper e is-end (cut-after r.used (e ∷ after) (subst AreProperButFaults r.split cuts)).0, tt))) holds
               (λ c other h. one-tree p b _ exact ts c d other holds h)
               (λ c other another h k. one-tree p b _ exact (without_places ts) c another other h k),
         )

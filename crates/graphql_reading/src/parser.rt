@@ -101,7 +101,7 @@ impl<'a> Parser<'a> {
 
     /// The tokens that are still to come, after the one in hand, and who takes memory.
     pub fn into_parts(self) -> (Tokens<'a>, Memory)
-        ensures left { left result.0 ≡ self.entry.behind }
+        ensures left { left result.0 ≡ self.entry.after }
         ensures whole { result.0.whole ≡ self.entry.whole }
         ensures taken { result.0.taken ≡ self.entry.taken }
         ensures within { result.0.taken ≤ length result.0.whole }
@@ -116,7 +116,7 @@ impl<'a> Parser<'a> {
     #[inline(never)]
     pub fn advance(&mut self)
         requires { is_last self.old.hand.bare.kind ≡ false }
-        ensures left { ahead self.new ≡ self.old.behind }
+        ensures left { ahead self.new ≡ self.old.after }
         ensures taken { self.new.taken ≡ self.old.taken + 1 }
         ensures whole { self.new.whole ≡ self.old.whole }
         ensures text { self.new.text ≡ self.old.text }
@@ -178,7 +178,7 @@ impl<'a> Parser<'a> {
     pub fn take(&mut self) -> Token<'a>
         requires { is_last self.old.hand.bare.kind ≡ false }
         ensures token { seen result ≡ self.old.hand }
-        ensures left { ahead self.new ≡ self.old.behind }
+        ensures left { ahead self.new ≡ self.old.after }
         ensures taken { self.new.taken ≡ self.old.taken + 1 }
         ensures whole { self.new.whole ≡ self.old.whole }
         ensures memory { self.new.memory ≡ self.old.memory }

@@ -5,7 +5,7 @@ use Rattle.std.proofs.lemmas.List.Sums.{sum_by-append}
 use Rattle.std.specs.List.{concat, count_by}
 use Rattle.graphql_tokens.specs.tokens.Cuts.{is_last, Cuts, GoesOn}
 use Rattle.graphql_tokens.specs.tokens.Edition.{Current}
-use Rattle.graphql_tokens.specs.tokens.Place.{place_behind, is_line_feed}
+use Rattle.graphql_tokens.specs.tokens.Place.{place_after, is_line_feed}
 use Rattle.graphql_tokens.specs.tokens.Token.{Token}
 use Rattle.graphql_tokens.specs.declared.lexer.TokenKind.{TokenKind}
 use Rattle.graphql_tokens.specs.declared.lexer.TokenKind.TheVariants.{Fault, End}
@@ -41,7 +41,7 @@ lined-after x y l = record { by = λ u v e h. l.by (x ++ u) v (ap (λ (w : List 
 
 -- a token of a text: its end, at the place after all characters, or another token, on a line before that one
 abbrev pub StandsIn : List ℕ → Token → Type 0
-StandsIn text t = ((t.bare.kind ≡ End) × (t.pos ≡ place_behind text)) ⊎ ((t.bare.kind ≡ End → ⊥) × (t.pos.line < (place_behind text).line))
+StandsIn text t = ((t.bare.kind ≡ End) × (t.pos ≡ place_after text)) ⊎ ((t.bare.kind ≡ End → ⊥) × (t.pos.line < (place_after text).line))
 
 not-end : (kind : TokenKind) → is_last kind ≡ false → kind ≡ End → ⊥
 not-end kind other e = let last : is_last kind ≡ true = ap is_last e in cc
@@ -54,7 +54,7 @@ goes-on-some [] h = absurd h
 goes-on-some (c ∷ cs) h = omega arith
 
 -- what stands before something has fewer line feeds than the whole
-on-a-line-before : (here after : List ℕ) → IsLined after → 1 ≤ length after → (place_behind here).line < (place_behind (here ++ after)).line
+on-a-line-before : (here after : List ℕ) → IsLined after → 1 ≤ length after → (place_after here).line < (place_after (here ++ after)).line
 on-a-line-before here after l some = omega (arith, line_feeds-append here after, l.by [] after refl some)
 
 -- the first token
@@ -62,11 +62,11 @@ first-stands : (here after : List ℕ) (t : Token) (ts : List Token) → IsLined
 first-stands here after t ts l (inl b) =
     let other : t.bare.kind ≡ b.0.kind = ap (λ (x : Token). x.bare.kind) b.0.is in
     let some : 1 ≤ length after = subst (λ (w : List ℕ). 1 ≤ length w) (sym b.0.whole) (omega (arith, length-append b.0.word b.0.rest, begins_some Current b.0.kind b.0.word b.0.rest b.0.begins)) in
-    inr ((λ e. not-end b.0.kind (begins_goes_on Current b.0.kind b.0.word b.0.rest b.0.begins) (sym other ∙ e)), subst (λ (x : Token). x.pos.line < (place_behind (here ++ after)).line) (sym b.0.is) (on-a-line-before here after l some))
+    inr ((λ e. not-end b.0.kind (begins_goes_on Current b.0.kind b.0.word b.0.rest b.0.begins) (sym other ∙ e)), subst (λ (x : Token). x.pos.line < (place_after (here ++ after)).line) (sym b.0.is) (on-a-line-before here after l some))
 first-stands here after t ts l (inr (inl b)) =
-    inl (ap (λ (x : Token). x.bare.kind) b.0.is, ap (λ (x : Token). x.pos) b.0.is ∙ ap place_behind (sym (append-nil here) ∙ ap (λ (w : List ℕ). here ++ w) (sym b.0.ends)))
+    inl (ap (λ (x : Token). x.bare.kind) b.0.is, ap (λ (x : Token). x.pos) b.0.is ∙ ap place_after (sym (append-nil here) ∙ ap (λ (w : List ℕ). here ++ w) (sym b.0.ends)))
 first-stands here after t ts l (inr (inr b)) =
-    inr (fault-is-none t (ap (λ (x : Token). x.bare.kind) b.0.is), subst (λ (x : Token). x.pos.line < (place_behind (here ++ after)).line) (sym b.0.is) (on-a-line-before here after l (goes-on-some after b.0.goes_on)))
+    inr (fault-is-none t (ap (λ (x : Token). x.bare.kind) b.0.is), subst (λ (x : Token). x.pos.line < (place_after (here ++ after)).line) (sym b.0.is) (on-a-line-before here after l (goes-on-some after b.0.goes_on)))
 
 nothing-after : (before : List Token) (t : Token) (after : List Token) → [] ≡ before ++ t ∷ after → ⊥
 nothing-after [] t after e = cc

@@ -8,7 +8,7 @@ use Rattle.std.proofs.lemmas.Str.{chars-append, chars-IsAscii, IsUtf8-from_ascii
 use Rattle.graphql_tokens.specs.declared.pos.Pos.{Pos}
 use Rattle.graphql_report.specs.declared.style.Style.{Style}
 use Rattle.graphql_report.specs.declared.style.Part.TheVariants.{Place}
-use Rattle.graphql_tokens.specs.tokens.Place.{place_behind}
+use Rattle.graphql_tokens.specs.tokens.Place.{place_after}
 use Rattle.graphql_report.specs.reports.Reports.{styled, named, place_text, Tells, TellsLimit, TellsPlaces, IsPlaceIn, IsToldAt}
 
 pub place-shown : (file : List ℕ) (place : Pos) (shown front : List ℕ) → shown ≡ front ++ (decimal place.line ++ (58 ∷ []) ++ decimal place.column ++ (58 ∷ [])) → front ≡ named file (58 ∷ []) → shown ≡ place_text file place
@@ -27,7 +27,7 @@ two-parts style file message place second first other remark report (middle, is)
     let joined : other ≡ shown ++ 32 ∷ (remark ++ rest) = also ∙ ap (λ (l : List ℕ). l ++ rest) (append_assoc shown (32 ∷ []) remark) ∙ append_assoc shown (32 ∷ remark) rest in
     (middle, 32 ∷ (remark ++ rest), e ∙ ap (λ (l : List ℕ). l ++ other) is ∙ ap (λ (l : List ℕ). front ++ l) joined ∙ sym (append_assoc front shown (32 ∷ (remark ++ rest))))
 
-pub place-in : (text front rest : List ℕ) (place : Pos) → IsUtf8 front → text ≡ front ++ rest → place ≡ place_behind (chars front) → IsPlaceIn text place
+pub place-in : (text front rest : List ℕ) (place : Pos) → IsUtf8 front → text ≡ front ++ rest → place ≡ place_after (chars front) → IsPlaceIn text place
 place-in text front rest place utf8 e is = (chars front, chars rest, ap chars e ∙ chars-append front rest utf8, is)
 
 -- what is told at a place in the text
@@ -40,7 +40,7 @@ begun : (back : List ℕ) (c : ℕ) → Some c ≡ slice_get back 0 → c ≡ 92
 begun [] c e is = absurd cc
 begun (b ∷ back) c e is = (back, ap (λ (x : ℕ). x ∷ back) (let same : c ≡ b = cc in sym same ∙ is))
 
-pub escape-in : (front back : List ℕ) (c : ℕ) (start place : Pos) → IsUtf8 front → Some c ≡ slice_get back 0 → c ≡ 92 → place ≡ place_behind (chars front) → IsToldAt (front ++ back) start place
+pub escape-in : (front back : List ℕ) (c : ℕ) (start place : Pos) → IsUtf8 front → Some c ≡ slice_get back 0 → c ≡ 92 → place ≡ place_after (chars front) → IsToldAt (front ++ back) start place
 escape-in front back c start place utf8 first is at =
     let b = begun back c first is in
     let after : chars back ≡ 92 ∷ chars b.0 = ap chars b.1 ∙ chars-append (92 ∷ []) b.0 (IsUtf8-from_ascii (92 ∷ []) (search rules)) ∙ ap (λ (l : List ℕ). l ++ chars b.0) (chars-IsAscii (92 ∷ []) (search rules)) in

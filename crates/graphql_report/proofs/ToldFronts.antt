@@ -7,7 +7,7 @@ use Rattle.std.proofs.Math.Seq.{take-append_seam}
 use Rattle.std.proofs.lemmas.List.{take-append-le}
 use Rattle.graphql_tokens.specs.tokens.Cuts.{is_last, Cuts, IsCutInto, EndsOnce}
 use Rattle.graphql_tokens.specs.tokens.Edition.{Current}
-use Rattle.graphql_tokens.specs.tokens.Place.{place_behind}
+use Rattle.graphql_tokens.specs.tokens.Place.{place_after}
 use Rattle.graphql_tokens.specs.tokens.Proper.{IsProper, AreProper, AreProperButFaults}
 use Rattle.graphql_tokens.specs.tokens.Token.{Token}
 use Rattle.graphql_tokens.specs.declared.pos.Pos.{Pos}
@@ -67,7 +67,7 @@ proper-drop (suc k) (t ∷ u) h = proper-drop k u h.1
 
 -- what completes a front completes each shorter one
 shorter : {A : Type 0} {p : Rel A} (u w : List Token) → AreProper w → Extends p (u ++ w) → Completes p u
-shorter {p = p} u w proper m = record { begun = u; behind = w ++ m.tail; tree = m.tree; alike = refl; proper = proper-append w m.tail proper m.proper; holds = subst (λ (l : List Token). p l m.tree) (append_assoc u w m.tail) m.holds }
+shorter {p = p} u w proper m = record { begun = u; after = w ++ m.tail; tree = m.tree; alike = refl; proper = proper-append w m.tail proper m.proper; holds = subst (λ (l : List Token). p l m.tree) (append_assoc u w m.tail) m.holds }
 
 -- ---- lists that have a tree, or are refused
 
@@ -79,7 +79,7 @@ tree-front language limits ts ds proper h =
       last = w.last;
       split = w.joined;
       ends = w.is_end;
-      viable = record { begun = w.front; behind = w.last ∷ []; tree = ds; alike = refl; proper = (last-proper w.front w.last w.is_end (subst AreProperButFaults w.joined proper), tt); holds = subst (λ (l : List Token). grammar language Current limits l ds) w.joined h };
+      viable = record { begun = w.front; after = w.last ∷ []; tree = ds; alike = refl; proper = (last-proper w.front w.last w.is_end (subst AreProperButFaults w.joined proper), tt); holds = subst (λ (l : List Token). grammar language Current limits l ds) w.joined h };
     }
 
 end-front : {D Document : Type 0} (language : Language D Document) (limits : Limits) (ts : List Token) (v : Verdict) → EndsOnce ts → (r : RefusedToken (grammar language Current) limits ts v) → r.token.bare.kind ≡ End → IsFront language limits ts
@@ -116,7 +116,7 @@ record Ended (text : List ℕ) (ts : List Token) (end : Pos) : Type 0 where
   cut : Cuts Current [] text ts
   proper : AreProperButFaults ts
   lined : LastIsLineFeed text
-  place : end ≡ place_behind text
+  place : end ≡ place_after text
 
 told-syntax : {D Document : Type 0} (language : Language D Document) (reader : Limits → Reader (List D)) → IsRead language reader → (limits : Limits) (text : List ℕ) (ts : List Token) (end : Pos) → Ended text ts end → (start : Pos) (r : RefusedToken (grammar language Current) limits ts syntax) → start ≡ r.token.pos → (b : Bool) → IsTrue b ↔ (start ≡ end) → IsTrue b ↔ IsFront language limits ts
 told-syntax language reader read limits text ts end h start r here b tells = go (each-stands [] text ts (is-lined text h.lined) h.cut r.before r.token r.after r.split)
@@ -126,7 +126,7 @@ told-syntax language reader read limits text ts end h start r here b tells = go 
 
     go : StandsIn text r.token → IsTrue b ↔ IsFront language limits ts
     go (inl (is, at)) = (λ _. end-front language limits ts syntax ends r is, λ _. tells.1 (here ∙ at ∙ sym h.place))
-    go (inr (other, line)) = (λ t. absurd (let same : r.token.pos ≡ place_behind text = sym here ∙ tells.0 t ∙ h.place in omega (arith, line, ap (λ (p : Pos). p.line) same)), λ f. absurd (not-front language reader read limits ts syntax ends h.proper r other f))
+    go (inr (other, line)) = (λ t. absurd (let same : r.token.pos ≡ place_after text = sym here ∙ tells.0 t ∙ h.place in omega (arith, line, ap (λ (p : Pos). p.line) same)), λ f. absurd (not-front language reader read limits ts syntax ends h.proper r other f))
 
 told-limit : {D Document : Type 0} (language : Language D Document) (reader : Limits → Reader (List D)) → IsRead language reader → (limits : Limits) (text : List ℕ) (ts : List Token) (end : Pos) → Ended text ts end → (r : RefusedToken (grammar language Current) limits ts limit) → (b : Bool) → b ≡ false → IsTrue b ↔ IsFront language limits ts
 told-limit language reader read limits text ts end h r b is =
@@ -153,7 +153,7 @@ told language reader read limits text ts end h MissingOperation means b tells = 
 abbrev pub IsRight : {D Document : Type 0} → Language D Document → Limits → List ℕ → Bool → Type 0
 IsRight language limits text b = (ts : List Token) → IsCutInto text ts → IsTrue b ↔ IsFront language limits ts
 
-pub refused-right : {D Document : Type 0} (language : Language D Document) (reader : Limits → Reader (List D)) → IsRead language reader → (limits : Limits) (text : List ℕ) (end : Pos) → IsUtf8 text → LastIsLineFeed (chars text) → end ≡ place_behind (chars text) → (error : Error) → ((ts : List Token) → IsCutInto text ts → ErrorMeans language limits ts error) → (result : Result Bool AllocError) → TellsFront error end result → IfOk result (IsRight language limits text)
+pub refused-right : {D Document : Type 0} (language : Language D Document) (reader : Limits → Reader (List D)) → IsRead language reader → (limits : Limits) (text : List ℕ) (end : Pos) → IsUtf8 text → LastIsLineFeed (chars text) → end ≡ place_after (chars text) → (error : Error) → ((ts : List Token) → IsCutInto text ts → ErrorMeans language limits ts error) → (result : Result Bool AllocError) → TellsFront error end result → IfOk result (IsRight language limits text)
 refused-right language reader read limits text end utf8 lined place error means (Err refused) tells = tt
 refused-right language reader read limits text end utf8 lined place error means (Ok b) tells = λ ts cut. told language reader read limits (chars text) ts end (record { cut = cut; proper = cuts_proper [] (chars text) ts (text_scalars text utf8) cut; lined = lined; place = place }) error (means ts cut) b tells
 

@@ -2,7 +2,7 @@
 ghost use Rattle.std.specs.Prelude.{◌≡◌, ◌↔◌, IsTrue, IfOk, List};
 ghost use Rattle.std.specs.Str.{chars};
 ghost use Rattle.graphql_tokens.specs.tokens.Cuts.{IsCutInto};
-ghost use Rattle.graphql_tokens.specs.tokens.Place.{place_behind};
+ghost use Rattle.graphql_tokens.specs.tokens.Place.{place_after};
 ghost use Rattle.graphql_tokens.specs.tokens.Token.{Token as SpecToken};
 ghost use Rattle.graphql_requests.specs.grammar.Requests.{requests};
 ghost use Rattle.graphql_schemas.specs.grammar.Schemas.{schemas};
@@ -128,7 +128,7 @@ fn goes_on(error: &Error, end: Pos) -> Result<bool, AllocError>
 
 /// The place after the last character.
 pub fn end_of(text: &str) -> Pos
-    ensures { result ≡ place_behind (chars text.now) }
+    ensures { result ≡ place_after (chars text.now) }
 {
     let mut places = PositionCalculator::new(text);
     places.step(text.len())

@@ -10,7 +10,7 @@ use Rattle.graphql_reading.specs.grammar.Relations.{Rel}
 use Rattle.graphql_requests.specs.grammar.Selections.{fragment_name}
 use Rattle.graphql_reading.specs.grammar.Tests.{Test, punct, keyword, any_name}
 use Rattle.graphql_grammar.specs.reading.Arguments.{maybe_arguments_at, directives_at}
-use Rattle.graphql_requests.specs.reading.SelectionSteps.{Heading, Names, brace_at, maybe_brace_at, name_at, behind_colon_at, names_at, given_arguments_at, maybe_condition_at, inline_head_at, behind_dots_at, field_head_at, head_at, onto, item_at}
+use Rattle.graphql_requests.specs.reading.SelectionSteps.{Heading, Names, brace_at, maybe_brace_at, name_at, after_colon_at, names_at, given_arguments_at, maybe_condition_at, inline_head_at, after_dots_at, field_head_at, head_at, onto, item_at}
 use Rattle.graphql_reading.specs.reading.Outcome.{Outcome, Read, Refused, Reader, ◌>>=◌, one_at, deep_at}
 use Rattle.graphql_requests.specs.reading.Selections.{inline_first, type_condition_at}
 use Rattle.graphql_reading.proofs.Theory.{Exact}
@@ -77,7 +77,7 @@ below-directives values = below-exact (exact-directives true {b = budget values}
 below-name : (n : ℕ) (ts : List Token) → length ts < n → Below n (name_at ts)
 below-name n ts lt = below-then n (one_at any_name ts) _ (below-one n any_name ts lt) (λ t rest h. h)
 
-below-colon : (n : ℕ) (ts : List Token) → length ts < n → Below n (behind_colon_at ts)
+below-colon : (n : ℕ) (ts : List Token) → length ts < n → Below n (after_colon_at ts)
 below-colon n [] lt = tt
 below-colon n (t ∷ ts) lt =
     below-cond n (punct ":" t.bare) _ _
@@ -87,7 +87,7 @@ below-colon n (t ∷ ts) lt =
 below-names : (ts : List Token) → Below (length ts) (names_at ts)
 below-names ts =
     below-then (length ts) _ _
-    (below-then (length ts) (name_at ts) _ (below-then (length ts) (one_at any_name ts) _ (below-first any_name ts) (λ t rest h. h)) (λ m rest h. below-then (length ts) (behind_colon_at rest) _ (below-colon (length ts) rest h) (λ o rest' k. k)))
+    (below-then (length ts) (name_at ts) _ (below-then (length ts) (one_at any_name ts) _ (below-first any_name ts) (λ t rest h. h)) (λ m rest h. below-then (length ts) (after_colon_at rest) _ (below-colon (length ts) rest h) (λ o rest' k. k)))
     (λ x rest h. h)
 
 below-brace : (n : ℕ) (nests : Bool) (ts : List Token) → length ts < n → Below n (maybe_brace_at nests ts)
@@ -125,7 +125,7 @@ below-inline values n dots ts lt =
     (λ x rest h. h)))
     (λ x rest h. h)
 
-below-dots : (values n : ℕ) (nests : Bool) (dots : Pos) (ts : List Token) → length ts < n → Below n (behind_dots_at values nests dots ts)
+below-dots : (values n : ℕ) (nests : Bool) (dots : Pos) (ts : List Token) → length ts < n → Below n (after_dots_at values nests dots ts)
 below-dots values n nests dots [] lt = tt
 below-dots values n nests dots (t ∷ ts) lt =
     below-cond n (fragment_name t.bare) _ _
@@ -176,25 +176,25 @@ no-set values (t ∷ ts) = holds-cond last (punct "..." t.bare) _ _ (dots ts) fi
     last : Heading → Type 0
     last x = HasNoSet x.1
 
-    behind-names : Arguments × (Directives × Option Pos) → Type 0
-    behind-names x = HasNoSet x.1.1
+    after-names : Arguments × (Directives × Option Pos) → Type 0
+    after-names x = HasNoSet x.1.1
 
     all : Names × (Arguments × (Directives × Option Pos)) → Type 0
     all x = HasNoSet x.1.1.1
 
-    behind-arguments : Directives × Option Pos → Type 0
-    behind-arguments x = HasNoSet x.1
+    after-arguments : Directives × Option Pos → Type 0
+    after-arguments x = HasNoSet x.1
 
-    dots : (us : List Token) → Holds (λ (x : Heading). HasNoSet x.1) (behind_dots_at values false t.pos us)
+    dots : (us : List Token) → Holds (λ (x : Heading). HasNoSet x.1) (after_dots_at values false t.pos us)
     dots [] = tt
     dots (u ∷ us) = holds-cond last (fragment_name u.bare) _ _ (holds-after last (directives_at true values us) _ (λ d rest. tt)) (holds-deep last inline_first (u ∷ us))
 
     field : Holds (λ (x : Heading). HasNoSet x.1) (field_head_at values false (t ∷ ts))
     field =
         holds-then all last _ _
-        (holds-after all (names_at (t ∷ ts)) _ (λ m rest. holds-then behind-names all _ _
-        (holds-after behind-names (given_arguments_at values rest) _ (λ g rest. holds-then behind-arguments behind-names _ _
-        (holds-after behind-arguments (directives_at true values rest) _ (λ d rest. holds-then HasNoSet behind-arguments (maybe_brace_at false rest) _ (no-brace rest) (λ p rest h. h)))
+        (holds-after all (names_at (t ∷ ts)) _ (λ m rest. holds-then after-names all _ _
+        (holds-after after-names (given_arguments_at values rest) _ (λ g rest. holds-then after-arguments after-names _ _
+        (holds-after after-arguments (directives_at true values rest) _ (λ d rest. holds-then HasNoSet after-arguments (maybe_brace_at false rest) _ (no-brace rest) (λ p rest h. h)))
         (λ x rest h. h)))
         (λ x rest h. h)))
         (λ x rest h. h)

@@ -11,7 +11,7 @@ use Rattle.graphql_reading.specs.grammar.Places.{name_of}
 use Rattle.graphql_requests.specs.grammar.Selections.{Set, alias_of, field_of, inline_of, fragment_name, selection_set_of}
 use Rattle.graphql_reading.specs.grammar.Tests.{punct, any_name}
 use Rattle.graphql_grammar.specs.reading.Arguments.{maybe_arguments_at, directives_at}
-use Rattle.graphql_requests.specs.reading.SelectionSteps.{Heading, with_set, may_nest, maybe_brace_at, given_arguments_at, Names, as_names, behind_colon_at, names_at, bare_field, bare_spread, bare_inline, maybe_condition_at, inline_head_at, behind_dots_at, field_head_at, head_at, deeper_at, rest_at, item_at, closed, close_at, behind_rest, more, begun, wanted_rest, headed}
+use Rattle.graphql_requests.specs.reading.SelectionSteps.{Heading, with_set, may_nest, maybe_brace_at, given_arguments_at, Names, as_names, after_colon_at, names_at, bare_field, bare_spread, bare_inline, maybe_condition_at, inline_head_at, after_dots_at, field_head_at, head_at, deeper_at, rest_at, item_at, closed, close_at, after_rest, more, begun, wanted_rest, headed}
 use Rattle.graphql_reading.specs.reading.Outcome.{Outcome, Read, Refused, Reader, ◌>>=◌, one_at, then_at, mapped_at, choose_at, opt_at, deep_at, many_at, plus_at, with_front}
 use Rattle.graphql_requests.specs.reading.Selections.{as_alias, aliased_at, field_at, Inline, inline_first, AfterDots, a_name, an_inline, dotted, inline_at, selection_first, selection_at, a_set_at, selection_set_at}
 
@@ -29,7 +29,7 @@ abbrev set-read : Token × (List (Positioned Selection) × Token) → List Token
 set-read x rest = Read (selection_set_of x) rest
 
 pub set-law : (values s : ℕ) (ts : List Token) → selection_set_at values s ts ≡ (one_at (punct "{") ts >>= λ t rest. wanted_rest values s (begun t.pos) rest)
-unfolding plus_at behind_rest
+unfolding plus_at after_rest
 set-law values s ts = set-is values s ts ∙ opens (one_at (punct "{") ts)
   where
     closes : (t : Token) (items : List (Positioned Selection)) (o : Outcome Token) → (((o >>= pair-up items) >>= pair-up t) >>= set-read) ≡ (o >>= λ _ rest. Read (closed (record { place = t.pos; items = items })) rest)
@@ -40,7 +40,7 @@ set-law values s ts = set-is values s ts ∙ opens (one_at (punct "{") ts)
     others t x (Refused v rest) = refl
     others t x (Read b rest) = closes t (x ∷ b) (one_at (punct "}") rest)
 
-    first : (t : Token) (o : Outcome (Positioned Selection)) → (((((o >>= λ x rest. many_at selection_first (item_at values s) rest >>= pair-up x) >>= λ y rest. Read (y.0 ∷ y.1) rest) >>= λ items rest. one_at (punct "}") rest >>= pair-up items) >>= pair-up t) >>= set-read) ≡ (o >>= λ x rest. behind_rest values s (more (begun t.pos) x) rest)
+    first : (t : Token) (o : Outcome (Positioned Selection)) → (((((o >>= λ x rest. many_at selection_first (item_at values s) rest >>= pair-up x) >>= λ y rest. Read (y.0 ∷ y.1) rest) >>= λ items rest. one_at (punct "}") rest >>= pair-up items) >>= pair-up t) >>= set-read) ≡ (o >>= λ x rest. after_rest values s (more (begun t.pos) x) rest)
     first t (Refused v rest) = refl
     first t (Read x rest) = others t x (many_at selection_first (item_at values s) rest)
 
@@ -73,7 +73,7 @@ names-law ts = first (one_at any_name ts)
     third t u (Read m rest) = refl
     third t u (Refused v rest) = refl
 
-    second : (t : Token) (us : List Token) → (((second-at us >>= pair-up t) >>= alias-read) >>= names-read) ≡ ((behind_colon_at us >>= pair-up (name_of t)) >>= pair-read)
+    second : (t : Token) (us : List Token) → (((second-at us >>= pair-up t) >>= alias-read) >>= names-read) ≡ ((after_colon_at us >>= pair-up (name_of t)) >>= pair-read)
     second t [] = refl
     second t (u ∷ us) = go (punct ":" u.bare)
       where
@@ -81,7 +81,7 @@ names-law ts = first (one_at any_name ts)
         go true = third t u (one_at any_name us)
         go false = refl
 
-    first : (o : Outcome Token) → (((o >>= λ t rest. second-at rest >>= pair-up t) >>= alias-read) >>= names-read) ≡ (((o >>= λ n rest. Read (name_of n) rest) >>= λ n rest. behind_colon_at rest >>= pair-up n) >>= pair-read)
+    first : (o : Outcome Token) → (((o >>= λ t rest. second-at rest >>= pair-up t) >>= alias-read) >>= names-read) ≡ (((o >>= λ n rest. Read (name_of n) rest) >>= λ n rest. after_colon_at rest >>= pair-up n) >>= pair-read)
     first (Refused v rest) = refl
     first (Read t rest) = second t rest
 
@@ -119,24 +119,24 @@ field-end values s a g d (t ∷ ts) = at s (punct "{" t.bare) refl
     at (suc n) true e =
         rw e (ap (λ (o : Outcome Set). ((((o >>= λ set rest. Read (Some set) rest) >>= pair-up d) >>= pair-up g) >>= pair-up a) >>= field-read) (opened n e) ∙ with (wanted_rest values n (begun t.pos) ts))
 
-abbrev behind-arguments : ℕ → ℕ → List Token → Outcome (Directives × Option Set)
-behind-arguments values s = then_at (directives_at true values) (opt_at (punct "{") (deeper_at values s))
+abbrev after-arguments : ℕ → ℕ → List Token → Outcome (Directives × Option Set)
+after-arguments values s = then_at (directives_at true values) (opt_at (punct "{") (deeper_at values s))
 
-abbrev head-behind-arguments : ℕ → ℕ → List Token → Outcome (Directives × Option Pos)
-head-behind-arguments values s = then_at (directives_at true values) (maybe_brace_at (may_nest s))
+abbrev head-after-arguments : ℕ → ℕ → List Token → Outcome (Directives × Option Pos)
+head-after-arguments values s = then_at (directives_at true values) (maybe_brace_at (may_nest s))
 
 field-law : (values s : ℕ) (ts : List Token) → field_at values (deeper_at values s) ts ≡ (field_head_at values (may_nest s) ts >>= headed values s)
-field-law values s ts = first (aliased_at ts) ∙ ap (λ (o : Outcome Names). ((o >>= λ n rest. then_at (given_arguments_at values) (head-behind-arguments values s) rest >>= pair-up n) >>= bare-read) >>= headed values s) (names-law ts)
+field-law values s ts = first (aliased_at ts) ∙ ap (λ (o : Outcome Names). ((o >>= λ n rest. then_at (given_arguments_at values) (head-after-arguments values s) rest >>= pair-up n) >>= bare-read) >>= headed values s) (names-law ts)
   where
     third : (a : Option Token × Token) (g : Option Arguments) (o : Outcome Directives) → ((((o >>= λ d rest. opt_at (punct "{") (deeper_at values s) rest >>= pair-up d) >>= pair-up g) >>= pair-up a) >>= field-read) ≡ (((((o >>= λ d rest. maybe_brace_at (may_nest s) rest >>= pair-up d) >>= pair-up (given g)) >>= pair-up (names-of a)) >>= bare-read) >>= headed values s)
     third a g (Refused v rest) = refl
     third a g (Read d rest) = field-end values s a g d rest
 
-    second : (a : Option Token × Token) (o : Outcome (Option Arguments)) → (((o >>= λ g rest. behind-arguments values s rest >>= pair-up g) >>= pair-up a) >>= field-read) ≡ (((((o >>= λ g rest. Read (given g) rest) >>= λ g rest. head-behind-arguments values s rest >>= pair-up g) >>= pair-up (names-of a)) >>= bare-read) >>= headed values s)
+    second : (a : Option Token × Token) (o : Outcome (Option Arguments)) → (((o >>= λ g rest. after-arguments values s rest >>= pair-up g) >>= pair-up a) >>= field-read) ≡ (((((o >>= λ g rest. Read (given g) rest) >>= λ g rest. head-after-arguments values s rest >>= pair-up g) >>= pair-up (names-of a)) >>= bare-read) >>= headed values s)
     second a (Refused v rest) = refl
     second a (Read g rest) = third a g (directives_at true values rest)
 
-    first : (o : Outcome (Option Token × Token)) → ((o >>= λ a rest. then_at (maybe_arguments_at true values) (behind-arguments values s) rest >>= pair-up a) >>= field-read) ≡ ((((o >>= names-read) >>= λ n rest. then_at (given_arguments_at values) (head-behind-arguments values s) rest >>= pair-up n) >>= bare-read) >>= headed values s)
+    first : (o : Outcome (Option Token × Token)) → ((o >>= λ a rest. then_at (maybe_arguments_at true values) (after-arguments values s) rest >>= pair-up a) >>= field-read) ≡ ((((o >>= names-read) >>= λ n rest. then_at (given_arguments_at values) (head-after-arguments values s) rest >>= pair-up n) >>= bare-read) >>= headed values s)
     first (Refused v rest) = refl
     first (Read a rest) = second a (maybe_arguments_at true values rest)
 
@@ -188,7 +188,7 @@ after-dots values s = choose_at fragment_name (mapped_at a_name (then_at (one_at
 abbrev dotted-read : Token × AfterDots → List Token → Outcome (Positioned Selection)
 dotted-read x rest = Read (dotted x) rest
 
-dots-law : (values s : ℕ) (dots : Token) (ts : List Token) → ((after-dots values s ts >>= pair-up dots) >>= dotted-read) ≡ (behind_dots_at values (may_nest s) dots.pos ts >>= headed values s)
+dots-law : (values s : ℕ) (dots : Token) (ts : List Token) → ((after-dots values s ts >>= pair-up dots) >>= dotted-read) ≡ (after_dots_at values (may_nest s) dots.pos ts >>= headed values s)
 dots-law values s dots [] = refl
 dots-law values s dots (t ∷ ts) = at (fragment_name t.bare) refl
   where
@@ -200,7 +200,7 @@ dots-law values s dots (t ∷ ts) = at (fragment_name t.bare) refl
     inline (Read x rest) = refl
     inline (Refused v rest) = refl
 
-    at : (w : Bool) → fragment_name t.bare ≡ w → ((after-dots values s (t ∷ ts) >>= pair-up dots) >>= dotted-read) ≡ (behind_dots_at values (may_nest s) dots.pos (t ∷ ts) >>= headed values s)
+    at : (w : Bool) → fragment_name t.bare ≡ w → ((after-dots values s (t ∷ ts) >>= pair-up dots) >>= dotted-read) ≡ (after_dots_at values (may_nest s) dots.pos (t ∷ ts) >>= headed values s)
     at true e = rw e (spread (directives_at true values ts))
     at false e = rw e (inline (rest_at values s (t ∷ ts)) ∙ rest-law values s dots t ts)
 

@@ -109,8 +109,8 @@ pub record Behind (values selections most : ℕ) (start now : Ahead) (n : Nest) 
 pub wanted-stays : {values selections : ℕ} {start now : Ahead} {n : Nest} {own : OpenSet} {xs : Trees} (new : Ahead) → Stays now new → Wanted values selections start now n own xs → Wanted values selections start new n own xs
 wanted-stays new s w = record { kept = sets.wanted-stays new s w.kept; within = w.within; waits = w.waits }
 
-pub behind-stays : {values selections most : ℕ} {start now : Ahead} {n : Nest} {own : OpenSet} {xs : Trees} (new : Ahead) → Stays now new → Behind values selections most start now n own xs → Behind values selections most start new n own xs
-behind-stays new s w = record { kept = sets.behind-stays new s w.kept; waits = w.waits }
+pub after-stays : {values selections most : ℕ} {start now : Ahead} {n : Nest} {own : OpenSet} {xs : Trees} (new : Ahead) → Stays now new → Behind values selections most start now n own xs → Behind values selections most start new n own xs
+after-stays new s w = record { kept = sets.after-stays new s w.kept; waits = w.waits }
 
 -- ---- the ways on
 
@@ -136,7 +136,7 @@ enters {values} {selections} {start} {now} {next} {n} {inner} {own} {xs} {nests}
       waits = rw (all, around, p.made) (waits-push own n.outer xs p.selection w.within w.waits);
     }
 
-pub reads : {values selections : ℕ} {start now next : Ahead} {n : Nest} {own : OpenSet} {xs : Trees} {nests : Bool} (ys : Trees) → nests ≡ may_nest n.left → (onto xs (head_at values nests) (tokens now) ≡ Read (ys, None) (tokens next)) × GoesOn now next → Wanted values selections start now n own xs → Behind values selections (length next.behind) start next n own ys
+pub reads : {values selections : ℕ} {start now next : Ahead} {n : Nest} {own : OpenSet} {xs : Trees} {nests : Bool} (ys : Trees) → nests ≡ may_nest n.left → (onto xs (head_at values nests) (tokens now) ≡ Read (ys, None) (tokens next)) × GoesOn now next → Wanted values selections start now n own xs → Behind values selections (length next.after) start next n own ys
 reads {values} {selections} {start} {now} {next} {n} {own} {xs} {nests} ys may h w =
     let p = pushed xs ys None (head_at values nests (tokens now)) (tokens next) h.0 in
     let head : head_at values (may_nest n.left) (tokens now) ≡ Read (p.selection, None) (tokens next) = ap (λ (b : Bool). head_at values b (tokens now)) (sym may) ∙ p.read in

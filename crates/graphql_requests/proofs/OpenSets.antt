@@ -11,7 +11,7 @@ use Rattle.graphql_reading.specs.grammar.Fronts.{Verdict, syntax, limit}
 use Rattle.graphql_requests.specs.grammar.Selections.{Set}
 use Rattle.graphql_reading.specs.grammar.Tests.{punct}
 use Rattle.graphql_reading.specs.reading.Ahead.{Ahead, Stays, tokens}
-use Rattle.graphql_requests.specs.reading.SelectionSteps.{Heading, with_set, may_nest, head_at, item_at, Opened, closed, close_at, behind_rest, more, begun, wanted_rest, headed, filled, filled_in, fill_last, resume}
+use Rattle.graphql_requests.specs.reading.SelectionSteps.{Heading, with_set, may_nest, head_at, item_at, Opened, closed, close_at, after_rest, more, begun, wanted_rest, headed, filled, filled_in, fill_last, resume}
 use Rattle.graphql_reading.specs.reading.Given.{Refuses, GoesOn}
 use Rattle.graphql_reading.specs.reading.Outcome.{Outcome, Read, Refused, Reader, ◌>>=◌, one_at}
 use Rattle.graphql_requests.specs.reading.Selections.{selection_first, selection_set_at}
@@ -24,7 +24,7 @@ use Rattle.graphql_reading.proofs.Loops.{go-on, ahead-stays, on-stays}
 
 -- what a set does after a selection that it was given up to that one's set
 abbrev head-rest : ℕ → ℕ → Opened → Heading → List Token → Outcome Set
-head-rest values s o (x, None) rest = behind_rest values s (more o x) rest
+head-rest values s o (x, None) rest = after_rest values s (more o x) rest
 head-rest values s o (x, Some at) rest = filled values s (more o x) (wanted_rest values (pred s) (begun at) rest)
 
 fill-pushed : (xs : List (Positioned Selection)) (x : Positioned Selection) (set : Set) → fill_last (xs ++ x ∷ []) set ≡ xs ++ placed (with_set set) x ∷ []
@@ -33,29 +33,29 @@ fill-pushed (y ∷ []) x set = refl
 fill-pushed (y ∷ z ∷ xs) x set = ap (λ (l : List (Positioned Selection)). y ∷ l) (fill-pushed (z ∷ xs) x set)
 
 wanted-law : (values s : ℕ) (o : Opened) (ts : List Token) → wanted_rest values s o ts ≡ (head_at values (may_nest s) ts >>= head-rest values s o)
-wanted-law values s o ts = ap (λ (k : Outcome (Positioned Selection)). k >>= behind) (item-law values s ts) ∙ go (head_at values (may_nest s) ts)
+wanted-law values s o ts = ap (λ (k : Outcome (Positioned Selection)). k >>= after) (item-law values s ts) ∙ go (head_at values (may_nest s) ts)
   where
-    behind : Positioned Selection → List Token → Outcome Set
-    behind x rest = behind_rest values s (more o x) rest
+    after : Positioned Selection → List Token → Outcome Set
+    after x rest = after_rest values s (more o x) rest
 
-    with : (x : Positioned Selection) (k : Outcome Set) → ((k >>= λ own rest. Read (placed (with_set own) x) rest) >>= behind) ≡ (k >>= λ own rest. behind_rest values s (filled_in (more o x) own) rest)
-    with x (Read own rest) = ap (λ (l : List (Positioned Selection)). behind_rest values s (record { place = o.place; items = l }) rest) (sym (fill-pushed o.items x own))
+    with : (x : Positioned Selection) (k : Outcome Set) → ((k >>= λ own rest. Read (placed (with_set own) x) rest) >>= after) ≡ (k >>= λ own rest. after_rest values s (filled_in (more o x) own) rest)
+    with x (Read own rest) = ap (λ (l : List (Positioned Selection)). after_rest values s (record { place = o.place; items = l }) rest) (sym (fill-pushed o.items x own))
     with x (Refused v rest) = refl
 
-    go : (k : Outcome Heading) → ((k >>= headed values s) >>= behind) ≡ (k >>= head-rest values s o)
+    go : (k : Outcome Heading) → ((k >>= headed values s) >>= after) ≡ (k >>= head-rest values s o)
     go (Read (x, None) rest) = refl
     go (Read (x, Some at) rest) = with x (wanted_rest values (pred s) (begun at) rest)
     go (Refused v rest) = refl
 
 -- one more selection follows
-behind-more : (values s : ℕ) (o : Opened) (t : Token) (ts : List Token) → selection_first t.bare ≡ true → behind_rest values s o (t ∷ ts) ≡ wanted_rest values s o (t ∷ ts)
-unfolding behind_rest
-behind-more values s o t ts e = rest-more selection_first (item_at values s) (close_at o.place) (item-takes values s) o.items t ts e
+more-after : (values s : ℕ) (o : Opened) (t : Token) (ts : List Token) → selection_first t.bare ≡ true → after_rest values s o (t ∷ ts) ≡ wanted_rest values s o (t ∷ ts)
+unfolding after_rest
+more-after values s o t ts e = rest-more selection_first (item_at values s) (close_at o.place) (item-takes values s) o.items t ts e
 
 -- or the set is closed
-behind-closed : (values s : ℕ) (o : Opened) (t : Token) (ts : List Token) → selection_first t.bare ≡ false → behind_rest values s o (t ∷ ts) ≡ close_at o.place o.items (t ∷ ts)
-unfolding behind_rest
-behind-closed values s o t ts e = rest-stops selection_first (item_at values s) (close_at o.place) o.items t ts e
+after-closed : (values s : ℕ) (o : Opened) (t : Token) (ts : List Token) → selection_first t.bare ≡ false → after_rest values s o (t ∷ ts) ≡ close_at o.place o.items (t ∷ ts)
+unfolding after_rest
+after-closed values s o t ts e = rest-stops selection_first (item_at values s) (close_at o.place) o.items t ts e
 
 resume-refused : (values b : ℕ) (os : List Opened) (v : Verdict) (rest : List Token) → resume values b os (Refused v rest) ≡ Refused v rest
 resume-refused values b [] v rest = refl
@@ -70,9 +70,9 @@ pub record Wanted (values selections : ℕ) (start now : Ahead) (left : ℕ) (os
 
 -- the same, after a selection
 pub record Behind (values selections most : ℕ) (start now : Ahead) (left : ℕ) (os : List Opened) (own : Opened) : Type 0 where
-  pub told : selection_set_at values selections (tokens start) ≡ resume values left os (behind_rest values left own (tokens now))
+  pub told : selection_set_at values selections (tokens start) ≡ resume values left os (after_rest values left own (tokens now))
   pub on : GoesOn start now
-  pub less : length now.behind ≤ most
+  pub less : length now.after ≤ most
 
 -- ---- memory was asked for
 
@@ -82,9 +82,9 @@ wanted-stays {values} {start = start} {now = now} {left = left} {os = os} {own =
   on = on-stays start now new kept.on s;
 }
 
-pub behind-stays : {values selections most : ℕ} {start now : Ahead} {left : ℕ} {os : List Opened} {own : Opened} (new : Ahead) → Stays now new → Behind values selections most start now left os own → Behind values selections most start new left os own
-behind-stays {values} {start = start} {now = now} {left = left} {os = os} {own = own} new s kept = record {
-  told = kept.told ∙ ap (λ (l : List Token). resume values left os (behind_rest values left own l)) (sym (ahead-stays now new s));
+pub after-stays : {values selections most : ℕ} {start now : Ahead} {left : ℕ} {os : List Opened} {own : Opened} (new : Ahead) → Stays now new → Behind values selections most start now left os own → Behind values selections most start new left os own
+after-stays {values} {start = start} {now = now} {left = left} {os = os} {own = own} new s kept = record {
+  told = kept.told ∙ ap (λ (l : List Token). resume values left os (after_rest values left own l)) (sym (ahead-stays now new s));
   on = on-stays start now new kept.on s;
   less = let same = ap (λ (l : List Token). length l) s.1 in omega (arith, kept.less, same);
 }
@@ -107,7 +107,7 @@ enters {start = start} {now = now} {next = next} x place h on kept = record {
   on = go-on start now next kept.on on;
 }
 
-pub reads : {values selections : ℕ} {start now next : Ahead} {left : ℕ} {os : List Opened} {own : Opened} (x : Positioned Selection) → head_at values (may_nest left) (tokens now) ≡ Read (x, None) (tokens next) → GoesOn now next → Wanted values selections start now left os own → Behind values selections (length next.behind) start next left os (more own x)
+pub reads : {values selections : ℕ} {start now next : Ahead} {left : ℕ} {os : List Opened} {own : Opened} (x : Positioned Selection) → head_at values (may_nest left) (tokens now) ≡ Read (x, None) (tokens next) → GoesOn now next → Wanted values selections start now left os own → Behind values selections (length next.after) start next left os (more own x)
 reads {start = start} {now = now} {next = next} x h on kept = record {
   told = head-told (Read (x, None) (tokens next)) h kept;
   on = go-on start now next kept.on on;
@@ -116,14 +116,14 @@ reads {start = start} {now = now} {next = next} x h on kept = record {
 
 pub again : {values selections most : ℕ} {start now : Ahead} {left : ℕ} {os : List Opened} {own : Opened} → selection_first now.hand.bare ≡ true → Behind values selections most start now left os own → Wanted values selections start now left os own
 again {values} {now = now} {left = left} {os = os} {own = own} e kept = record {
-  told = kept.told ∙ ap (resume values left os) (behind-more values left own now.hand now.behind e);
+  told = kept.told ∙ ap (resume values left os) (more-after values left own now.hand now.after e);
   on = kept.on;
 }
 
 close-told : {values selections most : ℕ} {start now : Ahead} {left : ℕ} {os : List Opened} {own : Opened} (read : Outcome Token) → selection_first now.hand.bare ≡ false → one_at (punct "}") (tokens now) ≡ read → Behind values selections most start now left os own → selection_set_at values selections (tokens start) ≡ resume values left os (read >>= λ _ rest. Read (closed own) rest)
 close-told {values} {now = now} {left = left} {os = os} {own = own} read e h kept =
     kept.told
-    ∙ ap (resume values left os) (behind-closed values left own now.hand now.behind e
+    ∙ ap (resume values left os) (after-closed values left own now.hand now.after e
     ∙ ap (λ (o : Outcome Token). o >>= λ _ rest. Read (closed own) rest) h)
 
 pub ends : {values selections most : ℕ} {start now : Ahead} {left : ℕ} {own : Opened} (next : Ahead) (t : Token) → selection_first now.hand.bare ≡ false → (one_at (punct "}") (tokens now) ≡ Read t (tokens next)) × GoesOn now next → Behind values selections most start now left [] own → (selection_set_at values selections (tokens start) ≡ Read (closed own) (tokens next)) × GoesOn start next

@@ -18,7 +18,7 @@ use Rattle.graphql_reading.proofs.Parts.{nested, below, of_selections}
 use Rattle.graphql_reading.proofs.Theory.{Extends, IsSubset, outside, anything}
 use Rattle.graphql_reading.proofs.TokenTests.{punctuator, itself, within-either, punct-within, keyword-within, any_name-within, sample, word_of, HasSample, punct-sample, keyword-sample, name-sample, name-spells}
 use Rattle.graphql_reading.proofs.ReadsExactly.{ReadsExactly, HasPhrase, BeginsWith, exact-punct, exact-keyword, exact-name, exact-name_but, exact-mapped, exact-next, exact-then-some, exact-choose, exact-nested, exact-deep, exact-same, begins-one, begins-within, begins-same, begins-mapped, begins-then, begins-either, begins-nested, has-token, has-pair, has-map, has-plus, has-first, extends-one}
-use Rattle.graphql_reading.proofs.Extra.{FirstWithin, exact-seq, first-begins, first-opt, first-then, exact-plus-ahead, has-opt, exact-opt, begins-opt, begins-star, either-way, factored, sets-behind, then-same, both-ways}
+use Rattle.graphql_reading.proofs.Extra.{FirstWithin, exact-seq, first-begins, first-opt, first-then, exact-plus-ahead, has-opt, exact-opt, begins-opt, begins-star, either-way, factored, sets-after, then-same, both-ways}
 use Rattle.graphql_reading.proofs.Loop.{Takes, takes-one}
 use Rattle.graphql_grammar.proofs.ArgumentProductions.{exact-maybe_arguments, first-maybe_arguments, has-maybe_arguments, begins-directive, exact-directives, first-directives, has-directives}
 
@@ -105,47 +105,47 @@ nothing-or-set = after-within (any_name-within (λ w. refl)) (punct-within "..."
 
 -- ---- fields, from their last part on
 
-abbrev behind-arguments : (Limits → Rel Set) → Limits → Rel (Directives × Option Set)
-behind-arguments set c = directives Current true c.values ⨾ opt (set c)
+abbrev after-arguments : (Limits → Rel Set) → Limits → Rel (Directives × Option Set)
+after-arguments set c = directives Current true c.values ⨾ opt (set c)
 
-exact-behind-arguments : {set : Limits → Rel Set} {b : Limits} {r : Reader Set} → BeginsWith set (punct "{") → ReadsExactly set b after_selection r → ReadsExactly (behind-arguments set) b after_selection (then_at (directives_at true b.values) (opt_at (punct "{") r))
-exact-behind-arguments {set} leads h =
+exact-after-arguments : {set : Limits → Rel Set} {b : Limits} {r : Reader Set} → BeginsWith set (punct "{") → ReadsExactly set b after_selection r → ReadsExactly (after-arguments set) b after_selection (then_at (directives_at true b.values) (opt_at (punct "{") r))
+exact-after-arguments {set} leads h =
     exact-seq {g = after_directives} (first-opt leads (punct-within "{" refl) nothing-or-set) (has-opt {p = set})
     (exact-directives true (within-either (punct-within "{" refl) no-arguments) (within-either (punct-within "{" refl) no-directive))
     (exact-opt leads no-set h)
 
-first-behind-arguments : {set : Limits → Rel Set} {g : Test} → IsTrue (g (punctuator "@")) → IsTrue (g (punctuator "{")) → IsSubset after_selection g → BeginsWith set (punct "{") → FirstWithin (behind-arguments set) after_selection g
-first-behind-arguments {g = g} at brace away leads = first-then (first-directives true {g = g} at itself) (first-opt leads (punct-within "{" brace) away)
+first-after-arguments : {set : Limits → Rel Set} {g : Test} → IsTrue (g (punctuator "@")) → IsTrue (g (punctuator "{")) → IsSubset after_selection g → BeginsWith set (punct "{") → FirstWithin (after-arguments set) after_selection g
+first-after-arguments {g = g} at brace away leads = first-then (first-directives true {g = g} at itself) (first-opt leads (punct-within "{" brace) away)
 
-has-behind-arguments : {set : Limits → Rel Set} → HasPhrase (behind-arguments set)
-has-behind-arguments {set} = has-pair (has-directives true) (has-opt {p = set})
+has-after-arguments : {set : Limits → Rel Set} → HasPhrase (after-arguments set)
+has-after-arguments {set} = has-pair (has-directives true) (has-opt {p = set})
 
-abbrev behind-names : (Limits → Rel Set) → Limits → Rel (Option Arguments × (Directives × Option Set))
-behind-names set c = opt (arguments Current true c.values) ⨾ behind-arguments set c
+abbrev after-names : (Limits → Rel Set) → Limits → Rel (Option Arguments × (Directives × Option Set))
+after-names set c = opt (arguments Current true c.values) ⨾ after-arguments set c
 
-exact-behind-names : {set : Limits → Rel Set} {b : Limits} {r : Reader Set} → BeginsWith set (punct "{") → ReadsExactly set b after_selection r → ReadsExactly (behind-names set) b after_selection (then_at (maybe_arguments_at true b.values) (then_at (directives_at true b.values) (opt_at (punct "{") r)))
-exact-behind-names {set} leads h =
-    exact-seq {g = outside (punct "(")} (first-behind-arguments refl refl no-arguments leads) (has-behind-arguments {set = set})
+exact-after-names : {set : Limits → Rel Set} {b : Limits} {r : Reader Set} → BeginsWith set (punct "{") → ReadsExactly set b after_selection r → ReadsExactly (after-names set) b after_selection (then_at (maybe_arguments_at true b.values) (then_at (directives_at true b.values) (opt_at (punct "{") r)))
+exact-after-names {set} leads h =
+    exact-seq {g = outside (punct "(")} (first-after-arguments refl refl no-arguments leads) (has-after-arguments {set = set})
     (exact-maybe_arguments true itself)
-    (exact-behind-arguments leads h)
+    (exact-after-arguments leads h)
 
-first-behind-names : {set : Limits → Rel Set} {g : Test} → IsTrue (g (punctuator "(")) → IsTrue (g (punctuator "@")) → IsTrue (g (punctuator "{")) → IsSubset after_selection g → BeginsWith set (punct "{") → FirstWithin (behind-names set) after_selection g
-first-behind-names {g = g} paren at brace away leads = first-then (first-maybe_arguments true {g = g} paren itself) (first-behind-arguments at brace away leads)
+first-after-names : {set : Limits → Rel Set} {g : Test} → IsTrue (g (punctuator "(")) → IsTrue (g (punctuator "@")) → IsTrue (g (punctuator "{")) → IsSubset after_selection g → BeginsWith set (punct "{") → FirstWithin (after-names set) after_selection g
+first-after-names {g = g} paren at brace away leads = first-then (first-maybe_arguments true {g = g} paren itself) (first-after-arguments at brace away leads)
 
-has-behind-names : {set : Limits → Rel Set} → HasPhrase (behind-names set)
-has-behind-names {set} = has-pair (has-maybe_arguments true) (has-behind-arguments {set = set})
+has-after-names : {set : Limits → Rel Set} → HasPhrase (after-names set)
+has-after-names {set} = has-pair (has-maybe_arguments true) (has-after-arguments {set = set})
 
 pub exact-field : {set : Limits → Rel Set} {b : Limits} {r : Reader Set} → BeginsWith set (punct "{") → ReadsExactly set b after_selection r → ReadsExactly (λ c. a_field Current c.values (set c)) b after_selection (field_at b.values r)
 exact-field {set} leads h =
-    exact-mapped (exact-seq {g = outside (punct ":")} (first-behind-names refl refl refl no-alias leads) (has-behind-names {set = set})
+    exact-mapped (exact-seq {g = outside (punct ":")} (first-after-names refl refl refl no-alias leads) (has-after-names {set = set})
     (exact-aliased itself)
-    (exact-behind-names leads h))
+    (exact-after-names leads h))
 
 pub begins-field : {set : Limits → Rel Set} → BeginsWith (λ c. a_field Current c.values (set c)) any_name
-begins-field {set} = begins-mapped {p = λ c. aliased ⨾ behind-names set c} (begins-then begins-aliased)
+begins-field {set} = begins-mapped {p = λ c. aliased ⨾ after-names set c} (begins-then begins-aliased)
 
 pub has-field : {set : Limits → Rel Set} → HasPhrase (λ c. a_field Current c.values (set c))
-has-field {set} = has-map (has-pair has-aliased (has-behind-names {set = set}))
+has-field {set} = has-map (has-pair has-aliased (has-after-names {set = set}))
 
 -- ---- spreads and inline fragments
 
@@ -309,7 +309,7 @@ exact-inline h =
     (exact-then-some begins-sets has-sets (exact-directives true (punct-within "{" refl) (punct-within "{" refl)) h)
 
 inner-inline : (c : Limits) (x : List Token) (t : Inline) → nested of_selections (inline sets) c x t ↔ inline inner-sets c x t
-inner-inline c x t = both-ways (sets-behind (λ n. opt a_type_condition) (λ c. directives Current true c.values ⨾ sets c) c x t) (then-same (opt a_type_condition) (nested of_selections (λ c. directives Current true c.values ⨾ sets c) c) (directives Current true c.values ⨾ inner-sets c) (sets-behind (directives Current true) sets c) x t)
+inner-inline c x t = both-ways (sets-after (λ n. opt a_type_condition) (λ c. directives Current true c.values ⨾ sets c) c x t) (then-same (opt a_type_condition) (nested of_selections (λ c. directives Current true c.values ⨾ sets c) c) (directives Current true c.values ⨾ inner-sets c) (sets-after (directives Current true) sets c) x t)
 
 -- ---- at every budget
 

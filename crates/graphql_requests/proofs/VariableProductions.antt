@@ -150,14 +150,14 @@ ignores-default_and_directives =
 
 pub exact-variable_definition : {b : Limits} {f : Test} → IsSubset f (outside (punct "!")) → IsSubset f (outside (punct "(")) → IsSubset f (outside (punct "@")) → IsSubset f (outside (punct "=")) → ReadsExactly (λ c. a_variable_definition Current c.values c.types) b f (variable_definition_at b.values b.types)
 exact-variable_definition marked away last none =
-    exact-mapped (exact-next (has-pair (has-token name-sample) (has-pair has-colon has-behind)) (exact-punct "$")
-    (exact-next (has-pair has-colon has-behind) exact-name
-    (exact-next has-behind (exact-punct ":")
+    exact-mapped (exact-next (has-pair (has-token name-sample) (has-pair has-colon has-tokens-after)) (exact-punct "$")
+    (exact-next (has-pair has-colon has-tokens-after) exact-name
+    (exact-next has-tokens-after (exact-punct ":")
     (exact-seq {g = outside (punct "!")} (first-default_and_directives refl refl marked) has-default_and_directives (exact-type itself)
     (exact-default_and_directives away last none)))))
   where
-    has-behind : HasPhrase (λ c. type_reference c.types ⨾ default_and_directives Current c.values)
-    has-behind = has-pair has-type has-default_and_directives
+    has-tokens-after : HasPhrase (λ c. type_reference c.types ⨾ default_and_directives Current c.values)
+    has-tokens-after = has-pair has-type has-default_and_directives
 
 pub begins-variable_definition : BeginsWith (λ c. a_variable_definition Current c.values c.types) (punct "$")
 begins-variable_definition = begins-mapped (begins-then begins-one)

@@ -134,7 +134,7 @@ first_blank : (lines : List (List ℕ)) → list_all is_blank lines ≡ true →
 first_blank [] h = refl
 first_blank (line ∷ lines) h = (both (is_blank line) (list_all is_blank lines) h).0
 
--- the spaces end behind a character that is none
+-- the spaces end after a character that is none
 pub record Spaces (bs : List ℕ) (end : ℕ) : Type 0 where
   pub within : end ≤ length bs
   pub spaces : (k : ℕ) → end ≤ k → k < length bs → is_space (get_or bs k 0) ≡ true

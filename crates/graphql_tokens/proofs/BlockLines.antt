@@ -43,7 +43,7 @@ line_last (c ∷ cs) h = by (is_in_line c) refl h (line_last cs)
     by true e l r = line_onto c cs e ∙ ap (onto_line c) (r (omega arith))
     by false e l r = absurd (omega arith)
 
--- the rest behind a return, where the text goes on with a line feed and where it doesn't
+-- the rest after a return, where the text goes on with a line feed and where it doesn't
 return_lines : (cs : List ℕ) → lines_of (13 ∷ cs) ≡ [] ∷ lines_of (drop (end_len (13 ∷ cs)) (13 ∷ cs))
 return_lines [] = refl
 return_lines (c ∷ cs) = by (eqb c 10) refl
@@ -108,7 +108,7 @@ blanks_le (c ∷ cs) = by (is_blank_char c) refl (blanks_le cs)
     by true e r = rw (blank_in_line c e) (omega arith)
     by false e r = omega arith
 
--- the front of the text up to a place behind the blanks: how many blanks it begins with, and whether it is blank
+-- the front of the text up to a place after the blanks: how many blanks it begins with, and whether it is blank
 indent_take : (t : List ℕ) (n : ℕ) → prefix_len is_blank_char t ≤ n → n ≤ length t → indent (take n t) ≡ prefix_len is_blank_char t
 indent_take [] n h l = ap indent (take_all n [] (omega arith))
 indent_take (c ∷ cs) zero h l = omega arith

@@ -43,8 +43,8 @@ quotes_boundary bs end w h = by (cases_lt end (length bs))
     by (inl l) = let e = quotes_slash bs end (h l) in IsCharBoundary-before_ascii bs end l (omega arith)
     by (inr g) = let same : length bs ≡ end = omega arith in subst (λ (k : ℕ). IsCharBoundary bs k) same (IsCharBoundary-end bs)
 
-pub behind_slash : (bs : List ℕ) (end : ℕ) → IsUtf8 bs → end < length bs → begins_quotes (drop end bs) ≡ true → IsCharBoundary bs (end + 1)
-behind_slash bs end u l h = let e = quotes_slash bs end h in IsCharBoundary-after_ascii bs end u l (omega arith)
+pub after_slash : (bs : List ℕ) (end : ℕ) → IsUtf8 bs → end < length bs → begins_quotes (drop end bs) ≡ true → IsCharBoundary bs (end + 1)
+after_slash bs end u l h = let e = quotes_slash bs end h in IsCharBoundary-after_ascii bs end u l (omega arith)
 
 pub push_run : (bs old value new run : List ℕ) (at end : ℕ) → value ++ unquoted (drop at bs) ≡ old → IsUnquotedBetween bs at end → at ≤ end
     → run ≡ take (end - at) (drop at bs) → new ≡ value ++ run → new ++ unquoted (drop end bs) ≡ old

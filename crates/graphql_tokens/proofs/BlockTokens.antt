@@ -74,7 +74,7 @@ block_three n text rest q e =
     let three : text ≡ 34 ∷ 34 ∷ 34 ∷ rest = q.passed ∙ ap (λ k. quotes k ++ rest) e in
     ap past_block three ∙ block_closes 34 (34 ∷ 34 ∷ rest) refl
 
--- behind a backslash they are text in any case
+-- after a backslash they are text in any case
 pub block_escape : (n : ℕ) (text rest : List ℕ) → IsRunOfQuotes n text rest → past_block (92 ∷ text) ≡ past_block rest
 block_escape zero text rest q =
     let same = q.passed in

@@ -231,10 +231,10 @@ unquoted_no c cs h = ap (λ b. cond b (unquoted cs) (c ∷ unquoted cs)) h
 pub not_slash : (c : ℕ) (cs : List ℕ) → eqb c 92 ≡ false → begins_quotes (c ∷ cs) ≡ false
 not_slash c cs h = begins_is c cs ∙ ap (λ b. b && quotes_at 3 cs) h
 
--- behind the backslash stands a quote, which stays
-behind_quote : (c : ℕ) (cs : List ℕ) → begins_quotes (c ∷ cs) ≡ true → (c ≡ 92) × (rest : List ℕ) × (cs ≡ 34 ∷ rest) × (unquoted cs ≡ 34 ∷ unquoted rest)
-behind_quote c [] h = let e = (both (eqb c 92) (quotes_at 3 []) (sym (begins_is c []) ∙ h)).1 in absurd (cc)
-behind_quote c (x ∷ xs) h =
+-- after the backslash stands a quote, which stays
+after_quote : (c : ℕ) (cs : List ℕ) → begins_quotes (c ∷ cs) ≡ true → (c ≡ 92) × (rest : List ℕ) × (cs ≡ 34 ∷ rest) × (unquoted cs ≡ 34 ∷ unquoted rest)
+after_quote c [] h = let e = (both (eqb c 92) (quotes_at 3 []) (sym (begins_is c []) ∙ h)).1 in absurd (cc)
+after_quote c (x ∷ xs) h =
     let b = both (eqb c 92) (quotes_at 3 (x ∷ xs)) (sym (begins_is c (x ∷ xs)) ∙ h) in
     let q = (both (eqb x 34) (quotes_at 2 xs) b.1).0 in
     let slash : c ≡ 92 = grind (arith, nat_tests, b.0) in
@@ -247,7 +247,7 @@ first_ten (c ∷ cs) = by (begins_quotes (c ∷ cs)) refl
   where
     by : (b : Bool) → begins_quotes (c ∷ cs) ≡ b → eqb (get_or (unquoted (c ∷ cs)) 0 0) 10 ≡ eqb c 10
     by true e =
-        let q = behind_quote c cs e in
+        let q = after_quote c cs e in
         ap (λ x. eqb (get_or x 0 0) 10) (unquoted_yes c cs e ∙ q.3) ∙ ap (λ x. eqb x 10) (sym q.0)
     by false e = ap (λ x. eqb (get_or x 0 0) 10) (unquoted_no c cs e)
 
@@ -264,7 +264,7 @@ onto_unquoted c cs h =
 slash_unquoted : (c : ℕ) (cs : List ℕ) → begins_quotes (c ∷ cs) ≡ true → map unquoted (lines_of (c ∷ cs)) ≡ map unquoted (lines_of cs)
 slash_unquoted c cs h =
     let s = lines_some cs in
-    let slash : c ≡ 92 = (behind_quote c cs h).0 in
+    let slash : c ≡ 92 = (after_quote c cs h).0 in
     let line : is_in_line c ≡ true = ap is_in_line slash in
     let first : s.0 ≡ take (prefix_len is_in_line cs) cs = sym (ap first_line s.2) ∙ first_is cs 0 (prefix_len is_in_line cs) (omega arith) (omega arith) ∙ whole (prefix_len is_in_line cs) cs in
     let quotes : begins_quotes (c ∷ s.0) ≡ true = ap (λ x. begins_quotes (c ∷ x)) first ∙ begins_line c cs ∙ h in
@@ -299,7 +299,7 @@ unquoted_blank [] = refl
 unquoted_blank (c ∷ cs) = by (begins_quotes (c ∷ cs)) refl (unquoted_blank cs)
   where
     by : (b : Bool) → begins_quotes (c ∷ cs) ≡ b → is_blank (unquoted cs) ≡ is_blank cs → is_blank (unquoted (c ∷ cs)) ≡ (is_blank_char c && is_blank cs)
-    by true e r = let q = behind_quote c cs e in ap is_blank (unquoted_yes c cs e ∙ q.3) ∙ ap (λ x. is_blank_char x && is_blank cs) (sym q.0)
+    by true e r = let q = after_quote c cs e in ap is_blank (unquoted_yes c cs e ∙ q.3) ∙ ap (λ x. is_blank_char x && is_blank cs) (sym q.0)
     by false e r = ap is_blank (unquoted_no c cs e) ∙ ap (λ b. is_blank_char c && b) r
 
 unquoted_indent : (line : List ℕ) → indent (unquoted line) ≡ indent line
@@ -307,7 +307,7 @@ unquoted_indent [] = refl
 unquoted_indent (c ∷ cs) = by (begins_quotes (c ∷ cs)) refl (unquoted_indent cs)
   where
     by : (b : Bool) → begins_quotes (c ∷ cs) ≡ b → indent (unquoted cs) ≡ indent cs → indent (unquoted (c ∷ cs)) ≡ cond (is_blank_char c) (1 + indent cs) 0
-    by true e r = let q = behind_quote c cs e in ap indent (unquoted_yes c cs e ∙ q.3) ∙ ap (λ x. cond (is_blank_char x) (1 + indent cs) 0) (sym q.0)
+    by true e r = let q = after_quote c cs e in ap indent (unquoted_yes c cs e ∙ q.3) ∙ ap (λ x. cond (is_blank_char x) (1 + indent cs) 0) (sym q.0)
     by false e r = ap indent (unquoted_no c cs e) ∙ ap (λ n. cond (is_blank_char c) (1 + n) 0) r
 
 unquoted_cut : (n : ℕ) (line : List ℕ) → n ≤ indent line → unquoted (drop n line) ≡ drop n (unquoted line)

@@ -17,7 +17,7 @@ pub written_end : (bs old value new : List ℕ) (cut n at end : ℕ) → end ≡
 written_end bs old value new cut n at end e l w h k =
     k ∙ ap (λ ls. value ++ written cut n ls) (sym (line_at_end bs at end e l w)) ∙ h
 
--- a line with lines behind it
+-- a line with lines after it
 pub written_step : (bs old value mid new : List ℕ) (cut n at end next : ℕ) → end ≡ at + prefix_len is_in_line (drop at bs) → end < length bs → next ≡ end + end_len (drop end bs)
     → value ++ written cut n (lines_of (drop at bs)) ≡ old → mid ≡ value ++ cleaned cut (take (end - at) (drop at bs)) → new ≡ mid ++ 10 ∷ []
     → new ++ written n n (lines_of (drop next bs)) ≡ old

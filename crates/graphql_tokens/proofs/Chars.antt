@@ -14,7 +14,7 @@ chars_split bs i u b =
     let e = chars-append (take i bs) (drop i bs) (IsUtf8-take bs i u b) in
     rw (take-append-drop i bs) at e
 
--- the place behind a character
+-- the place after a character
 pub boundary_past : (bs : List ℕ) (i j c : ℕ) → IsUtf8 bs → IsCharBoundary bs i → drop i bs ≡ encode_utf8 c ++ drop j bs → j ≡ i + len_utf8 c → IsCharBoundary bs j
 boundary_past bs i j c u b e w = rw w (IsCharBoundary-past_char bs (drop j bs) i c b.0 (IsUtf8-drop bs i u b) e)
 

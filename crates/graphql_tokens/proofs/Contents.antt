@@ -186,13 +186,13 @@ not_plain_low c h = by (cases_lt c 128)
     by (inl l) = l
     by (inr g) = let e = high_plain c g in absurd (cc)
 
-plain_behind : (xs ys : List ℕ) → ArePlain (xs ++ ys) → ArePlain ys
-plain_behind [] ys h = h
-plain_behind (x ∷ xs) ys h = plain_behind xs ys h.1
+plain_after : (xs ys : List ℕ) → ArePlain (xs ++ ys) → ArePlain ys
+plain_after [] ys h = h
+plain_after (x ∷ xs) ys h = plain_after xs ys h.1
 
 plain_chars : (cs : List ℕ) → ArePlain (encode_utf8_all cs) → ArePlain cs
 plain_chars [] h = tt
-plain_chars (c ∷ cs) h = by (cases_lt c 128) (plain_chars cs (plain_behind (encode_utf8 c) (encode_utf8_all cs) h))
+plain_chars (c ∷ cs) h = by (cases_lt c 128) (plain_chars cs (plain_after (encode_utf8 c) (encode_utf8_all cs) h))
   where
     by : (c < 128) ⊎ (128 ≤ c) → ArePlain cs → ArePlain (c ∷ cs)
     by (inl l) t =

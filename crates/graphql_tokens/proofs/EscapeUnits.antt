@@ -334,10 +334,10 @@ braced_found c n t e =
       means = inr (inr (inl (b.digits, refl, b.some, b.hex, b.value, b.scalar_value)));
     }
 
-pair_found : (ds behind : List ℕ) (high c n : ℕ) → length ds ≡ 4 → AreHexDigits ds → hex_value ds ≡ high → pair_at high behind ≡ Some (c, n) → Found (92 ∷ 117 ∷ (ds ++ behind)) c n
-pair_found ds behind high c n l h v e = by (low_half_at behind) refl e
+pair_found : (ds after : List ℕ) (high c n : ℕ) → length ds ≡ 4 → AreHexDigits ds → hex_value ds ≡ high → pair_at high after ≡ Some (c, n) → Found (92 ∷ 117 ∷ (ds ++ after)) c n
+pair_found ds after high c n l h v e = by (low_half_at after) refl e
   where
-    slashes : (behind : List ℕ) (low : ℕ) → low_half_at behind ≡ Some low → (t : List ℕ) × (behind ≡ 92 ∷ 117 ∷ t) × Four t low
+    slashes : (after : List ℕ) (low : ℕ) → low_half_at after ≡ Some low → (t : List ℕ) × (after ≡ 92 ∷ 117 ∷ t) × Four t low
     slashes [] low g = absurd (cc)
     slashes (x ∷ []) low g = let s = cond_some (eqb x 92 && eqb 0 117) (four_digits []) low g in let no_u = (both (eqb x 92) (eqb 0 117) s.0).1 in absurd (cc)
     slashes (x ∷ y ∷ t) low g =
@@ -347,10 +347,10 @@ pair_found ds behind high c n l h v e = by (low_half_at behind) refl e
         let second : y ≡ 117 = grind (arith, nat_tests, b.1) in
         (t, ap (λ z. z ∷ y ∷ t) first ∙ ap (λ z. 92 ∷ z ∷ t) second, four_is t low s.1)
 
-    by : (o : Option ℕ) → low_half_at behind ≡ o → pair_with high o ≡ Some (c, n) → Found (92 ∷ 117 ∷ (ds ++ behind)) c n
+    by : (o : Option ℕ) → low_half_at after ≡ o → pair_with high o ≡ Some (c, n) → Found (92 ∷ 117 ∷ (ds ++ after)) c n
     by None g f = absurd (cc)
     by (Some low) g f =
-        let b = slashes behind low g in
+        let b = slashes after low g in
         let four = b.2 in
         let s = len_is 12 (pair_value high low) c n f in
         let p = pair_is high low c s.0 in
@@ -368,8 +368,8 @@ numbered_found t c n e = by (four_digits t) refl e
   where
     scalar_by : (m : ℕ) → Four t m → (o : Option ℕ) → scalar_of m ≡ o → numbered_by m o (drop 4 t) ≡ Some (c, n) → Found (92 ∷ 117 ∷ t) c n
     scalar_by m f None g h =
-        let behind : drop 4 t ≡ f.rest = ap (drop 4) f.whole ∙ (four_take f.digits f.rest f.long).2 in
-        let p = pair_found f.digits f.rest m c n f.long f.hex f.value (ap (pair_at m) (sym behind) ∙ h) in
+        let after : drop 4 t ≡ f.rest = ap (drop 4) f.whole ∙ (four_take f.digits f.rest f.long).2 in
+        let p = pair_found f.digits f.rest m c n f.long f.hex f.value (ap (pair_at m) (sym after) ∙ h) in
         subst (λ (x : List ℕ). Found (92 ∷ 117 ∷ x) c n) (sym f.whole) p
     scalar_by m f (Some x) g h =
         let s = len_is 6 (Some x) c n h in

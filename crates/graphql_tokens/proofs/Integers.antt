@@ -45,7 +45,7 @@ whole_head : (w rest : List ℕ) → IsWhole w → (get_or (w ++ rest) 0 0 ≢ 4
 whole_head [] rest a = absurd a
 whole_head (c ∷ cs) rest a = let d = in_range c (whole_all (c ∷ cs) a).0 in (λ e. omega arith, λ e. omega arith)
 
--- the parts of a number behind its sign
+-- the parts of a number after its sign
 record Parts : Type 0 where
   pub whole : List ℕ
   pub fraction : List ℕ
@@ -108,7 +108,7 @@ fits_negative (suc n) h = h.sfits
 minus_head : (c : ℕ) (rest : List ℕ) → is_minus c ≡ true → get_or (c ∷ rest) 0 0 ≡ 45
 minus_head c rest e = grind (arith, nat_tests)
 
--- a number's parts behind its sign, joined
+-- a number's parts after its sign, joined
 abbrev body : Parts → List ℕ
 body n = n.whole ++ (n.fraction ++ n.exponent)
 

@@ -117,19 +117,19 @@ lex_moves bs s e kind is l h = by (cases_lt s e)
         let same : s ≡ e = omega arith in
         absurd (omega (arith, (taken (chars (drop s bs)) (chars (drop e bs)) kind is).other l, ap (λ k. length (chars (drop k bs))) same))
 
--- ---- a lexer's places, before the ignored text, before the token, and behind it
+-- ---- a lexer's places, before the ignored text, before the token, and after it
 
-pub record Passed (bs : List ℕ) (before start behind : RunningPlace) (kind : TokenKind) (end : ℕ) : Type 0 where
+pub record Passed (bs : List ℕ) (before start past : RunningPlace) (kind : TokenKind) (end : ℕ) : Type 0 where
   pub at_before : RunsOver bs before
   pub at_start : RunsOver bs start
-  pub at_behind : RunsOver bs behind
+  pub at_after : RunsOver bs past
   pub skips : before.walk.offset ≤ start.walk.offset
-  pub goes : start.walk.offset ≤ behind.walk.offset
+  pub goes : start.walk.offset ≤ past.walk.offset
   pub skipped : ahead start ≡ skip (ahead before)
   pub is : (next (ahead start)).0 ≡ kind
-  pub rest : is_last kind ≡ false → (next (ahead start)).1 ≡ ahead behind
+  pub rest : is_last kind ≡ false → (next (ahead start)).1 ≡ ahead past
   pub last_end : is_last kind ≡ true → end ≡ start.walk.offset
-  pub other_end : is_last kind ≡ false → end ≡ behind.walk.offset
+  pub other_end : is_last kind ≡ false → end ≡ past.walk.offset
 
 ahead_is : (bs : List ℕ) (a : RunningPlace) → RunsOver bs a → ahead a ≡ chars (drop a.walk.offset bs)
 ahead_is bs a r = ap (λ t. chars (drop a.walk.offset t)) r.same
@@ -137,9 +137,9 @@ ahead_is bs a r = ap (λ t. chars (drop a.walk.offset t)) r.same
 boundary_is : (bs : List ℕ) (a : RunningPlace) → RunsOver bs a → IsCharBoundary bs a.walk.offset
 boundary_is bs a r = subst (λ (t : List ℕ). IsCharBoundary t a.walk.offset) r.same r.running.reading.boundary
 
-steps_of : (bs : List ℕ) (before start behind : RunningPlace) (kind : TokenKind) (end : ℕ) → Passed bs before start behind kind end
+steps_of : (bs : List ℕ) (before start past : RunningPlace) (kind : TokenKind) (end : ℕ) → Passed bs before start past kind end
     → Steps bs before.walk.offset start.walk.offset end kind
-steps_of bs before start behind kind end p =
+steps_of bs before start past kind end p =
     let i = before.walk.offset in
     let s = start.walk.offset in
     let skipped : chars (drop s bs) ≡ skip (chars (drop i bs)) = sym (ahead_is bs start p.at_start) ∙ p.skipped ∙ ap skip (ahead_is bs before p.at_before) in
@@ -164,25 +164,25 @@ steps_of bs before start behind kind end p =
         rw e (boundary_is bs start p.at_start, omega arith, ap next (sym here) ∙ n ∙ ap (λ r. (kind, r)) here)
     by false l =
         let e = p.other_end l in
-        let n : next (ahead start) ≡ (kind, ahead behind) = next_from (ahead start) (ahead behind) kind p.is p.rest l in
-        rw e (boundary_is bs behind p.at_behind, p.goes, ap next (sym (ahead_is bs start p.at_start)) ∙ n ∙ ap (λ r. (kind, r)) (ahead_is bs behind p.at_behind))
+        let n : next (ahead start) ≡ (kind, ahead past) = next_from (ahead start) (ahead past) kind p.is p.rest l in
+        rw e (boundary_is bs past p.at_after, p.goes, ap next (sym (ahead_is bs start p.at_start)) ∙ n ∙ ap (λ r. (kind, r)) (ahead_is bs past p.at_after))
 
-pub pass_gives : (bs : List ℕ) (before start behind : RunningPlace) (kind : TokenKind) (end : ℕ) → Passed bs before start behind kind end
+pub pass_gives : (bs : List ℕ) (before start past : RunningPlace) (kind : TokenKind) (end : ℕ) → Passed bs before start past kind end
     → tokens_at bs before.walk.offset ≡ record { bare = record { kind = kind; spelling = slice_range bs start.walk.offset end }; start = start.walk.offset; pos = place bs start.walk.offset }
-    ∷ cond (is_last kind) [] (tokens_at bs behind.walk.offset)
-pass_gives bs before start behind kind end p =
-    lex_step bs before.walk.offset start.walk.offset end kind (steps_of bs before start behind kind end p)
+    ∷ cond (is_last kind) [] (tokens_at bs past.walk.offset)
+pass_gives bs before start past kind end p =
+    lex_step bs before.walk.offset start.walk.offset end kind (steps_of bs before start past kind end p)
     ∙ ap (λ x. record { bare = record { kind = kind; spelling = slice_range bs start.walk.offset end }; start = start.walk.offset; pos = place bs start.walk.offset } ∷ x) (by (is_last kind) refl)
   where
-    by : (b : Bool) → is_last kind ≡ b → cond b [] (tokens_at bs end) ≡ cond b [] (tokens_at bs behind.walk.offset)
+    by : (b : Bool) → is_last kind ≡ b → cond b [] (tokens_at bs end) ≡ cond b [] (tokens_at bs past.walk.offset)
     by true l = refl
     by false l = ap (tokens_at bs) (p.other_end l)
 
 -- a token that isn't the last has bytes
-pub pass_moves : (bs : List ℕ) (before start behind : RunningPlace) (kind : TokenKind) (end : ℕ) → Passed bs before start behind kind end → is_last kind ≡ false
-    → before.walk.offset < behind.walk.offset
-pass_moves bs before start behind kind end p l =
-    let k = steps_of bs before start behind kind end p in
+pub pass_moves : (bs : List ℕ) (before start past : RunningPlace) (kind : TokenKind) (end : ℕ) → Passed bs before start past kind end → is_last kind ≡ false
+    → before.walk.offset < past.walk.offset
+pass_moves bs before start past kind end p l =
+    let k = steps_of bs before start past kind end p in
     let e = p.other_end l in
     let m = lex_moves bs start.walk.offset end kind k.is l k.goes in
     omega (arith, p.skips)

@@ -40,17 +40,17 @@ before_all text = before_is text [] text refl
 shorter : (after w rest : List ℕ) (kind : TokenKind) → after ≡ w ++ rest → Begins Current kind w rest → length rest < length after
 shorter after w rest kind whole b = omega (arith, ap length whole, length-append w rest, begins_some Current kind w rest b)
 
-behind : (n : ℕ) (here after rest : List ℕ) (kind : TokenKind) → IsNext after kind rest → IsRest after → (kind ≡ Fault → HasNoToken Current after)
+cuts_after_token : (n : ℕ) (here after rest : List ℕ) (kind : TokenKind) → IsNext after kind rest → IsRest after → (kind ≡ Fault → HasNoToken Current after)
     → ((h r : List ℕ) → length r < length after → Cuts Current h r (tokens_from n h r))
     → Stands Current here after (token kind here (before after rest)) (cond (is_last kind) [] (tokens_from n (here ++ before after rest) rest))
-behind n here after rest kind (inl f) r lacks ih =
+cuts_after_token n here after rest kind (inl f) r lacks ih =
     let w : before after rest ≡ f.word = before_is after f.word rest f.whole in
     let l : is_last kind ≡ false = begins_goes_on Current kind f.word rest f.begins in
     rw (w, l) (inl (record { kind = kind; word = f.word; rest = rest; whole = f.whole; begins = f.begins; is = refl }, ih (here ++ f.word) rest (shorter after f.word rest kind f.whole f.begins)))
-behind n here after rest kind (inr (inl e)) r lacks ih =
+cuts_after_token n here after rest kind (inr (inl e)) r lacks ih =
     let w : before after rest ≡ [] = ap (λ x. before x rest) (e.0 ∙ sym e.2) ∙ before_all rest in
     rw (w, e.1) (inr (inl (record { ends = e.0; is = refl }, refl)))
-behind n here after rest kind (inr (inr e)) r lacks ih =
+cuts_after_token n here after rest kind (inr (inr e)) r lacks ih =
     let w : before after rest ≡ [] = ap (before after) e.2 ∙ before_all after in
     let no = lacks e.1 in
     rw (w, e.1) (inr (inr (record { goes_on = goes_on after e.0 r; none = no; is = refl }, refl)))
@@ -64,7 +64,7 @@ cuts_from (suc n) front text h =
     let t = next after in
     let here : before text after ≡ concat s.pieces = before_is text (concat s.pieces) after s.whole in
     let long : length after ≤ length text = omega (arith, ap length s.whole, length-append (concat s.pieces) after) in
-    let b = behind n (front ++ before text after) after t.1 t.0 (next_is after) (skip_rests text) (no_token after) (λ f r l. cuts_from n f r (omega arith)) in
+    let b = cuts_after_token n (front ++ before text after) after t.1 t.0 (next_is after) (skip_rests text) (no_token after) (λ f r l. cuts_from n f r (omega arith)) in
     let P : List ℕ → Type 0 = λ w. Stands Current (front ++ w) after (token t.0 (front ++ before text after) (before after t.1)) (cond (is_last t.0) [] (tokens_from n ((front ++ before text after) ++ before after t.1) t.1)) in
     (record { pieces = s.pieces; after = after; whole = s.whole; ignored = s.ignored }, subst P here b)
 
@@ -148,12 +148,12 @@ fuel n front text h = tokens_only front text (tokens_from n front text) (cuts_fr
 last_end : (x y : List Token) → cond (is_last End) [] x ≡ cond (is_last End) [] y
 last_end x y = refl
 
-fuel_behind : (m : ℕ) (here after rest : List ℕ) (kind : TokenKind) → IsNext after kind rest → length after ≤ m
+fuel_after : (m : ℕ) (here after rest : List ℕ) (kind : TokenKind) → IsNext after kind rest → length after ≤ m
     → cond (is_last kind) [] (tokens_from m here rest) ≡ cond (is_last kind) [] (tokens here rest)
-fuel_behind m here after rest kind (inl f) h =
+fuel_after m here after rest kind (inl f) h =
     ap (cond (is_last kind) []) (fuel m here rest (omega (arith, shorter after f.word rest kind f.whole f.begins)))
-fuel_behind m here after rest kind (inr (inl e)) h = rw e.1 refl
-fuel_behind m here after rest kind (inr (inr e)) h = rw e.1 refl
+fuel_after m here after rest kind (inr (inl e)) h = rw e.1 refl
+fuel_after m here after rest kind (inr (inr e)) h = rw e.1 refl
 
 pub tokens_step : (front text : List ℕ) → (let after = skip text in let here = front ++ before text after in let t = next after in let w = before after t.1 in
     tokens front text ≡ token t.0 here w ∷ cond (is_last t.0) [] (tokens (here ++ w) t.1))
@@ -165,7 +165,7 @@ tokens_step front text =
     let w = before after t.1 in
     let s = skip_skips text in
     let long : length after ≤ length text = omega (arith, ap length s.whole, length-append (concat s.pieces) after) in
-    ap (λ x. token t.0 here w ∷ x) (fuel_behind (length text) (here ++ w) after t.1 t.0 (next_is after) long)
+    ap (λ x. token t.0 here w ∷ x) (fuel_after (length text) (here ++ w) after t.1 t.0 (next_is after) long)
 
 -- ---- laws of every list
 

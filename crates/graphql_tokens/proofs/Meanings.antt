@@ -16,7 +16,7 @@ means_front : (unit rest value : List ℕ) (c : ℕ) → UnitMeans Current unit 
 means_front unit rest value c m s = (unit ∷ s.0, ap (λ x. unit ++ x) s.1, (m, s.2))
 
 -- the value begins with the character, and goes on with the value of the rest
-onto_is : (c : ℕ) (o : Option (List ℕ)) (value : List ℕ) → onto c o ≡ Some value → (behind : List ℕ) × (o ≡ Some behind) × ((c ∷ behind) ≡ value)
+onto_is : (c : ℕ) (o : Option (List ℕ)) (value : List ℕ) → onto c o ≡ Some value → (after : List ℕ) × (o ≡ Some after) × ((c ∷ after) ≡ value)
 onto_is c None value e = absurd (cc)
 onto_is c (Some cs) value e = (cs, refl, cc)
 
@@ -38,8 +38,8 @@ means_from (suc n) (c ∷ cs) value e = by (is_plain c) refl (λ content value e
     escaped None g ih e = absurd (cc)
     escaped (Some x) g ih e =
         let f = escape_found (c ∷ cs) x.0 x.1 g in
-        let behind : drop x.1 (c ∷ cs) ≡ f.rest = ap (λ k. drop k (c ∷ cs)) (sym f.long) ∙ ap (drop (length f.unit)) f.whole ∙ drop-append_seam f.unit f.rest in
-        let read : onto x.0 (content_from n f.rest) ≡ Some value = ap (λ t. onto x.0 (content_from n t)) (sym behind) ∙ e in
+        let after : drop x.1 (c ∷ cs) ≡ f.rest = ap (λ k. drop k (c ∷ cs)) (sym f.long) ∙ ap (drop (length f.unit)) f.whole ∙ drop-append_seam f.unit f.rest in
+        let read : onto x.0 (content_from n f.rest) ≡ Some value = ap (λ t. onto x.0 (content_from n t)) (sym after) ∙ e in
         subst (λ (t : List ℕ). StringMeans Current t value) (sym f.whole)
         (means_onto f.unit f.rest value x.0 (content_from n f.rest) (inr f.means) (ih f.rest) read)
 

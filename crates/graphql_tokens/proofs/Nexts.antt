@@ -242,7 +242,7 @@ at_quote : (cs : List ℕ) → next (34 ∷ cs) ≡ quoted cs
 unfolding next
 at_quote cs = refl
 
--- behind the quote of a string that isn't empty
+-- after the quote of a string that isn't empty
 no_second : (content rest : List ℕ) → IsContent Current content → content ≢ [] → past_char 34 (content ++ (34 ∷ rest)) ≡ None
 no_second [] rest m some = absurd (some refl)
 no_second (c ∷ cs) rest m some = let h = content_head c cs m in ap (λ b. cond b (Some (cs ++ (34 ∷ rest))) None) h

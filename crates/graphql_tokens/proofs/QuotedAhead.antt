@@ -52,7 +52,7 @@ escaped_ahead b v n [] f p q e = absurd f
 escaped_ahead b v n (c ∷ cs) f p q e =
     string_escape c cs v n (ap is_plain (first_low b c (c ∷ cs) cs f refl (not_plain_low b p)) ∙ p) (first_not b c 34 (c ∷ cs) cs f refl (omega arith) q) e
 
--- what is left behind an escape is shorter
+-- what is left after an escape is shorter
 pub escape_shortens : (text : List ℕ) (v n : ℕ) → escape_at text ≡ Some (v, n) → length (drop n text) < length text
 escape_shortens text v n e = let s = escape_some text v n e in omega (arith, length-drop n text)
 

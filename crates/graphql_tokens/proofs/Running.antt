@@ -6,7 +6,7 @@ use Rattle.std.proofs.Math.Seq.{drop-cons}
 use Rattle.std.proofs.lemmas.Bool.{cases_lt}
 use Rattle.std.proofs.lemmas.List.{length_push, drop_all}
 use Rattle.std.proofs.lemmas.Str.{IsUtf8-take, IsUtf8-drop, chars-nil, chars_past_char, IsCharBoundary-start, len_utf8_bounds, len_utf8_ascii, encode_ascii, drop_past_char}
-use Rattle.graphql_tokens.specs.tokens.Place.{place, place_behind, is_line_feed, is_in_line}
+use Rattle.graphql_tokens.specs.tokens.Place.{place, place_after, is_line_feed, is_in_line}
 use Rattle.graphql_tokens.specs.inner.TextWalk.{IsWalking, Passes}
 use Rattle.graphql_tokens.specs.inner.Running.{ahead, IsRunning}
 use Rattle.graphql_tokens.specs.declared.pos.text_walk.TextWalk.{TextWalk}
@@ -86,8 +86,8 @@ runs_at_start a r o l b =
     let none : chars (take a.walk.offset a.walk.text.now) ≡ [] = ap (λ k. chars (take k a.walk.text.now)) o ∙ chars-nil in
     record {
       reading = r;
-      line = l ∙ sym (ap (λ x. (place_behind x).line) none);
-      column = omega (arith, b, ap (λ x. (place_behind x).column) none, r.counted, ap length none);
+      line = l ∙ sym (ap (λ x. (place_after x).line) none);
+      column = omega (arith, b, ap (λ x. (place_after x).column) none, r.counted, ap length none);
     }
 
 -- the line and the column after one character more
@@ -98,7 +98,7 @@ line_past old new c r same p =
     let k = r.reading in
     let more : chars (take new.walk.offset new.walk.text.now) ≡ chars (take old.walk.offset bs) ++ c ∷ [] =
     ap (λ t. chars (take new.walk.offset t)) same ∙ chars_past bs old.walk.offset new.walk.offset c k.utf8 k.boundary p.here p.after in
-    ap (λ x. (place_behind x).line) more ∙ line_push (chars (take old.walk.offset bs)) c ∙ ap (λ n. n + cond (is_line_feed c) 1 0) (sym r.line)
+    ap (λ x. (place_after x).line) more ∙ line_push (chars (take old.walk.offset bs)) c ∙ ap (λ n. n + cond (is_line_feed c) 1 0) (sym r.line)
 
 column_past : (old new : RunningPlace) (c : ℕ) → IsRunning old → new.walk.text.now ≡ old.walk.text.now → Passes c old.walk new.walk
     → (place new.walk.text.now new.walk.offset).column ≡ cond (is_in_line c) ((place old.walk.text.now old.walk.offset).column + 1) 1
@@ -107,7 +107,7 @@ column_past old new c r same p =
     let k = r.reading in
     let more : chars (take new.walk.offset new.walk.text.now) ≡ chars (take old.walk.offset bs) ++ c ∷ [] =
     ap (λ t. chars (take new.walk.offset t)) same ∙ chars_past bs old.walk.offset new.walk.offset c k.utf8 k.boundary p.here p.after in
-    ap (λ x. (place_behind x).column) more ∙ column_push (chars (take old.walk.offset bs)) c
+    ap (λ x. (place_after x).column) more ∙ column_push (chars (take old.walk.offset bs)) c
 
 -- a character within a line
 pub runs_in_line : (old new : RunningPlace) (c : ℕ) → IsRunning old → IsWalking new.walk → new.walk.text.now ≡ old.walk.text.now → Passes c old.walk new.walk

@@ -105,8 +105,8 @@ closed_from (suc n) (c ∷ cs) rest h e = by (is_plain c) refl (eqb c 34) refl (
     escaped (Some x) g p q ih =
         let f = escape_found (c ∷ cs) x.0 x.1 g in
         let some = escape_some (c ∷ cs) x.0 x.1 g in
-        let behind : drop x.1 (c ∷ cs) ≡ f.rest = ap (λ k. drop k (c ∷ cs)) (sym f.long) ∙ ap (drop (length f.unit)) f.whole ∙ drop-append_seam f.unit f.rest in
-        let more : past_string f.rest ≡ Some rest = sym (string_escape c cs x.0 x.1 p q g ∙ ap past_string behind) ∙ e in
+        let after : drop x.1 (c ∷ cs) ≡ f.rest = ap (λ k. drop k (c ∷ cs)) (sym f.long) ∙ ap (drop (length f.unit)) f.whole ∙ drop-append_seam f.unit f.rest in
+        let more : past_string f.rest ≡ Some rest = sym (string_escape c cs x.0 x.1 p q g ∙ ap past_string after) ∙ e in
         let short : length f.rest ≤ n = omega (arith, ap length f.whole, length-append f.unit f.rest, f.long, some.0) in
         subst (λ (t : List ℕ). Closed t rest) (sym f.whole) (closed_unit f.unit f.rest rest x.0 (inr f.means) (ih f.rest short more))
 

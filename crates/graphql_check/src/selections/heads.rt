@@ -5,7 +5,7 @@ ghost use Rattle.graphql_check.specs.Heads.{entered_at};
 ghost use Rattle.graphql_reading.specs.grammar.Places.{nowhere};
 ghost use Rattle.graphql_reading.specs.reading.Given.{Gives};
 ghost use Rattle.graphql_reading.specs.reading.Outcome.{mapped_at};
-ghost use Rattle.graphql_requests.specs.reading.SelectionSteps.{names_at, maybe_brace_at, maybe_condition_at, field_head_at, inline_head_at, behind_dots_at, head_at};
+ghost use Rattle.graphql_requests.specs.reading.SelectionSteps.{names_at, maybe_brace_at, maybe_condition_at, field_head_at, inline_head_at, after_dots_at, head_at};
 ghost use Rattle.graphql_requests.specs.reading.Selections.{type_condition_at};
 
 use crate::arguments::{check_directives, check_maybe_arguments};
@@ -94,9 +94,9 @@ fn check_inline(parser: &mut Parser, limits: Limits) -> Reading<()>
 /// The rest of a spread or of an inline fragment after its `...`, up to its set: whether that follows.
 ///
 /// `FragmentName Directives? | TypeCondition? Directives? SelectionSet`
-fn check_behind_dots(parser: &mut Parser, limits: Limits, nests: bool) -> Reading<bool>
+fn check_after_dots(parser: &mut Parser, limits: Limits, nests: bool) -> Reading<bool>
     ensures { Gives (λ follows. follows) result parser.old parser.new
-        (entered_at (behind_dots_at limits.values nests nowhere)) }
+        (entered_at (after_dots_at limits.values nests nowhere)) }
 {
     if is_at_fragment_name(parser) {
         parser.advance();
@@ -123,7 +123,7 @@ pub(super) fn check_head(parser: &mut Parser, limits: Limits, nests: bool) -> Re
 {
     if parser.is_at_punct("...") {
         parser.advance();
-        check_behind_dots(parser, limits, nests)
+        check_after_dots(parser, limits, nests)
     } else {
         check_field(parser, limits, nests)
     }

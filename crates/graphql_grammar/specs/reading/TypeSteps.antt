@@ -33,4 +33,4 @@ closes_at (suc opened) item ts = close_at item ts >>= closes_at opened
 
 abbrev pub steps_at : ℕ → Reader (Positioned TypeTree)
 steps_at limit ts =
-    peek_at ts >>= λ first _. opens_at 0 limit ts >>= λ opened inside. named_at inside >>= λ item behind. closes_at opened item behind >>= λ whole rest. Read (at first whole) rest
+    peek_at ts >>= λ first _. opens_at 0 limit ts >>= λ opened inside. named_at inside >>= λ item after. closes_at opened item after >>= λ whole rest. Read (at first whole) rest

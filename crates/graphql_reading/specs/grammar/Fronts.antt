@@ -30,11 +30,11 @@ bares tokens = map (λ t. t.bare) tokens
 -- and with these a tree.
 pub record Completes {A : Type 0} (p : Rel A) (front : List Token) : Type 0 where
   pub begun : List Token
-  pub behind : List Token
+  pub after : List Token
   pub tree : A
   pub alike : bares begun ≡ bares front
-  pub proper : AreProper behind
-  pub holds : p (begun ++ behind) tree
+  pub proper : AreProper after
+  pub holds : p (begun ++ after) tree
 
 abbrev pub Viable : {A : Type 0} → Grammar A → Limits → List Token → Type 0
 Viable g limits front = Completes (g limits) front

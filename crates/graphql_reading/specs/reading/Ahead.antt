@@ -8,14 +8,14 @@ pub record Ahead : Type 0 where
   pub text : List ℕ
   pub whole : List Token
   pub hand : Token
-  pub behind : List Token
+  pub after : List Token
   pub taken : ℕ
   pub memory : Memory
 
 -- the tokens ahead, the one in hand first
 abbrev pub tokens : Ahead → List Token
-tokens a = a.hand ∷ a.behind
+tokens a = a.hand ∷ a.after
 
 -- only memory may have been asked for
 abbrev pub Stays : Ahead → Ahead → Type 0
-Stays old new = (new.hand ≡ old.hand) × (new.behind ≡ old.behind) × (new.whole ≡ old.whole) × (new.taken ≡ old.taken) × (new.text ≡ old.text)
+Stays old new = (new.hand ≡ old.hand) × (new.after ≡ old.after) × (new.whole ≡ old.whole) × (new.taken ≡ old.taken) × (new.text ≡ old.text)

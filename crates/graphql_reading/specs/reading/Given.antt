@@ -21,7 +21,7 @@ Told view (Err refusal) old new r = Refuses refusal old new r
 
 -- the same, where the last token is read: it stays in hand
 abbrev pub ToldWhole : {X Y : Type 0} → (X → Y) → Result X Refusal → Ahead → Ahead → Reader Y → Type 0
-ToldWhole view (Ok x) old new r = r (tokens old) ≡ Read (view x) new.behind
+ToldWhole view (Ok x) old new r = r (tokens old) ≡ Read (view x) new.after
 ToldWhole view (Err refusal) old new r = Refuses refusal old new r
 
 -- the parser takes tokens of its text, and gives none back

@@ -4,7 +4,7 @@ use Rattle.std.specs.Prelude.{◌≡◌, ◌⊎◌, ℕ, List, [], ◌∷◌, �
 use Rattle.std.specs.Fmt.{decimal}
 use Rattle.std.specs.Str.{chars}
 use Rattle.graphql_tokens.specs.declared.pos.Pos.{Pos}
-use Rattle.graphql_tokens.specs.tokens.Place.{place_behind}
+use Rattle.graphql_tokens.specs.tokens.Place.{place_after}
 use Rattle.graphql_grammar.specs.declared.error.Error.{Error}
 use Rattle.graphql_grammar.specs.declared.error.Error.TheVariants.{Syntax, RecursionLimitExceeded}
 use Rattle.graphql_grammar.specs.errors.Errors.{error_text, error_places}
@@ -52,11 +52,11 @@ TellsPlaces style file message (place ∷ second ∷ more) report =
 
 -- the place of this text is that of the end of a part with which it begins
 abbrev pub IsPlaceIn : List ℕ → Pos → Type 0
-IsPlaceIn text place = (before after : List ℕ) × (chars text ≡ before ++ after) × (place ≡ place_behind before)
+IsPlaceIn text place = (before after : List ℕ) × (chars text ≡ before ++ after) × (place ≡ place_after before)
 
 -- the place is that of a backslash, with which an escape begins
 abbrev pub IsEscapeIn : List ℕ → Pos → Type 0
-IsEscapeIn text place = (before after : List ℕ) × (chars text ≡ before ++ 92 ∷ after) × (place ≡ place_behind before)
+IsEscapeIn text place = (before after : List ℕ) × (chars text ≡ before ++ 92 ∷ after) × (place ≡ place_after before)
 
 -- a syntax error is told at its place, or at an escape
 abbrev pub IsToldAt : List ℕ → Pos → Pos → Type 0

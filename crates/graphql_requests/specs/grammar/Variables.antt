@@ -13,15 +13,15 @@ use Rattle.graphql_reading.specs.grammar.Places.{at, name_of}
 use Rattle.graphql_reading.specs.grammar.Relations.{Rel, one, ◌⨾◌, ◌∪◌, mapped, plus, opt, between}
 use Rattle.graphql_reading.specs.grammar.Tests.{punct, any_name}
 
-abbrev pub default_behind : Directives × Value → Option Value × Directives
-default_behind (directives, default) = (Some default, directives)
+abbrev pub default_after : Directives × Value → Option Value × Directives
+default_after (directives, default) = (Some default, directives)
 
 -- Default? Directives? | Directives Default
 -- The specification has the first order alone; the second is the Rust crate's.
 abbrev pub default_and_directives : Edition → ℕ → Rel (Option Value × Directives)
 default_and_directives edition values =
     (opt (a_default edition values) ⨾ directives edition true values)
-    ∪ mapped default_behind (plus (a_directive edition true values) ⨾ a_default edition values)
+    ∪ mapped default_after (plus (a_directive edition true values) ⨾ a_default edition values)
 
 abbrev pub variable_definition_of : Token × (Token × (Token × (Positioned TypeTree × (Option Value × Directives)))) → Positioned VariableDefinition
 variable_definition_of (dollar, (name, (colon, (ty, (default, directives))))) =

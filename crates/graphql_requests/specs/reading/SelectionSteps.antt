@@ -50,11 +50,11 @@ abbrev pub name_at : Reader (Positioned Name)
 name_at = mapped_at name_of (one_at any_name)
 
 -- the name after a `:`, if there is one
-abbrev pub behind_colon_at : Reader (Option (Positioned Name))
-behind_colon_at = choose_at (punct ":") (mapped_at (λ x. Some x.1) (then_at (one_at (punct ":")) name_at)) (none_at None)
+abbrev pub after_colon_at : Reader (Option (Positioned Name))
+after_colon_at = choose_at (punct ":") (mapped_at (λ x. Some x.1) (then_at (one_at (punct ":")) name_at)) (none_at None)
 
 abbrev pub names_at : Reader Names
-names_at = mapped_at (λ x. as_names x.0 x.1) (then_at name_at behind_colon_at)
+names_at = mapped_at (λ x. as_names x.0 x.1) (then_at name_at after_colon_at)
 
 abbrev pub place_of : Names → Pos
 place_of (None, name) = name.pos
@@ -97,12 +97,12 @@ inline_head_at values dots =
     mapped_at (λ x. (bare_inline dots x.0 x.1.0, Some x.1.1.pos))
     (then_at maybe_condition_at (then_at (directives_at true values) (one_at (punct "{"))))
 
-abbrev pub behind_dots_at : ℕ → Bool → Pos → Reader Heading
-behind_dots_at values nests dots =
+abbrev pub after_dots_at : ℕ → Bool → Pos → Reader Heading
+after_dots_at values nests dots =
     choose_at fragment_name (λ ts. next_at ts >>= spread_at values dots) (λ ts. cond nests (inline_head_at values dots ts) (deep_at inline_first ts))
 
 abbrev pub dots_head_at : ℕ → Bool → Reader Heading
-dots_head_at values nests ts = next_at ts >>= λ dots rest. behind_dots_at values nests dots.pos rest
+dots_head_at values nests ts = next_at ts >>= λ dots rest. after_dots_at values nests dots.pos rest
 
 abbrev pub head_at : ℕ → Bool → Reader Heading
 head_at values nests = choose_at (punct "...") (dots_head_at values nests) (field_head_at values nests)
@@ -138,8 +138,8 @@ abbrev pub close_at : Pos → List (Positioned Selection) → Reader Set
 close_at place items ts = one_at (punct "}") ts >>= λ _ rest. Read (closed (record { place = place; items = items })) rest
 
 -- after a selection, and where one has to follow
-unfoldable pub behind_rest : ℕ → ℕ → Opened → Reader Set
-behind_rest values s o ts = with_front o.items (many_at selection_first (item_at values s) ts) >>= close_at o.place
+unfoldable pub after_rest : ℕ → ℕ → Opened → Reader Set
+after_rest values s o ts = with_front o.items (many_at selection_first (item_at values s) ts) >>= close_at o.place
 
 abbrev pub more : Opened → Positioned Selection → Opened
 more o x = record { place = o.place; items = o.items ++ x ∷ [] }
@@ -148,7 +148,7 @@ abbrev pub begun : Pos → Opened
 begun place = record { place = place; items = [] }
 
 abbrev pub wanted_rest : ℕ → ℕ → Opened → Reader Set
-wanted_rest values s o ts = item_at values s ts >>= λ x rest. behind_rest values s (more o x) rest
+wanted_rest values s o ts = item_at values s ts >>= λ x rest. after_rest values s (more o x) rest
 
 abbrev pub headed : ℕ → ℕ → Heading → List Token → Outcome (Positioned Selection)
 headed values s (x, None) rest = Read x rest
@@ -167,7 +167,7 @@ filled_in o set = record { place = o.place; items = fill_last o.items set }
 
 -- what an open set, in which sets may nest s deep, makes of the set that its last selection waits for
 abbrev pub filled : ℕ → ℕ → Opened → Outcome Set → Outcome Set
-filled values s o read = read >>= λ own rest. behind_rest values s (filled_in o own) rest
+filled values s o read = read >>= λ own rest. after_rest values s (filled_in o own) rest
 
 -- the open sets around a set in which sets may nest b deep, the innermost first
 abbrev pub resume : ℕ → ℕ → List Opened → Outcome Set → Outcome Set

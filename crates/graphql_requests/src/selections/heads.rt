@@ -8,7 +8,7 @@ ghost use Rattle.graphql_request_trees.specs.trees.RequestViews.{selection_tree,
 ghost use Rattle.graphql_tokens.specs.tokens.Seen.{seen};
 ghost use Rattle.graphql_tokens.specs.tokens.Within.{StandsIn};
 ghost use Rattle.graphql_requests.specs.grammar.Selections.{fragment_name};
-ghost use Rattle.graphql_requests.specs.reading.SelectionSteps.{names_at, maybe_brace_at, bare_field, bare_inline, onto, field_head_at, spread_at, inline_head_at, maybe_condition_at, behind_dots_at, head_at};
+ghost use Rattle.graphql_requests.specs.reading.SelectionSteps.{names_at, maybe_brace_at, bare_field, bare_inline, onto, field_head_at, spread_at, inline_head_at, maybe_condition_at, after_dots_at, head_at};
 ghost use Rattle.graphql_reading.specs.reading.Given.{Gives};
 ghost use Rattle.graphql_requests.specs.reading.Selections.{type_condition_at, inline_first, selection_first};
 
@@ -241,7 +241,7 @@ fn read_inline(
 /// The rest of a spread or of an inline fragment after its `...`.
 ///
 /// `FragmentName Directives? | TypeCondition? Directives? SelectionSet`
-fn read_behind_dots(
+fn read_after_dots(
     parser: &mut Parser,
     limits: Limits,
     nests: bool,
@@ -249,7 +249,7 @@ fn read_behind_dots(
     items: &mut Selections,
 ) -> Reading<Option<Pos>>
     ensures { Gives (λ place. (selection_trees items.new.items, place)) result parser.old parser.new
-        (onto (selection_trees items.old.items) (behind_dots_at limits.values nests dots)) }
+        (onto (selection_trees items.old.items) (after_dots_at limits.values nests dots)) }
 {
     if is_at_fragment_name(parser) {
         let name = parser.take();
@@ -281,7 +281,7 @@ pub(super) fn read_head(
 {
     if parser.is_at_punct("...") {
         let dots = parser.take();
-        read_behind_dots(parser, limits, nests, dots.pos, items)
+        read_after_dots(parser, limits, nests, dots.pos, items)
     } else {
         read_field(parser, limits, nests, items)
     }

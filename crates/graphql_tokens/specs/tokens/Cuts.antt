@@ -5,7 +5,7 @@ use Rattle.std.specs.Prelude.{◌≡◌, ◌≢◌, ℕ, Bool, true, false, ◌�
 use Rattle.std.specs.List.{concat}
 use Rattle.std.specs.Str.{byte, chars, encode_utf8_all}
 use Rattle.graphql_tokens.specs.tokens.Edition.{Edition, Current}
-use Rattle.graphql_tokens.specs.tokens.Place.{place_behind}
+use Rattle.graphql_tokens.specs.tokens.Place.{place_after}
 use Rattle.graphql_tokens.specs.tokens.Classes.{is_ignored}
 use Rattle.graphql_tokens.specs.tokens.Ignored.{AreIgnored}
 use Rattle.graphql_tokens.specs.tokens.Spelling.{Begins}
@@ -17,7 +17,7 @@ use Rattle.graphql_tokens.specs.declared.lexer.TokenKind.TheVariants.{Fault, End
 
 -- the token that is spelled by these characters, after the characters of the front
 abbrev pub token : TokenKind → List ℕ → List ℕ → Token
-token kind front w = record { bare = record { kind = kind; spelling = encode_utf8_all w }; start = length (encode_utf8_all front); pos = place_behind front }
+token kind front w = record { bare = record { kind = kind; spelling = encode_utf8_all w }; start = length (encode_utf8_all front); pos = place_after front }
 
 -- the text goes on, and neither an ignored character nor a comment is next
 abbrev pub GoesOn : List ℕ → Type 0

@@ -20,9 +20,9 @@ is_in_line c = not (is_line_end c)
 
 -- The place after these characters, with which a text begins: one line more than their line feeds, and one column
 -- more than the characters after the last line feed or carriage return.
-abbrev pub place_behind : List ℕ → Pos
-place_behind front = record { line = 1 + count_by is_line_feed front; column = 1 + suffix_len is_in_line front }
+abbrev pub place_after : List ℕ → Pos
+place_after front = record { line = 1 + count_by is_line_feed front; column = 1 + suffix_len is_in_line front }
 
 -- the place at a byte offset of a text in UTF-8: that after the characters before the offset
 abbrev pub place : List ℕ → ℕ → Pos
-place text offset = place_behind (chars (take offset text))
+place text offset = place_after (chars (take offset text))

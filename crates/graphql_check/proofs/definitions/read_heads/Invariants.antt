@@ -9,4 +9,4 @@ abbrev pub invariant-loop-heads : goal.invariant-loop-heads
 invariant-loop-heads l = Kept definition_first (mapped_at head_of (definition_at l.limits)) l.fn.parser l.parser (in_heads l.heads)
 
 abbrev pub decreases-loop-heads : goal.decreases-loop-heads
-decreases-loop-heads l = length l.parser.behind
+decreases-loop-heads l = length l.parser.after

@@ -4,6 +4,6 @@ use Rattle.graphql_check.proofs.definitions.read_short_operation.Goals as goal
 
 pub returns : goal.returns
 returns c = (
-  short-head c.args.limits c.args.parser.now.hand c.args.parser.now.behind _ c.hand.result.pos (ap (λ t. t.pos) c.hand.ensures.token) c.in_ok-check_selection_set.ensures.0,
+  short-head c.args.limits c.args.parser.now.hand c.args.parser.now.after _ c.hand.result.pos (ap (λ t. t.pos) c.hand.ensures.token) c.in_ok-check_selection_set.ensures.0,
   c.in_ok-check_selection_set.ensures.1,
 )

@@ -6,4 +6,4 @@ abbrev pub invariant-loop-is_wanted : goal.invariant-loop-is_wanted
 invariant-loop-is_wanted l = Kept l.fn.limits.values l.fn.limits.selections l.fn.parser l.parser l.outer l.is_wanted
 
 abbrev pub decreases-loop-is_wanted : goal.decreases-loop-is_wanted
-decreases-loop-is_wanted l = length l.parser.behind
+decreases-loop-is_wanted l = length l.parser.after

@@ -7,4 +7,4 @@ abbrev pub invariant-loop-parser : goal.invariant-loop-parser
 invariant-loop-parser g l = KeptSome (punct_of l.mark) (g.P.Phrase.reader l.limits) l.fn.parser l.parser
 
 abbrev pub decreases-loop-parser : goal.decreases-loop-parser
-decreases-loop-parser g l = length l.parser.behind
+decreases-loop-parser g l = length l.parser.after

@@ -9,4 +9,4 @@ invariant-loop-limit l =
     × (l.opened ≤ l.fn.limits.types)
 
 abbrev pub decreases-loop-limit : goal.decreases-loop-limit
-decreases-loop-limit l = length l.parser.behind
+decreases-loop-limit l = length l.parser.after

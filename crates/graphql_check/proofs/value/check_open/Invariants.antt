@@ -8,4 +8,4 @@ abbrev pub invariant-loop-object : goal.invariant-loop-object
 invariant-loop-object l = Kept l.vars l.levels.limit (open_rest l.vars (pred l.limit) (opens l.first)) l.fn.parser l.parser l.levels.objects.items
 
 abbrev pub decreases-loop-object : goal.decreases-loop-object
-decreases-loop-object l = length l.parser.behind
+decreases-loop-object l = length l.parser.after

@@ -16,5 +16,5 @@ default-first values t ts mid e h = rw e (past (maybe_default_at values) (direct
 pub returns-then-is_at_punct : goal.returns-then-is_at_punct
 returns-then-is_at_punct c =
     goes-as c.check_directives.result c.args.parser.now c.check_maybe_default.new.parser c.check_directives.new.parser (default_and_directives_at c.args.limits.values) (directives_at true c.args.limits.values)
-    (default-first c.args.limits.values c.args.parser.now.hand c.args.parser.now.behind (tokens c.check_maybe_default.new.parser) (sym c.is_at_punct.ensures ∙ c.if-is_at_punct.true) c.in_ok-check_maybe_default.ensures.0)
+    (default-first c.args.limits.values c.args.parser.now.hand c.args.parser.now.after (tokens c.check_maybe_default.new.parser) (sym c.is_at_punct.ensures ∙ c.if-is_at_punct.true) c.in_ok-check_maybe_default.ensures.0)
     c.in_ok-check_maybe_default.ensures.1 c.check_directives.ensures

@@ -25,13 +25,13 @@ went-ok g c =
 
 pub returns-in-Ok-clause-reads : goal.returns-in-Ok-clause-reads
 returns-in-Ok-clause-reads g c =
-    let made = is-made g.K.Kept.sum (whole_at (g.K.Kept.reader c.args.limits) (tokens c.new-parser.result)) _ c.read_whole-read.new.parser.behind c.in-Ok.ensures.0 in
+    let made = is-made g.K.Kept.sum (whole_at (g.K.Kept.reader c.args.limits) (tokens c.new-parser.result)) _ c.read_whole-read.new.parser.after c.in-Ok.ensures.0 in
     reads-document g.K.Kept.language g.K.Kept.reader c.requires.read c.args.limits c.args.tokens.now c.into_parts-left.result.0 c.new-parser.result c.read_whole-read.new.parser
     (went-ok g c) c.in-Ok.ensures.1 made.tree _ made.is (c.into_document.ensures.document made.tree made.made)
 
 pub returns-in-Ok-clause-refused : goal.returns-in-Ok-clause-refused
 returns-in-Ok-clause-refused g c is =
-    let made = is-made g.K.Kept.sum (whole_at (g.K.Kept.reader c.args.limits) (tokens c.new-parser.result)) _ c.read_whole-read.new.parser.behind c.in-Ok.ensures.0 in
+    let made = is-made g.K.Kept.sum (whole_at (g.K.Kept.reader c.args.limits) (tokens c.new-parser.result)) _ c.read_whole-read.new.parser.after c.in-Ok.ensures.0 in
     c.into_document.ensures.refused made.tree made.made is
 
 -- ---- where there is none

@@ -9,4 +9,4 @@ invariant-loop-depth l =
     × (l.depth.limit ≡ l.fn.limits.types)
 
 abbrev pub decreases-loop-depth : goal.decreases-loop-depth
-decreases-loop-depth l = length l.parser.behind
+decreases-loop-depth l = length l.parser.after

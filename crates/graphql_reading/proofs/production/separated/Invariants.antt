@@ -8,4 +8,4 @@ abbrev pub invariant-loop-nodes : goal.invariant-loop-nodes
 invariant-loop-nodes g l = KeptMembers (punct_of l.mark) (g.P.Production.reader l.limits) l.fn.parser l.parser (trees_in g.P.Production.tree l.nodes)
 
 abbrev pub decreases-loop-nodes : goal.decreases-loop-nodes
-decreases-loop-nodes g l = length l.parser.behind
+decreases-loop-nodes g l = length l.parser.after

@@ -14,5 +14,5 @@ by-word limits t ts brace fragment = rw (brace, fragment) (operation-law limits 
 pub returns-else-is_at_keyword : goal.returns-else-is_at_keyword
 returns-else-is_at_keyword c =
     there definition_tree c.read_operation.result c.args.parser.now c.read_operation.new.parser (worded_at c.args.limits) (definition_at c.args.limits)
-    (sym (by-word c.args.limits c.args.parser.now.hand c.args.parser.now.behind (sym c.is_at_punct.ensures ∙ c.if-is_at_punct.false) (sym c.is_at_keyword.ensures ∙ c.if-is_at_keyword.false)))
+    (sym (by-word c.args.limits c.args.parser.now.hand c.args.parser.now.after (sym c.is_at_punct.ensures ∙ c.if-is_at_punct.false) (sym c.is_at_keyword.ensures ∙ c.if-is_at_keyword.false)))
     c.read_operation.ensures

@@ -10,7 +10,7 @@ use Rattle.graphql_reading.specs.grammar.Tests.{punct}
 use Rattle.graphql_reading.specs.reading.Ahead.{tokens}
 use Rattle.graphql_requests.proofs.HeadTakes.{head-nests, onto-takes, one-takes}
 use Rattle.graphql_reading.proofs.Loops.{go-on, on-stays, given-stays}
-use Rattle.graphql_requests.proofs.OpenParts.{opens, enters, reads, again, ends, leaves, reads-not, wanted-stays, behind-stays}
+use Rattle.graphql_requests.proofs.OpenParts.{opens, enters, reads, again, ends, leaves, reads-not, wanted-stays, after-stays}
 use Rattle.graphql_requests.proofs.OpenSets.{opens-not, closes-not}
 use Rattle.graphql_requests.proofs.selections.read_selection_set.Goals as goal
 
@@ -81,4 +81,4 @@ loop-nests-smaller c =
     omega (arith, shorter, same)
 
 pub loop-nests-preserved : goal.loop-nests-preserved
-loop-nests-preserved c = behind-stays {now = c.expect_punct-in-loop-nests.new.self} c.close.new.parser c.close.ensures.stays (leaves c.in-Some-leave.outer (seen c.in_ok-expect_punct.field-0) (sym c.is_at_selection.ensures ∙ c.loop-nests-test.true) c.in_ok-expect_punct.ensures c.in-Some-leave.ensures c.in_ok-set.ensures.set c.in_ok-set.ensures.rest c.fill_last.ensures c.loop-nests.invariant)
+loop-nests-preserved c = after-stays {now = c.expect_punct-in-loop-nests.new.self} c.close.new.parser c.close.ensures.stays (leaves c.in-Some-leave.outer (seen c.in_ok-expect_punct.field-0) (sym c.is_at_selection.ensures ∙ c.loop-nests-test.true) c.in_ok-expect_punct.ensures c.in-Some-leave.ensures c.in_ok-set.ensures.set c.in_ok-set.ensures.rest c.fill_last.ensures c.loop-nests.invariant)

@@ -8,4 +8,4 @@ abbrev pub invariant-loop-first : goal.invariant-loop-first
 invariant-loop-first l = KeptSum first_breach definition_first (definition_at l.limits) l.fn.parser l.parser l.first
 
 abbrev pub decreases-loop-first : goal.decreases-loop-first
-decreases-loop-first l = length l.parser.behind
+decreases-loop-first l = length l.parser.after

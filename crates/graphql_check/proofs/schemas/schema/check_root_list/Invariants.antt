@@ -8,4 +8,4 @@ abbrev pub invariant-loop-roots : goal.invariant-loop-roots
 invariant-loop-roots l = KeptSum roots_of root_first root_at l.fn.parser l.parser l.roots
 
 abbrev pub decreases-loop-roots : goal.decreases-loop-roots
-decreases-loop-roots l = length l.parser.behind
+decreases-loop-roots l = length l.parser.after

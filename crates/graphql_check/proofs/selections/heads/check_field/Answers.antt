@@ -2,11 +2,11 @@ use Rattle.std.proofs.Common.{true, ap, ◌∙◌}
 use Rattle.std.proofs.lemmas.Result.{err_from_is_err_and}
 use Rattle.graphql_reading.specs.reading.Ahead.{tokens}
 use Rattle.graphql_reading.proofs.Loops.{go-on}
-use Rattle.graphql_reading.proofs.Steps.{gives-behind}
+use Rattle.graphql_reading.proofs.Steps.{gives-after}
 use Rattle.graphql_grammar.specs.reading.Arguments.{maybe_arguments_at, directives_at}
 use Rattle.graphql_requests.specs.reading.SelectionSteps.{field_head_at}
 use Rattle.graphql_check.specs.Heads.{entered_at}
-use Rattle.graphql_check.proofs.Heads.{behind-directives, past-names, past-arguments, past-directives, arguments-not, directives-not}
+use Rattle.graphql_check.proofs.Heads.{after-directives, past-names, past-arguments, past-directives, arguments-not, directives-not}
 use Rattle.graphql_check.proofs.Parts.{stops-as}
 use Rattle.graphql_check.proofs.Rests.{ended}
 use Rattle.graphql_check.proofs.selections.heads.check_field.Goals as goal
@@ -41,7 +41,7 @@ returns c =
     let named = c.check_names.new.parser in
     let given = c.check_maybe_arguments.new.parser in
     let directed = c.check_directives.new.parser in
-    gives-behind _ c.take_brace.result old directed c.take_brace.new.parser (entered_at (field_head_at c.args.limits.values c.args.nests)) (behind-directives c.args.limits.values c.args.nests)
+    gives-after _ c.take_brace.result old directed c.take_brace.new.parser (entered_at (field_head_at c.args.limits.values c.args.nests)) (after-directives c.args.limits.values c.args.nests)
     (past-names c.args.limits.values c.args.nests (tokens old) (tokens named) c.in_ok-check_names.ensures.0
     ∙ past-arguments c.args.limits.values c.args.nests (tokens named) (tokens given) c.in_ok-check_maybe_arguments.ensures.0
     ∙ past-directives c.args.limits.values c.args.nests (tokens given) (tokens directed) c.in_ok-check_directives.ensures.0)

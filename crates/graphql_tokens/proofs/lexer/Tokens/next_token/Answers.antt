@@ -26,7 +26,7 @@ passed c =
     record {
       at_before = c.self.invariant.runs;
       at_start = subst (λ (b : List ℕ). RunsOver b c.pass_ignored.new.places) same p.runs;
-      at_behind = subst (λ (b : List ℕ). RunsOver b c.pass_token-kind.new.places) same t.runs;
+      at_after = subst (λ (b : List ℕ). RunsOver b c.pass_token-kind.new.places) same t.runs;
       skips = p.forward;
       goes = t.forward;
       skipped = p.rest;
@@ -49,15 +49,15 @@ still : (c : goal.After-t23-1) → drop c.self.inside.taken (tokens_at c.self.in
 still c = c.self.invariant.given ∙ ap (λ b. cond b [] (tokens_at c.self.inside.text.now c.self.inside.places.walk.offset)) (not_ended c)
 
 -- without the token that is passed
-behind : (c : goal.After-t23-1) → drop (c.self.inside.taken + 1) (tokens_at c.self.inside.text.now 0) ≡ cond (is_last c.pass_token-kind.result) [] (tokens_at c.self.inside.text.now c.pass_token-kind.new.places.walk.offset)
-behind c =
+after : (c : goal.After-t23-1) → drop (c.self.inside.taken + 1) (tokens_at c.self.inside.text.now 0) ≡ cond (is_last c.pass_token-kind.result) [] (tokens_at c.self.inside.text.now c.pass_token-kind.new.places.walk.offset)
+after c =
     sym (drop-drop 1 c.self.inside.taken (tokens_at c.self.inside.text.now 0))
     ∙ ap (drop 1) (still c ∙ pass_gives _ _ _ _ _ _ (passed c))
 
 pub invariant_of-self : goal.invariant_of-self
 invariant_of-self c = record {
   runs = record { running = c.go_to.ensures.running; same = c.go_to.ensures.same ∙ c.self.invariant.runs.same };
-  given = behind c ∙ ap (λ at. cond (is_last c.pass_token-kind.result) [] (tokens_at c.self.inside.text.now at)) (sym c.go_to.ensures.offset);
+  given = after c ∙ ap (λ at. cond (is_last c.pass_token-kind.result) [] (tokens_at c.self.inside.text.now at)) (sym c.go_to.ensures.offset);
   counted = λ l.
       (let m = pass_moves _ _ _ _ _ _ (passed c) l in
       let n = c.self.invariant.counted (not_ended c) in
@@ -83,7 +83,7 @@ returns-clause-token c =
     ∙ ap (λ x. record { bare = record { kind = kind; spelling = x }; start = start.walk.offset; pos = place bs start.walk.offset } ∷ cond (is_last kind) [] more) word
     ∙ ap (λ x. record { bare = record { kind = kind; spelling = c.range.result.now }; start = x; pos = place bs start.walk.offset } ∷ cond (is_last kind) [] more) (sym c.offset-start.ensures)
     ∙ ap (λ x. record { bare = record { kind = kind; spelling = c.range.result.now }; start = c.offset-start.result; pos = x } ∷ cond (is_last kind) [] more) pos
-    ∙ ap (λ l. seen (record { kind = kind; text = c.range.result; start = c.offset-start.result; pos = c.pos-pos.result }) ∷ l) (sym (behind c))
+    ∙ ap (λ l. seen (record { kind = kind; text = c.range.result; start = c.offset-start.result; pos = c.pos-pos.result }) ∷ l) (sym (after c))
 
 -- what is left, of the text's whole list
 rest : (c : goal.After-t23-1) → left c.args.self.now ≡ drop c.self.inside.taken (tokens [] (chars c.self.inside.text.now))

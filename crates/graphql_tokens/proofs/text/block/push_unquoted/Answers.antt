@@ -2,7 +2,7 @@ use Rattle.std.proofs.Common.{◌<◌, ◌-◌, ◌++◌, take, drop, length, sy
 use Rattle.std.specs.Prelude.{string_bytes}
 use Rattle.std.proofs.lemmas.Str.{IsCharBoundary-start}
 use Rattle.graphql_tokens.specs.tokens.BlockText.{unquoted}
-use Rattle.graphql_tokens.proofs.BlockQuotes.{unquoted_quotes, quotes_boundary, behind_slash, push_run, push_end}
+use Rattle.graphql_tokens.proofs.BlockQuotes.{unquoted_quotes, quotes_boundary, after_slash, push_run, push_end}
 use Rattle.graphql_tokens.proofs.text.block.push_unquoted.Goals as goal
 
 pub loop-at-init : goal.loop-at-init
@@ -35,5 +35,5 @@ loop-at-preserved c =
     c.next_quotes-end.ensures.none c.next_quotes-end.ensures.from run c.in_ok-push_text.ensures.text in
     record {
       written = ap (λ x. string_bytes c.push_text.new.text ++ x) (sym (unquoted_quotes bs j here)) ∙ pushed;
-      boundary = behind_slash bs j c.as_bytes-bytes.ensures.utf8 l here;
+      boundary = after_slash bs j c.as_bytes-bytes.ensures.utf8 l here;
     }

@@ -3,17 +3,17 @@ use Rattle.std.proofs.lemmas.Result.{err_from_is_err_and}
 use Rattle.graphql_reading.specs.grammar.Places.{nowhere}
 use Rattle.graphql_reading.specs.reading.Ahead.{tokens}
 use Rattle.graphql_grammar.specs.reading.Arguments.{directives_at}
-use Rattle.graphql_requests.specs.reading.SelectionSteps.{behind_dots_at}
+use Rattle.graphql_requests.specs.reading.SelectionSteps.{after_dots_at}
 use Rattle.graphql_check.specs.Heads.{entered_at}
 use Rattle.graphql_check.proofs.Heads.{spread-not}
 use Rattle.graphql_check.proofs.Parts.{stops-as}
-use Rattle.graphql_check.proofs.selections.heads.check_behind_dots.Goals as goal
+use Rattle.graphql_check.proofs.selections.heads.check_after_dots.Goals as goal
 
 pub returns-in_err-check_directives : goal.returns-in_err-check_directives
 returns-in_err-check_directives c =
     let p = err_from_is_err_and c.from_residual.result c.from_residual.ensures.1 in
     let old = c.args.parser.now in
     let new = c.check_directives.new.parser in
-    rw (p.1, p.2) (stops-as _ old c.advance.new.self new (entered_at (behind_dots_at c.args.limits.values c.args.nests nowhere)) (directives_at true c.args.limits.values)
-    (λ v k. spread-not c.args.limits.values c.args.nests old.hand old.behind (tokens new) v (sym c.is_at_fragment_name.ensures ∙ c.if-is_at_fragment_name.true) (ap (directives_at true c.args.limits.values) (sym c.advance.ensures.left) ∙ k))
+    rw (p.1, p.2) (stops-as _ old c.advance.new.self new (entered_at (after_dots_at c.args.limits.values c.args.nests nowhere)) (directives_at true c.args.limits.values)
+    (λ v k. spread-not c.args.limits.values c.args.nests old.hand old.after (tokens new) v (sym c.is_at_fragment_name.ensures ∙ c.if-is_at_fragment_name.true) (ap (directives_at true c.args.limits.values) (sym c.advance.ensures.left) ∙ k))
     (c.advance.ensures.whole, omega (arith, c.advance.ensures.taken)) c.in_err-check_directives.ensures.0 c.in_err-check_directives.ensures.1)
