@@ -29,7 +29,7 @@ closes-any (suc opened) item other ts = go (λ a b rest. closes-any opened a b r
     go same (Refused v rest) = refl
 
 -- what follows where so many lists are open
-abbrev pub after : ℕ → List Token → Outcome (Unit {0})
+abbrev pub after-brackets : ℕ → List Token → Outcome (Unit {0})
 after-brackets opened ts = ended (named_at ts) >>= λ _ rest. ended (closes_at opened some_type rest)
 
 pub type-law : (n : ℕ) (ts : List Token) → ended (type_at n ts) ≡ (opens_at 0 n ts >>= after-brackets)
