@@ -33,7 +33,7 @@ pub fn write_document(sheet: &mut Sheet, document: &ExecutableDocument, places: 
 }
 
 // The member `definitions`: each operation after the fragments whose places are smaller.
-#[tactic(auto, using(graphql_parser::proofs::Requests::operations_walked))]
+#[tactic(auto, using(graphql_request_trees::proofs::Requests::operations_walked))]
 fn write_definitions(sheet: &mut Sheet, document: &ExecutableDocument, place: Place) -> Outcome
     ensures { Adds result sheet.old sheet.new
         (member_tokens (codes "definitions")
