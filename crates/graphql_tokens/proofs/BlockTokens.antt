@@ -5,14 +5,9 @@ use Rattle.std.specs.List.{concat}
 use Rattle.graphql_tokens.specs.tokens.BlockText.{begins_quotes}
 use Rattle.graphql_tokens.specs.tokens.Blocks.{closes, IsBlockUnit, AreBlockUnits}
 use Rattle.graphql_tokens.specs.inner.Quoted.{past_block_from, past_block, quotes, NoQuote, IsRunOfQuotes}
-use Rattle.graphql_tokens.proofs.Options.{some_same}
+use Rattle.graphql_tokens.proofs.Options.{some_same, counts_down}
 
 -- ---- steps
-
-from_drop : (n : ℕ) (text : List ℕ) → past_block_from n text ≡ past_block_from 0 (drop n text)
-from_drop zero text = refl
-from_drop (suc n) [] = refl
-from_drop (suc n) (c ∷ cs) = from_drop n cs
 
 pub block_end : (text : List ℕ) → text ≡ [] → past_block text ≡ None
 unfolding past_block
@@ -26,7 +21,7 @@ pub block_quotes : (c : ℕ) (cs : List ℕ) → closes (c ∷ cs) ≡ false →
 unfolding past_block
 block_quotes c cs h q =
     ap (λ b. cond b (Some (drop 2 cs)) (past_block_from (cond (begins_quotes (c ∷ cs)) 3 0) cs)) h
-    ∙ ap (λ b. past_block_from (cond b 3 0) cs) q ∙ from_drop 3 cs
+    ∙ ap (λ b. past_block_from (cond b 3 0) cs) q ∙ counts_down past_block_from (λ n. refl) (λ n c cs. refl) 3 cs
 
 pub block_char : (c : ℕ) (cs : List ℕ) → closes (c ∷ cs) ≡ false → begins_quotes (c ∷ cs) ≡ false → past_block (c ∷ cs) ≡ past_block cs
 unfolding past_block

@@ -1,5 +1,5 @@
 -- A lexer that passes one token.
-use Rattle.std.proofs.Common.{◌≡◌, ℕ, ◌+◌, ◌-◌, ◌≤◌, ◌<◌, Bool, true, false, cond, IsTrue, ◌⊎◌, List, [], ◌∷◌, ◌++◌, length, take, drop, refl, sym, ap, ◌∙◌, append_assoc, arith, inl, inr, subst, length-take, length-append}
+use Rattle.std.proofs.Common.{◌≡◌, ◌≢◌, ℕ, ◌+◌, ◌-◌, ◌≤◌, ◌<◌, Bool, true, false, cond, IsTrue, ◌⊎◌, List, [], ◌∷◌, ◌++◌, length, take, drop, refl, sym, ap, ◌∙◌, append_assoc, arith, inl, inr, subst, length-take, length-append}
 use Rattle.std.proofs.lemmas.Bool.{cases_lt}
 use Rattle.std.proofs.lemmas.List.{append_cancel_right, take-append-drop, drop-drop}
 use Rattle.std.specs.List.{slice_range}
@@ -8,7 +8,8 @@ use Rattle.std.proofs.lemmas.Str.{chars-append, chars-nil, encodes-chars, IsUtf8
 use Rattle.graphql_tokens.specs.tokens.Edition.{Current}
 use Rattle.graphql_tokens.specs.tokens.Place.{place}
 use Rattle.graphql_tokens.specs.tokens.Token.{Token}
-use Rattle.graphql_tokens.specs.tokens.Cuts.{token, is_last}
+use Rattle.graphql_tokens.specs.tokens.Cuts.{token, is_last, EndsOnce}
+use Rattle.graphql_tokens.specs.tokens.Proper.{AreProperButFaults}
 use Rattle.graphql_tokens.specs.inner.Reading.{skip, next, before, tokens}
 use Rattle.graphql_tokens.specs.inner.Running.{ahead}
 use Rattle.graphql_tokens.specs.inner.Lexing.{RunsOver}
@@ -18,7 +19,8 @@ use Rattle.graphql_tokens.specs.declared.pos.Pos.{Pos}
 use Rattle.graphql_tokens.specs.declared.lexer.TokenKind.{TokenKind}
 use Rattle.graphql_tokens.proofs.Skips.{before_is}
 use Rattle.graphql_tokens.proofs.Nexts.{IsNext, next_is, begins_goes_on, begins_some}
-use Rattle.graphql_tokens.proofs.Lists.{tokens_step}
+use Rattle.graphql_tokens.proofs.Lists.{tokens_step, tokens_cuts, cuts_ends, ends_drop}
+use Rattle.graphql_tokens.proofs.Propers.{cuts_proper, proper_drop, text_scalars}
 
 -- from a place to one further on, in bytes and in characters
 between : (bs : List ℕ) (i j : ℕ) → i ≤ j → drop i bs ≡ slice_range bs i j ++ drop j bs
@@ -195,3 +197,14 @@ tokens_left bs i false = (λ h. absurd (cc), λ e. let s = tokens_step (chars (t
 -- all tokens of a text
 pub at_start : (bs : List ℕ) (i : ℕ) → i ≡ 0 → tokens_at bs i ≡ tokens [] (chars bs)
 at_start bs i e = ap (tokens_at bs) e ∙ ap (λ f. tokens f (chars bs)) chars-nil
+
+-- what is left of them after the first n
+pub left_ends : (bs : List ℕ) (n : ℕ) → drop n (tokens_at bs 0) ≢ [] → EndsOnce (drop n (tokens_at bs 0))
+left_ends bs n some =
+    ends_drop n (tokens_at bs 0) (subst EndsOnce (sym (at_start bs 0 refl)) (cuts_ends Current [] (chars bs) _ (tokens_cuts [] (chars bs)))) some
+
+pub left_proper : (bs : List ℕ) (a : RunningPlace) (n : ℕ) → RunsOver bs a → AreProperButFaults (drop n (tokens_at bs 0))
+left_proper bs a n r =
+    let utf8 : IsUtf8 bs = subst IsUtf8 r.same r.running.reading.utf8 in
+    let all = cuts_proper [] (chars bs) _ (text_scalars bs utf8) (tokens_cuts [] (chars bs)) in
+    proper_drop n (tokens_at bs 0) (subst AreProperButFaults (sym (at_start bs 0 refl)) all)

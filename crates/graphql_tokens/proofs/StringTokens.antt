@@ -9,16 +9,11 @@ use Rattle.graphql_tokens.specs.tokens.Edition.{Current}
 use Rattle.graphql_tokens.specs.tokens.Strings.{is_plain, UnitMeans, UnitsMean, IsContent}
 use Rattle.graphql_tokens.specs.calls.Escapes.{escape_at}
 use Rattle.graphql_tokens.specs.inner.Quoted.{past_unit, past_string_from, past_string}
-use Rattle.graphql_tokens.proofs.Options.{some_same}
+use Rattle.graphql_tokens.proofs.Options.{some_same, counts_down}
 use Rattle.graphql_tokens.proofs.EscapeUnits.{EscapeMeans, escape_reads, escape_found}
 use Rattle.graphql_tokens.proofs.Contents.{escape_front, escape_ascii, escape_some}
 
 -- ---- steps
-
-from_drop : (n : ℕ) (text : List ℕ) → past_string_from n text ≡ past_string_from 0 (drop n text)
-from_drop zero text = refl
-from_drop (suc n) [] = refl
-from_drop (suc n) (c ∷ cs) = from_drop n cs
 
 pub string_end : (text : List ℕ) → text ≡ [] → past_string text ≡ None
 unfolding past_string
@@ -49,7 +44,7 @@ drop_pred (suc n) c cs h = let e : suc n - 1 ≡ n = omega arith in ap (λ k. dr
 pub string_escape : (c : ℕ) (cs : List ℕ) (v n : ℕ) → is_plain c ≡ false → eqb c 34 ≡ false → escape_at (c ∷ cs) ≡ Some (v, n) → past_string (c ∷ cs) ≡ past_string (drop n (c ∷ cs))
 unfolding past_string
 string_escape c cs v n p q e =
-    other_step c cs p q ∙ ap (λ o. past_unit o (λ n. past_string_from n cs)) e ∙ from_drop (n - 1) cs
+    other_step c cs p q ∙ ap (λ o. past_unit o (λ n. past_string_from n cs)) e ∙ counts_down past_string_from (λ n. refl) (λ n c cs. refl) (n - 1) cs
     ∙ ap (past_string_from 0) (drop_pred n c cs (escape_some (c ∷ cs) v n e).0)
 
 -- ---- bytes and characters

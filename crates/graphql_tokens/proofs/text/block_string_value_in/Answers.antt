@@ -20,12 +20,10 @@ returns-in_default-clause-value c =
 pub returns-then-is_plain-clause-value : goal.returns-then-is_plain-clause-value
 returns-then-is_plain-clause-value c =
     let raw = c.args.raw.now in
-    let back = c.range_from-text.result.now in
     let text = c.range-text.result.now in
-    let p = c.last_text.result in
     let n = c.common_indent-indent.result in
-    let v = code_value raw c.as_bytes.result.now back c.as_bytes-2.result.now text c.as_bytes-3.result.now c.in-Some.first p n c.as_bytes.ensures.value c.in-Some.ensures
-    c.range_from-text.ensures.value c.as_bytes-2.ensures.value c.last_text.ensures (c.range-text.ensures.value ∙ whole p back) c.as_bytes-3.ensures.value c.common_indent-indent.ensures in
+    let v = code_value _ _ _ _ _ _ _ _ _ c.as_bytes.ensures.value c.in-Some.ensures c.range_from-text.ensures.value c.as_bytes-2.ensures.value c.last_text.ensures
+    (c.range-text.ensures.value ∙ whole c.last_text.result c.range_from-text.result.now) c.as_bytes-3.ensures.value c.common_indent-indent.ensures in
     let k : c.as_bytes-then-indent-eq0.result.now ≡ text = c.as_bytes-then-indent-eq0.ensures.value in
     let plain : IsPlainBetween text 0 (length text) = subst (λ (x : List ℕ). IsPlainBetween x 0 (length x)) k (c.is_plain.ensures c.if-is_plain.true) in
     let is = plain_value raw text c.in-Some.first n c.if-indent-eq0.true plain v in
@@ -35,12 +33,10 @@ returns-then-is_plain-clause-value c =
 pub returns-clause-value : goal.returns-clause-value
 returns-clause-value c =
     let raw = c.args.raw.now in
-    let back = c.range_from-text.result.now in
     let text = c.range-text.result.now in
-    let p = c.last_text.result in
     let n = c.common_indent-indent.result in
-    let v = code_value raw c.as_bytes.result.now back c.as_bytes-2.result.now text c.as_bytes-3.result.now c.in-Some.first p n c.as_bytes.ensures.value c.in-Some.ensures
-    c.range_from-text.ensures.value c.as_bytes-2.ensures.value c.last_text.ensures (c.range-text.ensures.value ∙ whole p back) c.as_bytes-3.ensures.value c.common_indent-indent.ensures in
+    let v = code_value _ _ _ _ _ _ _ _ _ c.as_bytes.ensures.value c.in-Some.ensures c.range_from-text.ensures.value c.as_bytes-2.ensures.value c.last_text.ensures
+    (c.range-text.ensures.value ∙ whole c.last_text.result c.range_from-text.result.now) c.as_bytes-3.ensures.value c.common_indent-indent.ensures in
     let cut : c.if-is_later.first_indent ≡ cond (ltb 0 c.in-Some.first) n 0 = elim c.if-is_later.branch [ then-is_later w ↦ w.first_indent-is ∙ cut_later c.in-Some.first n w.if-is_later.true | else-is_later w ↦ w.first_indent-is ∙ cut_first c.in-Some.first n w.if-is_later.false ] in
     let new = string_bytes c.push_lines.new.value in
     let is : new ≡ written c.if-is_later.first_indent n (lines_of text) = c.in_ok-push_lines.ensures.value ∙ ap (λ x. x ++ written c.if-is_later.first_indent n (lines_of text)) c.in_ok-value.ensures.text in

@@ -2,18 +2,12 @@ use Rattle.std.proofs.Common.{◌≡◌, ◌+◌, drop, [], ◌∷◌, Bool, tru
 use Rattle.std.proofs.lemmas.List.{drop-drop}
 use Rattle.std.specs.List.{slice_range}
 use Rattle.graphql_tokens.specs.tokens.Place.{place}
-use Rattle.graphql_tokens.specs.tokens.Edition.{Current}
 use Rattle.graphql_tokens.specs.tokens.Cuts.{is_last, EndsOnce}
 use Rattle.graphql_tokens.specs.tokens.Seen.{seen}
 use Rattle.graphql_tokens.specs.tokens.Token.{left}
 use Rattle.graphql_tokens.specs.inner.Lexer.{tokens_at}
 use Rattle.graphql_tokens.specs.inner.Lexing.{RunsOver}
-use Rattle.graphql_tokens.proofs.Lexes.{Passed, pass_gives, pass_moves, at_start}
-use Rattle.std.specs.Str.{chars, IsUtf8}
-use Rattle.graphql_tokens.specs.tokens.Proper.{AreProperButFaults}
-use Rattle.graphql_tokens.specs.inner.Reading.{tokens}
-use Rattle.graphql_tokens.proofs.Lists.{tokens_cuts, cuts_ends, ends_drop}
-use Rattle.graphql_tokens.proofs.Propers.{cuts_proper, proper_drop, text_scalars}
+use Rattle.graphql_tokens.proofs.Lexes.{Passed, pass_gives, pass_moves, left_ends, left_proper}
 use Rattle.graphql_tokens.proofs.lexer.Tokens.next_token.Goals as goal
 use Rattle.graphql_tokens.proofs.lexer.Tokens.next_token.Goals.{then-is_last, else-is_last}
 
@@ -85,22 +79,13 @@ returns-clause-token c =
     ∙ ap (λ x. record { bare = record { kind = kind; spelling = c.range.result.now }; start = c.offset-start.result; pos = x } ∷ cond (is_last kind) [] more) pos
     ∙ ap (λ l. seen (record { kind = kind; text = c.range.result; start = c.offset-start.result; pos = c.pos-pos.result }) ∷ l) (sym (after c))
 
--- what is left, of the text's whole list
-rest : (c : goal.After-t23-1) → left c.args.self.now ≡ drop c.self.inside.taken (tokens [] (chars c.self.inside.text.now))
-rest c = sym (ap left c.self.view_is) ∙ ap (drop c.self.inside.taken) (at_start c.self.inside.text.now 0 refl)
-
 pub returns-clause-ends : goal.returns-clause-ends
 returns-clause-ends c =
-    let text = chars c.self.inside.text.now in
-    let ends : EndsOnce (tokens [] text) = cuts_ends Current [] text (tokens [] text) (tokens_cuts [] text) in
-    subst EndsOnce (sym (rest c)) (ends_drop c.self.inside.taken (tokens [] text) ends (λ e. c.requires (rest c ∙ e)))
+    let left_is = ap left c.self.view_is in
+    subst EndsOnce left_is (left_ends c.self.inside.text.now c.self.inside.taken (λ e. c.requires (sym left_is ∙ e)))
 
 pub returns-clause-proper : goal.returns-clause-proper
-returns-clause-proper c =
-    let bytes = c.self.inside.text.now in
-    let utf8 : IsUtf8 bytes = subst IsUtf8 c.self.invariant.runs.same c.self.invariant.runs.running.reading.utf8 in
-    let all : AreProperButFaults (tokens [] (chars bytes)) = cuts_proper [] (chars bytes) _ (text_scalars bytes utf8) (tokens_cuts [] (chars bytes)) in
-    subst AreProperButFaults (sym (rest c)) (proper_drop c.self.inside.taken (tokens [] (chars bytes)) all)
+returns-clause-proper c = rw (← c.self.view_is) (left_proper c.self.inside.text.now c.self.inside.places c.self.inside.taken c.self.invariant.runs)
 
 pub returns-clause-within : goal.returns-clause-within
 returns-clause-within c = (invariant_of-self c).within

@@ -1,10 +1,13 @@
-use Rattle.std.proofs.Common.{◌≡◌, ◌<◌, ◌+◌, ◌-◌, [], false, take, drop, length, get_or, sym, ap, ◌∙◌, refl, inl, inr, arith}
+use Rattle.std.proofs.Common.{◌≡◌, ◌≢◌, ℕ, ◌≤◌, ◌<◌, ◌+◌, ◌-◌, [], false, take, drop, get_or, sym, ap, ◌∙◌, refl, inl, inr, arith}
 use Rattle.std.proofs.lemmas.Str.{IsCharBoundary-start}
 use Rattle.graphql_tokens.specs.tokens.Place.{is_in_line}
 use Rattle.graphql_tokens.specs.tokens.BlockText.{lines_of, from_text}
 use Rattle.graphql_tokens.specs.inner.Blocks.{end_len}
 use Rattle.graphql_tokens.proofs.BlockLines.{blank_line, text_line, line_at_end, line_before, end_boundary, from_text_blank, from_text_here, before_next}
 use Rattle.graphql_tokens.proofs.text.block.first_text.Goals as goal
+
+below : {at end : ℕ} → at ≤ end → at ≢ end → at < end
+below within other = omega arith
 
 pub loop-start-init : goal.loop-start-init
 loop-start-init c = record { within = omega arith; boundary = IsCharBoundary-start c.args.bytes.now c.requires; lines = refl; before = λ n. absurd (n refl) }
@@ -20,16 +23,13 @@ returns-then-text-bytes c =
 
 pub returns-then-is_in_line : goal.returns-then-is_in_line
 returns-then-is_in_line c =
-    let bs = c.args.bytes.now in
-    let i = c.loop-start.start in
-    let j = c.past_blanks-text.result in
     let inv = c.loop-start.invariant in
-    let l : j < length bs = (let w = c.past_blanks-text.ensures.within in let n = c.if-text-bytes.false in omega arith) in
-    let here = text_line bs i j c.past_blanks-text.ensures.value inv.within l (sym c.is_in_line.ensures ∙ c.if-is_in_line.true) in
+    let short = below c.past_blanks-text.ensures.within c.if-text-bytes.false in
+    let here = text_line _ _ _ c.past_blanks-text.ensures.value inv.within short (sym c.is_in_line.ensures ∙ c.if-is_in_line.true) in
     record {
       within = inv.within;
       boundary = inv.boundary;
-      lines = inv.lines ∙ from_text_here (lines_of (drop i bs)) here;
+      lines = inv.lines ∙ from_text_here _ here;
       here = here;
       before = inv.before;
     }
@@ -40,7 +40,7 @@ loop-start-preserved c =
     let i = c.loop-start.start in
     let j = c.past_blanks-text.result in
     let inv = c.loop-start.invariant in
-    let l : j < length bs = (let w = c.past_blanks-text.ensures.within in let n = c.if-text-bytes.false in omega arith) in
+    let l = below c.past_blanks-text.ensures.within c.if-text-bytes.false in
     let stops : is_in_line (get_or bs j 0) ≡ false = sym c.is_in_line.ensures ∙ c.if-is_in_line.false in
     let b = blank_line bs i j c.past_blanks-text.ensures.value inv.within c.past_blanks-text.ensures.within (inr stops) in
     let next = c.next_line-start.ensures.value in
