@@ -3,9 +3,10 @@ use Rattle.std.proofs.Common.{◌≡◌, ◌≢◌, ℕ, ◌≤◌, ◌<◌, ◌
 use Rattle.std.proofs.lemmas.Bool.Decides.{nat_tests}
 use Rattle.std.specs.Char.{is_ascii_digit}
 use Rattle.graphql_tokens.specs.tokens.Place.{is_line_end, is_in_line}
-use Rattle.graphql_tokens.specs.tokens.Classes.{is_ignored, is_punct, is_name_start}
+use Rattle.graphql_tokens.specs.tokens.Classes.{is_ignored, is_punct, is_name_start, is_name_char}
 use Rattle.graphql_tokens.specs.tokens.Cuts.{is_last}
-use Rattle.graphql_tokens.specs.inner.Reading.{skip, past_line, past_name_chars, past_dots, found, quoted, next}
+use Rattle.graphql_tokens.specs.inner.ByteClasses.{past_class}
+use Rattle.graphql_tokens.specs.inner.Reading.{skip, past_line, past_dots, found, quoted, next}
 use Rattle.graphql_tokens.specs.inner.Lexing.{IsFirstByte, rest_if}
 use Rattle.graphql_tokens.specs.declared.lexer.TokenKind.{TokenKind}
 use Rattle.graphql_tokens.specs.declared.lexer.TokenKind.TheVariants.{Punct, Name, Number, Fault, End}
@@ -117,7 +118,7 @@ pub next_end : (text : List ℕ) → text ≡ [] → next text ≡ (End, [])
 unfolding next
 next_end text e = ap next e
 
-pub next_name : (b c : ℕ) (text rest : List ℕ) → IsFirstByte b text → text ≡ c ∷ rest → is_name_start b ≡ true → next text ≡ (Name, past_name_chars rest)
+pub next_name : (b c : ℕ) (text rest : List ℕ) → IsFirstByte b text → text ≡ c ∷ rest → is_name_start b ≡ true → next text ≡ (Name, past_class is_name_char rest)
 unfolding next
 next_name b c text rest f is t =
     let n = name_low b t in

@@ -12,7 +12,8 @@ use Rattle.graphql_tokens.specs.tokens.Blocks.{IsBlock}
 use Rattle.graphql_tokens.specs.inner.Numerals.{then_past}
 use Rattle.graphql_tokens.specs.inner.Numbers.{past_number}
 use Rattle.graphql_tokens.specs.inner.Quoted.{past_string, past_block}
-use Rattle.graphql_tokens.specs.inner.Reading.{next, past_char, past_dots, past_name_chars, found, triple, double, quoted}
+use Rattle.graphql_tokens.specs.inner.ByteClasses.{past_class}
+use Rattle.graphql_tokens.specs.inner.Reading.{next, past_char, past_dots, found, triple, double, quoted}
 use Rattle.graphql_tokens.specs.declared.lexer.TokenKind.{TokenKind}
 use Rattle.graphql_tokens.specs.declared.lexer.TokenKind.TheVariants.{Punct, Name, Number, String, Block, Fault, End}
 use Rattle.graphql_tokens.proofs.Options.{some_same}
@@ -77,11 +78,11 @@ record Word (text rest : List ℕ) : Type 0 where
   chars : AllByRecursion (λ d. is_name_char d ≡ true) word
   follows : MayFollow Name [] rest
 
-word_is : (text : List ℕ) → Word text (past_name_chars text)
+word_is : (text : List ℕ) → Word text (past_class is_name_char text)
 word_is [] = record { word = []; whole = refl; chars = tt; follows = tt }
 word_is (c ∷ cs) = by (word_is cs) (is_name_char c) refl
   where
-    by : Word cs (past_name_chars cs) → (b : Bool) → is_name_char c ≡ b → Word (c ∷ cs) (cond b (past_name_chars cs) (c ∷ cs))
+    by : Word cs (past_class is_name_char cs) → (b : Bool) → is_name_char c ≡ b → Word (c ∷ cs) (cond b (past_class is_name_char cs) (c ∷ cs))
     by r true e = record { word = c ∷ r.word; whole = ap (λ x. c ∷ x) r.whole; chars = (e, r.chars); follows = r.follows }
     by r false e = record { word = []; whole = refl; chars = tt; follows = e }
 
@@ -89,10 +90,10 @@ follows_name : (w rest : List ℕ) → MayFollow Name [] rest → MayFollow Name
 follows_name w [] h = tt
 follows_name w (c ∷ cs) h = h
 
-name_found : (c : ℕ) (cs : List ℕ) → is_name_start c ≡ true → Found Name (c ∷ cs) (past_name_chars cs)
+name_found : (c : ℕ) (cs : List ℕ) → is_name_start c ≡ true → Found Name (c ∷ cs) (past_class is_name_char cs)
 name_found c cs s =
     let r = word_is cs in
-    record { word = c ∷ r.word; whole = ap (λ x. c ∷ x) r.whole; begins = record { spelled = (s, r.chars); follows = follows_name (c ∷ r.word) (past_name_chars cs) r.follows } }
+    record { word = c ∷ r.word; whole = ap (λ x. c ∷ x) r.whole; begins = record { spelled = (s, r.chars); follows = follows_name (c ∷ r.word) (past_class is_name_char cs) r.follows } }
 
 -- ---- numbers
 
@@ -184,7 +185,7 @@ next_is [] = inr (inl (refl, refl, refl))
 next_is (c ∷ cs) = by (is_punct c) refl (is_name_start c) refl (eqb c 34) refl (begins_number c) (eqb c 46) refl
   where
     by : (p : Bool) → is_punct c ≡ p → (n : Bool) → is_name_start c ≡ n → (q : Bool) → eqb c 34 ≡ q → (m : Bool) → (d : Bool) → eqb c 46 ≡ d
-        → (let t : TokenKind × List ℕ = cond p (Punct, cs) (cond n (Name, past_name_chars cs) (cond q (quoted cs) (cond m (found Number (c ∷ cs) (past_number (c ∷ cs)))
+        → (let t : TokenKind × List ℕ = cond p (Punct, cs) (cond n (Name, past_class is_name_char cs) (cond q (quoted cs) (cond m (found Number (c ∷ cs) (past_number (c ∷ cs)))
         (cond d (found Punct (c ∷ cs) (past_dots cs)) (Fault, c ∷ cs))))) in IsNext (c ∷ cs) t.0 t.1)
     by true e n f q h m d g = inl (punct_found c cs e)
     by false e true f q h m d g = inl (name_found c cs f)
@@ -195,10 +196,10 @@ next_is (c ∷ cs) = by (is_punct c) refl (is_name_start c) refl (eqb c 34) refl
 
 -- ---- there is no other
 
-word_only : (w rest : List ℕ) → AllByRecursion (λ d. is_name_char d ≡ true) w → MayFollow Name [] rest → past_name_chars (w ++ rest) ≡ rest
+word_only : (w rest : List ℕ) → AllByRecursion (λ d. is_name_char d ≡ true) w → MayFollow Name [] rest → past_class is_name_char (w ++ rest) ≡ rest
 word_only [] [] h f = refl
-word_only [] (c ∷ cs) h f = ap (λ b. cond b (past_name_chars cs) (c ∷ cs)) f
-word_only (c ∷ cs) rest h f = ap (λ b. cond b (past_name_chars (cs ++ rest)) (c ∷ (cs ++ rest))) h.0 ∙ word_only cs rest h.1 f
+word_only [] (c ∷ cs) h f = ap (λ b. cond b (past_class is_name_char cs) (c ∷ cs)) f
+word_only (c ∷ cs) rest h f = ap (λ b. cond b (past_class is_name_char (cs ++ rest)) (c ∷ (cs ++ rest))) h.0 ∙ word_only cs rest h.1 f
 
 name_follows : (w rest : List ℕ) → MayFollow Name w rest → MayFollow Name [] rest
 name_follows w [] h = tt

@@ -4,7 +4,8 @@ use Rattle.std.proofs.lemmas.Bool.Decides.{nat_tests}
 use Rattle.std.proofs.lemmas.List.{append-nil}
 use Rattle.std.specs.Char.{is_ascii_digit}
 use Rattle.graphql_tokens.specs.tokens.Numbers.{AllDigits, AreDigits, is_minus, is_sign, is_e, IsOptional, IsWhole, IsFraction, IsExponent, IsNumber}
-use Rattle.graphql_tokens.specs.inner.Numerals.{past_optional, past_any_digits, past_some_digits, past_whole, past_fraction, past_exponent, then_past, past_numeral, is_nothing, is_numeral}
+use Rattle.graphql_tokens.specs.inner.ByteClasses.{past_class}
+use Rattle.graphql_tokens.specs.inner.Numerals.{past_optional, past_some_digits, past_whole, past_fraction, past_exponent, then_past, past_numeral, is_nothing, is_numeral}
 use Rattle.graphql_tokens.proofs.Options.{some_same}
 
 -- the text is a text of the set, and then the rest
@@ -23,11 +24,11 @@ optional_takes p (c ∷ cs) = by (p c) refl
     by true e = record { part = c ∷ []; is = inr (c, e, refl); whole = refl }
     by false e = record { part = []; is = inl refl; whole = refl }
 
-all_cons : (c : ℕ) (cs : List ℕ) → Takes AllDigits cs (past_any_digits cs) → (b : Bool) → is_ascii_digit c ≡ b → Takes AllDigits (c ∷ cs) (cond b (past_any_digits cs) (c ∷ cs))
+all_cons : (c : ℕ) (cs : List ℕ) → Takes AllDigits cs (past_class is_ascii_digit cs) → (b : Bool) → is_ascii_digit c ≡ b → Takes AllDigits (c ∷ cs) (cond b (past_class is_ascii_digit cs) (c ∷ cs))
 all_cons c cs t true e = record { part = c ∷ t.part; is = (e, t.is); whole = ap (λ x. c ∷ x) t.whole }
 all_cons c cs t false e = record { part = []; is = tt; whole = refl }
 
-all_takes : (text : List ℕ) → Takes AllDigits text (past_any_digits text)
+all_takes : (text : List ℕ) → Takes AllDigits text (past_class is_ascii_digit text)
 all_takes [] = record { part = []; is = tt; whole = refl }
 all_takes (c ∷ cs) = all_cons c cs (all_takes cs) (is_ascii_digit c) refl
 
@@ -35,17 +36,17 @@ digits_takes : (text rest : List ℕ) → past_some_digits text ≡ Some rest �
 digits_takes [] rest e = absurd cc
 digits_takes (c ∷ cs) rest e = by (is_ascii_digit c) refl e
   where
-    by : (b : Bool) → is_ascii_digit c ≡ b → cond b (Some (past_any_digits cs)) None ≡ Some rest → Takes AreDigits (c ∷ cs) rest
-    by true d e = let t = all_takes cs in record { part = c ∷ t.part; is = (d, t.is); whole = ap (λ x. c ∷ x) t.whole ∙ ap (λ r. c ∷ (t.part ++ r)) (some_same (past_any_digits cs) rest e) }
+    by : (b : Bool) → is_ascii_digit c ≡ b → cond b (Some (past_class is_ascii_digit cs)) None ≡ Some rest → Takes AreDigits (c ∷ cs) rest
+    by true d e = let t = all_takes cs in record { part = c ∷ t.part; is = (d, t.is); whole = ap (λ x. c ∷ x) t.whole ∙ ap (λ r. c ∷ (t.part ++ r)) (some_same (past_class is_ascii_digit cs) rest e) }
     by false d e = absurd cc
 
 whole_takes : (text rest : List ℕ) → past_whole text ≡ Some rest → Takes IsWhole text rest
 whole_takes [] rest e = absurd cc
 whole_takes (c ∷ cs) rest e = by (eqb c 48) refl (is_ascii_digit c) refl e
   where
-    by : (z : Bool) → eqb c 48 ≡ z → (b : Bool) → is_ascii_digit c ≡ b → cond z (Some cs) (cond b (Some (past_any_digits cs)) None) ≡ Some rest → Takes IsWhole (c ∷ cs) rest
+    by : (z : Bool) → eqb c 48 ≡ z → (b : Bool) → is_ascii_digit c ≡ b → cond z (Some cs) (cond b (Some (past_class is_ascii_digit cs)) None) ≡ Some rest → Takes IsWhole (c ∷ cs) rest
     by true z b d e = record { part = c ∷ []; is = inl (grind (arith, nat_tests), refl); whole = ap (λ r. c ∷ r) (some_same cs rest e) }
-    by false z true d e = let t = all_takes cs in record { part = c ∷ t.part; is = inr (z, d, t.is); whole = ap (λ x. c ∷ x) t.whole ∙ ap (λ r. c ∷ (t.part ++ r)) (some_same (past_any_digits cs) rest e) }
+    by false z true d e = let t = all_takes cs in record { part = c ∷ t.part; is = inr (z, d, t.is); whole = ap (λ x. c ∷ x) t.whole ∙ ap (λ r. c ∷ (t.part ++ r)) (some_same (past_class is_ascii_digit cs) rest e) }
     by false z false d e = absurd cc
 
 fraction_takes : (text rest : List ℕ) → past_fraction text ≡ Some rest → Takes IsFraction text rest
@@ -109,17 +110,17 @@ optional_only : (p : ℕ → Bool) (w rest : List ℕ) → IsOptional p w → He
 optional_only p w rest (inl e) h = ap (λ x. past_optional p (x ++ rest)) e ∙ optional_stays p rest h
 optional_only p w rest (inr s) h = ap (λ x. past_optional p (x ++ rest)) s.2 ∙ ap (λ b. cond b rest (s.0 ∷ rest)) s.1
 
-all_stays : (text : List ℕ) → Heads is_ascii_digit text → past_any_digits text ≡ text
+all_stays : (text : List ℕ) → Heads is_ascii_digit text → past_class is_ascii_digit text ≡ text
 all_stays [] h = refl
-all_stays (c ∷ cs) h = ap (λ b. cond b (past_any_digits cs) (c ∷ cs)) h
+all_stays (c ∷ cs) h = ap (λ b. cond b (past_class is_ascii_digit cs) (c ∷ cs)) h
 
-all_only : (w rest : List ℕ) → AllDigits w → Heads is_ascii_digit rest → past_any_digits (w ++ rest) ≡ rest
+all_only : (w rest : List ℕ) → AllDigits w → Heads is_ascii_digit rest → past_class is_ascii_digit (w ++ rest) ≡ rest
 all_only [] rest a h = all_stays rest h
-all_only (c ∷ cs) rest a h = ap (λ b. cond b (past_any_digits (cs ++ rest)) (c ∷ (cs ++ rest))) a.0 ∙ all_only cs rest a.1 h
+all_only (c ∷ cs) rest a h = ap (λ b. cond b (past_class is_ascii_digit (cs ++ rest)) (c ∷ (cs ++ rest))) a.0 ∙ all_only cs rest a.1 h
 
 digits_only : (w rest : List ℕ) → AreDigits w → Heads is_ascii_digit rest → past_some_digits (w ++ rest) ≡ Some rest
 digits_only [] rest a h = absurd a
-digits_only (c ∷ cs) rest a h = ap (λ b. cond b (Some (past_any_digits (cs ++ rest))) None) a.0 ∙ ap (λ x. Some x) (all_only cs rest a.1 h)
+digits_only (c ∷ cs) rest a h = ap (λ b. cond b (Some (past_class is_ascii_digit (cs ++ rest))) None) a.0 ∙ ap (λ x. Some x) (all_only cs rest a.1 h)
 
 whole_only : (w rest : List ℕ) → IsWhole w → Heads is_ascii_digit rest → past_whole (w ++ rest) ≡ Some rest
 whole_only [] rest a h = absurd a

@@ -10,12 +10,11 @@ use Rattle.std.specs.Str.{chars}
 use Rattle.graphql_tokens.specs.tokens.Classes.{is_ignored, is_name_char}
 use Rattle.graphql_tokens.specs.tokens.Place.{is_in_line, is_line_end, is_line_feed}
 use Rattle.graphql_tokens.specs.tokens.Strings.{is_plain}
-use Rattle.graphql_tokens.specs.inner.ByteClasses.{IsWithinLines}
+use Rattle.graphql_tokens.specs.inner.ByteClasses.{IsWithinLines, past_class}
 use Rattle.graphql_tokens.specs.inner.Quoted.{past_string, past_block}
 use Rattle.graphql_tokens.proofs.BlockTokens.{block_other}
 use Rattle.graphql_tokens.proofs.StringTokens.{string_plain}
-use Rattle.graphql_tokens.specs.inner.Numerals.{past_any_digits}
-use Rattle.graphql_tokens.specs.inner.Reading.{skip, past_line, past_name_chars}
+use Rattle.graphql_tokens.specs.inner.Reading.{skip, past_line}
 use Rattle.graphql_tokens.specs.inner.TextWalk.{IsWalking, Passes}
 use Rattle.graphql_tokens.specs.inner.Running.{ahead, IsRunning, IsRunOfAscii}
 use Rattle.graphql_tokens.specs.inner.Lexing.{RunsOver}
@@ -81,35 +80,35 @@ pub run_end : (p : ℕ → Bool) (bytes : List ℕ) (a : RunningPlace) (start en
 run_end p bytes a start end r s e =
     e ∙ ap (λ k. k + prefix_len p (drop k bytes)) s ∙ ap (λ t. a.walk.offset + prefix_len p (drop a.walk.offset t)) (sym r.same)
 
+past_is : (p : ℕ → Bool) (text : List ℕ) → past_class p text ≡ drop (prefix_len p text) text
+past_is p [] = refl
+past_is p (c ∷ cs) = by (p c) (past_is p cs)
+  where
+    by : (t : Bool) → past_class p cs ≡ drop (prefix_len p cs) cs → cond t (past_class p cs) (c ∷ cs) ≡ drop (cond t (1 + prefix_len p cs) 0) (c ∷ cs)
+    by true e = rw (one-add (prefix_len p cs)) e
+    by false e = refl
+
 -- what is ahead after it
 pub ahead_of_run : (p : ℕ → Bool) → IsWithinLines p → (old new : RunningPlace) (n : ℕ) → IsRunning old → new.walk.text.now ≡ old.walk.text.now → new.walk.offset ≡ old.walk.offset + n
-    → n ≡ prefix_len p (drop old.walk.offset old.walk.text.now) → ahead new ≡ drop (prefix_len p (ahead old)) (ahead old)
+    → n ≡ prefix_len p (drop old.walk.offset old.walk.text.now) → ahead new ≡ past_class p (ahead old)
 ahead_of_run p inner old new n r t o e =
     let bs = old.walk.text.now in
     let i = old.walk.offset in
     ap (λ x. chars (drop new.walk.offset x)) t ∙ ap (λ k. chars (drop k bs)) o ∙ ap chars (sym (drop-drop n i bs)) ∙ ap (λ k. chars (drop k (drop i bs))) e
-    ∙ span_chars p (alike p inner) (drop i bs) (IsUtf8-drop bs i r.reading.utf8 r.reading.boundary)
+    ∙ span_chars p (alike p inner) (drop i bs) (IsUtf8-drop bs i r.reading.utf8 r.reading.boundary) ∙ sym (past_is p (ahead old))
 
 -- ---- names
 
 pub name_inner : IsWithinLines is_name_char
 name_inner c h = (grind (arith, nat_tests), grind (arith, nat_tests))
 
-pub past_names : (text : List ℕ) → past_name_chars text ≡ drop (prefix_len is_name_char text) text
-past_names [] = refl
-past_names (c ∷ cs) = by (is_name_char c) (past_names cs)
-  where
-    by : (t : Bool) → past_name_chars cs ≡ drop (prefix_len is_name_char cs) cs → cond t (past_name_chars cs) (c ∷ cs) ≡ drop (cond t (1 + prefix_len is_name_char cs) 0) (c ∷ cs)
-    by true e = rw (one-add (prefix_len is_name_char cs)) e
-    by false e = refl
-
 -- a run of characters, of which each makes no difference to what is found after it
-run_skipped : {X : Type 0} (p : ℕ → Bool) (f : List ℕ → X) → ((c : ℕ) (cs : List ℕ) → p c ≡ true → f (c ∷ cs) ≡ f cs) → (text : List ℕ) → f (drop (prefix_len p text) text) ≡ f text
+run_skipped : {X : Type 0} (p : ℕ → Bool) (f : List ℕ → X) → ((c : ℕ) (cs : List ℕ) → p c ≡ true → f (c ∷ cs) ≡ f cs) → (text : List ℕ) → f (past_class p text) ≡ f text
 run_skipped p f skips [] = refl
 run_skipped p f skips (c ∷ cs) = by (p c) refl (run_skipped p f skips cs)
   where
-    by : (t : Bool) → p c ≡ t → f (drop (prefix_len p cs) cs) ≡ f cs → f (drop (cond t (1 + prefix_len p cs) 0) (c ∷ cs)) ≡ f (c ∷ cs)
-    by true e h = ap (λ n. f (drop n (c ∷ cs))) (one-add (prefix_len p cs)) ∙ h ∙ sym (skips c cs e)
+    by : (t : Bool) → p c ≡ t → f (past_class p cs) ≡ f cs → f (cond t (past_class p cs) (c ∷ cs)) ≡ f (c ∷ cs)
+    by true e h = h ∙ sym (skips c cs e)
     by false e h = refl
 
 -- ---- comments
@@ -117,7 +116,7 @@ run_skipped p f skips (c ∷ cs) = by (p c) refl (run_skipped p f skips cs)
 abbrev pub is_within_line : ℕ → Bool
 is_within_line c = is_in_line c && ltb c 128
 
-pub line_run : (text : List ℕ) → past_line (drop (prefix_len is_within_line text) text) ≡ past_line text
+pub line_run : (text : List ℕ) → past_line (past_class is_within_line text) ≡ past_line text
 line_run = run_skipped is_within_line past_line (λ c cs t. ap (λ b. cond b cs (past_line cs)) (goes_on c t))
   where
     goes_on : (c : ℕ) → is_within_line c ≡ true → is_line_end c ≡ false
@@ -128,20 +127,12 @@ line_run = run_skipped is_within_line past_line (λ c cs t. ap (λ b. cond b cs 
 pub digit_inner : IsWithinLines is_ascii_digit
 digit_inner c h = (grind (arith, nat_tests), grind (arith, nat_tests))
 
-pub past_digits : (text : List ℕ) → past_any_digits text ≡ drop (prefix_len is_ascii_digit text) text
-past_digits [] = refl
-past_digits (c ∷ cs) = by (is_ascii_digit c) (past_digits cs)
-  where
-    by : (t : Bool) → past_any_digits cs ≡ drop (prefix_len is_ascii_digit cs) cs → cond t (past_any_digits cs) (c ∷ cs) ≡ drop (cond t (1 + prefix_len is_ascii_digit cs) 0) (c ∷ cs)
-    by true e = rw (one-add (prefix_len is_ascii_digit cs)) e
-    by false e = refl
-
 -- ---- spaces
 
 abbrev pub is_space : ℕ → Bool
 is_space c = eqb c 32
 
-pub space_run : (text : List ℕ) → skip (drop (prefix_len is_space text) text) ≡ skip text
+pub space_run : (text : List ℕ) → skip (past_class is_space text) ≡ skip text
 space_run = run_skipped is_space skip (λ c cs t. skip_goes c cs (ignored c t))
   where
     ignored : (c : ℕ) → is_space c ≡ true → is_ignored c ≡ true
@@ -155,13 +146,13 @@ plain_ascii c = is_plain c && ltb c 128
 pub plain_inner : IsWithinLines plain_ascii
 plain_inner c h = (grind (arith, nat_tests), grind (arith, nat_tests))
 
-pub string_run : (text : List ℕ) → past_string (drop (prefix_len plain_ascii text) text) ≡ past_string text
+pub string_run : (text : List ℕ) → past_string (past_class plain_ascii text) ≡ past_string text
 string_run = run_skipped plain_ascii past_string (λ c cs t. string_plain c cs (plain_is c t))
   where
     plain_is : (c : ℕ) → plain_ascii c ≡ true → is_plain c ≡ true
     plain_is c t = grind (arith, nat_tests)
 
-pub block_run : (text : List ℕ) → past_block (drop (prefix_len plain_ascii text) text) ≡ past_block text
+pub block_run : (text : List ℕ) → past_block (past_class plain_ascii text) ≡ past_block text
 block_run = run_skipped plain_ascii past_block (λ c cs t. block_other c cs (no_quote c t) (no_slash c t))
   where
     no_quote : (c : ℕ) → plain_ascii c ≡ true → eqb c 34 ≡ false
@@ -170,5 +161,5 @@ block_run = run_skipped plain_ascii past_block (λ c cs t. block_other c cs (no_
     no_slash : (c : ℕ) → plain_ascii c ≡ true → eqb c 92 ≡ false
     no_slash c t = grind (arith, nat_tests)
 
-pub run_shorter : (p : ℕ → Bool) (text : List ℕ) → length (drop (prefix_len p text) text) ≤ length text
-run_shorter p text = omega (arith, length-drop (prefix_len p text) text)
+pub run_shorter : (p : ℕ → Bool) (text : List ℕ) → length (past_class p text) ≤ length text
+run_shorter p text = omega (arith, ap length (past_is p text), length-drop (prefix_len p text) text)

@@ -14,10 +14,11 @@ pub(crate) mod reading;
 
 use crate::pos::Pos;
 use crate::pos::running::RunningPlace;
+use crate::text::runs::NameChars;
 use class::{is_name_start, is_number_start, is_punct};
 use number::pass_number;
 use quoted::{pass_block, pass_string};
-use reading::{pass_char, pass_dots, pass_ignored, pass_name_chars, peek};
+use reading::{pass_char, pass_class, pass_dots, pass_ignored, peek};
 use std::iter::FusedIterator;
 use std::marker::Model;
 
@@ -200,7 +201,7 @@ fn pass_token(bytes: &[u8], places: &mut RunningPlace) -> TokenKind
     };
     if is_name_start(b) {
         places.pass_ascii();
-        pass_name_chars(bytes, places);
+        pass_class::<NameChars>(bytes, places);
         return TokenKind::Name;
     }
     if is_punct(b) {

@@ -3,18 +3,15 @@ use Rattle.std.specs.Prelude.{ℕ, Bool, true, false, ◌==◌, if◌then◌else
 use Rattle.std.specs.Char.{is_ascii_digit}
 use Rattle.std.specs.Str.{byte}
 use Rattle.graphql_tokens.specs.tokens.Numbers.{is_minus, is_sign, is_e}
+use Rattle.graphql_tokens.specs.inner.ByteClasses.{past_class}
 
 abbrev pub past_optional : (ℕ → Bool) → List ℕ → List ℕ
 past_optional p [] = []
 past_optional p (c ∷ cs) = if p c then cs else c ∷ cs
 
-abbrev pub past_any_digits : List ℕ → List ℕ
-past_any_digits [] = []
-past_any_digits (c ∷ cs) = if is_ascii_digit c then past_any_digits cs else c ∷ cs
-
 abbrev pub past_some_digits : List ℕ → Option (List ℕ)
 past_some_digits [] = None
-past_some_digits (c ∷ cs) = if is_ascii_digit c then Some (past_any_digits cs) else None
+past_some_digits (c ∷ cs) = if is_ascii_digit c then Some (past_class is_ascii_digit cs) else None
 
 abbrev pub past_whole : List ℕ → Option (List ℕ)
 past_whole [] = None

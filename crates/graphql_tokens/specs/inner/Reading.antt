@@ -7,6 +7,7 @@ use Rattle.graphql_tokens.specs.tokens.Place.{is_line_end}
 use Rattle.graphql_tokens.specs.tokens.Classes.{is_ignored, is_punct, is_name_start, is_name_char}
 use Rattle.graphql_tokens.specs.tokens.Token.{Token}
 use Rattle.graphql_tokens.specs.tokens.Cuts.{token, is_last}
+use Rattle.graphql_tokens.specs.inner.ByteClasses.{past_class}
 use Rattle.graphql_tokens.specs.inner.Numerals.{then_past}
 use Rattle.graphql_tokens.specs.inner.Numbers.{past_number}
 use Rattle.graphql_tokens.specs.inner.Quoted.{past_string, past_block}
@@ -37,10 +38,6 @@ abbrev pub past_line : List ℕ → List ℕ
 past_line [] = []
 past_line (c ∷ cs) = if is_line_end c then cs else past_line cs
 
-abbrev pub past_name_chars : List ℕ → List ℕ
-past_name_chars [] = []
-past_name_chars (c ∷ cs) = if is_name_char c then past_name_chars cs else c ∷ cs
-
 -- the token, where there is one, and otherwise the fault, which takes nothing
 abbrev pub found : TokenKind → List ℕ → Option (List ℕ) → TokenKind × List ℕ
 found kind text None = (Fault, text)
@@ -63,7 +60,7 @@ unfoldable pub next : List ℕ → TokenKind × List ℕ
 next [] = (End, [])
 next (c ∷ cs) =
     if is_punct c then (Punct, cs)
-    else (if is_name_start c then (Name, past_name_chars cs)
+    else (if is_name_start c then (Name, past_class is_name_char cs)
     else (if c == byte "\"" then quoted cs
     else (if is_ascii_digit c || c == byte "-" then found Number (c ∷ cs) (past_number (c ∷ cs))
     else (if c == byte "." then found Punct (c ∷ cs) (past_dots cs)

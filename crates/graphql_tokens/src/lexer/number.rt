@@ -2,7 +2,7 @@
 
 ghost use Rattle.std.specs.Prelude.{◌≡◌, ◌≤◌};
 ghost use Rattle.graphql_tokens.specs.tokens.Numbers.{is_sign};
-ghost use Rattle.graphql_tokens.specs.inner.Numerals.{past_optional, past_any_digits, past_some_digits, past_whole, past_fraction, past_exponent};
+ghost use Rattle.graphql_tokens.specs.inner.Numerals.{past_optional, past_some_digits, past_whole, past_fraction, past_exponent};
 ghost use Rattle.graphql_tokens.specs.inner.Numbers.{past_number, unless_forbidden};
 ghost use Rattle.graphql_tokens.specs.inner.Running.{ahead};
 ghost use Rattle.graphql_tokens.specs.inner.Lexing.{RunsOver, rest_if};
@@ -11,17 +11,6 @@ use super::class::{is_digit, is_name_char};
 use super::reading::{pass_char, pass_class, peek};
 use crate::pos::running::RunningPlace;
 use crate::text::runs::Digits;
-
-// Passes `Digit*`.
-#[inline(always)]
-fn pass_any_digits(bytes: &[u8], places: &mut RunningPlace)
-    requires { RunsOver bytes.now places.old }
-    ensures runs { RunsOver bytes.now places.new }
-    ensures rest { ahead places.new ≡ past_any_digits (ahead places.old) }
-    ensures forward { places.old.walk.offset ≤ places.new.walk.offset }
-{
-    pass_class::<Digits>(bytes, places);
-}
 
 // Passes `Digit+`, and tells whether there was one.
 #[inline(always)]
@@ -38,7 +27,7 @@ fn pass_some_digits(bytes: &[u8], places: &mut RunningPlace) -> bool
         return false;
     }
     places.pass_ascii();
-    pass_any_digits(bytes, places);
+    pass_class::<Digits>(bytes, places);
     true
 }
 

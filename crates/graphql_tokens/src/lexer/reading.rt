@@ -2,15 +2,14 @@
 //! `bool` tells whether the part was there.
 
 ghost use Rattle.std.specs.Prelude.{◌≡◌, ◌≢◌, ◌≤◌, ◌<◌, ◌+◌, true, false, [], MatchOption, drop, length};
-ghost use Rattle.std.specs.List.{prefix_len};
-ghost use Rattle.graphql_tokens.specs.inner.ByteClasses.{IsWithinLines};
-ghost use Rattle.graphql_tokens.specs.inner.Reading.{skip, past_line, past_name_chars, past_char, past_dots};
+ghost use Rattle.graphql_tokens.specs.inner.ByteClasses.{IsWithinLines, past_class};
+ghost use Rattle.graphql_tokens.specs.inner.Reading.{skip, past_line, past_char, past_dots};
 ghost use Rattle.graphql_tokens.specs.inner.Running.{ahead, IsRunning};
 ghost use Rattle.graphql_tokens.specs.inner.Lexing.{RunsOver, IsFirstByte, rest_if};
 
 use super::class::is_ignored;
 use crate::pos::running::RunningPlace;
-use crate::text::runs::{ByteClass, InLine, NameChars, Spaces, past_run};
+use crate::text::runs::{ByteClass, InLine, Spaces, past_run};
 
 // The first byte of what is ahead, where the text goes on.
 #[inline(always)]
@@ -42,8 +41,8 @@ pub fn pass_class<C: ByteClass>(bytes: &[u8], places: &mut RunningPlace)
     requires runs { RunsOver bytes.now places.old }
     requires within { IsWithinLines C.has }
     ensures runs { RunsOver bytes.now places.new }
-    ensures rest { ahead places.new ≡
-        drop (prefix_len C.has (ahead places.old)) (ahead places.old) }
+    ensures rest { ahead places.new ≡ past_class C.has (ahead places.old) }
+    ensures no_more { length (ahead places.new) ≤ length (ahead places.old) }
     ensures forward { places.old.walk.offset ≤ places.new.walk.offset }
 {
     let start = places.offset();
@@ -96,17 +95,6 @@ pub fn pass_ignored(bytes: &[u8], places: &mut RunningPlace)
             *places = after;
         }
     }
-}
-
-// Goes past the name characters.
-#[inline(always)]
-pub fn pass_name_chars(bytes: &[u8], places: &mut RunningPlace)
-    requires { RunsOver bytes.now places.old }
-    ensures runs { RunsOver bytes.now places.new }
-    ensures rest { ahead places.new ≡ past_name_chars (ahead places.old) }
-    ensures forward { places.old.walk.offset ≤ places.new.walk.offset }
-{
-    pass_class::<NameChars>(bytes, places);
 }
 
 // Goes past this character, an ASCII one that ends no line, where it is next, and tells whether it was.
