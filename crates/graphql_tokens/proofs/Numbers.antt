@@ -111,5 +111,6 @@ fraction_next t0 t1 t2 m w =
 pub fraction_fails : (t0 t1 t2 : List ℕ) → past_optional is_minus t0 ≡ t1 → past_whole t1 ≡ Some t2 → past_fraction t2 ≡ None → past_number t0 ≡ None
 fraction_fails t0 t1 t2 m w f = fraction_next t0 t1 t2 m w ∙ ap (λ r. then_past (then_past r past_exponent) unless_forbidden) f
 
-pub exponent_next : (t0 t1 t2 t3 : List ℕ) → past_optional is_minus t0 ≡ t1 → past_whole t1 ≡ Some t2 → past_fraction t2 ≡ Some t3 → past_number t0 ≡ then_past (past_exponent t3) unless_forbidden
-exponent_next t0 t1 t2 t3 m w f = fraction_next t0 t1 t2 m w ∙ ap (λ r. then_past (then_past r past_exponent) unless_forbidden) f
+pub exponent_next : (t0 t1 t2 t3 : List ℕ) (r : Option (List ℕ)) → past_optional is_minus t0 ≡ t1 → past_whole t1 ≡ Some t2 → past_fraction t2 ≡ Some t3 → past_exponent t3 ≡ r → past_number t0 ≡ then_past r unless_forbidden
+exponent_next t0 t1 t2 t3 r m w f e =
+    fraction_next t0 t1 t2 m w ∙ ap (λ o. then_past (then_past o past_exponent) unless_forbidden) f ∙ ap (λ o. then_past o unless_forbidden) e

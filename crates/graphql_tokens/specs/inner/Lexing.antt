@@ -1,6 +1,6 @@
 -- What the lexer's parts find in what is ahead.
 use Rattle.std.specs.Prelude.{◌≡◌, ◌≤◌, ◌<◌, ℕ, ◌⊎◌, List, [], ◌∷◌, Bool, Option, Some, None, if◌then◌else◌}
-use Rattle.graphql_tokens.specs.inner.Running.{IsRunning}
+use Rattle.graphql_tokens.specs.inner.Running.{IsRunning, ahead}
 use Rattle.graphql_tokens.specs.declared.pos.running.RunningPlace.{RunningPlace}
 
 -- the place runs over this text
@@ -13,6 +13,12 @@ abbrev pub IsFirstByte : ℕ → List ℕ → Type 0
 IsFirstByte b [] = ⊥
 IsFirstByte b (c ∷ cs) = ((b < 128) × (c ≡ b)) ⊎ ((128 ≤ b) × (b < 256) × (128 ≤ c))
 
--- The new place is where the reader leaves off, and the result tells whether it does.
+-- the rest of a reader that found its part
 abbrev pub rest_if : Bool → List ℕ → Option (List ℕ)
 rest_if b rest = if b then Some rest else None
+
+-- Over these bytes the reader finds its part at the old place, as the result tells, and leaves off at the new one.
+pub record Reads (past : List ℕ → Option (List ℕ)) (bytes : List ℕ) (old : RunningPlace) (is_found : Bool) (new : RunningPlace) : Type 0 where
+  pub runs : RunsOver bytes new
+  pub rest : past (ahead old) ≡ rest_if is_found (ahead new)
+  pub forward : old.walk.offset ≤ new.walk.offset

@@ -5,7 +5,7 @@ ghost use Rattle.graphql_tokens.specs.tokens.Numbers.{is_sign};
 ghost use Rattle.graphql_tokens.specs.inner.Numerals.{past_optional, past_some_digits, past_whole, past_fraction, past_exponent};
 ghost use Rattle.graphql_tokens.specs.inner.Numbers.{past_number, unless_forbidden};
 ghost use Rattle.graphql_tokens.specs.inner.Running.{ahead};
-ghost use Rattle.graphql_tokens.specs.inner.Lexing.{RunsOver, rest_if};
+ghost use Rattle.graphql_tokens.specs.inner.Lexing.{RunsOver, Reads, rest_if};
 
 use super::class::{is_digit, is_name_char};
 use super::reading::{pass_char, pass_class, peek};
@@ -16,9 +16,7 @@ use crate::text::runs::Digits;
 #[inline(always)]
 fn pass_some_digits(bytes: &[u8], places: &mut RunningPlace) -> bool
     requires { RunsOver bytes.now places.old }
-    ensures runs { RunsOver bytes.now places.new }
-    ensures rest { past_some_digits (ahead places.old) ≡ rest_if result (ahead places.new) }
-    ensures forward { places.old.walk.offset ≤ places.new.walk.offset }
+    ensures { Reads past_some_digits bytes.now places.old result places.new }
 {
     let Some(b) = peek(bytes, places) else {
         return false;
@@ -48,37 +46,25 @@ fn pass_sign(bytes: &[u8], places: &mut RunningPlace)
 #[inline(always)]
 fn pass_whole(bytes: &[u8], places: &mut RunningPlace) -> bool
     requires { RunsOver bytes.now places.old }
-    ensures runs { RunsOver bytes.now places.new }
-    ensures rest { past_whole (ahead places.old) ≡ rest_if result (ahead places.new) }
-    ensures forward { places.old.walk.offset ≤ places.new.walk.offset }
+    ensures { Reads past_whole bytes.now places.old result places.new }
 {
-    if pass_char(bytes, places, b'0') {
-        return true;
-    }
-    pass_some_digits(bytes, places)
+    pass_char(bytes, places, b'0') || pass_some_digits(bytes, places)
 }
 
 // Passes `FractionalPart?`, where `FractionalPart : '.' Digit+`, and tells whether its digits were there.
 #[inline(always)]
 fn pass_fraction(bytes: &[u8], places: &mut RunningPlace) -> bool
     requires { RunsOver bytes.now places.old }
-    ensures runs { RunsOver bytes.now places.new }
-    ensures rest { past_fraction (ahead places.old) ≡ rest_if result (ahead places.new) }
-    ensures forward { places.old.walk.offset ≤ places.new.walk.offset }
+    ensures { Reads past_fraction bytes.now places.old result places.new }
 {
-    if !pass_char(bytes, places, b'.') {
-        return true;
-    }
-    pass_some_digits(bytes, places)
+    !pass_char(bytes, places, b'.') || pass_some_digits(bytes, places)
 }
 
 // Passes `ExponentPart?`, where `ExponentPart : ('e' | 'E') Sign? Digit+`, and tells whether its digits were there.
 #[inline(always)]
 fn pass_exponent(bytes: &[u8], places: &mut RunningPlace) -> bool
     requires { RunsOver bytes.now places.old }
-    ensures runs { RunsOver bytes.now places.new }
-    ensures rest { past_exponent (ahead places.old) ≡ rest_if result (ahead places.new) }
-    ensures forward { places.old.walk.offset ≤ places.new.walk.offset }
+    ensures { Reads past_exponent bytes.now places.old result places.new }
 {
     if !pass_char(bytes, places, b'e') {
         if !pass_char(bytes, places, b'E') {
@@ -106,9 +92,7 @@ fn may_end(bytes: &[u8], places: &RunningPlace) -> bool
 #[inline(always)]
 pub fn pass_number(bytes: &[u8], places: &mut RunningPlace) -> bool
     requires { RunsOver bytes.now places.old }
-    ensures runs { RunsOver bytes.now places.new }
-    ensures rest { past_number (ahead places.old) ≡ rest_if result (ahead places.new) }
-    ensures forward { places.old.walk.offset ≤ places.new.walk.offset }
+    ensures { Reads past_number bytes.now places.old result places.new }
 {
     pass_char(bytes, places, b'-');
     if !pass_whole(bytes, places) {

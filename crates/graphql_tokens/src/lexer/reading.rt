@@ -5,7 +5,7 @@ ghost use Rattle.std.specs.Prelude.{◌≡◌, ◌≢◌, ◌≤◌, ◌<◌, �
 ghost use Rattle.graphql_tokens.specs.inner.ByteClasses.{IsWithinLines, past_class};
 ghost use Rattle.graphql_tokens.specs.inner.Reading.{skip, past_line, past_char, past_dots};
 ghost use Rattle.graphql_tokens.specs.inner.Running.{ahead, IsRunning};
-ghost use Rattle.graphql_tokens.specs.inner.Lexing.{RunsOver, IsFirstByte, rest_if};
+ghost use Rattle.graphql_tokens.specs.inner.Lexing.{RunsOver, IsFirstByte, Reads, rest_if};
 
 use super::class::is_ignored;
 use crate::pos::running::RunningPlace;
@@ -122,14 +122,9 @@ pub fn pass_char(bytes: &[u8], places: &mut RunningPlace, c: u8) -> bool
 #[inline(always)]
 pub fn pass_dots(bytes: &[u8], places: &mut RunningPlace) -> bool
     requires { RunsOver bytes.now places.old }
-    ensures runs { RunsOver bytes.now places.new }
-    ensures rest { past_dots (ahead places.old) ≡ rest_if result (ahead places.new) }
-    ensures forward { places.old.walk.offset ≤ places.new.walk.offset }
+    ensures { Reads past_dots bytes.now places.old result places.new }
 {
-    if !pass_char(bytes, places, b'.') {
-        return false;
-    }
-    pass_char(bytes, places, b'.')
+    pass_char(bytes, places, b'.') && pass_char(bytes, places, b'.')
 }
 
 // Goes past so many characters.
