@@ -1,24 +1,25 @@
 -- The escape at the front of a text, as a function: the character for which it stands, and how many characters it has.
 -- `Contents.antt` says what ties it to the relation of `tokens/Strings.antt`.
-use Rattle.std.specs.Prelude.{ℕ, ◌+◌, ◌-◌, ◌*◌, if◌then◌else◌, ◌&&◌, ◌==◌, nat_le, min, List, length, take, drop, slice_index, Option, Some, None}
+use Rattle.std.specs.Prelude.{ℕ, ◌+◌, ◌-◌, ◌*◌, if◌then◌else◌, ◌&&◌, ◌==◌, nat_le, min, List, [], ◌∷◌, length, take, drop, slice_index, Option, Some, None}
 use Rattle.std.specs.Char.{is_ascii_hexdigit}
 use Rattle.std.specs.Str.{byte}
 use Rattle.std.specs.List.{list_all, prefix_len}
 use Rattle.graphql_tokens.specs.tokens.Strings.{hex_value}
 use lib.Utf8.{scalar}
 
--- what a backslash and this letter stand for
+-- the letters that may follow a backslash, and what each stands for
+abbrev pub letters : List (ℕ × ℕ)
+letters =
+    (byte "\"", byte "\"") ∷ (byte "\\", byte "\\") ∷ (byte "/", byte "/") ∷ (byte "b", byte "\u{8}")
+    ∷ (byte "f", byte "\u{c}") ∷ (byte "n", byte "\n") ∷ (byte "r", byte "\r") ∷ (byte "t", byte "\t") ∷ []
+
+-- what stands beside this in the table
+abbrev pub value_in : List (ℕ × ℕ) → ℕ → Option ℕ
+value_in [] c = None
+value_in ((letter, value) ∷ more) c = if c == letter then Some value else value_in more c
+
 abbrev pub letter_value : ℕ → Option ℕ
-letter_value c =
-    if c == byte "\"" then Some (byte "\"")
-    else (if c == byte "\\" then Some (byte "\\")
-    else (if c == byte "/" then Some (byte "/")
-    else (if c == byte "b" then Some (byte "\u{8}")
-    else (if c == byte "f" then Some (byte "\u{c}")
-    else (if c == byte "n" then Some (byte "\n")
-    else (if c == byte "r" then Some (byte "\r")
-    else (if c == byte "t" then Some (byte "\t")
-    else None)))))))
+letter_value c = value_in letters c
 
 -- the number of these digits; all past the characters are one, the first
 abbrev pub hex_number : List ℕ → Option ℕ
