@@ -7,7 +7,9 @@ use Rattle.graphql_tokens.specs.tokens.Classes.{is_ignored, is_punct, is_name_st
 use Rattle.graphql_tokens.specs.tokens.Cuts.{is_last}
 use Rattle.graphql_tokens.specs.inner.ByteClasses.{past_class}
 use Rattle.graphql_tokens.specs.inner.Reading.{skip, past_line, past_dots, found, quoted, next}
-use Rattle.graphql_tokens.specs.inner.Lexing.{IsFirstByte, rest_if}
+use Rattle.graphql_tokens.specs.inner.Running.{ahead}
+use Rattle.graphql_tokens.specs.inner.Lexing.{RunsOver, IsFirstByte, Gives, rest_if}
+use Rattle.graphql_tokens.specs.declared.pos.running.RunningPlace.{RunningPlace}
 use Rattle.graphql_tokens.specs.declared.lexer.TokenKind.{TokenKind}
 use Rattle.graphql_tokens.specs.declared.lexer.TokenKind.TheVariants.{Punct, Name, Number, Fault, End}
 use Rattle.graphql_tokens.specs.inner.Numbers.{past_number}
@@ -168,10 +170,20 @@ next_none b (c ∷ cs) (inr x) p n q m d = let w = wide_none c x.2 in next_none_
 
 -- ---- what a reader found
 
-pub found_kind : (kind : TokenKind) (text rest : List ℕ) (b : Bool) → (found kind text (rest_if b rest)).0 ≡ cond b kind Fault
+found_kind : (kind : TokenKind) (text rest : List ℕ) (b : Bool) → (found kind text (rest_if b rest)).0 ≡ cond b kind Fault
 found_kind kind text rest true = refl
 found_kind kind text rest false = refl
 
-pub found_rest : (kind : TokenKind) (text rest : List ℕ) (b : Bool) → is_last (cond b kind Fault) ≡ false → (found kind text (rest_if b rest)).1 ≡ rest
+found_rest : (kind : TokenKind) (text rest : List ℕ) (b : Bool) → is_last (cond b kind Fault) ≡ false → (found kind text (rest_if b rest)).1 ≡ rest
 found_rest kind text rest true l = refl
 found_rest kind text rest false l = absurd (cc)
+
+-- a reader of parts, as a reader of tokens
+pub found_gives : (kind given : TokenKind) (bytes : List ℕ) (old new : RunningPlace) (b : Bool) → next (ahead old) ≡ found kind (ahead old) (rest_if b (ahead new)) → given ≡ cond b kind Fault → RunsOver bytes new
+    → old.walk.offset ≤ new.walk.offset → Gives next bytes old given new
+found_gives kind given bytes old new b is found runs forward = record {
+  runs = runs;
+  kind = ap (λ t. t.0) is ∙ found_kind kind (ahead old) (ahead new) b ∙ sym found;
+  rest = λ l. ap (λ t. t.1) is ∙ found_rest kind (ahead old) (ahead new) b (ap is_last (sym found) ∙ l);
+  forward = forward;
+}

@@ -1,7 +1,6 @@
 -- Inner: what the code keeps and finds, on the way to the public definitions.
 pub mod Blocks
 pub mod ByteClasses
-pub mod CountedPlace
 pub mod Lexer
 pub mod Lexing
 pub mod Numbers

@@ -5,7 +5,7 @@ ghost use Rattle.graphql_tokens.specs.tokens.Cuts.{is_last};
 ghost use Rattle.graphql_tokens.specs.tokens.Classes as classes;
 ghost use Rattle.graphql_tokens.specs.inner.Reading.{next, quoted};
 ghost use Rattle.graphql_tokens.specs.inner.Running.{ahead};
-ghost use Rattle.graphql_tokens.specs.inner.Lexing.{RunsOver, IsFirstByte};
+ghost use Rattle.graphql_tokens.specs.inner.Lexing.{RunsOver, IsFirstByte, Gives};
 
 pub(crate) mod class;
 pub(crate) mod number;
@@ -127,10 +127,7 @@ fn found(kind: TokenKind, is_found: bool) -> TokenKind
 #[inline(always)]
 fn pass_quoted(bytes: &[u8], places: &mut RunningPlace) -> TokenKind
     requires { RunsOver bytes.now places.old }
-    ensures runs { RunsOver bytes.now places.new }
-    ensures kind { (quoted (ahead places.old)).0 ≡ result }
-    ensures rest { is_last result ≡ false → (quoted (ahead places.old)).1 ≡ ahead places.new }
-    ensures forward { places.old.walk.offset ≤ places.new.walk.offset }
+    ensures { Gives quoted bytes.now places.old result places.new }
 {
     if !pass_char(bytes, places, b'"') {
         return found(TokenKind::String, pass_string(bytes, places));
@@ -149,10 +146,7 @@ fn pass_rare_token(bytes: &[u8], places: &mut RunningPlace, b: u8) -> TokenKind
     requires first { IsFirstByte b (ahead places.old) }
     requires no_name { classes.is_name_start b ≡ false }
     requires no_punct { classes.is_punct b ≡ false }
-    ensures runs { RunsOver bytes.now places.new }
-    ensures kind { (next (ahead places.old)).0 ≡ result }
-    ensures rest { is_last result ≡ false → (next (ahead places.old)).1 ≡ ahead places.new }
-    ensures forward { places.old.walk.offset ≤ places.new.walk.offset }
+    ensures { Gives next bytes.now places.old result places.new }
 {
     if b == b'"' {
         places.pass_ascii();
@@ -176,10 +170,7 @@ fn pass_other_token(bytes: &[u8], places: &mut RunningPlace, b: u8) -> TokenKind
     requires first { IsFirstByte b (ahead places.old) }
     requires no_name { classes.is_name_start b ≡ false }
     requires no_punct { classes.is_punct b ≡ false }
-    ensures runs { RunsOver bytes.now places.new }
-    ensures kind { (next (ahead places.old)).0 ≡ result }
-    ensures rest { is_last result ≡ false → (next (ahead places.old)).1 ≡ ahead places.new }
-    ensures forward { places.old.walk.offset ≤ places.new.walk.offset }
+    ensures { Gives next bytes.now places.old result places.new }
 {
     let mut own = *places;
     let kind = pass_rare_token(bytes, &mut own, b);
@@ -191,10 +182,7 @@ fn pass_other_token(bytes: &[u8], places: &mut RunningPlace, b: u8) -> TokenKind
 #[inline(always)]
 fn pass_token(bytes: &[u8], places: &mut RunningPlace) -> TokenKind
     requires { RunsOver bytes.now places.old }
-    ensures runs { RunsOver bytes.now places.new }
-    ensures kind { (next (ahead places.old)).0 ≡ result }
-    ensures rest { is_last result ≡ false → (next (ahead places.old)).1 ≡ ahead places.new }
-    ensures forward { places.old.walk.offset ≤ places.new.walk.offset }
+    ensures { Gives next bytes.now places.old result places.new }
 {
     let Some(b) = peek(bytes, places) else {
         return TokenKind::End;
@@ -230,9 +218,9 @@ impl<'a> Model for Tokens<'a> {
 
     ghost Value = { Lexing };
 
-    ghost use Rattle.graphql_tokens.specs.inner.Lexer.{shown, IsLexing};
+    ghost use Rattle.graphql_tokens.specs.inner.Lexer.{tokens_at, IsLexing};
 
-    ghost view = { shown };
+    ghost view = { λ a. record { text = a.text.now; whole = tokens_at a.text.now 0; taken = a.taken } };
 
     ghost invariant = { IsLexing };
 }

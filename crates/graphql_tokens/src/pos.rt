@@ -192,11 +192,15 @@ impl<'a> Model for PositionCalculator<'a> {
 
     ghost Value = { Calculator };
 
-    ghost use Rattle.graphql_tokens.specs.inner.CountedPlace.{shown, IsRight};
+    ghost use Rattle.graphql_tokens.specs.inner.Running.{IsRunning};
 
-    ghost view = { shown };
+    ghost view = { λ a. record {
+      text = a.counted.place.walk.text.now;
+      offset = a.counted.place.walk.offset;
+      walk = a.counted.number;
+    } };
 
-    ghost invariant = { IsRight };
+    ghost invariant = { λ a. IsRunning a.counted.place };
 }
 
 impl<'a> PositionCalculator<'a> {

@@ -1,8 +1,8 @@
--- What a lexer shows.
+-- What a lexer keeps.
 use Rattle.std.specs.Prelude.{◌≡◌, ◌≤◌, ℕ, false, if◌then◌else◌, List, [], length, take, drop}
 use Rattle.std.specs.Str.{chars}
 use Rattle.graphql_tokens.specs.tokens.Cuts.{is_last}
-use Rattle.graphql_tokens.specs.tokens.Token.{Token, Lexing}
+use Rattle.graphql_tokens.specs.tokens.Token.{Token}
 use Rattle.graphql_tokens.specs.inner.Reading.{tokens}
 use Rattle.graphql_tokens.specs.inner.Lexing.{RunsOver}
 use Rattle.graphql_tokens.specs.declared.lexer.Tokens.TheInside.{Inside}
@@ -10,9 +10,6 @@ use Rattle.graphql_tokens.specs.declared.lexer.Tokens.TheInside.{Inside}
 -- the tokens from this byte offset on
 abbrev pub tokens_at : List ℕ → ℕ → List Token
 tokens_at bytes at = tokens (chars (take at bytes)) (chars (drop at bytes))
-
-abbrev pub shown : Inside → Lexing
-shown a = record { text = a.text.now; whole = tokens_at a.text.now 0; taken = a.taken }
 
 pub record IsLexing (a : Inside) : Type 0 where
   pub runs : RunsOver a.text.now a.places

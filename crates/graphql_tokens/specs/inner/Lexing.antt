@@ -1,6 +1,8 @@
 -- What the lexer's parts find in what is ahead.
-use Rattle.std.specs.Prelude.{◌≡◌, ◌≤◌, ◌<◌, ℕ, ◌⊎◌, List, [], ◌∷◌, Bool, Option, Some, None, if◌then◌else◌}
+use Rattle.std.specs.Prelude.{◌≡◌, ◌≤◌, ◌<◌, ℕ, ◌⊎◌, List, [], ◌∷◌, Bool, false, Option, Some, None, if◌then◌else◌}
+use Rattle.graphql_tokens.specs.tokens.Cuts.{is_last}
 use Rattle.graphql_tokens.specs.inner.Running.{IsRunning, ahead}
+use Rattle.graphql_tokens.specs.declared.lexer.TokenKind.{TokenKind}
 use Rattle.graphql_tokens.specs.declared.pos.running.RunningPlace.{RunningPlace}
 
 -- the place runs over this text
@@ -21,4 +23,11 @@ rest_if b rest = if b then Some rest else None
 pub record Reads (past : List ℕ → Option (List ℕ)) (bytes : List ℕ) (old : RunningPlace) (is_found : Bool) (new : RunningPlace) : Type 0 where
   pub runs : RunsOver bytes new
   pub rest : past (ahead old) ≡ rest_if is_found (ahead new)
+  pub forward : old.walk.offset ≤ new.walk.offset
+
+-- Over these bytes the reader gives this kind of token at the old place, and leaves off at the new one, if it isn't the last.
+pub record Gives (read : List ℕ → TokenKind × List ℕ) (bytes : List ℕ) (old : RunningPlace) (given : TokenKind) (new : RunningPlace) : Type 0 where
+  pub runs : RunsOver bytes new
+  pub kind : (read (ahead old)).0 ≡ given
+  pub rest : is_last given ≡ false → (read (ahead old)).1 ≡ ahead new
   pub forward : old.walk.offset ≤ new.walk.offset
