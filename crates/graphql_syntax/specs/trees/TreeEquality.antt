@@ -1,16 +1,12 @@
 -- The test of whether two value trees are equal.
 -- Source: this project's choice: numbers are equal by their literals, and objects with their fields in order.
 use Rattle.std.specs.Prelude.{ℕ, List, Bool, true, false, ◌&&◌, nat_eq}
+use Rattle.std.specs.Bool.{beq}
 use Rattle.std.specs.Cmp.Lexicographic.{pointwise}
 use Rattle.graphql_syntax.specs.trees.ValueTree.{Tree, variable, null, number, string, boolean, enumeration, list, object, Trees, no_trees, more_trees, Fields, no_fields, field}
 
 abbrev pub same_text : List ℕ → List ℕ → Bool
 same_text = pointwise nat_eq
-
-abbrev pub same_bool : Bool → Bool → Bool
-same_bool true b = b
-same_bool false true = false
-same_bool false false = true
 
 -- the same case over the same parts
 abbrev mutual
@@ -19,7 +15,7 @@ abbrev mutual
   same_tree null null = true
   same_tree (number m) (number n) = same_text m n
   same_tree (string s) (string t) = same_text s t
-  same_tree (boolean a) (boolean b) = same_bool a b
+  same_tree (boolean a) (boolean b) = beq a b
   same_tree (enumeration m) (enumeration n) = same_text m n
   same_tree (list ts) (list us) = same_trees ts us
   same_tree (object fs) (object gs) = same_fields fs gs
