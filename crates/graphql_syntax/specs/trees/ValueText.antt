@@ -5,22 +5,20 @@
 use Rattle.std.specs.Prelude.{ℕ, ◌/◌, ◌%◌, List, [], ◌∷◌, ◌++◌, Bool, true, false, Option, Some, None, if◌then◌else◌, ◌==◌, nat_lt, codes, flat_map}
 use Rattle.std.specs.Char.{digit_char}
 use Rattle.std.specs.List.{join_by}
+use Rattle.std.specs.Map.{lookup}
 use Rattle.std.specs.Str.{byte, chars, encode_utf8_all}
 use Rattle.graphql_syntax.specs.trees.ValueTree.{Tree, variable, null, number, string, boolean, enumeration, list, object, Trees, no_trees, more_trees, Fields, no_fields, field}
 
 -- ---- strings
 
--- the letter that stands for a character after a backslash, where it has one
+-- the characters that have a letter, each with the letter that stands for it after a backslash
+abbrev pub letters : List (ℕ × ℕ)
+letters =
+    (byte "\"", byte "\"") ∷ (byte "\\", byte "\\") ∷ (byte "\n", byte "n") ∷ (byte "\r", byte "r")
+    ∷ (byte "\t", byte "t") ∷ (byte "\u{8}", byte "b") ∷ (byte "\u{c}", byte "f") ∷ []
+
 abbrev pub escape_letter : ℕ → Option ℕ
-escape_letter c =
-    if c == byte "\"" then Some (byte "\"")
-    else (if c == byte "\\" then Some (byte "\\")
-    else (if c == byte "\n" then Some (byte "n")
-    else (if c == byte "\r" then Some (byte "r")
-    else (if c == byte "\t" then Some (byte "t")
-    else (if c == byte "\u{8}" then Some (byte "b")
-    else (if c == byte "\u{c}" then Some (byte "f")
-    else None))))))
+escape_letter c = lookup (λ character. c == character) letters
 
 -- the unit that stands for a character: an escape with a letter, one of four digits for any other control character below
 -- U+0020, and else the character itself
