@@ -1,7 +1,9 @@
 -- Types and the texts that show them: the parts of a text, and one proper type for each text.
 use Rattle.std.proofs.Common.{◌≡◌, ◌==◌, ℕ, List, ◌∷◌, [], ◌++◌, Bool, true, false, ◌&&◌, ◌||◌, nat_eq, refl, sym, ap, subst, ◌∙◌, append_assoc, IsTrue, ◌<◌, lit<, arith, Option, Some, None, option_map, MatchOption, Result, Ok, Err, IfOk}
 use Rattle.std.proofs.lemmas.List.{append-nil, append_cancel_right}
+use Rattle.std.specs.Fmt.{IsDefaultSpec, IsPlainFormatter, HasWritten, HasWrittenStyled}
 use Rattle.std.specs.declared.alloc.AllocError.{AllocError}
+use Rattle.std.specs.declared.fmt.Formatter.{Formatter}
 use Rattle.std.specs.Bool.{beq}
 use Rattle.std.specs.Char.{is_ascii_alphabetic, is_ascii_digit}
 use Rattle.std.specs.Cmp.Lexicographic.{pointwise}
@@ -18,6 +20,11 @@ pub text_of_base : (b : BaseType) (nullable : Bool) → type_text (base_tree b n
 text_of_base (Named n) nullable = ap (λ s. s ++ mark nullable) (sym (append-nil n))
 text_of_base (List' p base inner) nullable =
     ap (λ s. 91 ∷ s) (sym (append_assoc (type_text (base_tree base inner)) (93 ∷ []) (mark nullable)))
+
+-- what is written whatever the options is written with none
+pub has_written_plain : {W : Type 0} {took : W → List ℕ → W → Type 0} {f g : Formatter W} {bs : List ℕ} → IsPlainFormatter f → HasWrittenStyled took f bs g → HasWritten took f bs g
+has_written_plain plain styled =
+    record { wrote = styled.wrote; plain = record { bare = subst IsDefaultSpec (sym styled.spec) plain.bare; flush = styled.flush } }
 
 -- ---- a type with another mark
 
