@@ -9,7 +9,7 @@ use Rattle.graphql_syntax.specs.declared.value.Value.{Value}
 use Rattle.graphql_syntax.specs.calls.Constants.{arguments_have_variable}
 use Rattle.graphql_syntax.specs.trees.PartViews.{const_arguments_tree}
 use Rattle.graphql_syntax.specs.trees.ValueTree.{Tree, has_variable, trees_have_variable, fields_have_variable, trees_of, fields_of}
-use Rattle.graphql_syntax.specs.trees.ValueViews.{const_step, const_tree, const_field, value_tree}
+use Rattle.graphql_syntax.specs.trees.ValueViews.{const_step, const_tree, value_tree, field_by}
 
 abbrev IsConstant : ConstValue → Type 0
 IsConstant v = has_variable (const_tree v) ≡ false
@@ -24,9 +24,9 @@ constant_items : (vs : List Constant) → trees_have_variable (trees_of (map con
 constant_items [] = refl
 constant_items (v ∷ vs) = neither (has_variable (const_tree v.0)) (trees_have_variable (trees_of (map const_tree (map (λ v. v.0) vs)))) v.1 (constant_items vs)
 
-constant_fields : (fs : List (List ℕ × Constant)) → fields_have_variable (fields_of (map const_field (map (λ f. (f.0, f.1.0)) fs))) ≡ false
+constant_fields : (fs : List (List ℕ × Constant)) → fields_have_variable (fields_of (map (field_by const_tree) (map (λ f. (f.0, f.1.0)) fs))) ≡ false
 constant_fields [] = refl
-constant_fields (f ∷ fs) = neither (has_variable (const_tree f.1.0)) (fields_have_variable (fields_of (map const_field (map (λ f. (f.0, f.1.0)) fs)))) f.1.1 (constant_fields fs)
+constant_fields (f ∷ fs) = neither (has_variable (const_tree f.1.0)) (fields_have_variable (fields_of (map (field_by const_tree) (map (λ f. (f.0, f.1.0)) fs)))) f.1.1 (constant_fields fs)
 
 -- one level, where the levels below are constant
 constant_level : (y : ConstValue-F Constant) → has_variable (const_step (map-ConstValue ConstValue Tree const_tree (map-ConstValue Constant ConstValue (λ v. v.0) y))) ≡ false

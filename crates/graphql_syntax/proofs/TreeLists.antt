@@ -1,5 +1,5 @@
--- Lists of trees and of fields that pass against each other are as long.
-use Rattle.std.proofs.Common.{◌≡◌, ◌≢◌, ℕ, suc, Bool, true, false, ◌&&◌, List, [], ◌∷◌, length, map, refl, ap}
+-- Lists of trees and of fields that are tested against each other: those that pass are as long, and what is left decides.
+use Rattle.std.proofs.Common.{◌≡◌, ◌≢◌, ℕ, suc, Bool, true, false, ◌&&◌, List, [], ◌∷◌, length, drop, map, refl, ap}
 use Rattle.std.specs.Cmp.{second_so}
 use Rattle.graphql_syntax.specs.trees.ValueTree.{Tree, trees_of, fields_of}
 use Rattle.graphql_syntax.specs.trees.TreeEquality.{same_text, same_tree, same_trees, same_fields}
@@ -29,3 +29,10 @@ module _ {A : Type 0} where
 
   pub same_fields-of_other_length : (f : A → List ℕ × Tree) (xs ys : List A) → length xs ≢ length ys → false ≡ same_fields (fields_of (map f xs)) (fields_of (map f ys))
   same_fields-of_other_length f xs ys n = unless_true _ (λ e. n (length-same_fields f xs ys e))
+
+  -- what is left from an index on decides
+  abbrev pub IsLeftToItems : (A → Tree) → List A → List A → ℕ → Type 0
+  IsLeftToItems f xs ys i = same_trees (trees_of (map f xs)) (trees_of (map f ys)) ≡ same_trees (trees_of (map f (drop i xs))) (trees_of (map f (drop i ys)))
+
+  abbrev pub IsLeftToFields : (A → List ℕ × Tree) → List A → List A → ℕ → Type 0
+  IsLeftToFields f xs ys i = same_fields (fields_of (map f xs)) (fields_of (map f ys)) ≡ same_fields (fields_of (map f (drop i xs))) (fields_of (map f (drop i ys)))

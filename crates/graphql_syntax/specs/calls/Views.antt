@@ -4,7 +4,7 @@ use Rattle.std.specs.Prelude.{ℕ, List, map}
 use Rattle.std.specs.Borrow.{Bor}
 use Rattle.graphql_syntax.specs.trees.ValueTree as tree
 use Rattle.graphql_syntax.specs.trees.ValueTree.{Tree, trees_of, fields_of}
-use Rattle.graphql_syntax.specs.trees.ValueViews.{const_tree, const_field, value_tree, value_field}
+use Rattle.graphql_syntax.specs.trees.ValueViews.{const_tree, value_tree, field_by}
 use Rattle.graphql_syntax.specs.declared.value.view.ValueView.{ValueView}
 use Rattle.graphql_syntax.specs.declared.value.view.ValueView.TheVariants as views
 use Rattle.graphql_syntax.specs.declared.value.view.Items.{Items}
@@ -26,8 +26,8 @@ list_items v = items_of v.items
 
 -- the fields of an object, each name with its value
 abbrev pub pairs_of : Fields → List (List ℕ × Tree)
-pairs_of (fields.Values fs) = map value_field fs.now
-pairs_of (fields.Constants fs) = map const_field fs.now
+pairs_of (fields.Values fs) = map (field_by value_tree) fs.now
+pairs_of (fields.Constants fs) = map (field_by const_tree) fs.now
 
 abbrev pub object_fields : ObjectView → List (List ℕ × Tree)
 object_fields v = pairs_of v.fields

@@ -7,29 +7,7 @@ use Rattle.graphql_syntax.specs.declared.value.ConstValue.TheOpen.{ConstValue-F}
 use Rattle.graphql_syntax.specs.declared.value.Value.{Value, fold-Value}
 use Rattle.graphql_syntax.specs.declared.value.Value.TheOpen.{Value-F}
 
--- one level of a value without variables, over the trees of what stands inside
-abbrev pub const_step : ConstValue-F Tree → Tree
-const_step ConstValue-F.Null = null
-const_step (ConstValue-F.Number n) = number n
-const_step (ConstValue-F.String s) = string (string_bytes s)
-const_step (ConstValue-F.Boolean b) = boolean b
-const_step (ConstValue-F.Enum n) = enumeration n
-const_step (ConstValue-F.List v) = list (trees_of v.items)
-const_step (ConstValue-F.Object v) = object (fields_of v.items)
-
-abbrev pub const_tree : ConstValue → Tree
-const_tree = fold-ConstValue Tree const_step
-
-abbrev pub const_trees : List ConstValue → Trees
-const_trees vs = trees_of (map const_tree vs)
-
-abbrev pub const_field : List ℕ × ConstValue → List ℕ × Tree
-const_field f = (f.0, const_tree f.1)
-
-abbrev pub const_fields : List (List ℕ × ConstValue) → Fields
-const_fields fs = fields_of (map const_field fs)
-
--- the same of a value in which variables may stand
+-- one level of a value, over the trees of what stands inside
 abbrev pub value_step : Value-F Tree → Tree
 value_step (Value-F.Variable n) = variable n
 value_step Value-F.Null = null
@@ -43,11 +21,29 @@ value_step (Value-F.Object v) = object (fields_of v.items)
 abbrev pub value_tree : Value → Tree
 value_tree = fold-Value Tree value_step
 
-abbrev pub value_trees : List Value → Trees
-value_trees vs = trees_of (map value_tree vs)
+-- a level of a value without variables, as one of a value in which they may stand
+abbrev pub as_value : ConstValue-F Tree → Value-F Tree
+as_value ConstValue-F.Null = Value-F.Null
+as_value (ConstValue-F.Number n) = Value-F.Number n
+as_value (ConstValue-F.String s) = Value-F.String s
+as_value (ConstValue-F.Boolean b) = Value-F.Boolean b
+as_value (ConstValue-F.Enum n) = Value-F.Enum n
+as_value (ConstValue-F.List v) = Value-F.List v
+as_value (ConstValue-F.Object v) = Value-F.Object v
 
-abbrev pub value_field : List ℕ × Value → List ℕ × Tree
-value_field f = (f.0, value_tree f.1)
+abbrev pub const_step : ConstValue-F Tree → Tree
+const_step level = value_step (as_value level)
 
-abbrev pub value_fields : List (List ℕ × Value) → Fields
-value_fields fs = fields_of (map value_field fs)
+abbrev pub const_tree : ConstValue → Tree
+const_tree = fold-ConstValue Tree const_step
+
+-- the trees of the items of a list and of the fields of an object, of either type of values
+module _ {V : Type 0} (tree : V → Tree) where
+  abbrev pub trees_by : List V → Trees
+  trees_by vs = trees_of (map tree vs)
+
+  abbrev pub field_by : List ℕ × V → List ℕ × Tree
+  field_by f = (f.0, tree f.1)
+
+  abbrev pub fields_by : List (List ℕ × V) → Fields
+  fields_by fs = fields_of (map field_by fs)

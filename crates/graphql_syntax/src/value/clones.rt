@@ -2,7 +2,7 @@
 //!
 //! It is written out, since a derived one says nothing of a type that holds itself.
 ghost use Rattle.std.specs.Prelude.{◌≡◌, IfOk};
-ghost use Rattle.graphql_syntax.specs.trees.ValueViews.{const_tree, const_trees, const_fields, value_tree, value_trees, value_fields};
+ghost use Rattle.graphql_syntax.specs.trees.ValueViews.{const_tree, value_tree, trees_by, fields_by};
 
 use super::{ConstValue, Name, Value};
 use std::alloc::AllocError;
@@ -40,7 +40,8 @@ fn clone_const(value: &ConstValue) -> Result<ConstValue, AllocError>
 
 #[cycle(clone_const)]
 fn clone_const_items(items: &Vec<ConstValue>) -> Result<Vec<ConstValue>, AllocError>
-    ensures { IfOk result (λ clones. const_trees clones.items ≡ const_trees items.now.items) }
+    ensures { IfOk result (λ clones. trees_by const_tree clones.items ≡
+        trees_by const_tree items.now.items) }
 {
     let mut clones = Vec::with_capacity(*items.allocator(), items.len())?;
     for item in items {
@@ -53,7 +54,8 @@ fn clone_const_items(items: &Vec<ConstValue>) -> Result<Vec<ConstValue>, AllocEr
 fn clone_const_fields(
     fields: &Vec<(Name, ConstValue)>,
 ) -> Result<Vec<(Name, ConstValue)>, AllocError>
-    ensures { IfOk result (λ clones. const_fields clones.items ≡ const_fields fields.now.items) }
+    ensures { IfOk result (λ clones. fields_by const_tree clones.items ≡
+        fields_by const_tree fields.now.items) }
 {
     let mut clones = Vec::with_capacity(*fields.allocator(), fields.len())?;
     for field in fields {
@@ -80,7 +82,8 @@ fn clone_value(value: &Value) -> Result<Value, AllocError>
 
 #[cycle(clone_value)]
 fn clone_value_items(items: &Vec<Value>) -> Result<Vec<Value>, AllocError>
-    ensures { IfOk result (λ clones. value_trees clones.items ≡ value_trees items.now.items) }
+    ensures { IfOk result (λ clones. trees_by value_tree clones.items ≡
+        trees_by value_tree items.now.items) }
 {
     let mut clones = Vec::with_capacity(*items.allocator(), items.len())?;
     for item in items {
@@ -91,7 +94,8 @@ fn clone_value_items(items: &Vec<Value>) -> Result<Vec<Value>, AllocError>
 
 #[cycle(clone_value)]
 fn clone_value_fields(fields: &Vec<(Name, Value)>) -> Result<Vec<(Name, Value)>, AllocError>
-    ensures { IfOk result (λ clones. value_fields clones.items ≡ value_fields fields.now.items) }
+    ensures { IfOk result (λ clones. fields_by value_tree clones.items ≡
+        fields_by value_tree fields.now.items) }
 {
     let mut clones = Vec::with_capacity(*fields.allocator(), fields.len())?;
     for field in fields {

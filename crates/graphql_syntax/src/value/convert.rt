@@ -1,7 +1,7 @@
 //! Values in which variables may stand to values in which none does, and back.
 ghost use Rattle.std.specs.Prelude.{◌≡◌, MatchOption, IfOk, Ok, None, true, false};
 ghost use Rattle.graphql_syntax.specs.trees.ValueTree.{has_variable, trees_have_variable, fields_have_variable};
-ghost use Rattle.graphql_syntax.specs.trees.ValueViews.{const_tree, const_trees, const_fields, value_tree, value_trees, value_fields};
+ghost use Rattle.graphql_syntax.specs.trees.ValueViews.{const_tree, value_tree, trees_by, fields_by};
 
 use super::{ConstValue, Name, Value};
 use std::alloc::{AllocError, Global};
@@ -54,7 +54,7 @@ pub(crate) fn holds_variable(value: &Value) -> bool
 
 #[cycle(holds)]
 fn items_hold(items: &Vec<Value>) -> bool
-    ensures { result ≡ trees_have_variable (value_trees items.now.items) }
+    ensures { result ≡ trees_have_variable (trees_by value_tree items.now.items) }
 {
     for item in items {
         if holds_variable(item) {
@@ -66,7 +66,7 @@ fn items_hold(items: &Vec<Value>) -> bool
 
 #[cycle(holds)]
 fn fields_hold(fields: &Vec<(Name, Value)>) -> bool
-    ensures { result ≡ fields_have_variable (value_fields fields.now.items) }
+    ensures { result ≡ fields_have_variable (fields_by value_tree fields.now.items) }
 {
     for field in fields {
         if holds_variable(&field.1) {
@@ -94,7 +94,7 @@ fn value_of(value: ConstValue, alloc: Global) -> Result<Value, AllocError>
 
 #[cycle(value_of)]
 fn values_of(items: Vec<ConstValue>, alloc: Global) -> Result<Vec<Value>, AllocError>
-    ensures { IfOk result (λ v. value_trees v.items ≡ const_trees items.items) }
+    ensures { IfOk result (λ v. trees_by value_tree v.items ≡ trees_by const_tree items.items) }
 {
     let mut values = Vec::with_capacity(alloc, items.len())?;
     for item in items {
@@ -108,7 +108,7 @@ fn fields_of(
     fields: Vec<(Name, ConstValue)>,
     alloc: Global,
 ) -> Result<Vec<(Name, Value)>, AllocError>
-    ensures { IfOk result (λ v. value_fields v.items ≡ const_fields fields.items) }
+    ensures { IfOk result (λ v. fields_by value_tree v.items ≡ fields_by const_tree fields.items) }
 {
     let mut values = Vec::with_capacity(alloc, fields.len())?;
     for (name, field) in fields {
@@ -139,8 +139,8 @@ pub(crate) fn const_of(value: Value, alloc: Global) -> Result<ConstValue, AllocE
 
 #[cycle(const_of)]
 fn consts_of(items: Vec<Value>, alloc: Global) -> Result<Vec<ConstValue>, AllocError>
-    requires { trees_have_variable (value_trees items.items) ≡ false }
-    ensures { IfOk result (λ v. const_trees v.items ≡ value_trees items.items) }
+    requires { trees_have_variable (trees_by value_tree items.items) ≡ false }
+    ensures { IfOk result (λ v. trees_by const_tree v.items ≡ trees_by value_tree items.items) }
 {
     let mut values = Vec::with_capacity(alloc, items.len())?;
     for item in items {
@@ -154,8 +154,8 @@ fn const_fields_of(
     fields: Vec<(Name, Value)>,
     alloc: Global,
 ) -> Result<Vec<(Name, ConstValue)>, AllocError>
-    requires { fields_have_variable (value_fields fields.items) ≡ false }
-    ensures { IfOk result (λ v. const_fields v.items ≡ value_fields fields.items) }
+    requires { fields_have_variable (fields_by value_tree fields.items) ≡ false }
+    ensures { IfOk result (λ v. fields_by const_tree v.items ≡ fields_by value_tree fields.items) }
 {
     let mut values = Vec::with_capacity(alloc, fields.len())?;
     for (name, field) in fields {

@@ -5,7 +5,7 @@
 ghost use Rattle.std.specs.Prelude.{◌≡◌, ◌↔◌, IsTrue};
 ghost use Rattle.std.specs.Cmp.{on_per, on_equiv, partial_equiv_from_equiv};
 ghost use Rattle.graphql_syntax.specs.trees.TreeEquality.{same_tree, same_trees, same_fields};
-ghost use Rattle.graphql_syntax.specs.trees.ValueViews.{const_tree, const_trees, const_fields, value_tree, value_trees, value_fields};
+ghost use Rattle.graphql_syntax.specs.trees.ValueViews.{const_tree, value_tree, trees_by, fields_by};
 ghost use Rattle.graphql_syntax.specs.inner.TreeLaws.{same_tree_equiv};
 
 use super::{ConstValue, Name, Value};
@@ -62,7 +62,8 @@ fn same_const(a: &ConstValue, b: &ConstValue) -> bool
 
 #[cycle(same_const)]
 fn same_const_items(xs: &Vec<ConstValue>, ys: &Vec<ConstValue>) -> bool
-    ensures { result ≡ same_trees (const_trees xs.now.items) (const_trees ys.now.items) }
+    ensures { result ≡ same_trees (trees_by const_tree xs.now.items)
+        (trees_by const_tree ys.now.items) }
 {
     if xs.len() != ys.len() {
         return false;
@@ -77,7 +78,8 @@ fn same_const_items(xs: &Vec<ConstValue>, ys: &Vec<ConstValue>) -> bool
 
 #[cycle(same_const)]
 fn same_const_fields(xs: &Vec<(Name, ConstValue)>, ys: &Vec<(Name, ConstValue)>) -> bool
-    ensures { result ≡ same_fields (const_fields xs.now.items) (const_fields ys.now.items) }
+    ensures { result ≡ same_fields (fields_by const_tree xs.now.items)
+        (fields_by const_tree ys.now.items) }
 {
     if xs.len() != ys.len() {
         return false;
@@ -110,7 +112,8 @@ fn same_value(a: &Value, b: &Value) -> bool
 
 #[cycle(same_value)]
 fn same_value_items(xs: &Vec<Value>, ys: &Vec<Value>) -> bool
-    ensures { result ≡ same_trees (value_trees xs.now.items) (value_trees ys.now.items) }
+    ensures { result ≡ same_trees (trees_by value_tree xs.now.items)
+        (trees_by value_tree ys.now.items) }
 {
     if xs.len() != ys.len() {
         return false;
@@ -125,7 +128,8 @@ fn same_value_items(xs: &Vec<Value>, ys: &Vec<Value>) -> bool
 
 #[cycle(same_value)]
 fn same_value_fields(xs: &Vec<(Name, Value)>, ys: &Vec<(Name, Value)>) -> bool
-    ensures { result ≡ same_fields (value_fields xs.now.items) (value_fields ys.now.items) }
+    ensures { result ≡ same_fields (fields_by value_tree xs.now.items)
+        (fields_by value_tree ys.now.items) }
 {
     if xs.len() != ys.len() {
         return false;

@@ -1,7 +1,7 @@
 //! What a reader of values needs of the type that it makes.
 ghost use Rattle.std.specs.Prelude.{◌≡◌, MatchOption, map, string_bytes, true, false, Bool};
 ghost use Rattle.graphql_syntax.specs.trees.ValueTree.{Tree, variable, null, number, string, boolean, enumeration, list, object, trees_of, fields_of};
-ghost use Rattle.graphql_syntax.specs.trees.ValueViews.{const_tree, const_field, value_tree, value_field};
+ghost use Rattle.graphql_syntax.specs.trees.ValueViews.{const_tree, value_tree, trees_by, fields_by};
 
 use super::{ConstValue, Name, Number, Value};
 
@@ -82,13 +82,13 @@ impl Literal for ConstValue {
     }
 
     fn list(items: Vec<Self>) -> Self
-        ensures { const_tree result ≡ list (trees_of (map const_tree items.items)) }
+        ensures { const_tree result ≡ list (trees_by const_tree items.items) }
     {
         ConstValue::List(items)
     }
 
     fn object(fields: Vec<(Name, Self)>) -> Self
-        ensures { const_tree result ≡ object (fields_of (map const_field fields.items)) }
+        ensures { const_tree result ≡ object (fields_by const_tree fields.items) }
     {
         ConstValue::Object(fields)
     }
@@ -126,13 +126,13 @@ impl Literal for Value {
     }
 
     fn list(items: Vec<Self>) -> Self
-        ensures { value_tree result ≡ list (trees_of (map value_tree items.items)) }
+        ensures { value_tree result ≡ list (trees_by value_tree items.items) }
     {
         Value::List(items)
     }
 
     fn object(fields: Vec<(Name, Self)>) -> Self
-        ensures { value_tree result ≡ object (fields_of (map value_field fields.items)) }
+        ensures { value_tree result ≡ object (fields_by value_tree fields.items) }
     {
         Value::Object(fields)
     }

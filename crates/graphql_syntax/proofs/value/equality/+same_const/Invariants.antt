@@ -1,13 +1,9 @@
-use Rattle.std.proofs.Common.{◌≡◌, drop}
-use Rattle.graphql_syntax.specs.trees.TreeEquality.{same_trees, same_fields}
-use Rattle.graphql_syntax.specs.trees.ValueViews.{const_trees, const_fields}
+use Rattle.graphql_syntax.specs.trees.ValueViews.{const_tree, field_by}
+use Rattle.graphql_syntax.proofs.TreeLists.{IsLeftToItems, IsLeftToFields}
 use Rattle.graphql_syntax.proofs.value.equality.+same_const.Given as goal
 
--- what is left to compare decides
 abbrev pub invariant-same_const_fields-loop-i : goal.invariant-same_const_fields-loop-i
-invariant-same_const_fields-loop-i l =
-    same_fields (const_fields l.xs.items) (const_fields l.ys.items) ≡ same_fields (const_fields (drop l.i l.xs.items)) (const_fields (drop l.i l.ys.items))
+invariant-same_const_fields-loop-i l = IsLeftToFields (field_by const_tree) l.xs.items l.ys.items l.i
 
 abbrev pub invariant-same_const_items-loop-i : goal.invariant-same_const_items-loop-i
-invariant-same_const_items-loop-i l =
-    same_trees (const_trees l.xs.items) (const_trees l.ys.items) ≡ same_trees (const_trees (drop l.i l.xs.items)) (const_trees (drop l.i l.ys.items))
+invariant-same_const_items-loop-i l = IsLeftToItems const_tree l.xs.items l.ys.items l.i

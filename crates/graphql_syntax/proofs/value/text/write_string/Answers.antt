@@ -1,4 +1,4 @@
-use Rattle.std.proofs.Common.{◌≡◌, ℕ, true, List, [], ◌∷◌, ◌++◌, flat_map, encode_utf8_all, map-id, refl, sym, ap, ◌∙◌}
+use Rattle.std.proofs.Common.{ℕ, true, List, [], ◌∷◌, ◌++◌, flat_map, encode_utf8_all, map-id, refl, sym, ap, ◌∙◌}
 use Rattle.std.proofs.Output.{has_written_styled_of_eq, has_written_styled_append}
 use Rattle.std.proofs.lemmas.Iterator.{YieldsList-from_chars}
 use Rattle.std.proofs.lemmas.Iterator.Consumers.{YieldsList-end}

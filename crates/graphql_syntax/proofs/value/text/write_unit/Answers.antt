@@ -1,4 +1,4 @@
-use Rattle.std.proofs.Common.{◌≡◌, ℕ, ◌/◌, ◌%◌, ◌<◌, Bool, true, cond, None, List, [], ◌∷◌, ◌++◌, codes, append-nil, encode_utf8_all, refl, sym, ap, ap₂, ◌∙◌, lt-ltb}
+use Rattle.std.proofs.Common.{◌≡◌, ℕ, ◌/◌, ◌%◌, ◌<◌, true, cond, None, List, [], ◌∷◌, ◌++◌, codes, append-nil, encode_utf8_all, refl, sym, ap, ap₂, ◌∙◌, lt-ltb}
 use lib.Utf8.{encode}
 use Rattle.std.proofs.Output.{has_written_styled_of_eq, has_written_styled_append}
 use Rattle.std.specs.Char.{digit_char}
