@@ -1,12 +1,12 @@
 -- The string that stands for a text means that text, in each edition.
-use Rattle.std.proofs.Common.{◌≡◌, ◌≢◌, ℕ, zero, suc, ◌+◌, ◌<◌, ◌≤◌, ◌/◌, ◌%◌, Bool, true, false, cond, not, ◌&&◌, ◌||◌, ◌⊎◌, eqb, ltb, List, [], ◌∷◌, ◌++◌, map, flat_map, length, Option, Some, None, inl, inr, codes, refl, sym, ap, ◌∙◌, subst, arith, eqb-true, ltb-true}
+use Rattle.std.proofs.Common.{◌≡◌, ◌≢◌, ℕ, zero, suc, ◌<◌, ◌/◌, ◌%◌, Bool, true, false, cond, ◌&&◌, ◌⊎◌, eqb, ltb, List, [], ◌∷◌, ◌++◌, map, Option, Some, None, inl, inr, codes, refl, sym, ap, ◌∙◌, subst, arith, eqb-true, ltb-true}
 use Rattle.std.proofs.lemmas.Bool.Decides.{eqb_tells}
 use Rattle.std.specs.List.{concat}
 use Rattle.std.specs.Char.{digit_char, is_ascii_hexdigit}
 use lib.Utf8.{scalar}
 use Rattle.graphql_tokens.specs.tokens.Edition.{Edition}
-use Rattle.graphql_tokens.specs.tokens.Strings.{Escape, quote, backslash, line_feed, carriage_return, tab, backspace, form_feed, is_plain, hex_value, UnitMeans, UnitsMean, StringMeans}
-use Rattle.graphql_syntax.specs.trees.ValueText.{escape_letter, unit_with, unit_for, content_for}
+use Rattle.graphql_tokens.specs.tokens.Strings.{Escape, quote, backslash, line_feed, carriage_return, tab, backspace, form_feed, hex_value, UnitMeans, UnitsMean, StringMeans}
+use Rattle.graphql_syntax.specs.trees.ValueText.{unit_with, unit_for, content_for}
 
 -- ---- what is tested of each number below another holds of it
 

@@ -1,11 +1,10 @@
 -- The texts of the parts of a value, one after another, and the writing of them; and how large a value is, by which it ends.
-use Rattle.std.proofs.Common.{◌≡◌, ℕ, zero, suc, ◌+◌, ◌<◌, ◌≤◌, List, [], ◌∷◌, ◌++◌, codes, flat_map, append_assoc, append-nil, refl, sym, ap, ◌∙◌, arith}
+use Rattle.std.proofs.Common.{◌≡◌, ℕ, suc, ◌+◌, List, [], ◌∷◌, ◌++◌, codes, flat_map, append_assoc, append-nil, refl, sym, ap, ◌∙◌}
 use Rattle.std.proofs.Output.{has_written_styled_of_eq, has_written_styled_append}
 use Rattle.std.specs.Fmt.{HasWrittenStyled, IsFlush}
-use Rattle.std.specs.List.{join_by}
 use Rattle.std.specs.declared.fmt.Formatter.{Formatter}
-use Rattle.graphql_syntax.specs.trees.ValueTree.{Tree, variable, null, number, string, boolean, enumeration, list, object, Trees, no_trees, more_trees, Fields, no_fields, field, trees_of, fields_of}
-use Rattle.graphql_syntax.specs.trees.ValueText.{value_text, item_texts, field_texts, listed}
+use Rattle.graphql_syntax.specs.trees.ValueTree.{Tree, variable, null, number, string, boolean, enumeration, list, object, Trees, no_trees, more_trees, Fields, no_fields, field}
+use Rattle.graphql_syntax.specs.trees.ValueText.{listed}
 
 -- ---- joined texts, from the front
 

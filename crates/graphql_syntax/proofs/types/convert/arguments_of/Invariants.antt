@@ -5,7 +5,5 @@ use Rattle.graphql_syntax.proofs.types.convert.arguments_of.Given as goal
 
 abbrev pub invariant-loop-name : goal.invariant-loop-name
 invariant-loop-name l =
-    (goal.iterator-loop-name).can_next l.name-iterator ×
-    (goal.iterator-loop-name).is_finite l.name-iterator ×
     (l.fn.arguments.items ≡ l.yielded ++ into_iter_items l.name-iterator) ×
     (arguments_tree l.made.items ≡ const_arguments_tree l.yielded)

@@ -6,8 +6,6 @@ use Rattle.graphql_syntax.proofs.types.convert.const_arguments_of.Given as goal
 
 abbrev pub invariant-loop-name : goal.invariant-loop-name
 invariant-loop-name l =
-    (goal.iterator-loop-name).can_next l.name-iterator ×
-    (goal.iterator-loop-name).is_finite l.name-iterator ×
     (l.fn.arguments.items ≡ l.yielded ++ into_iter_items l.name-iterator) ×
     (const_arguments_tree l.made.items ≡ arguments_tree l.yielded) ×
     (arguments_have_variable (arguments_tree (into_iter_items l.name-iterator)) ≡ false)

@@ -1,4 +1,4 @@
-use Rattle.std.proofs.Common.{◌≡◌, ℕ, true, List, ◌++◌, codes, refl, sym, ap, ◌∙◌, arith, rules}
+use Rattle.std.proofs.Common.{ℕ, true, List, ◌++◌, codes, refl, sym, ap, ◌∙◌, arith, rules}
 use Rattle.std.proofs.Output.{has_written_styled_of_eq, has_written_styled_append}
 use Rattle.graphql_syntax.specs.calls.Views.{view_tree, list_items, object_fields}
 use Rattle.graphql_syntax.specs.trees.ValueTree.{trees_of, fields_of}
