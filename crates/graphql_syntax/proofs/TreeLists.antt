@@ -24,15 +24,15 @@ module _ {A : Type 0} where
       let rest = second_so (same_tree (f x).1 (f y).1) (same_fields (fields_of (map f xs)) (fields_of (map f ys))) (second_so (same_text (f x).0 (f y).0) (same_tree (f x).1 (f y).1 && same_fields (fields_of (map f xs)) (fields_of (map f ys))) e) in
       ap suc (length-same_fields f xs ys rest)
 
-  pub same_trees-of_other_length : (f : A → Tree) (xs ys : List A) → length xs ≢ length ys → false ≡ same_trees (trees_of (map f xs)) (trees_of (map f ys))
-  same_trees-of_other_length f xs ys n = unless_true _ (λ e. n (length-same_trees f xs ys e))
+  pub same_trees_of_other_length : (f : A → Tree) (xs ys : List A) → length xs ≢ length ys → false ≡ same_trees (trees_of (map f xs)) (trees_of (map f ys))
+  same_trees_of_other_length f xs ys n = unless_true _ (λ e. n (length-same_trees f xs ys e))
 
-  pub same_fields-of_other_length : (f : A → List ℕ × Tree) (xs ys : List A) → length xs ≢ length ys → false ≡ same_fields (fields_of (map f xs)) (fields_of (map f ys))
-  same_fields-of_other_length f xs ys n = unless_true _ (λ e. n (length-same_fields f xs ys e))
+  pub same_fields_of_other_length : (f : A → List ℕ × Tree) (xs ys : List A) → length xs ≢ length ys → false ≡ same_fields (fields_of (map f xs)) (fields_of (map f ys))
+  same_fields_of_other_length f xs ys n = unless_true _ (λ e. n (length-same_fields f xs ys e))
 
-  -- what is left from an index on decides
-  abbrev pub IsLeftToItems : (A → Tree) → List A → List A → ℕ → Type 0
-  IsLeftToItems f xs ys i = same_trees (trees_of (map f xs)) (trees_of (map f ys)) ≡ same_trees (trees_of (map f (drop i xs))) (trees_of (map f (drop i ys)))
+  -- the items, or the fields, from an index on decide
+  abbrev pub IsDecidedByItems : (A → Tree) → List A → List A → ℕ → Type 0
+  IsDecidedByItems f xs ys i = same_trees (trees_of (map f xs)) (trees_of (map f ys)) ≡ same_trees (trees_of (map f (drop i xs))) (trees_of (map f (drop i ys)))
 
-  abbrev pub IsLeftToFields : (A → List ℕ × Tree) → List A → List A → ℕ → Type 0
-  IsLeftToFields f xs ys i = same_fields (fields_of (map f xs)) (fields_of (map f ys)) ≡ same_fields (fields_of (map f (drop i xs))) (fields_of (map f (drop i ys)))
+  abbrev pub IsDecidedByFields : (A → List ℕ × Tree) → List A → List A → ℕ → Type 0
+  IsDecidedByFields f xs ys i = same_fields (fields_of (map f xs)) (fields_of (map f ys)) ≡ same_fields (fields_of (map f (drop i xs))) (fields_of (map f (drop i ys)))

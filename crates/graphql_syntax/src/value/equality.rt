@@ -61,6 +61,7 @@ fn same_const(a: &ConstValue, b: &ConstValue) -> bool
 }
 
 #[cycle(same_const)]
+#[tactic(auto, using(crate::proofs::TreeLists::same_trees_of_other_length))]
 fn same_const_items(xs: &Vec<ConstValue>, ys: &Vec<ConstValue>) -> bool
     ensures { result ≡ same_trees (trees_by const_tree xs.now.items)
         (trees_by const_tree ys.now.items) }
@@ -77,6 +78,7 @@ fn same_const_items(xs: &Vec<ConstValue>, ys: &Vec<ConstValue>) -> bool
 }
 
 #[cycle(same_const)]
+#[tactic(auto, using(crate::proofs::TreeLists::same_fields_of_other_length))]
 fn same_const_fields(xs: &Vec<(Name, ConstValue)>, ys: &Vec<(Name, ConstValue)>) -> bool
     ensures { result ≡ same_fields (fields_by const_tree xs.now.items)
         (fields_by const_tree ys.now.items) }
@@ -111,6 +113,7 @@ fn same_value(a: &Value, b: &Value) -> bool
 }
 
 #[cycle(same_value)]
+#[tactic(auto, using(crate::proofs::TreeLists::same_trees_of_other_length))]
 fn same_value_items(xs: &Vec<Value>, ys: &Vec<Value>) -> bool
     ensures { result ≡ same_trees (trees_by value_tree xs.now.items)
         (trees_by value_tree ys.now.items) }
@@ -127,6 +130,7 @@ fn same_value_items(xs: &Vec<Value>, ys: &Vec<Value>) -> bool
 }
 
 #[cycle(same_value)]
+#[tactic(auto, using(crate::proofs::TreeLists::same_fields_of_other_length))]
 fn same_value_fields(xs: &Vec<(Name, Value)>, ys: &Vec<(Name, Value)>) -> bool
     ensures { result ≡ same_fields (fields_by value_tree xs.now.items)
         (fields_by value_tree ys.now.items) }
