@@ -29,7 +29,7 @@ pub enum TypeSystemDefinition {
 }
 
 /// A definition or an extension of a schema (section 3.3).
-#[derive(Debug, Drop)]
+#[derive(Clone, Debug, Drop)]
 pub struct SchemaDefinition {
     /// The text of the description, at its opening quote. An extension has none.
     pub description: Option<Positioned<String>>,
@@ -46,7 +46,7 @@ pub struct SchemaDefinition {
 }
 
 /// A definition or an extension of a type (section 3.4).
-#[derive(Debug, Drop)]
+#[derive(Clone, Debug, Drop)]
 pub struct TypeDefinition {
     /// Whether it is an extension.
     pub extend: bool,
@@ -78,7 +78,7 @@ pub enum TypeKind {
 }
 
 /// The parts of an object type (section 3.6).
-#[derive(Debug, Drop)]
+#[derive(Clone, Debug, Drop)]
 pub struct ObjectType {
     /// The names of the interfaces after `implements`, in source order.
     pub implements: Vec<Positioned<Name>>,
@@ -87,7 +87,7 @@ pub struct ObjectType {
 }
 
 /// A field of an object type or of an interface.
-#[derive(Debug, Drop)]
+#[derive(Clone, Debug, Drop)]
 pub struct FieldDefinition {
     /// The text of the description, at its opening quote.
     pub description: Option<Positioned<String>>,
@@ -102,7 +102,7 @@ pub struct FieldDefinition {
 }
 
 /// The parts of an interface (section 3.7).
-#[derive(Debug, Drop)]
+#[derive(Clone, Debug, Drop)]
 pub struct InterfaceType {
     /// The names of the interfaces after `implements`, in source order.
     pub implements: Vec<Positioned<Name>>,
@@ -111,21 +111,21 @@ pub struct InterfaceType {
 }
 
 /// The parts of a union (section 3.8).
-#[derive(Debug, Drop)]
+#[derive(Clone, Debug, Drop)]
 pub struct UnionType {
     /// The names of its types, in source order.
     pub members: Vec<Positioned<Name>>,
 }
 
 /// The parts of an enum (section 3.9).
-#[derive(Debug, Drop)]
+#[derive(Clone, Debug, Drop)]
 pub struct EnumType {
     /// The values, in source order.
     pub values: Vec<Positioned<EnumValueDefinition>>,
 }
 
 /// A value of an enum.
-#[derive(Debug, Drop)]
+#[derive(Clone, Debug, Drop)]
 pub struct EnumValueDefinition {
     /// The text of the description, at its opening quote.
     pub description: Option<Positioned<String>>,
@@ -136,14 +136,14 @@ pub struct EnumValueDefinition {
 }
 
 /// The parts of an input object (section 3.10).
-#[derive(Debug, Drop)]
+#[derive(Clone, Debug, Drop)]
 pub struct InputObjectType {
     /// The fields, in source order.
     pub fields: Vec<Positioned<InputValueDefinition>>,
 }
 
 /// An argument of a field or of a directive, or a field of an input object.
-#[derive(Debug, Drop)]
+#[derive(Clone, Debug, Drop)]
 pub struct InputValueDefinition {
     /// The text of the description, at its opening quote.
     pub description: Option<Positioned<String>>,
@@ -158,7 +158,7 @@ pub struct InputValueDefinition {
 }
 
 /// The definition of a directive (section 3.13).
-#[derive(Debug, Drop)]
+#[derive(Clone, Debug, Drop)]
 pub struct DirectiveDefinition {
     /// The text of the description, at its opening quote.
     pub description: Option<Positioned<String>>,
