@@ -9,10 +9,10 @@ ghost use Rattle.graphql_tokens.specs.tokens.Token.{left};
 ghost use Rattle.graphql_tokens.specs.tokens.Within.{StandsIn};
 ghost use Rattle.graphql_reading.specs.declared.parser.Refusal.TheVariants.{Memory};
 ghost use Rattle.graphql_reading.specs.grammar.Tests as tests;
-ghost use Rattle.graphql_reading.specs.reading.Ahead.{tokens as ahead, Stays};
+ghost use Rattle.graphql_reading.specs.reading.Ahead.{Ahead, tokens as ahead, Stays};
 ghost use Rattle.graphql_reading.specs.reading.Given.{Gives, GivesWhole};
 ghost use Rattle.graphql_reading.specs.reading.Outcome.{one_at, take_at};
-ghost use Rattle.graphql_reading.specs.reading.Parser.{mark};
+ghost use Rattle.graphql_reading.specs.reading.Parser.{mark, shown, IsWellCut};
 ghost use Rattle.graphql_reading.specs.reading.Spelled.{keyword_of, punct_of};
 
 use graphql_memory::Memory;
@@ -68,11 +68,7 @@ pub struct Parser<'a> {
 }
 
 impl<'a> Model for Parser<'a> {
-    ghost use Rattle.graphql_reading.specs.reading.Ahead.{Ahead};
-
     ghost Value = { Ahead };
-
-    ghost use Rattle.graphql_reading.specs.reading.Parser.{shown, IsWellCut};
 
     ghost view = { shown };
 
