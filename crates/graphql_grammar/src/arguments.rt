@@ -1,13 +1,12 @@
 //! Readers of arguments, directives and default values, by GraphQL October 2021, sections 2.6, 2.10 and 2.12.
-ghost use Rattle.std.specs.Prelude.{true, false, option_map};
+ghost use Rattle.std.specs.Prelude.{◌≡◌, true, false, option_map};
 ghost use Rattle.graphql_tokens.specs.declared.pos.Positioned.{Positioned};
 ghost use Rattle.graphql_syntax.specs.trees.Parts.{placed};
 ghost use Rattle.graphql_syntax.specs.trees.Parts as trees;
 ghost use Rattle.graphql_syntax.specs.trees.PartViews.{directive_tree, const_directive_tree};
-ghost use Rattle.graphql_syntax.specs.trees.ValueTree.{Tree};
 ghost use Rattle.graphql_syntax.specs.trees.ValueViews.{const_tree};
-ghost use Rattle.graphql_grammar.specs.reading.ArgumentViews.{in_argument, in_directive};
-ghost use Rattle.graphql_grammar.specs.reading.Arguments.{argument_at, arguments_at, maybe_arguments_at, directive_at, directives_at, default_at, maybe_default_at};
+ghost use Rattle.graphql_grammar.specs.reading.ArgumentViews.{in_argument};
+ghost use Rattle.graphql_grammar.specs.reading.Arguments.{argument_at, arguments_at, maybe_arguments_at, directive_at, directives_at, maybe_default_at};
 ghost use Rattle.graphql_reading.specs.grammar.Relations.{given};
 ghost use Rattle.graphql_reading.specs.grammar.Tests.{any_name, punct};
 ghost use Rattle.graphql_reading.specs.reading.Given.{Gives, trees_in};
@@ -17,19 +16,43 @@ use crate::value::read_value;
 use graphql_reading::limits::Limits;
 use graphql_reading::names::name_in;
 use graphql_reading::parser::{Parser, Reading};
-use graphql_reading::production::{Production, any_number, bracketed, optional};
-use graphql_syntax::pos::{Pos, Positioned};
+use graphql_reading::production::{Production, any_number, bracketed};
+use graphql_syntax::pos::Positioned;
 use graphql_syntax::types::{ConstDirective, Directive};
 use graphql_syntax::value::{ConstValue, Literal, Name, Value};
 use std::marker::PhantomData;
 
 type Arguments<V> = Vec<(Positioned<Name>, Positioned<V>)>;
 
-/// A directive whose values are of the type `V`.
-struct DirectiveOf<V> {
-    pos: Pos,
-    name: Positioned<Name>,
-    arguments: Arguments<V>,
+/// A type of directives, whose arguments have values of the type `V`.
+trait DirectiveNode<V: Literal>: Drop {
+    // What a directive stands for.
+    ghost tree: { Self → trees.Directive };
+
+    /// The directive of this name, with these arguments.
+    fn new(name: Positioned<Name>, arguments: Arguments<V>) -> Self
+        ensures { Self.tree result ≡
+            record { name = name; arguments = trees_in (in_argument V.tree) arguments } };
+}
+
+impl DirectiveNode<Value> for Directive {
+    ghost tree = { directive_tree };
+
+    fn new(name: Positioned<Name>, arguments: Arguments<Value>) -> Directive
+        ensures { result ≡ record { name = name; arguments = arguments } }
+    {
+        Directive { name, arguments }
+    }
+}
+
+impl DirectiveNode<ConstValue> for ConstDirective {
+    ghost tree = { const_directive_tree };
+
+    fn new(name: Positioned<Name>, arguments: Arguments<ConstValue>) -> ConstDirective
+        ensures { result ≡ record { name = name; arguments = arguments } }
+    {
+        ConstDirective { name, arguments }
+    }
 }
 
 /// `Argument : Name ':' Value`, with values of the type `V`.
@@ -91,35 +114,19 @@ pub fn read_maybe_arguments<V: Literal>(
     read_arguments(parser, limits)
 }
 
-/// `Directive : '@' Name Arguments?`
-fn read_directive_of<V: Literal>(parser: &mut Parser, limits: Limits) -> Reading<DirectiveOf<V>>
-    ensures { Gives (in_directive V.tree) result parser.old parser.new
-        (directive_at V.VARIABLES limits.values) }
-{
-    let sign = parser.expect_punct("@")?;
-    let token = parser.expect_name()?;
-    let name = name_in(parser, token)?;
-    let arguments = read_maybe_arguments(parser, limits)?;
-    Ok(DirectiveOf {
-        pos: sign.pos,
-        name,
-        arguments,
-    })
-}
+/// `Directive : '@' Name Arguments?`, as a node of the type `D`, with values of the type `V`.
+struct DirectivePhrase<D, V>(PhantomData<(D, V)>);
 
-/// `Directive : '@' Name Arguments?`, with variables in the values.
-struct DirectivePhrase;
-
-impl Production for DirectivePhrase {
-    type Node = Positioned<Directive>;
+impl<D: DirectiveNode<V>, V: Literal> Production for DirectivePhrase<D, V> {
+    type Node = Positioned<D>;
 
     ghost Tree = { Positioned trees.Directive };
 
-    ghost tree = { placed directive_tree };
+    ghost tree = { placed D.tree };
 
     ghost first = { punct "@" };
 
-    ghost reader = { λ limits. directive_at true limits.values };
+    ghost reader = { λ limits. directive_at V.VARIABLES limits.values };
 
     const ROOM: usize = 1;
 
@@ -129,13 +136,12 @@ impl Production for DirectivePhrase {
     }
 
     #[inline(never)]
-    fn read(parser: &mut Parser, limits: Limits) -> Reading<Positioned<Directive>> {
-        let DirectiveOf {
-            pos,
-            name,
-            arguments,
-        } = read_directive_of::<Value>(parser, limits)?;
-        Ok(Positioned::new(Directive { name, arguments }, pos))
+    fn read(parser: &mut Parser, limits: Limits) -> Reading<Positioned<D>> {
+        let sign = parser.expect_punct("@")?;
+        let token = parser.expect_name()?;
+        let name = name_in(parser, token)?;
+        let arguments = read_maybe_arguments::<V>(parser, limits)?;
+        Ok(Positioned::new(D::new(name, arguments), sign.pos))
     }
 }
 
@@ -147,38 +153,7 @@ pub fn read_directives(parser: &mut Parser, limits: Limits) -> Reading<Vec<Posit
     ensures { Gives (trees_in (placed directive_tree)) result parser.old parser.new
         (directives_at true limits.values) }
 {
-    any_number::<DirectivePhrase>(parser, limits)
-}
-
-/// `Directive : '@' Name Arguments?`, without variables.
-struct ConstDirectivePhrase;
-
-impl Production for ConstDirectivePhrase {
-    type Node = Positioned<ConstDirective>;
-
-    ghost Tree = { Positioned trees.Directive };
-
-    ghost tree = { placed const_directive_tree };
-
-    ghost first = { punct "@" };
-
-    ghost reader = { λ limits. directive_at false limits.values };
-
-    const ROOM: usize = 1;
-
-    #[inline(always)]
-    fn is_next(parser: &Parser) -> bool {
-        parser.is_at_punct("@")
-    }
-
-    fn read(parser: &mut Parser, limits: Limits) -> Reading<Positioned<ConstDirective>> {
-        let DirectiveOf {
-            pos,
-            name,
-            arguments,
-        } = read_directive_of::<ConstValue>(parser, limits)?;
-        Ok(Positioned::new(ConstDirective { name, arguments }, pos))
-    }
+    any_number::<DirectivePhrase<Directive, Value>>(parser, limits)
 }
 
 /// As [`read_directives`], without variables.
@@ -189,40 +164,13 @@ pub fn read_const_directives(
     ensures { Gives (trees_in (placed const_directive_tree)) result parser.old parser.new
         (directives_at false limits.values) }
 {
-    any_number::<ConstDirectivePhrase>(parser, limits)
-}
-
-/// `DefaultValue : '=' Value[Const]`.
-struct DefaultPhrase;
-
-impl Production for DefaultPhrase {
-    type Node = Positioned<ConstValue>;
-
-    ghost Tree = { Positioned Tree };
-
-    ghost tree = { placed const_tree };
-
-    ghost first = { punct "=" };
-
-    ghost reader = { λ limits. default_at limits.values };
-
-    const ROOM: usize = 1;
-
-    #[inline(always)]
-    fn is_next(parser: &Parser) -> bool {
-        parser.is_at_punct("=")
-    }
-
-    #[inline(always)]
-    fn read(parser: &mut Parser, limits: Limits) -> Reading<Positioned<ConstValue>> {
-        parser.expect_punct("=")?;
-        read_value(parser, limits)
-    }
+    any_number::<DirectivePhrase<ConstDirective, ConstValue>>(parser, limits)
 }
 
 /// Reads a default value after its `=`, where a `=` is in hand.
 ///
 /// `DefaultValue? : ('=' Value[Const])?` (GraphQL October 2021, section 2.10)
+#[tactic(auto, unfolding(graphql_reading::specs::reading::Outcome::opt_at))]
 pub fn read_maybe_default(
     parser: &mut Parser,
     limits: Limits,
@@ -230,5 +178,8 @@ pub fn read_maybe_default(
     ensures { Gives (option_map (placed const_tree)) result parser.old parser.new
         (maybe_default_at limits.values) }
 {
-    optional::<DefaultPhrase>(parser, limits)
+    if !parser.take_punct("=") {
+        return Ok(None);
+    }
+    Ok(Some(read_value(parser, limits)?))
 }
