@@ -1,5 +1,5 @@
 //! The places that an error names, as an iterator.
-ghost use Rattle.std.specs.Prelude.{◌≡◌, ◌∷◌, [], ⊤, length, IfSome, Some};
+ghost use Rattle.std.specs.Prelude.{◌≡◌, ◌∷◌, [], ⊤, true, false, length, IfSome, Some};
 ghost use Rattle.std.specs.Iterator.{UpTo, YieldsFirst, YieldsLast, item_count};
 ghost use Rattle.std.specs.Iterator.SizeHint.{IsWithinCount};
 
@@ -59,6 +59,28 @@ impl ErrorPositions {
             left: Left::Two(first, last),
         }
     }
+
+    // Takes the last of the places that are left, or the first.
+    fn take_one(&mut self, from_back: bool) -> Option<Pos>
+        ensures first { from_back ≡ false → YieldsFirst (λ left. left) self.old result self.new }
+        ensures last { from_back ≡ true → YieldsLast (λ left. left) self.old result self.new }
+    {
+        match self.left {
+            Left::Two(first, last) if from_back => {
+                self.left = Left::One(first);
+                Some(last)
+            }
+            Left::Two(first, last) => {
+                self.left = Left::One(last);
+                Some(first)
+            }
+            Left::One(only) => {
+                self.left = Left::Zero;
+                Some(only)
+            }
+            Left::Zero => None,
+        }
+    }
 }
 
 impl Clone for ErrorPositions {
@@ -79,17 +101,7 @@ impl Iterator for ErrorPositions {
     ghost remaining = { item_count (λ left. left) };
 
     fn next(&mut self) -> Option<Pos> {
-        match self.left {
-            Left::Two(first, last) => {
-                self.left = Left::One(last);
-                Some(first)
-            }
-            Left::One(only) => {
-                self.left = Left::Zero;
-                Some(only)
-            }
-            Left::Zero => None,
-        }
+        self.take_one(false)
     }
 
     fn size_hint(&self) -> (usize, Option<usize>)
@@ -106,17 +118,7 @@ impl DoubleEndedIterator for ErrorPositions {
     ghost next_back_gives = { YieldsLast (λ left. left) };
 
     fn next_back(&mut self) -> Option<Pos> {
-        match self.left {
-            Left::Two(first, last) => {
-                self.left = Left::One(first);
-                Some(last)
-            }
-            Left::One(only) => {
-                self.left = Left::Zero;
-                Some(only)
-            }
-            Left::Zero => None,
-        }
+        self.take_one(true)
     }
 }
 
