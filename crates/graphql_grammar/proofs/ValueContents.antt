@@ -1,5 +1,5 @@
 -- What the loops keep that read the contents of a list or an object, and each way on.
-use Rattle.std.proofs.Common.{◌≡◌, ℕ, ◌<◌, ◌≤◌, Bool, true, false, List, Option, Some, None, Ok, Err, length, refl, sym, ap, ◌∙◌, arith}
+use Rattle.std.proofs.Common.{◌≡◌, ℕ, ◌<◌, ◌≤◌, Bool, true, false, List, [], ◌∷◌, ◌++◌, Option, Some, None, Ok, Err, length, refl, sym, ap, ◌∙◌, arith}
 use Rattle.graphql_tokens.specs.tokens.Token.{Token}
 use Rattle.graphql_syntax.specs.trees.ValueTree.{Tree}
 use Rattle.graphql_reading.specs.declared.parser.Refusal.{Refusal}
@@ -111,11 +111,12 @@ module _ {A : Type 0} {r : List A → Reader Tree} {vars : Bool} {b : ℕ} {w : 
         let less : length (tokens next) < length (tokens mid) = takes-node vars b (tokens mid) t (tokens next) (simply ∙ e) in
         omega (arith, less, wants.within)
 
-    pub adds : (t : Tree) (next : Ahead) (more : List A) → node_at (simple_at vars) (tokens alone) ≡ Read t (tokens next) → GoesOn alone next → open_rest vars b (add w t) (tokens next) ≡ r more (tokens next) → HeldSoFar r initial next before more
-    adds t next more e on same =
+    -- what stands for it goes last of what is held
+    pub adds : (t : Tree) (last : A) (next : Ahead) (more : List A) → node_at (simple_at vars) (tokens alone) ≡ Read t (tokens next) → GoesOn alone next → open_rest vars b (add w t) (tokens next) ≡ r (held ++ last ∷ []) (tokens next) → more ≡ held ++ last ∷ [] → HeldSoFar r initial next before more
+    adds t last next more e on same pushed =
         let less : length (tokens next) < length (tokens now) = falls t next e in
         record {
-          told = k.told ∙ wants.told ∙ ap (filled vars b w) (simply ∙ e) ∙ same;
+          told = k.told ∙ wants.told ∙ ap (filled vars b w) (simply ∙ e) ∙ same ∙ ap (λ (l : List A). r l (tokens next)) (sym pushed);
           within = omega (arith, less, k.within);
           on = go-on initial alone next (go-on initial mid alone (go-on initial now mid k.on wants.on) a.on) on;
         }

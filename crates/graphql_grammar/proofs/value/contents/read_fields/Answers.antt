@@ -1,9 +1,7 @@
-use Rattle.std.proofs.Common.{◌≡◌, ℕ, List, rules, map, option_map, ◌∷◌, ◌++◌, [], sym, ap, ◌∙◌}
+use Rattle.std.proofs.Common.{◌≡◌, ℕ, List, rules, map, option_map, ◌∷◌, ◌++◌, [], refl, ap, ◌∙◌}
 use Rattle.std.proofs.lemmas.List.{map_push}
 use Rattle.std.proofs.lemmas.Result.{err_from_is_err_and}
-use Rattle.graphql_syntax.specs.trees.ValueTree.{Tree}
-use Rattle.graphql_reading.specs.reading.Ahead.{tokens}
-use Rattle.graphql_grammar.specs.reading.OpenValues.{node_at, Field, field_tree, opened, object_rest}
+use Rattle.graphql_grammar.specs.reading.OpenValues.{node_at, field_tree, opened}
 use Rattle.graphql_grammar.specs.reading.Values.{simple_at}
 use Rattle.graphql_reading.proofs.Loops.{given-stays}
 use Rattle.graphql_grammar.proofs.ValueContents.{wants-field, ends-object, stops-field, meets-inside, stops-inside, stops-alone, falls, adds}
@@ -39,17 +37,14 @@ returns-in_err-value g c =
 pub loop-name-preserved : goal.loop-name-preserved
 loop-name-preserved g c =
     let tree = g.V.Literal.tree in
-    let vars = g.V.Literal.VARIABLES in
     let held = c.loop-name.fields.items in
     let key = rw c.in-Some.is at c.in_ok-name.ensures in
-    let wants = wants-field vars c.args.left (map (field_tree tree) held) c.loop-name.parser c.read_key.new.parser c.in-Some.name key in
+    let wants = wants-field g.V.Literal.VARIABLES c.args.left (map (field_tree tree) held) c.loop-name.parser c.read_key.new.parser c.in-Some.name key in
     let none = rw c.in_default-2.is at c.in_ok-inner.ensures in
-    let moved = given-stays g.V.Literal.tree _ c.enter.new.parser c.read_simple.new.parser c.push.new.self (node_at (simple_at g.V.Literal.VARIABLES)) c.in_ok-value.ensures c.push.ensures.stays in
-    let t : Tree = tree c.in_ok-value.value in
+    let moved = given-stays tree _ c.enter.new.parser c.read_simple.new.parser c.push.new.self (node_at (simple_at g.V.Literal.VARIABLES)) c.in_ok-value.ensures c.push.ensures.stays in
     let pair : List ℕ × g.row.V.Denot = (c.in-Some.name, c.in_ok-value.value) in
     let items : c.push.new.list.items ≡ held ++ pair ∷ [] = search rules in
-    let pushed : map (field_tree tree) c.push.new.list.items ≡ map (field_tree tree) held ++ (c.in-Some.name, t) ∷ [] = ap (map (field_tree tree)) items ∙ map_push (field_tree tree) held (c.in-Some.name, c.in_ok-value.value) in
-    adds c.loop-name.invariant wants {alone = c.enter.new.parser} record { none = none.0; on = none.1 } t c.push.new.self (map (field_tree tree) c.push.new.list.items) moved.0 moved.1 (ap (λ (l : List Field). object_rest vars c.args.left l (tokens c.push.new.self)) (sym pushed))
+    adds c.loop-name.invariant wants {alone = c.enter.new.parser} record { none = none.0; on = none.1 } (tree c.in_ok-value.value) (field_tree tree pair) c.push.new.self (map (field_tree tree) c.push.new.list.items) moved.0 moved.1 refl (ap (map (field_tree tree)) items ∙ map_push (field_tree tree) held pair)
 
 pub loop-name-smaller : goal.loop-name-smaller
 loop-name-smaller g c =

@@ -1,9 +1,8 @@
-use Rattle.std.proofs.Common.{◌≡◌, List, map, option_map, ◌∷◌, ◌++◌, [], sym, ap, ◌∙◌}
+use Rattle.std.proofs.Common.{map, option_map, refl, ap, ◌∙◌}
 use Rattle.std.proofs.lemmas.List.{map_push}
 use Rattle.std.proofs.lemmas.Result.{err_from_is_err_and}
 use Rattle.graphql_syntax.specs.trees.ValueTree.{Tree}
-use Rattle.graphql_reading.specs.reading.Ahead.{tokens}
-use Rattle.graphql_grammar.specs.reading.OpenValues.{node_at, opened, list_rest}
+use Rattle.graphql_grammar.specs.reading.OpenValues.{node_at, opened}
 use Rattle.graphql_grammar.specs.reading.Values.{simple_at}
 use Rattle.graphql_reading.proofs.Loops.{given-stays}
 use Rattle.graphql_grammar.proofs.ValueContents.{wants-item, ends-list, meets-inside, stops-inside, stops-alone, falls, adds}
@@ -31,14 +30,12 @@ returns-in_err-item g c =
 pub loop-parser-preserved : goal.loop-parser-preserved
 loop-parser-preserved g c =
     let tree = g.V.Literal.tree in
-    let vars = g.V.Literal.VARIABLES in
     let held = c.loop-parser.items.items in
-    let wants = wants-item vars c.args.left (map tree held) c.loop-parser.parser c.take_punct.new.self c.loop-parser-test.ensures in
+    let wants = wants-item g.V.Literal.VARIABLES c.args.left (map tree held) c.loop-parser.parser c.take_punct.new.self c.loop-parser-test.ensures in
     let none = rw c.in_default.is at c.in_ok-inner.ensures in
-    let moved = given-stays g.V.Literal.tree _ c.enter.new.parser c.read_simple.new.parser c.push.new.self (node_at (simple_at g.V.Literal.VARIABLES)) c.in_ok-item.ensures c.push.ensures.stays in
+    let moved = given-stays tree _ c.enter.new.parser c.read_simple.new.parser c.push.new.self (node_at (simple_at g.V.Literal.VARIABLES)) c.in_ok-item.ensures c.push.ensures.stays in
     let t : Tree = tree c.in_ok-item.item in
-    let pushed : map tree c.push.new.list.items ≡ map tree held ++ t ∷ [] = ap (map tree) c.in_ok-push.ensures.items ∙ map_push tree held c.in_ok-item.item in
-    adds c.loop-parser.invariant wants {alone = c.enter.new.parser} record { none = none.0; on = none.1 } t c.push.new.self (map tree c.push.new.list.items) moved.0 moved.1 (ap (λ (l : List Tree). list_rest vars c.args.left l (tokens c.push.new.self)) (sym pushed))
+    adds c.loop-parser.invariant wants {alone = c.enter.new.parser} record { none = none.0; on = none.1 } t t c.push.new.self (map tree c.push.new.list.items) moved.0 moved.1 refl (ap (map tree) c.in_ok-push.ensures.items ∙ map_push tree held c.in_ok-item.item)
 
 pub loop-parser-smaller : goal.loop-parser-smaller
 loop-parser-smaller g c =
