@@ -128,8 +128,6 @@ impl<D: DirectiveNode<V>, V: Literal> Production for DirectivePhrase<D, V> {
 
     ghost reader = { λ limits. directive_at V.VARIABLES limits.values };
 
-    const ROOM: usize = 1;
-
     #[inline(always)]
     fn is_next(parser: &Parser) -> bool {
         parser.is_at_punct("@")

@@ -29,9 +29,9 @@ pub trait Production {
     // How a phrase is read from a list of tokens, within limits.
     ghost reader: { Budgets → Reader Self.Tree };
 
-    /// How many phrases a list of them begins with room for: as many as mostly stand in one. A longer list grows. More
-    /// than eight count as eight.
-    const ROOM: usize;
+    /// How many phrases a list of them begins with room for: as many as mostly stand in one, or one where that
+    /// isn't said. A longer list grows. More than eight count as eight.
+    const ROOM: usize = 1;
 
     /// Whether the token in hand begins a phrase.
     fn is_next(parser: &Parser) -> bool
