@@ -1,9 +1,9 @@
 //! Strings and block strings, after their opening quotes.
 
-ghost use Rattle.std.specs.Prelude.{◌≡◌, ◌≤◌, [], MatchOption, length};
+ghost use Rattle.std.specs.Prelude.{◌≡◌, ◌≤◌, length};
 ghost use Rattle.graphql_tokens.specs.inner.Quoted.{past_string, past_block, IsRunOfQuotes};
 ghost use Rattle.graphql_tokens.specs.inner.Running.{ahead};
-ghost use Rattle.graphql_tokens.specs.inner.Lexing.{RunsOver, IsFirstByte, Reads};
+ghost use Rattle.graphql_tokens.specs.inner.Lexing.{RunsOver, Reads};
 
 use super::class::{is_plain, is_plain_ascii};
 use super::reading::{pass_char, pass_class, pass_many, peek};
@@ -11,24 +11,17 @@ use crate::pos::running::RunningPlace;
 use crate::text::escape::escape_at;
 use crate::text::runs::PlainAscii;
 
-// Passes the plain ASCII characters that follow, and gives the first byte after them, where the text goes on.
+// Passes the plain ASCII characters that follow.
 #[inline(always)]
-fn pass_plain_ascii(bytes: &[u8], places: &mut RunningPlace) -> Option<u8>
+fn pass_plain_ascii(bytes: &[u8], places: &mut RunningPlace)
     requires { RunsOver bytes.now places.old }
     ensures runs { RunsOver bytes.now places.new }
-    ensures next { MatchOption result (ahead places.new ≡ []) (λ b. IsFirstByte b (ahead places.new)) }
     ensures string { past_string (ahead places.new) ≡ past_string (ahead places.old) }
     ensures block { past_block (ahead places.new) ≡ past_block (ahead places.old) }
     ensures no_more { length (ahead places.new) ≤ length (ahead places.old) }
     ensures forward { places.old.walk.offset ≤ places.new.walk.offset }
 {
-    let b = peek(bytes, places)?;
-    if !is_plain_ascii(b) {
-        return Some(b);
-    }
-    places.pass_ascii();
     pass_class::<PlainAscii>(bytes, places);
-    peek(bytes, places)
 }
 
 // Passes the content of a string and its closing quote, and tells whether both were there. No line end stands in it.
@@ -37,8 +30,11 @@ pub fn pass_string(bytes: &[u8], places: &mut RunningPlace) -> bool
     requires { RunsOver bytes.now places.old }
     ensures { Reads past_string bytes.now places.old result places.new }
 {
-    while let Some(b) = pass_plain_ascii(bytes, places) {
-        if is_plain(b) {
+    while let Some(b) = peek(bytes, places) {
+        if is_plain_ascii(b) {
+            places.pass_ascii();
+            pass_plain_ascii(bytes, places);
+        } else if is_plain(b) {
             places.pass_first(b);
         } else if b == b'"' {
             places.pass_ascii();
@@ -80,8 +76,11 @@ pub fn pass_block(bytes: &[u8], places: &mut RunningPlace) -> bool
     requires { RunsOver bytes.now places.old }
     ensures { Reads past_block bytes.now places.old result places.new }
 {
-    while let Some(b) = pass_plain_ascii(bytes, places) {
-        if b == b'"' {
+    while let Some(b) = peek(bytes, places) {
+        if is_plain_ascii(b) {
+            places.pass_ascii();
+            pass_plain_ascii(bytes, places);
+        } else if b == b'"' {
             if pass_quotes(bytes, places) == 3 {
                 return true;
             }

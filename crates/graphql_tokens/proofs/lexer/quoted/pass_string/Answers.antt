@@ -3,65 +3,66 @@ use Rattle.graphql_tokens.specs.calls.Escapes.{escape_at}
 use Rattle.graphql_tokens.specs.inner.Quoted.{past_string}
 use Rattle.graphql_tokens.specs.inner.Running.{ahead}
 use Rattle.graphql_tokens.proofs.StringTokens.{string_end, escape_within}
-use Rattle.graphql_tokens.proofs.QuotedAhead.{escape_ahead, plain_ahead, quote_ahead, stuck_ahead, escaped_ahead, escape_shortens}
+use Rattle.graphql_tokens.proofs.QuotedAhead.{escape_ahead, plain_ahead, ascii_in_string, quote_ahead, stuck_ahead, escaped_ahead, escape_shortens}
 use Rattle.graphql_tokens.proofs.lexer.quoted.pass_string.Goals as goal
+
+pub loop-b-preserved-then-is_plain_ascii : goal.loop-b-preserved-then-is_plain_ascii
+loop-b-preserved-then-is_plain_ascii c =
+    let first = c.pass_ascii.ensures.passed in
+    let same = sym (ascii_in_string c.in-Some.b first.0 _ _ c.in-Some.ensures first.1 (sym c.is_plain_ascii.ensures ∙ c.if-is_plain_ascii.true)) ∙ c.loop-b.invariant.same in
+    record { runs = c.pass_plain_ascii.ensures.runs; same = c.pass_plain_ascii.ensures.string ∙ same; forward = omega arith }
 
 pub loop-b-preserved-then-is_plain : goal.loop-b-preserved-then-is_plain
 loop-b-preserved-then-is_plain c =
-    let plain = c.pass_plain_ascii.ensures in
     let e = c.pass_first.ensures in
     record {
-      runs = record { running = e.running; same = e.same ∙ plain.runs.same };
-      same = sym (plain_ahead c.in-Some.b c.pass_first.result _ _ c.in-Some.ensures.next e.passed (sym c.is_plain.ensures ∙ c.if-is_plain.true)) ∙ plain.string ∙ c.loop-b.invariant.same;
+      runs = record { running = e.running; same = e.same ∙ c.loop-b.invariant.runs.same };
+      same = sym (plain_ahead c.in-Some.b c.pass_first.result _ _ c.in-Some.ensures e.passed (sym c.is_plain.ensures ∙ c.if-is_plain.true)) ∙ c.loop-b.invariant.same;
       forward = omega arith;
     }
 
 pub returns-then-b-eq34 : goal.returns-then-b-eq34
 returns-then-b-eq34 c =
-    let plain = c.pass_plain_ascii.ensures in
-    let e = c.pass_ascii.ensures in
+    let e = c.pass_ascii-then-b-eq34.ensures in
     record {
-      runs = record { running = e.running; same = e.same ∙ plain.runs.same };
-      rest = sym (plain.string ∙ c.loop-b.invariant.same) ∙ quote_ahead c.in-Some.b e.passed.0 _ _ c.in-Some.ensures.next e.passed.1 c.if-b-eq34.true;
+      runs = record { running = e.running; same = e.same ∙ c.loop-b.invariant.runs.same };
+      rest = sym c.loop-b.invariant.same ∙ quote_ahead c.in-Some.b e.passed.0 _ _ c.in-Some.ensures e.passed.1 c.if-b-eq34.true;
       forward = omega arith;
     }
 
 pub returns-in_default-escape_at : goal.returns-in_default-escape_at
 returns-in_default-escape_at c =
-    let plain = c.pass_plain_ascii.ensures in
-    let none = sym (escape_ahead c.args.bytes.now c.pass_plain_ascii.new.places c.offset.result plain.runs c.offset.ensures) ∙ sym c.escape_at.ensures ∙ c.in_default-escape_at.is in
+    let none = sym (escape_ahead c.args.bytes.now c.loop-b.places c.offset.result c.loop-b.invariant.runs c.offset.ensures) ∙ sym c.escape_at.ensures ∙ c.in_default-escape_at.is in
     record {
-      runs = plain.runs;
-      rest = sym (plain.string ∙ c.loop-b.invariant.same) ∙ stuck_ahead c.in-Some.b _ c.in-Some.ensures.next (sym c.is_plain.ensures ∙ c.if-is_plain.false) c.if-b-eq34.false none;
+      runs = c.loop-b.invariant.runs;
+      rest = sym c.loop-b.invariant.same ∙ stuck_ahead c.in-Some.b _ c.in-Some.ensures (sym c.is_plain.ensures ∙ c.if-is_plain.false) c.if-b-eq34.false none;
       forward = omega arith;
     }
 
 -- the escape, among the characters
-read : (c : goal.After-pass_many-arg-1) → escape_at (ahead c.pass_plain_ascii.new.places) ≡ Some (c.in-Some-escape_at.field-0-0, c.in-Some-escape_at.len)
-read c = sym (escape_ahead c.args.bytes.now c.pass_plain_ascii.new.places c.offset.result c.pass_plain_ascii.ensures.runs c.offset.ensures) ∙ sym c.escape_at.ensures ∙ c.in-Some-escape_at.is
+read : (c : goal.After-pass_many-arg-1) → escape_at (ahead c.loop-b.places) ≡ Some (c.in-Some-escape_at.field-0-0, c.in-Some-escape_at.len)
+read c = sym (escape_ahead c.args.bytes.now c.loop-b.places c.offset.result c.loop-b.invariant.runs c.offset.ensures) ∙ sym c.escape_at.ensures ∙ c.in-Some-escape_at.is
 
 pub pass_many-requires-clause-more : goal.pass_many-requires-clause-more
 pass_many-requires-clause-more c = escape_within _ c.in-Some-escape_at.field-0-0 c.in-Some-escape_at.len (read c)
 
-read_on : (c : goal.After-pass_many) → escape_at (ahead c.pass_plain_ascii.new.places) ≡ Some (c.in-Some-escape_at.field-0-0, c.in-Some-escape_at.len)
-read_on c = sym (escape_ahead c.args.bytes.now c.pass_plain_ascii.new.places c.offset.result c.pass_plain_ascii.ensures.runs c.offset.ensures) ∙ sym c.escape_at.ensures ∙ c.in-Some-escape_at.is
+read_on : (c : goal.After-pass_many) → escape_at (ahead c.loop-b.places) ≡ Some (c.in-Some-escape_at.field-0-0, c.in-Some-escape_at.len)
+read_on c = sym (escape_ahead c.args.bytes.now c.loop-b.places c.offset.result c.loop-b.invariant.runs c.offset.ensures) ∙ sym c.escape_at.ensures ∙ c.in-Some-escape_at.is
 
 pub loop-b-smaller : goal.loop-b-smaller
 loop-b-smaller c =
-    omega (arith, ap length c.pass_many.ensures.rest, escape_shortens (ahead c.pass_plain_ascii.new.places) c.in-Some-escape_at.field-0-0 c.in-Some-escape_at.len (read_on c))
+    omega (arith, ap length c.pass_many.ensures.rest, escape_shortens (ahead c.loop-b.places) c.in-Some-escape_at.field-0-0 c.in-Some-escape_at.len (read_on c))
 
 pub loop-b-preserved : goal.loop-b-preserved
 loop-b-preserved c =
-    let plain = c.pass_plain_ascii.ensures in
     let e = c.pass_many.ensures in
-    let passed = escaped_ahead c.in-Some.b c.in-Some-escape_at.field-0-0 c.in-Some-escape_at.len _ c.in-Some.ensures.next (sym c.is_plain.ensures ∙ c.if-is_plain.false) c.if-b-eq34.false (read_on c) in
+    let passed = escaped_ahead c.in-Some.b c.in-Some-escape_at.field-0-0 c.in-Some-escape_at.len _ c.in-Some.ensures (sym c.is_plain.ensures ∙ c.if-is_plain.false) c.if-b-eq34.false (read_on c) in
     record {
-      runs = record { running = e.running; same = e.same ∙ plain.runs.same };
-      same = ap past_string e.rest ∙ sym passed ∙ plain.string ∙ c.loop-b.invariant.same;
+      runs = record { running = e.running; same = e.same ∙ c.loop-b.invariant.runs.same };
+      same = ap past_string e.rest ∙ sym passed ∙ c.loop-b.invariant.same;
       forward = omega arith;
     }
 
 pub returns : goal.returns
 returns c =
-    let plain = c.pass_plain_ascii.ensures in
-    record { runs = plain.runs; rest = sym (plain.string ∙ c.loop-b.invariant.same) ∙ string_end _ c.in_default.ensures.next; forward = omega arith }
+    record { runs = c.loop-b.invariant.runs; rest = sym c.loop-b.invariant.same ∙ string_end _ c.in_default.ensures; forward = omega arith }
