@@ -15,7 +15,7 @@ pub(crate) mod reading;
 use crate::pos::Pos;
 use crate::pos::running::RunningPlace;
 use crate::text::runs::NameChars;
-use class::{is_name_start, is_number_start, is_punct};
+use class::CharClass;
 use number::pass_number;
 use quoted::{pass_block, pass_string};
 use reading::{pass_char, pass_class, pass_dots, pass_ignored, peek};
@@ -152,7 +152,7 @@ fn pass_rare_token(bytes: &[u8], places: &mut RunningPlace, b: u8) -> TokenKind
         places.pass_ascii();
         return pass_quoted(bytes, places);
     }
-    if is_number_start(b) {
+    if CharClass::NumberStart.has(b) {
         return found(TokenKind::Number, pass_number(bytes, places));
     }
     if b == b'.' {
@@ -187,12 +187,12 @@ fn pass_token(bytes: &[u8], places: &mut RunningPlace) -> TokenKind
     let Some(b) = peek(bytes, places) else {
         return TokenKind::End;
     };
-    if is_name_start(b) {
+    if CharClass::NameStart.has(b) {
         places.pass_ascii();
         pass_class::<NameChars>(bytes, places);
         return TokenKind::Name;
     }
-    if is_punct(b) {
+    if CharClass::Punct.has(b) {
         places.pass_ascii();
         return TokenKind::Punct;
     }

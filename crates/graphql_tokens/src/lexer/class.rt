@@ -1,29 +1,31 @@
 //! Classes of bytes, by a table. A byte of a character that is no ASCII one is in no class but that of plain characters.
 
-ghost use Rattle.std.specs.Prelude.{◌≡◌, ◌||◌, ◌&&◌, ◌==◌, nat_lt, slice_index};
-ghost use Rattle.std.specs.Char.{is_ascii_digit};
-ghost use Rattle.std.specs.Str.{byte};
-ghost use Rattle.graphql_tokens.specs.tokens.Classes as classes;
-ghost use Rattle.graphql_tokens.specs.tokens.Strings as strings;
+ghost use Rattle.std.specs.Prelude.{◌≡◌, slice_index};
+ghost use Rattle.graphql_tokens.specs.inner.ByteClasses.{bit_of, has_byte};
 
-const IGNORED: u8 = 1;
-
-const NAME_START: u8 = 2;
-
-const NAME_CHAR: u8 = 4;
-
-const PUNCT: u8 = 8;
-
-const DIGIT: u8 = 16;
-
-const PLAIN: u8 = 32;
-
-const NUMBER_START: u8 = 64;
-
-const PLAIN_ASCII: u8 = 128;
+// A class of the table.
+#[derive(Clone, Copy)]
+pub enum CharClass {
+    // ASCII characters that are ignored between tokens.
+    Ignored,
+    // What a name may begin with.
+    NameStart,
+    // What a name may go on with.
+    NameChar,
+    // Punctuators of their own.
+    Punct,
+    // Decimal digits.
+    Digit,
+    // Characters that stand for themselves in a string.
+    Plain,
+    // What a number may begin with: a digit or a minus.
+    NumberStart,
+    // ASCII characters that stand for themselves in a string.
+    PlainAscii,
+}
 
 // The classes of each byte, in order.
-static CLASS: [u8; 256] = [
+static CLASSES: [u8; 256] = [
     160, 160, 160, 160, 160, 160, 160, 160, 160, 161, 1, 160, 160, 1, 160, 160, 160, 160, 160, 160,
     160, 160, 160, 160, 160, 160, 160, 160, 160, 160, 160, 160, 161, 168, 0, 160, 168, 160, 168,
     160, 168, 168, 160, 160, 161, 224, 160, 160, 244, 244, 244, 244, 244, 244, 244, 244, 244, 244,
@@ -41,72 +43,35 @@ static CLASS: [u8; 256] = [
 
 // All classes of the byte, a bit for each.
 #[inline(always)]
-fn class(b: u8) -> u8
-    ensures { result ≡ slice_index CLASS b }
+fn classes_of(b: u8) -> u8
+    ensures { result ≡ slice_index CLASSES b }
 {
-    CLASS[b as usize]
+    CLASSES[b as usize]
 }
 
-// Whether an ASCII character is ignored between tokens.
-#[inline(always)]
-pub fn is_ignored(b: u8) -> bool
-    ensures { result ≡ classes.is_ignored b }
-{
-    class(b) & IGNORED != 0
-}
+impl CharClass {
+    // Its bit in the table.
+    #[inline(always)]
+    fn bit(self) -> u8
+        ensures { result ≡ bit_of self }
+    {
+        match self {
+            CharClass::Ignored => 1,
+            CharClass::NameStart => 2,
+            CharClass::NameChar => 4,
+            CharClass::Punct => 8,
+            CharClass::Digit => 16,
+            CharClass::Plain => 32,
+            CharClass::NumberStart => 64,
+            CharClass::PlainAscii => 128,
+        }
+    }
 
-// Whether a name may begin with it.
-#[inline(always)]
-pub fn is_name_start(b: u8) -> bool
-    ensures { result ≡ classes.is_name_start b }
-{
-    class(b) & NAME_START != 0
-}
-
-// Whether a name may go on with it.
-#[inline(always)]
-pub fn is_name_char(b: u8) -> bool
-    ensures { result ≡ classes.is_name_char b }
-{
-    class(b) & NAME_CHAR != 0
-}
-
-// Whether it is a punctuator of its own.
-#[inline(always)]
-pub fn is_punct(b: u8) -> bool
-    ensures { result ≡ classes.is_punct b }
-{
-    class(b) & PUNCT != 0
-}
-
-// Whether a number may begin with it: a digit or a minus.
-#[inline(always)]
-pub fn is_number_start(b: u8) -> bool
-    ensures { result ≡ (is_ascii_digit b || b == byte "-") }
-{
-    class(b) & NUMBER_START != 0
-}
-
-// Whether it is a decimal digit.
-#[inline(always)]
-pub fn is_digit(b: u8) -> bool
-    ensures { result ≡ is_ascii_digit b }
-{
-    class(b) & DIGIT != 0
-}
-
-// Whether a character stands for itself in a string.
-#[inline(always)]
-pub fn is_plain(b: u8) -> bool
-    ensures { result ≡ strings.is_plain b }
-{
-    class(b) & PLAIN != 0
-}
-
-// Whether an ASCII character stands for itself in a string.
-#[inline(always)]
-pub fn is_plain_ascii(b: u8) -> bool
-    ensures { result ≡ (strings.is_plain b && nat_lt b 128) }
-{
-    class(b) & PLAIN_ASCII != 0
+    // Whether the byte is of this class.
+    #[inline(always)]
+    pub fn has(self, b: u8) -> bool
+        ensures { result ≡ has_byte self b }
+    {
+        classes_of(b) & self.bit() != 0
+    }
 }

@@ -7,7 +7,7 @@ ghost use Rattle.graphql_tokens.specs.inner.Numbers.{past_number, unless_forbidd
 ghost use Rattle.graphql_tokens.specs.inner.Running.{ahead};
 ghost use Rattle.graphql_tokens.specs.inner.Lexing.{RunsOver, Reads, rest_if};
 
-use super::class::{is_digit, is_name_char};
+use super::class::CharClass;
 use super::reading::{pass_char, pass_class, peek};
 use crate::pos::running::RunningPlace;
 use crate::text::runs::Digits;
@@ -21,7 +21,7 @@ fn pass_some_digits(bytes: &[u8], places: &mut RunningPlace) -> bool
     let Some(b) = peek(bytes, places) else {
         return false;
     };
-    if !is_digit(b) {
+    if !CharClass::Digit.has(b) {
         return false;
     }
     places.pass_ascii();
@@ -84,7 +84,7 @@ fn may_end(bytes: &[u8], places: &RunningPlace) -> bool
     let Some(b) = peek(bytes, places) else {
         return true;
     };
-    !(is_name_char(b) || b == b'.')
+    !(CharClass::NameChar.has(b) || b == b'.')
 }
 
 // Passes an `IntValue` or a `FloatValue`, `'-'? ('0' | NonZeroDigit Digit*) FractionalPart? ExponentPart?` (GraphQL

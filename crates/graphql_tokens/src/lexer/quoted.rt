@@ -5,7 +5,7 @@ ghost use Rattle.graphql_tokens.specs.inner.Quoted.{past_string, past_block, IsR
 ghost use Rattle.graphql_tokens.specs.inner.Running.{ahead};
 ghost use Rattle.graphql_tokens.specs.inner.Lexing.{RunsOver, Reads};
 
-use super::class::{is_plain, is_plain_ascii};
+use super::class::CharClass;
 use super::reading::{pass_char, pass_class, pass_many, peek};
 use crate::pos::running::RunningPlace;
 use crate::text::escape::escape_at;
@@ -31,10 +31,10 @@ pub fn pass_string(bytes: &[u8], places: &mut RunningPlace) -> bool
     ensures { Reads past_string bytes.now places.old result places.new }
 {
     while let Some(b) = peek(bytes, places) {
-        if is_plain_ascii(b) {
+        if CharClass::PlainAscii.has(b) {
             places.pass_ascii();
             pass_plain_ascii(bytes, places);
-        } else if is_plain(b) {
+        } else if CharClass::Plain.has(b) {
             places.pass_first(b);
         } else if b == b'"' {
             places.pass_ascii();
@@ -77,7 +77,7 @@ pub fn pass_block(bytes: &[u8], places: &mut RunningPlace) -> bool
     ensures { Reads past_block bytes.now places.old result places.new }
 {
     while let Some(b) = peek(bytes, places) {
-        if is_plain_ascii(b) {
+        if CharClass::PlainAscii.has(b) {
             places.pass_ascii();
             pass_plain_ascii(bytes, places);
         } else if b == b'"' {

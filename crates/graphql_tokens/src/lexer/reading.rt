@@ -7,7 +7,7 @@ ghost use Rattle.graphql_tokens.specs.inner.Reading.{skip, past_line, past_char,
 ghost use Rattle.graphql_tokens.specs.inner.Running.{ahead, IsRunning};
 ghost use Rattle.graphql_tokens.specs.inner.Lexing.{RunsOver, IsFirstByte, Reads, rest_if};
 
-use super::class::is_ignored;
+use super::class::CharClass;
 use crate::pos::running::RunningPlace;
 use crate::text::runs::{ByteClass, InLine, Spaces, past_run};
 
@@ -78,7 +78,7 @@ pub fn pass_ignored(bytes: &[u8], places: &mut RunningPlace)
     while let Some(b) = peek(bytes, places) {
         if b == b' ' {
             places.pass_ascii();
-        } else if is_ignored(b) {
+        } else if CharClass::Ignored.has(b) {
             let c = places.pass_first(b);
             if c < ' ' {
                 pass_class::<Spaces>(bytes, places);

@@ -11,7 +11,7 @@ ghost use Rattle.graphql_tokens.specs.tokens.Classes as classes;
 ghost use Rattle.graphql_tokens.specs.tokens.Place.{is_in_line};
 ghost use Rattle.graphql_tokens.specs.tokens.Strings as strings;
 
-use crate::lexer::class::{is_digit, is_name_char, is_plain, is_plain_ascii};
+use crate::lexer::class::CharClass;
 use std::simd::prelude::*;
 
 // How many bytes are looked at at once.
@@ -68,7 +68,7 @@ impl ByteClass for NameChars {
 
     #[inline(always)]
     fn has(b: u8) -> bool {
-        is_name_char(b)
+        CharClass::NameChar.has(b)
     }
 
     // A letter's bit 32 tells only its case. What lies before the range that is looked for wraps around past its end.
@@ -91,7 +91,7 @@ impl ByteClass for Plain {
 
     #[inline(always)]
     fn has(b: u8) -> bool {
-        is_plain(b)
+        CharClass::Plain.has(b)
     }
 
     #[inline(always)]
@@ -112,7 +112,7 @@ impl ByteClass for PlainAscii {
 
     #[inline(always)]
     fn has(b: u8) -> bool {
-        is_plain_ascii(b)
+        CharClass::PlainAscii.has(b)
     }
 
     #[inline(always)]
@@ -171,7 +171,7 @@ impl ByteClass for Digits {
 
     #[inline(always)]
     fn has(b: u8) -> bool {
-        is_digit(b)
+        CharClass::Digit.has(b)
     }
 
     #[inline(always)]

@@ -12,10 +12,10 @@ returns-then-b-eq34 c =
     let given = c.pass_quoted.ensures in
     record { runs = given.runs; kind = ap (λ t. t.0) is ∙ given.kind; rest = λ l. ap (λ t. t.1) is ∙ given.rest l; forward = omega (arith, given.forward) }
 
-pub returns-then-is_number_start : goal.returns-then-is_number_start
-returns-then-is_number_start c =
+pub returns-then-has : goal.returns-then-has
+returns-then-has c =
     let read = c.pass_number.ensures in
-    let is = next_number c.args.b _ c.requires.first (sym c.is_number_start.ensures ∙ c.if-is_number_start.true) ∙ ap (found Number (ahead c.args.places.now)) read.rest in
+    let is = next_number c.args.b _ c.requires.first (sym c.has.ensures ∙ c.if-has.true) ∙ ap (found Number (ahead c.args.places.now)) read.rest in
     found_gives Number _ _ _ _ c.pass_number.result is c.found.ensures read.runs read.forward
 
 pub returns-then-b-eq46 : goal.returns-then-b-eq46
@@ -27,5 +27,5 @@ returns-then-b-eq46 c =
 
 pub returns : goal.returns
 returns c =
-    let is = next_none c.args.b _ c.requires.first c.requires.no_punct c.requires.no_name c.if-b-eq34.false (sym c.is_number_start.ensures ∙ c.if-is_number_start.false) c.if-b-eq46.false in
+    let is = next_none c.args.b _ c.requires.first c.requires.no_punct c.requires.no_name c.if-b-eq34.false (sym c.has.ensures ∙ c.if-has.false) c.if-b-eq46.false in
     record { runs = c.requires.runs; kind = ap (λ t. t.0) is; rest = λ l. absurd (cc); forward = omega arith }

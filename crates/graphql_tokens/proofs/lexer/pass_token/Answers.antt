@@ -9,15 +9,15 @@ pass_class-requires-clause-within c = name_inner
 pub returns-in_default : goal.returns-in_default
 returns-in_default c = record { runs = c.requires; kind = ap (λ t. t.0) (next_end _ c.in_default.ensures); rest = λ l. absurd (cc); forward = omega arith }
 
-pub returns-then-is_name_start : goal.returns-then-is_name_start
-returns-then-is_name_start c =
+pub returns-then-has : goal.returns-then-has
+returns-then-has c =
     let p = c.pass_ascii.ensures.passed in
-    let is = next_name c.in-Some.b p.0 _ _ c.in-Some.ensures p.1 (sym c.is_name_start.ensures ∙ c.if-is_name_start.true) in
+    let is = next_name c.in-Some.b p.0 _ _ c.in-Some.ensures p.1 (sym c.has.ensures ∙ c.if-has.true) in
     let more = c.pass_class.ensures in
     record { runs = more.runs; kind = ap (λ t. t.0) is; rest = λ l. ap (λ t. t.1) is ∙ sym more.rest; forward = omega arith }
 
-pub returns-then-is_punct : goal.returns-then-is_punct
-returns-then-is_punct c =
-    let e = c.pass_ascii-then-is_punct.ensures in
-    let is = next_punct c.in-Some.b e.passed.0 _ _ c.in-Some.ensures e.passed.1 (sym c.is_punct.ensures ∙ c.if-is_punct.true) in
+pub returns-then-has-2 : goal.returns-then-has-2
+returns-then-has-2 c =
+    let e = c.pass_ascii-then-has-2.ensures in
+    let is = next_punct c.in-Some.b e.passed.0 _ _ c.in-Some.ensures e.passed.1 (sym c.has-2.ensures ∙ c.if-has-2.true) in
     record { runs = record { running = e.running; same = e.same ∙ c.requires.same }; kind = ap (λ t. t.0) is; rest = λ l. ap (λ t. t.1) is; forward = omega arith }

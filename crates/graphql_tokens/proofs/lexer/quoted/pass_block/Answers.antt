@@ -6,10 +6,10 @@ use Rattle.graphql_tokens.proofs.BlockTokens.{block_end, block_other, block_few,
 use Rattle.graphql_tokens.proofs.QuotedAhead.{ascii_in_block}
 use Rattle.graphql_tokens.proofs.lexer.quoted.pass_block.Goals as goal
 
-pub loop-b-preserved-then-is_plain_ascii : goal.loop-b-preserved-then-is_plain_ascii
-loop-b-preserved-then-is_plain_ascii c =
+pub loop-b-preserved-then-has : goal.loop-b-preserved-then-has
+loop-b-preserved-then-has c =
     let first = c.pass_ascii.ensures.passed in
-    let same = sym (ascii_in_block c.in-Some.b first.0 _ _ c.in-Some.ensures first.1 (sym c.is_plain_ascii.ensures ∙ c.if-is_plain_ascii.true)) ∙ c.loop-b.invariant.same in
+    let same = sym (ascii_in_block c.in-Some.b first.0 _ _ c.in-Some.ensures first.1 (sym c.has.ensures ∙ c.if-has.true)) ∙ c.loop-b.invariant.same in
     record { runs = c.pass_plain_ascii.ensures.runs; same = c.pass_plain_ascii.ensures.block ∙ same; forward = omega arith }
 
 pub returns-then-pass_quotes-eq3 : goal.returns-then-pass_quotes-eq3

@@ -23,7 +23,7 @@ loop-b-preserved-then-c-lt32 c =
     let spaces = c.pass_class.ensures in
     record {
       runs = spaces.runs;
-      same = ap skip spaces.rest ∙ space_run _ ∙ skip_blank c.in-Some.b c.pass_first-c.result _ _ c.in-Some.ensures first.passed (sym c.is_ignored.ensures ∙ c.if-is_ignored.true) ∙ v.same;
+      same = ap skip spaces.rest ∙ space_run _ ∙ skip_blank c.in-Some.b c.pass_first-c.result _ _ c.in-Some.ensures first.passed (sym c.has.ensures ∙ c.if-has.true) ∙ v.same;
       forward = omega arith;
     }
 
@@ -33,7 +33,7 @@ loop-b-preserved-else-c-lt32 c =
     let e = c.pass_first-c.ensures in
     record {
       runs = record { running = e.running; same = e.same ∙ v.runs.same };
-      same = skip_blank c.in-Some.b c.pass_first-c.result _ _ c.in-Some.ensures e.passed (sym c.is_ignored.ensures ∙ c.if-is_ignored.true) ∙ v.same;
+      same = skip_blank c.in-Some.b c.pass_first-c.result _ _ c.in-Some.ensures e.passed (sym c.has.ensures ∙ c.if-has.true) ∙ v.same;
       forward = omega arith;
     }
 
@@ -62,7 +62,7 @@ loop-b-preserved c =
 
 pub returns-then-b-lt128-clause-rest : goal.returns-then-b-lt128-clause-rest
 returns-then-b-lt128-clause-rest c =
-    skip_other c.in-Some.b _ c.in-Some.ensures c.if-b-lt128.true (sym c.is_ignored.ensures ∙ c.if-is_ignored.false) c.if-b-eq35.false ∙ c.loop-b.invariant.same
+    skip_other c.in-Some.b _ c.in-Some.ensures c.if-b-lt128.true (sym c.has.ensures ∙ c.if-has.false) c.if-b-eq35.false ∙ c.loop-b.invariant.same
 
 pub returns-then-pass-ne65279-clause-rest : goal.returns-then-pass-ne65279-clause-rest
 returns-then-pass-ne65279-clause-rest c =
