@@ -5,17 +5,18 @@ use Rattle.graphql_request_trees.specs.calls.Operations.{NamedOperation, operati
 use Rattle.graphql_request_trees.specs.declared.executable.DocumentOperations.{DocumentOperations}
 use Rattle.graphql_request_trees.specs.declared.executable.DocumentOperations.TheVariants.{Single, Multiple}
 use Rattle.graphql_request_trees.specs.declared.executable.Field.{Field, out-Field, roll-Field, fold-roll-Field, fold_out-Field}
+use Rattle.graphql_request_trees.specs.declared.executable.FragmentSpread.{FragmentSpread}
 use Rattle.graphql_request_trees.specs.declared.executable.InlineFragment.{InlineFragment, out-InlineFragment, roll-InlineFragment, fold-roll-InlineFragment, fold_out-InlineFragment}
 use Rattle.graphql_request_trees.specs.declared.executable.OperationDefinition.{OperationDefinition}
 use Rattle.graphql_request_trees.specs.declared.executable.Selection.{Selection, fold-roll-Selection}
 use Rattle.graphql_request_trees.specs.declared.executable.Selection.TheOpen.{Selection-F, Field-F, InlineFragment-F, SelectionSet-F}
 use Rattle.graphql_request_trees.specs.declared.executable.Selection.TheVariants as selections
-use Rattle.graphql_request_trees.specs.declared.executable.Selection.TheViews.{rolls-Field, rolls-InlineFragment}
+use Rattle.graphql_request_trees.specs.declared.executable.Selection.TheViews.{rolls-Field, rolls-FragmentSpread, rolls-InlineFragment}
 use Rattle.graphql_request_trees.specs.declared.executable.SelectionSet.{SelectionSet, out-SelectionSet, roll-SelectionSet, fold-roll-SelectionSet, fold_out-SelectionSet}
 use Rattle.graphql_request_trees.specs.trees.Request as request
 use Rattle.graphql_syntax.specs.trees.Parts.{Name, placed}
 use Rattle.graphql_syntax.specs.trees.PartViews.{arguments_tree, directives_tree}
-use Rattle.graphql_request_trees.specs.trees.RequestViews.{selection_step, field_step, inline_fragment_step, selection_set_step, selection_tree, field_tree, inline_fragment_tree, selection_set_tree, selection_trees, type_condition_tree, entry_tree, operation_tree, operations_tree}
+use Rattle.graphql_request_trees.specs.trees.RequestViews.{selection_step, field_step, inline_fragment_step, selection_set_step, selection_tree, field_tree, inline_fragment_tree, selection_set_tree, selection_trees, type_condition_tree, fragment_spread_tree, entry_tree, operation_tree, operations_tree}
 
 -- ---- a set: that of its items
 
@@ -36,6 +37,10 @@ tree_of_field f = ap selection_tree (sym (rolls-Field f)) ∙ fold-roll-Selectio
 pub tree_of_inline_fragment : (i : Positioned InlineFragment) →
     selection_tree (selections.InlineFragment i) ≡ request.of_inline_fragment (placed inline_fragment_tree i)
 tree_of_inline_fragment i = ap selection_tree (sym (rolls-InlineFragment i)) ∙ fold-roll-Selection request.Selection request.Field request.InlineFragment request.SelectionSet selection_step field_step inline_fragment_step selection_set_step (Selection-F.InlineFragment i)
+
+pub tree_of_spread : (s : Positioned FragmentSpread) →
+    selection_tree (selections.FragmentSpread s) ≡ request.fragment_spread (placed fragment_spread_tree s)
+tree_of_spread s = ap selection_tree (sym (rolls-FragmentSpread s)) ∙ fold-roll-Selection request.Selection request.Field request.InlineFragment request.SelectionSet selection_step field_step inline_fragment_step selection_set_step (Selection-F.FragmentSpread s)
 
 -- ---- a field, an inline fragment: that of its parts
 

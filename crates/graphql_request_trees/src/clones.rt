@@ -1,29 +1,16 @@
 //! `clone` of a request and of its parts: the same tree, places included.
 //!
-//! It is written out, so that its contract can say so.
+//! It is written out where the tree has cases or holds itself, and for the whole request, so that the contract can say
+//! so. A derived clone says that each part is a clone, so that the tree is the same (`proofs/SameTrees.antt`).
 ghost use Rattle.std.specs.Prelude.{◌≡◌};
-ghost use Rattle.graphql_request_trees.specs.trees.RequestViews.{document_tree, field_tree, fragment_spread_tree, fragment_tree, inline_fragment_tree, operation_tree, operations_tree, selection_set_tree, selection_tree, type_condition_tree, variable_definition_tree};
+ghost use Rattle.graphql_request_trees.specs.trees.RequestViews.{document_tree, field_tree, inline_fragment_tree, operations_tree, selection_set_tree, selection_tree, type_condition_tree};
 
 use crate::executable::{
-    DocumentOperations, ExecutableDocument, Field, FragmentDefinition, FragmentSpread,
-    InlineFragment, OperationDefinition, Selection, SelectionSet, TypeCondition,
-    VariableDefinition,
+    DocumentOperations, ExecutableDocument, Field, InlineFragment, Selection, SelectionSet,
+    TypeCondition,
 };
 use graphql_syntax::pos::Positioned;
 use std::alloc::AllocError;
-
-impl Clone for VariableDefinition {
-    ghost is_clone = { λ variable clone. variable_definition_tree clone ≡ variable_definition_tree variable };
-
-    fn clone(&self) -> Result<VariableDefinition, AllocError> {
-        Ok(VariableDefinition {
-            name: self.name.clone()?,
-            var_type: self.var_type.clone()?,
-            directives: self.directives.clone()?,
-            default_value: self.default_value.clone()?,
-        })
-    }
-}
 
 impl Clone for TypeCondition {
     ghost is_clone = { λ condition clone. type_condition_tree clone ≡ type_condition_tree condition };
@@ -31,17 +18,6 @@ impl Clone for TypeCondition {
     fn clone(&self) -> Result<TypeCondition, AllocError> {
         Ok(TypeCondition {
             on: self.on.clone()?,
-        })
-    }
-}
-
-impl Clone for FragmentSpread {
-    ghost is_clone = { λ spread clone. fragment_spread_tree clone ≡ fragment_spread_tree spread };
-
-    fn clone(&self) -> Result<FragmentSpread, AllocError> {
-        Ok(FragmentSpread {
-            fragment_name: self.fragment_name.clone()?,
-            directives: self.directives.clone()?,
         })
     }
 }
@@ -115,34 +91,10 @@ impl Clone for InlineFragment {
     }
 }
 
-impl Clone for OperationDefinition {
-    ghost is_clone = { λ operation clone. operation_tree clone ≡ operation_tree operation };
-
-    fn clone(&self) -> Result<OperationDefinition, AllocError> {
-        Ok(OperationDefinition {
-            ty: self.ty,
-            variable_definitions: self.variable_definitions.clone()?,
-            directives: self.directives.clone()?,
-            selection_set: self.selection_set.clone()?,
-        })
-    }
-}
-
-impl Clone for FragmentDefinition {
-    ghost is_clone = { λ fragment clone. fragment_tree clone ≡ fragment_tree fragment };
-
-    fn clone(&self) -> Result<FragmentDefinition, AllocError> {
-        Ok(FragmentDefinition {
-            type_condition: self.type_condition.clone()?,
-            directives: self.directives.clone()?,
-            selection_set: self.selection_set.clone()?,
-        })
-    }
-}
-
 impl Clone for DocumentOperations {
     ghost is_clone = { λ operations clone. operations_tree clone ≡ operations_tree operations };
 
+    #[tactic(auto, using(crate::proofs::SameTrees::same_operation, crate::proofs::SameTrees::same_operations))]
     fn clone(&self) -> Result<DocumentOperations, AllocError> {
         match self {
             DocumentOperations::Single(operation) => {
@@ -158,6 +110,7 @@ impl Clone for DocumentOperations {
 impl Clone for ExecutableDocument {
     ghost is_clone = { λ document clone. document_tree clone ≡ document_tree document };
 
+    #[tactic(auto, using(crate::proofs::SameTrees::same_fragments))]
     fn clone(&self) -> Result<ExecutableDocument, AllocError> {
         Ok(ExecutableDocument {
             operations: self.operations.clone()?,

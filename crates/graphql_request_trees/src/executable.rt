@@ -171,7 +171,7 @@ impl ExactSizeIterator for OperationsIter<'_> {
 /// An operation (section 2.3). Its name is the key that a document keeps it under.
 ///
 /// The node stands at its keyword, or at the `{` of the short form.
-#[derive(Debug, Drop)]
+#[derive(Clone, Debug, Drop)]
 pub struct OperationDefinition {
     /// The kind; `query` in the short form.
     pub ty: OperationType,
@@ -186,7 +186,7 @@ pub struct OperationDefinition {
 /// The definition of a variable (section 2.10).
 ///
 /// The node stands at its `$`.
-#[derive(Debug, Drop)]
+#[derive(Clone, Debug, Drop)]
 pub struct VariableDefinition {
     /// The name after the `$`.
     pub name: Positioned<Name>,
@@ -348,7 +348,7 @@ impl Field {
 }
 
 /// The use of a fragment by its name (section 2.8).
-#[derive(Debug, Drop)]
+#[derive(Clone, Debug, Drop)]
 pub struct FragmentSpread {
     /// The name after the `...`: not `on`.
     pub fragment_name: Positioned<Name>,
@@ -371,7 +371,7 @@ pub struct InlineFragment {
 /// A fragment (section 2.8). Its name is the key that a document keeps it under.
 ///
 /// The node stands at its `fragment`.
-#[derive(Debug, Drop)]
+#[derive(Clone, Debug, Drop)]
 pub struct FragmentDefinition {
     /// The type that it applies to.
     pub type_condition: Positioned<TypeCondition>,

@@ -8,10 +8,11 @@ use Rattle.graphql_request_trees.specs.declared.executable.Selection.TheOpen.{Fi
 use Rattle.graphql_request_trees.specs.declared.executable.SelectionSet.{SelectionSet, out-SelectionSet}
 use Rattle.graphql_request_trees.specs.trees.Request as request
 use Rattle.graphql_syntax.specs.trees.PartViews.{directive_tree}
-use Rattle.graphql_request_trees.specs.trees.RequestViews.{selection_set_tree, field_tree, inline_fragment_tree, selection_tree, selection_trees, type_condition_tree}
+use Rattle.graphql_request_trees.specs.trees.RequestViews.{selection_set_tree, field_tree, fragment_spread_tree, inline_fragment_tree, selection_tree, selection_trees, type_condition_tree}
 use Rattle.graphql_syntax.specs.trees.ValueViews.{value_tree}
 use Rattle.graphql_syntax.proofs.Clones.{same_optional_node, same_node, same_placed, same_list, same_option, same_arguments}
-use Rattle.graphql_request_trees.proofs.Requests.{set_tree_roll, set_tree_out, tree_of_field, tree_of_inline_fragment, field_tree_roll, field_tree_out, inline_fragment_tree_roll, inline_fragment_tree_out}
+use Rattle.graphql_request_trees.proofs.Requests.{set_tree_roll, set_tree_out, tree_of_field, tree_of_inline_fragment, tree_of_spread, field_tree_roll, field_tree_out, inline_fragment_tree_roll, inline_fragment_tree_out}
+use Rattle.graphql_request_trees.proofs.SameTrees.{same_spread}
 use Rattle.graphql_request_trees.proofs.clones.+clone.Goals as goal
 
 pub FieldClone::clone-returns : goal.FieldClone::clone-returns
@@ -45,6 +46,14 @@ SelectionClone::clone-returns-in_ok-node-in-InlineFragment t c =
     let made : Positioned InlineFragment = record { pos = c.in-InlineFragment.fragment.pos; node = c.in_ok-node-in-InlineFragment.node } in
     let clone = same_placed inline_fragment_tree c.in-InlineFragment.fragment made (refl, c.in_ok-node-in-InlineFragment.ensures.cases) in
     record { cases = tree_of_inline_fragment made ∙ ap request.of_inline_fragment clone ∙ sym (ap selection_tree c.in-InlineFragment.is ∙ tree_of_inline_fragment c.in-InlineFragment.fragment) }
+
+pub SelectionClone::clone-returns-in_ok-clone-in-FragmentSpread : goal.SelectionClone::clone-returns-in_ok-clone-in-FragmentSpread
+SelectionClone::clone-returns-in_ok-clone-in-FragmentSpread t c =
+    let spread = c.in-FragmentSpread.spread in
+    let made = c.in_ok-clone-in-FragmentSpread.field-0 in
+    let copied = c.in_ok-clone-in-FragmentSpread.ensures.cases in
+    let clone = same_placed fragment_spread_tree spread made (copied.0, same_spread spread.node made.node copied.1) in
+    record { cases = tree_of_spread made ∙ ap request.fragment_spread clone ∙ sym (ap selection_tree c.in-FragmentSpread.is ∙ tree_of_spread spread) }
 
 pub SelectionSetClone::clone-returns : goal.SelectionSetClone::clone-returns
 SelectionSetClone::clone-returns t c =
