@@ -43,6 +43,13 @@ module _ {A B : Type 0} (tree : A → B) (is_clone : A → A → Type 0) (same :
 
 -- ---- the parts of types
 
+same_enum_value : (x y : EnumValueDefinition) → enum_value.is_clone-value.it x y → enum_value_tree y ≡ enum_value_tree x
+same_enum_value x y clone = λ i. record {
+  description = same_option string_bytes x.description y.description clone.0 i;
+  value = same_node x.value y.value clone.1.0 i;
+  directives = same_list const_directive_tree x.directives.items y.directives.items clone.1.1.0 i;
+}
+
 same_input_value : (x y : InputValueDefinition) → input_value.is_clone-value.it x y → input_value_tree y ≡ input_value_tree x
 same_input_value x y clone = λ i. record {
   description = same_option string_bytes x.description y.description clone.0 i;
@@ -59,13 +66,6 @@ same_field x y clone = λ i. record {
   arguments = same_trees input_value_tree input_value.is_clone-value.it same_input_value x.arguments.items y.arguments.items clone.1.1.0.0 i;
   ty = same_placed type_tree x.ty y.ty clone.1.1.1.0 i;
   directives = same_list const_directive_tree x.directives.items y.directives.items clone.1.1.1.1.0 i;
-}
-
-same_enum_value : (x y : EnumValueDefinition) → enum_value.is_clone-value.it x y → enum_value_tree y ≡ enum_value_tree x
-same_enum_value x y clone = λ i. record {
-  description = same_option string_bytes x.description y.description clone.0 i;
-  value = same_node x.value y.value clone.1.0 i;
-  directives = same_list const_directive_tree x.directives.items y.directives.items clone.1.1.0 i;
 }
 
 same_fields : (xs ys : List (Positioned FieldDefinition)) → AllZip (λ x y. (y.pos ≡ x.pos) × field.is_clone-value.it x.node y.node) xs ys →
