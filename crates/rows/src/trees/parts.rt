@@ -6,9 +6,9 @@ use graphql_syntax::types::{ConstDirective, Directive};
 use graphql_syntax::value::{ConstValue, Name};
 use std::fmt;
 
-// The place of a node, and that of the node in it where it is another.
-pub fn write_places(shown: &mut Shown, outer: Pos, inner: Pos) {
-    shown.place(" ", &outer);
+// The place of a node, after what stands before it, and that of the node in it where it is another.
+pub fn write_places(shown: &mut Shown, before: &str, outer: Pos, inner: Pos) {
+    shown.place(before, &outer);
     if inner != outer {
         shown.place("/", &inner);
     }

@@ -9,6 +9,7 @@ use graphql_request_trees::{
     SelectionSet, TypeCondition, VariableDefinition,
 };
 use graphql_syntax::pos::{Pos, Positioned};
+use graphql_syntax::types::Directive;
 use std::borrow::Cow;
 
 /// The tree of a request: its operations, and then its fragments, each after its name.
@@ -26,10 +27,9 @@ pub fn write_request(shown: &mut Shown, document: &ExecutableDocument) {
     for (name, fragment) in document.fragments.iter() {
         shown.item(" ", name);
         shown.place(" (fragment ", &fragment.pos);
-        write_condition(shown, &fragment.node.type_condition);
-        write_directives(shown, &fragment.node.directives);
-        write_set(shown, &fragment.node.selection_set);
-        shown.word(")");
+        let fragment = &fragment.node;
+        write_condition(shown, &fragment.type_condition);
+        write_rest(shown, &fragment.directives, &fragment.selection_set);
     }
 }
 
@@ -51,7 +51,8 @@ pub fn write_default_value(shown: &mut Shown, variable: &VariableDefinition) {
 fn write_operation(shown: &mut Shown, operation: &Positioned<OperationDefinition>) {
     shown.item(" (", &operation.node.ty);
     shown.place(" ", &operation.pos);
-    for variable in &operation.node.variable_definitions {
+    let operation = &operation.node;
+    for variable in &operation.variable_definitions {
         shown.place(" (variable ", &variable.pos);
         write_node(shown, " ", &variable.node.name);
         write_node(shown, " ", &variable.node.var_type);
@@ -59,14 +60,24 @@ fn write_operation(shown: &mut Shown, operation: &Positioned<OperationDefinition
         write_directives(shown, &variable.node.directives);
         shown.word(")");
     }
-    write_directives(shown, &operation.node.directives);
-    write_set(shown, &operation.node.selection_set);
-    shown.word(")");
+    write_rest(shown, &operation.directives, &operation.selection_set);
 }
 
 fn write_condition(shown: &mut Shown, condition: &Positioned<TypeCondition>) {
     shown.place(" (on ", &condition.pos);
     write_node(shown, " ", &condition.node.on);
+    shown.word(")");
+}
+
+// What an operation, a fragment or a selection ends with: its directives, and what it selects.
+#[cycle(set)]
+fn write_rest(
+    shown: &mut Shown,
+    directives: &Vec<Positioned<Directive>>,
+    set: &Positioned<SelectionSet>,
+) {
+    write_directives(shown, directives);
+    write_set(shown, set);
     shown.word(")");
 }
 
@@ -82,8 +93,7 @@ fn write_set(shown: &mut Shown, set: &Positioned<SelectionSet>) {
             Selection::Field(field) => write_field(shown, item.pos, field),
             Selection::InlineFragment(fragment) => write_inline(shown, item.pos, fragment),
             Selection::FragmentSpread(spread) => {
-                shown.word(" (spread");
-                write_places(shown, item.pos, spread.pos);
+                write_places(shown, " (spread ", item.pos, spread.pos);
                 write_node(shown, " ", &spread.node.fragment_name);
                 write_directives(shown, &spread.node.directives);
                 shown.word(")");
@@ -95,26 +105,21 @@ fn write_set(shown: &mut Shown, set: &Positioned<SelectionSet>) {
 
 #[cycle(set)]
 fn write_field(shown: &mut Shown, outer: Pos, field: &Positioned<Field>) {
-    shown.word(" (field");
-    write_places(shown, outer, field.pos);
+    write_places(shown, " (field ", outer, field.pos);
     if let Some(alias) = &field.node.alias {
         write_node(shown, " alias ", alias);
     }
     write_node(shown, " ", &field.node.name);
     write_arguments(shown, &field.node.arguments);
-    write_directives(shown, &field.node.directives);
-    write_set(shown, &field.node.selection_set);
-    shown.word(")");
+    write_rest(shown, &field.node.directives, &field.node.selection_set);
 }
 
 #[cycle(set)]
 fn write_inline(shown: &mut Shown, outer: Pos, fragment: &Positioned<InlineFragment>) {
-    shown.word(" (inline");
-    write_places(shown, outer, fragment.pos);
-    if let Some(condition) = &fragment.node.type_condition {
+    write_places(shown, " (inline ", outer, fragment.pos);
+    let fragment = &fragment.node;
+    if let Some(condition) = &fragment.type_condition {
         write_condition(shown, condition);
     }
-    write_directives(shown, &fragment.node.directives);
-    write_set(shown, &fragment.node.selection_set);
-    shown.word(")");
+    write_rest(shown, &fragment.directives, &fragment.selection_set);
 }
