@@ -1,7 +1,7 @@
 //! `clone` of a request and of its parts: the same tree, places included.
 //!
-//! It is written out where the tree has cases or holds itself, and for the whole request, so that the contract can say
-//! so. A derived clone says that each part is a clone, so that the tree is the same (`proofs/SameTrees.antt`).
+//! A derived clone says that each part is a clone, so that the tree is the same (`proofs/SameTrees.antt`). Those that
+//! are written out, as that of a set of selections, which can hold sets, say it of the tree itself.
 ghost use Rattle.std.specs.Prelude.{◌≡◌};
 ghost use Rattle.graphql_request_trees.specs.trees.RequestViews.{document_tree, field_tree, inline_fragment_tree, operations_tree, selection_set_tree, selection_tree, type_condition_tree};
 
