@@ -9,7 +9,7 @@ use Rattle.graphql_reading.specs.reading.Ahead.{Ahead, tokens}
 use Rattle.graphql_reading.specs.reading.Outcome.{Reader, whole_at}
 use Rattle.graphql_reading.specs.reading.Given.{Refuses}
 use Rattle.graphql_grammar.proofs.Answering.{Goes, goes-of, reads-document, reads-refusal}
-use Rattle.graphql_grammar.proofs.Made.{IsMade, is-made, refuses-made}
+use Rattle.graphql_grammar.proofs.Made.{is-made, refuses-made}
 use Rattle.graphql_grammar.proofs.document.read_document.Given.{Over}
 use Rattle.graphql_grammar.proofs.document.read_document.Goals as goal
 
