@@ -1,7 +1,7 @@
 //! Readers of what the grammar repeats, makes optional or puts in brackets, the same for every production.
 //!
 //! The caller of a reader that repeats owes that each phrase takes a token at least: the loop ends by that.
-ghost use Rattle.std.specs.Prelude.{◌≡◌, option_map};
+ghost use Rattle.std.specs.Prelude.{◌≡◌};
 ghost use Rattle.graphql_reading.specs.grammar.Limits.{Limits as Budgets};
 ghost use Rattle.graphql_reading.specs.grammar.Relations.{given};
 ghost use Rattle.graphql_reading.specs.grammar.Tests.{Test};
@@ -94,19 +94,6 @@ pub fn any_number<P: Production>(parser: &mut Parser, limits: Limits) -> Reading
         return Ok(parser.empty_list());
     }
     one_or_more::<P>(parser, limits)
-}
-
-/// Reads a phrase where the token in hand begins one; else there is none.
-#[tactic(auto, unfolding(crate::specs::reading::Outcome::opt_at))]
-#[inline(always)]
-pub fn optional<P: Production>(parser: &mut Parser, limits: Limits) -> Reading<Option<P::Node>>
-    ensures { Gives (option_map P.tree) result parser.old parser.new
-        (opt_at P.first (P.reader limits)) }
-{
-    if !P::is_next(parser) {
-        return Ok(None);
-    }
-    Ok(Some(P::read(parser, limits)?))
 }
 
 /// Reads one phrase or more between two brackets.
