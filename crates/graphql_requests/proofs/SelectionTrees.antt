@@ -1,17 +1,16 @@
 -- The trees of selections that the code makes and changes.
-use Rattle.std.proofs.Common.{◌≡◌, ℕ, zero, suc, List, [], ◌∷◌, length, sym, ap, ◌∙◌, option_map, slice_set, slice_index_or, arith}
+use Rattle.std.proofs.Common.{◌≡◌, ℕ, zero, suc, List, [], ◌∷◌, length, sym, ap, ◌∙◌, slice_set, slice_index_or, arith}
 use Rattle.graphql_tokens.specs.declared.pos.Positioned.{Positioned}
 use Rattle.graphql_request_trees.specs.declared.executable.Field.{Field, out-Field, roll-Field, fold-roll-Field, fold_out-Field}
 use Rattle.graphql_request_trees.specs.declared.executable.InlineFragment.{InlineFragment, out-InlineFragment, roll-InlineFragment, fold-roll-InlineFragment, fold_out-InlineFragment}
 use Rattle.graphql_request_trees.specs.declared.executable.Selection.{Selection, fold-roll-Selection}
-use Rattle.graphql_request_trees.specs.declared.executable.Selection.TheOpen.{Selection-F, Field-F, InlineFragment-F}
+use Rattle.graphql_request_trees.specs.declared.executable.Selection.TheOpen.{Selection-F}
 use Rattle.graphql_request_trees.specs.declared.executable.Selection.TheVariants as selections
 use Rattle.graphql_request_trees.specs.declared.executable.Selection.TheViews.{rolls-Field, rolls-InlineFragment}
 use Rattle.graphql_request_trees.specs.declared.executable.SelectionSet.{SelectionSet}
 use Rattle.graphql_request_trees.specs.trees.Request as request
 use Rattle.graphql_syntax.specs.trees.Parts.{placed}
-use Rattle.graphql_syntax.specs.trees.PartViews.{arguments_tree, directives_tree}
-use Rattle.graphql_request_trees.specs.trees.RequestViews.{selection_step, field_step, inline_fragment_step, selection_set_step, selection_tree, field_tree, inline_fragment_tree, selection_set_tree, selection_trees, type_condition_tree}
+use Rattle.graphql_request_trees.specs.trees.RequestViews.{selection_step, field_step, inline_fragment_step, selection_set_step, selection_tree, field_tree, inline_fragment_tree, selection_set_tree, selection_trees}
 use Rattle.graphql_requests.specs.grammar.Selections.{Set}
 use Rattle.graphql_requests.specs.reading.SelectionSteps.{with_set, fill_last}
 
@@ -23,49 +22,19 @@ of-field f = ap selection_tree (sym (rolls-Field f)) ∙ fold-roll-Selection req
 pub of-inline : (i : Positioned InlineFragment) → selection_tree (selections.InlineFragment i) ≡ request.of_inline_fragment (placed inline_fragment_tree i)
 of-inline i = ap selection_tree (sym (rolls-InlineFragment i)) ∙ fold-roll-Selection request.Selection request.Field request.InlineFragment request.SelectionSet selection_step field_step inline_fragment_step selection_set_step (Selection-F.InlineFragment i)
 
-abbrev field_parts : Field-F Selection Field InlineFragment SelectionSet → request.Field
-field_parts f = record {
-  alias = f.alias;
-  name = f.name;
-  arguments = arguments_tree f.arguments.items;
-  directives = directives_tree f.directives.items;
-  selection_set = placed selection_set_tree f.selection_set;
-}
-
-pub made-field : (f : Field-F Selection Field InlineFragment SelectionSet) → field_tree (roll-Field f) ≡ field_parts f
-made-field = fold-roll-Field request.Selection request.Field request.InlineFragment request.SelectionSet selection_step field_step inline_fragment_step selection_set_step
-
-pub seen-field : (f : Field) → field_tree f ≡ field_parts (out-Field f)
-seen-field = fold_out-Field request.Selection request.Field request.InlineFragment request.SelectionSet selection_step field_step inline_fragment_step selection_set_step
-
-abbrev inline_parts : InlineFragment-F Selection Field InlineFragment SelectionSet → request.InlineFragment
-inline_parts i = record {
-  type_condition = option_map (placed type_condition_tree) i.type_condition;
-  directives = directives_tree i.directives.items;
-  selection_set = placed selection_set_tree i.selection_set;
-}
-
-pub made-inline : (i : InlineFragment-F Selection Field InlineFragment SelectionSet) → inline_fragment_tree (roll-InlineFragment i) ≡ inline_parts i
-made-inline = fold-roll-InlineFragment request.Selection request.Field request.InlineFragment request.SelectionSet selection_step field_step inline_fragment_step selection_set_step
-
-pub seen-inline : (i : InlineFragment) → inline_fragment_tree i ≡ inline_parts (out-InlineFragment i)
-seen-inline = fold_out-InlineFragment request.Selection request.Field request.InlineFragment request.SelectionSet selection_step field_step inline_fragment_step selection_set_step
-
 -- ---- what it stands for with another set
 
 pub field-with : (f : Positioned Field) (set : Positioned SelectionSet) → selection_tree (selections.Field (record f { node = roll-Field (record (out-Field f.node) { selection_set = set }) })) ≡ with_set (placed selection_set_tree set) (selection_tree (selections.Field f))
 field-with f set =
-    of-field _
-    ∙ ap (λ (n : request.Field). request.of_field (record { pos = f.pos; node = n })) (made-field _)
-    ∙ sym (ap (λ (n : request.Field). with_set (placed selection_set_tree set) (request.of_field (record { pos = f.pos; node = n }))) (seen-field f.node))
-    ∙ sym (ap (with_set (placed selection_set_tree set)) (of-field f))
+    let g : request.Field → request.Selection = λ n. request.of_field (record { pos = f.pos; node = n }) in
+    of-field _ ∙ ap g (fold-roll-Field request.Selection request.Field request.InlineFragment request.SelectionSet selection_step field_step inline_fragment_step selection_set_step _)
+    ∙ sym (ap (with_set (placed selection_set_tree set)) (of-field f ∙ ap g (fold_out-Field request.Selection request.Field request.InlineFragment request.SelectionSet selection_step field_step inline_fragment_step selection_set_step f.node)))
 
 pub inline-with : (i : Positioned InlineFragment) (set : Positioned SelectionSet) → selection_tree (selections.InlineFragment (record i { node = roll-InlineFragment (record (out-InlineFragment i.node) { selection_set = set }) })) ≡ with_set (placed selection_set_tree set) (selection_tree (selections.InlineFragment i))
 inline-with i set =
-    of-inline _
-    ∙ ap (λ (n : request.InlineFragment). request.of_inline_fragment (record { pos = i.pos; node = n })) (made-inline _)
-    ∙ sym (ap (λ (n : request.InlineFragment). with_set (placed selection_set_tree set) (request.of_inline_fragment (record { pos = i.pos; node = n }))) (seen-inline i.node))
-    ∙ sym (ap (with_set (placed selection_set_tree set)) (of-inline i))
+    let g : request.InlineFragment → request.Selection = λ n. request.of_inline_fragment (record { pos = i.pos; node = n }) in
+    of-inline _ ∙ ap g (fold-roll-InlineFragment request.Selection request.Field request.InlineFragment request.SelectionSet selection_step field_step inline_fragment_step selection_set_step _)
+    ∙ sym (ap (with_set (placed selection_set_tree set)) (of-inline i ∙ ap g (fold_out-InlineFragment request.Selection request.Field request.InlineFragment request.SelectionSet selection_step field_step inline_fragment_step selection_set_step i.node)))
 
 -- ---- the last of a list, with another set
 

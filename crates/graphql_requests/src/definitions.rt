@@ -10,12 +10,12 @@ ghost use Rattle.graphql_reading.specs.reading.Outcome.{one_at};
 ghost use Rattle.graphql_requests.specs.reading.Request.{short_operation_at, fragment_at, definition_first, definition_at, definitions_at};
 
 use crate::selections::{is_at_fragment_name, read_selection_set, read_type_condition};
-use crate::variables::read_maybe_variable_definitions;
+use crate::variables::VariablePhrase;
 use graphql_grammar::arguments::read_directives;
 use graphql_grammar::operations::read_operation_type;
 use graphql_reading::limits::Limits;
 use graphql_reading::parser::{Parser, Reading, Refusal};
-use graphql_reading::production::{Production, one_or_more};
+use graphql_reading::production::{Production, maybe_bracketed, one_or_more};
 use graphql_request_trees::{FragmentDefinition, OperationDefinition};
 use graphql_syntax::lexer::Token;
 use graphql_syntax::pos::Positioned;
@@ -89,14 +89,11 @@ fn read_operation(parser: &mut Parser, limits: Limits) -> Reading<Definition>
 {
     let (word, ty) = read_operation_type(parser)?;
     let name = read_maybe_name(parser)?;
-    let variable_definitions = read_maybe_variable_definitions(parser, limits)?;
-    let directives = read_directives(parser, limits)?;
-    let selection_set = read_selection_set(parser, limits)?;
     let operation = OperationDefinition {
         ty,
-        variable_definitions,
-        directives,
-        selection_set,
+        variable_definitions: maybe_bracketed::<VariablePhrase>(parser, "(", ")", limits)?,
+        directives: read_directives(parser, limits)?,
+        selection_set: read_selection_set(parser, limits)?,
     };
     Ok(Definition::Operation(name, Positioned::new(operation, word.pos)))
 }
@@ -109,28 +106,12 @@ fn read_fragment(parser: &mut Parser, limits: Limits) -> Reading<Definition>
     let word = parser.expect_keyword("fragment")?;
     let name = expect_fragment_name(parser)?;
     let name = parser.name(name)?;
-    let type_condition = read_type_condition(parser)?;
-    let directives = read_directives(parser, limits)?;
-    let selection_set = read_selection_set(parser, limits)?;
     let fragment = FragmentDefinition {
-        type_condition,
-        directives,
-        selection_set,
+        type_condition: read_type_condition(parser)?,
+        directives: read_directives(parser, limits)?,
+        selection_set: read_selection_set(parser, limits)?,
     };
     Ok(Definition::Fragment(name, Positioned::new(fragment, word.pos)))
-}
-
-/// `ExecutableDefinition : OperationDefinition | FragmentDefinition`
-fn read_definition(parser: &mut Parser, limits: Limits) -> Reading<Definition>
-    ensures { Gives definition_tree result parser.old parser.new (definition_at limits) }
-{
-    if parser.is_at_punct("{") {
-        read_short_operation(parser, limits)
-    } else if parser.is_at_keyword("fragment") {
-        read_fragment(parser, limits)
-    } else {
-        read_operation(parser, limits)
-    }
 }
 
 impl Production for Definition {
@@ -150,8 +131,15 @@ impl Production for Definition {
         is_at_definition(parser)
     }
 
+    /// `ExecutableDefinition : OperationDefinition | FragmentDefinition`
     fn read(parser: &mut Parser, limits: Limits) -> Reading<Definition> {
-        read_definition(parser, limits)
+        if parser.is_at_punct("{") {
+            read_short_operation(parser, limits)
+        } else if parser.is_at_keyword("fragment") {
+            read_fragment(parser, limits)
+        } else {
+            read_operation(parser, limits)
+        }
     }
 }
 

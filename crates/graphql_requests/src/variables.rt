@@ -2,13 +2,12 @@
 ghost use Rattle.std.specs.Prelude.{option_map};
 ghost use Rattle.graphql_tokens.specs.declared.pos.Positioned.{Positioned};
 ghost use Rattle.graphql_syntax.specs.trees.Parts.{placed};
-ghost use Rattle.graphql_request_trees.specs.trees.Request as request;
+ghost use Rattle.graphql_request_trees.specs.trees.Request.{VariableDefinition as SpecVariable};
 ghost use Rattle.graphql_syntax.specs.trees.PartViews.{directive_tree};
 ghost use Rattle.graphql_request_trees.specs.trees.RequestViews.{variable_definition_tree};
 ghost use Rattle.graphql_syntax.specs.trees.ValueViews.{const_tree};
 ghost use Rattle.graphql_reading.specs.grammar.Tests.{punct};
 ghost use Rattle.graphql_reading.specs.reading.Given.{Gives, trees_in};
-ghost use Rattle.graphql_requests.specs.reading.Definitions.{given_variables_at};
 ghost use Rattle.graphql_requests.specs.reading.Variables.{default_and_directives_at, variable_definition_at};
 
 use graphql_grammar::arguments::{read_directives, read_maybe_default};
@@ -16,7 +15,7 @@ use graphql_grammar::types::read_type;
 use graphql_reading::limits::Limits;
 use graphql_reading::names::name_in;
 use graphql_reading::parser::{Parser, Reading};
-use graphql_reading::production::{Production, maybe_bracketed};
+use graphql_reading::production::Production;
 use graphql_request_trees::VariableDefinition;
 use graphql_syntax::pos::Positioned;
 use graphql_syntax::types::Directive;
@@ -44,12 +43,12 @@ fn read_default_and_directives(
 }
 
 /// `VariableDefinition : Variable ':' Type (DefaultValue? Directives? | Directives DefaultValue)`.
-struct VariablePhrase;
+pub struct VariablePhrase;
 
 impl Production for VariablePhrase {
     type Node = Positioned<VariableDefinition>;
 
-    ghost Tree = { Positioned request.VariableDefinition };
+    ghost Tree = { Positioned SpecVariable };
 
     ghost tree = { placed variable_definition_tree };
 
@@ -79,17 +78,4 @@ impl Production for VariablePhrase {
         };
         Ok(Positioned::new(definition, dollar.pos))
     }
-}
-
-/// Reads variable definitions with their brackets, where a `(` is in hand; else there are none.
-///
-/// `VariableDefinitions? : ('(' VariableDefinition+ ')')?` (GraphQL October 2021, section 2.10)
-pub fn read_maybe_variable_definitions(
-    parser: &mut Parser,
-    limits: Limits,
-) -> Reading<Vec<Positioned<VariableDefinition>>>
-    ensures { Gives (trees_in (placed variable_definition_tree)) result parser.old parser.new
-        (given_variables_at limits) }
-{
-    maybe_bracketed::<VariablePhrase>(parser, "(", ")", limits)
 }

@@ -1,4 +1,4 @@
-use Rattle.std.proofs.Common.{◌≡◌, true, Option, None, List, [], ◌∷◌, ◌++◌, sym, ap, ◌∙◌}
+use Rattle.std.proofs.Common.{true, Option, None, List, [], ◌∷◌, ◌++◌, sym, ap, ◌∙◌}
 use Rattle.std.proofs.lemmas.Result.{err_from_is_err_and}
 use Rattle.graphql_tokens.specs.declared.pos.Pos.{Pos}
 use Rattle.graphql_tokens.specs.declared.pos.Positioned.{Positioned}
@@ -8,7 +8,6 @@ use Rattle.graphql_syntax.specs.trees.Parts.{Directives}
 use Rattle.graphql_request_trees.specs.trees.Request.{Selection}
 use Rattle.graphql_request_trees.specs.trees.RequestViews.{selection_trees}
 use Rattle.graphql_reading.specs.grammar.Places.{name_of}
-use Rattle.graphql_reading.specs.reading.Ahead.{tokens}
 use Rattle.graphql_reading.specs.reading.Outcome.{Outcome, Read, ◌>>=◌}
 use Rattle.graphql_grammar.specs.reading.Arguments.{directives_at}
 use Rattle.graphql_requests.specs.reading.SelectionSteps.{Heading, bare_spread, spread_at, onto}

@@ -1,5 +1,5 @@
 use Rattle.graphql_requests.proofs.VariableProductions.{takes-variable_definition}
-use Rattle.graphql_requests.proofs.variables.read_maybe_variable_definitions.Goals as goal
+use Rattle.graphql_requests.proofs.definitions.read_operation.Goals as goal
 
 pub maybe_bracketed-requires : goal.maybe_bracketed-requires
 maybe_bracketed-requires c = takes-variable_definition c.args.limits.values c.args.limits.types

@@ -6,7 +6,7 @@ use Rattle.graphql_requests.specs.reading.Definitions.{definition_tree, worded_a
 use Rattle.graphql_requests.specs.reading.Request.{definition_at}
 use Rattle.graphql_reading.proofs.Loops.{there}
 use Rattle.graphql_requests.proofs.Operations.{operation-law}
-use Rattle.graphql_requests.proofs.definitions.read_definition.Goals as goal
+use Rattle.graphql_requests.proofs.definitions.DefinitionProduction.read.Goals as goal
 
 by-word : (limits : Limits) (t : Token) (ts : List Token) → punct "{" t.bare ≡ false → keyword "fragment" t.bare ≡ false → definition_at limits (t ∷ ts) ≡ worded_at limits (t ∷ ts)
 by-word limits t ts brace fragment = rw (brace, fragment) (operation-law limits (t ∷ ts))

@@ -1,5 +1,0 @@
-use Rattle.graphql_schemas.proofs.FieldProductions.{takes-field_definition}
-use Rattle.graphql_schemas.proofs.fields.read_maybe_fields.Goals as goal
-
-pub maybe_bracketed-requires : goal.maybe_bracketed-requires
-maybe_bracketed-requires c = takes-field_definition c.args.limits

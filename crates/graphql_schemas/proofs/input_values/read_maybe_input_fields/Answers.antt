@@ -1,5 +1,0 @@
-use Rattle.graphql_schemas.proofs.InputValueProductions.{takes-input_value}
-use Rattle.graphql_schemas.proofs.input_values.read_maybe_input_fields.Goals as goal
-
-pub maybe_bracketed-requires : goal.maybe_bracketed-requires
-maybe_bracketed-requires c = takes-input_value c.args.limits
