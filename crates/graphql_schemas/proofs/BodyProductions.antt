@@ -14,11 +14,15 @@ use Rattle.graphql_reading.proofs.IgnoresPlaces.{IgnoresPlaces, ignores-one, ign
 use Rattle.graphql_grammar.specs.grammar.Arguments.{a_directive, directives}
 use Rattle.graphql_grammar.specs.grammar.Placeless.{bare_node, placeless_directives}
 use Rattle.graphql_grammar.proofs.ArgumentProductions.{has-directive, exact-directives, has-directives, ignores-directive, ignores-directives}
+use Rattle.graphql_schemas.specs.grammar.InputValues.{input_fields}
+use Rattle.graphql_schemas.specs.grammar.Members.{members, enum_values}
 use Rattle.graphql_schemas.specs.grammar.Placeless.{placeless_kind}
 use Rattle.graphql_schemas.specs.grammar.Types.{parts, some_parts, field_parts, some_field_parts, Rest, Body, body_of, a_body, scalar_rest, fields_rest, list_rest, body, extended_body}
+use Rattle.graphql_schemas.specs.reading.InputValues.{input_fields_at}
+use Rattle.graphql_schemas.specs.reading.Members.{members_at, enum_values_at}
 use Rattle.graphql_schemas.specs.reading.Types.{part_first, field_part_first, scalar_rest_at, list_rest_at, fields_rest_at, union_rest_at, enum_rest_at, input_rest_at, a_body_at, body_at, body_first}
 use Rattle.graphql_schemas.proofs.FieldPartProductions.{exact-field_parts, has-field_parts, ignores-field_parts, no-field_parts, exact-some_field_parts, has-some_field_parts, ignores-some_field_parts}
-use Rattle.graphql_schemas.proofs.InputValueProductions.{exact-input_fields, begins-input_fields, ignores-input_fields}
+use Rattle.graphql_schemas.proofs.InputValueProductions.{exact-input_fields, begins-input_values, ignores-input_values}
 use Rattle.graphql_schemas.proofs.MemberProductions.{exact-members, begins-members, ignores-members, exact-enum_values, begins-enum_values, ignores-enum_values}
 use Rattle.graphql_schemas.proofs.PartProductions.{past-directives, exact-free, no-directives, exact-some-directives, exact-parts, has-parts, ignores-parts, no-parts, exact-some_parts, has-some_parts, ignores-some_parts, no-punctuator, past-punctuator, past-parts}
 use Prim.Native.String.{String}
@@ -105,20 +109,37 @@ ignores-bodies scalar an-object an-interface a-union an-enum an-input =
     (ignores-either (ignores-a_body "enum" an-enum)
     (ignores-a_body "input" an-input)))))
 
+-- ---- lists
+
+-- a list that may follow directives is read exactly
+record IsReadList {A : Type 0} (p : Limits → Rel (List A)) (b : Limits) (f first : Test) (r : Reader (List A)) : Type 0 where
+  begins : BeginsWith p first
+  apart : IsSubset first past-directives
+  away : IsSubset f past-directives
+  none : IsSubset f (outside first)
+  exact : ReadsExactly p b f r
+
+read-members : {b : Limits} {f : Test} → IsSubset f no-punctuator → IsReadList (λ c. members) b f (punct "=") members_at
+read-members ends = record { begins = begins-members; apart = punct-within "=" refl; away = past-parts ends; none = past-punctuator "=" ends; exact = exact-members (past-punctuator "|" ends) }
+
+read-enum_values : {b : Limits} {f : Test} → IsSubset f no-punctuator → IsReadList (enum_values Current) b f (punct "{") (enum_values_at b)
+read-enum_values ends = record { begins = begins-enum_values; apart = punct-within "{" refl; away = past-parts ends; none = past-punctuator "{" ends; exact = exact-enum_values }
+
+read-input_fields : {b : Limits} {f : Test} → IsSubset f no-punctuator → IsReadList (input_fields Current) b f (punct "{") (input_fields_at b)
+read-input_fields ends = record { begins = begins-input_values "{" "}"; apart = punct-within "{" refl; away = past-parts ends; none = past-punctuator "{" ends; exact = exact-input_fields }
+
 -- ---- definitions
 
 free-fields : {b : Limits} {f : Test} (kind : Fields → TypeKind) → IsSubset f no-punctuator → IsSubset f (outside (keyword "implements")) → IsReadRest (λ c. mapped (fields_rest kind) (field_parts Current c)) b f (fields_rest_at kind false b)
 free-fields {b} kind ends apart = record { has = has-map has-field_parts; exact = exact-mapped (exact-free field_part_first (no-field_parts b) (exact-field_parts ends apart)) }
 
-free-list : {A : Type 0} {p : Limits → Rel (List A)} {b : Limits} {f first : Test} {r : Reader (List A)} (kind : List A → TypeKind) → BeginsWith p first → IsSubset first past-directives → IsSubset f past-directives → IsSubset f (outside first) → ReadsExactly p b f r → IsReadRest (λ c. mapped (list_rest kind) (parts Current c (p c))) b f (list_rest_at kind false b first r)
-free-list {p = p} {b = b} {first = first} {r = r} kind begins apart away none h = record { has = has-map (has-parts {p = p}); exact = exact-mapped (exact-free (part_first first) (no-parts b first r) (exact-parts begins apart away none h)) }
+free-list : {A : Type 0} {p : Limits → Rel (List A)} {b : Limits} {f first : Test} {r : Reader (List A)} (kind : List A → TypeKind) → IsReadList p b f first r → IsReadRest (λ c. mapped (list_rest kind) (parts Current c (p c))) b f (list_rest_at kind false b first r)
+free-list {p = p} {b = b} {first = first} {r = r} kind h = record { has = has-map (has-parts {p = p}); exact = exact-mapped (exact-free (part_first first) (no-parts b first r) (exact-parts h.begins h.apart h.away h.none h.exact)) }
 
 pub exact-body : {b : Limits} {f : Test} → IsSubset f no-punctuator → IsSubset f (outside (keyword "implements")) → ReadsExactly (body Current) b f (body_at false b)
 exact-body {b} {f} ends apart =
     exact-bodies false scalar (free-fields object ends apart) (free-fields interface ends apart)
-    (free-list union begins-members (punct-within "=" refl) (past-parts ends) (past-punctuator "=" ends) (exact-members (past-punctuator "|" ends)))
-    (free-list enumeration begins-enum_values (punct-within "{" refl) (past-parts ends) (past-punctuator "{" ends) exact-enum_values)
-    (free-list input_object begins-input_fields (punct-within "{" refl) (past-parts ends) (past-punctuator "{" ends) exact-input_fields)
+    (free-list union (read-members ends)) (free-list enumeration (read-enum_values ends)) (free-list input_object (read-input_fields ends))
   where
     scalar : IsReadRest (λ c. mapped scalar_rest (directives Current false c.values)) b f (scalar_rest_at false b)
     scalar = record { has = has-map (has-directives false); exact = exact-mapped (exact-free (punct "@") (no-directives b) (exact-directives false (past-punctuator "(" ends) (past-punctuator "@" ends))) }
@@ -133,22 +154,20 @@ ignores-body =
     (ignores-mapped {k = fields_rest interface} (λ x. refl) ignores-field_parts)
     (ignores-mapped {k = list_rest union} (λ x. refl) (ignores-parts ignores-members))
     (ignores-mapped {k = list_rest enumeration} (λ x. refl) (ignores-parts ignores-enum_values))
-    (ignores-mapped {k = list_rest input_object} (λ x. refl) (ignores-parts ignores-input_fields))
+    (ignores-mapped {k = list_rest input_object} (λ x. refl) (ignores-parts (ignores-input_values "{" "}")))
 
 -- ---- extensions
 
 owed-fields : {b : Limits} {f : Test} (kind : Fields → TypeKind) → IsSubset f no-punctuator → IsSubset f (outside (keyword "implements")) → IsReadRest (λ c. mapped (fields_rest kind) (some_field_parts Current c)) b f (fields_rest_at kind true b)
 owed-fields kind ends apart = record { has = has-map has-some_field_parts; exact = exact-mapped (exact-some_field_parts ends apart) }
 
-owed-list : {A : Type 0} {p : Limits → Rel (List A)} {b : Limits} {f first : Test} {r : Reader (List A)} (kind : List A → TypeKind) → BeginsWith p first → IsSubset first past-directives → IsSubset f past-directives → IsSubset f (outside first) → ReadsExactly p b f r → IsReadRest (λ c. mapped (list_rest kind) (some_parts Current c (p c))) b f (list_rest_at kind true b first r)
-owed-list {p = p} kind begins apart away none h = record { has = has-map (has-some_parts {p = p}); exact = exact-mapped (exact-some_parts begins apart away none h) }
+owed-list : {A : Type 0} {p : Limits → Rel (List A)} {b : Limits} {f first : Test} {r : Reader (List A)} (kind : List A → TypeKind) → IsReadList p b f first r → IsReadRest (λ c. mapped (list_rest kind) (some_parts Current c (p c))) b f (list_rest_at kind true b first r)
+owed-list {p = p} kind h = record { has = has-map (has-some_parts {p = p}); exact = exact-mapped (exact-some_parts h.begins h.apart h.away h.none h.exact) }
 
 pub exact-extended_body : {b : Limits} {f : Test} → IsSubset f no-punctuator → IsSubset f (outside (keyword "implements")) → ReadsExactly (extended_body Current) b f (body_at true b)
 exact-extended_body {b} {f} ends apart =
     exact-bodies true scalar (owed-fields object ends apart) (owed-fields interface ends apart)
-    (owed-list union begins-members (punct-within "=" refl) (past-parts ends) (past-punctuator "=" ends) (exact-members (past-punctuator "|" ends)))
-    (owed-list enumeration begins-enum_values (punct-within "{" refl) (past-parts ends) (past-punctuator "{" ends) exact-enum_values)
-    (owed-list input_object begins-input_fields (punct-within "{" refl) (past-parts ends) (past-punctuator "{" ends) exact-input_fields)
+    (owed-list union (read-members ends)) (owed-list enumeration (read-enum_values ends)) (owed-list input_object (read-input_fields ends))
   where
     scalar : IsReadRest (λ c. mapped scalar_rest (plus (a_directive Current false c.values))) b f (scalar_rest_at true b)
     scalar = record { has = has-map (has-plus (has-directive false)); exact = exact-mapped (exact-some-directives (past-parts ends)) }
@@ -163,7 +182,7 @@ ignores-extended_body =
     (ignores-mapped {k = fields_rest interface} (λ x. refl) ignores-some_field_parts)
     (ignores-mapped {k = list_rest union} (λ x. refl) (ignores-some_parts ignores-members))
     (ignores-mapped {k = list_rest enumeration} (λ x. refl) (ignores-some_parts ignores-enum_values))
-    (ignores-mapped {k = list_rest input_object} (λ x. refl) (ignores-some_parts ignores-input_fields))
+    (ignores-mapped {k = list_rest input_object} (λ x. refl) (ignores-some_parts (ignores-input_values "{" "}")))
 
 -- ---- what a body begins with
 

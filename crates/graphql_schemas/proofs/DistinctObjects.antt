@@ -10,16 +10,16 @@ use Rattle.graphql_grammar.specs.grammar.Distinct.{IsDistinctValue, AreDistinctD
 use Rattle.graphql_grammar.specs.grammar.Types.{type_reference}
 use Rattle.graphql_grammar.proofs.DistinctValues.{keeps-directive, keeps-directives, keeps-default, default-distinct}
 use Rattle.graphql_reading.specs.grammar.Limits.{Limits}
-use Rattle.graphql_reading.specs.grammar.Relations.{Rel, one, ◌⨾◌, ◌∪◌, opt, after, separated}
+use Rattle.graphql_reading.specs.grammar.Relations.{Rel, one, ◌⨾◌, ◌∪◌, plus, opt, between, after, separated}
 use Rattle.graphql_reading.specs.grammar.Tests.{punct, keyword, any_name}
 use Rattle.graphql_reading.proofs.Keeps.{Keeps, Anything, BothOf, OfOption, keeps-any, keeps-more, keeps-mapped, keeps-then, keeps-either, keeps-opt, keeps-plus, keeps-between, keeps-whole, of-given}
 use Rattle.graphql_schemas.specs.grammar.Descriptions.{a_description}
 use Rattle.graphql_schemas.specs.grammar.Directives.{a_location, a_directive_definition}
 use Rattle.graphql_schemas.specs.grammar.Documents.{tree_of, document_of}
 use Rattle.graphql_schemas.specs.grammar.Fields.{a_field_definition, fields}
-use Rattle.graphql_schemas.specs.grammar.InputValues.{an_input_value, arguments_definition, input_fields}
+use Rattle.graphql_schemas.specs.grammar.InputValues.{an_input_value, arguments_definition}
 use Rattle.graphql_schemas.specs.grammar.Laws.{IsDistinctInputValue, AreDistinctInputValues, IsDistinctField, IsDistinctEnumValue, IsDistinctKind, HasDistinctObjects}
-use Rattle.graphql_schemas.specs.grammar.Members.{implements, members, enum_name, an_enum_value, enum_values}
+use Rattle.graphql_schemas.specs.grammar.Members.{implements, members, enum_name, an_enum_value}
 use Rattle.graphql_schemas.specs.grammar.Schema.{Schema, roots, schema_description, a_schema, a_schema_extension}
 use Rattle.graphql_schemas.specs.grammar.SchemaFile.{Definition, definitions, a_definition}
 use Rattle.graphql_schemas.specs.grammar.Schemas.{schemas}
@@ -36,8 +36,9 @@ keeps-input_value c =
 keeps-arguments_definition : (c : Limits) → Keeps (arguments_definition Current c) AreDistinctInputValues
 keeps-arguments_definition c = keeps-between (punct "(") (punct ")") (keeps-plus (keeps-input_value c))
 
-keeps-input_fields : (c : Limits) → Keeps (input_fields Current c) AreDistinctInputValues
-keeps-input_fields c = keeps-between (punct "{") (punct "}") (keeps-plus (keeps-input_value c))
+-- one or more between braces
+keeps-braced : {A : Type 0} {p : Rel A} {P : A → Type 0} → Keeps p P → Keeps (between (punct "{") (plus p) (punct "}")) (AllByRecursion P)
+keeps-braced h = keeps-between (punct "{") (punct "}") (keeps-plus h)
 
 -- ---- fields
 
@@ -50,7 +51,7 @@ keeps-field_definition c =
     (keeps-then (keeps-any {p = opt (a_description Current)}) (keeps-then (keeps-any {p = one any_name}) (keeps-then (keeps-opt (keeps-arguments_definition c)) (keeps-then (keeps-any {p = one (punct ":")}) (keeps-then (keeps-any {p = type_reference c.types}) (keeps-directives false c.values))))))
 
 keeps-fields : (c : Limits) → Keeps (fields Current c) OfFields
-keeps-fields c = keeps-between (punct "{") (punct "}") (keeps-plus (keeps-field_definition c))
+keeps-fields c = keeps-braced (keeps-field_definition c)
 
 -- ---- values of enums
 
@@ -61,9 +62,6 @@ keeps-enum_value : (c : Limits) → Keeps (an_enum_value Current c) IsDistinctEn
 keeps-enum_value c =
     keeps-mapped {P = BothOf Anything (BothOf Anything AreDistinctDirectives)} (λ x k. k.1.1)
     (keeps-then (keeps-any {p = opt (a_description Current)}) (keeps-then (keeps-any {p = one enum_name}) (keeps-directives false c.values)))
-
-keeps-enum_values : (c : Limits) → Keeps (enum_values Current c) OfEnumValues
-keeps-enum_values c = keeps-between (punct "{") (punct "}") (keeps-plus (keeps-enum_value c))
 
 -- ---- parts that may stand or not
 
@@ -113,8 +111,8 @@ keeps-body c =
     (keeps-mapped {f = fields_rest object} {P = OfMembers} (λ x k. k) (keeps-field_parts c))
     (keeps-mapped {f = fields_rest interface} {P = OfMembers} (λ x k. k) (keeps-field_parts c))
     (keeps-mapped {f = list_rest union} {P = BothOf AreDistinctDirectives Anything} (λ x k. k) (keeps-parts c tt (keeps-any {p = members})))
-    (keeps-mapped {f = list_rest enumeration} {P = BothOf AreDistinctDirectives OfEnumValues} (λ x k. k) (keeps-parts {P = OfEnumValues} c tt (keeps-enum_values c)))
-    (keeps-mapped {f = list_rest input_object} {P = BothOf AreDistinctDirectives AreDistinctInputValues} (λ x k. k) (keeps-parts {P = AreDistinctInputValues} c tt (keeps-input_fields c)))
+    (keeps-mapped {f = list_rest enumeration} {P = BothOf AreDistinctDirectives OfEnumValues} (λ x k. k) (keeps-parts {P = OfEnumValues} c tt (keeps-braced (keeps-enum_value c))))
+    (keeps-mapped {f = list_rest input_object} {P = BothOf AreDistinctDirectives AreDistinctInputValues} (λ x k. k) (keeps-parts {P = AreDistinctInputValues} c tt (keeps-braced (keeps-input_value c))))
 
 keeps-extended_body : (c : Limits) → Keeps (extended_body Current c) OfBody
 keeps-extended_body c =
@@ -122,8 +120,8 @@ keeps-extended_body c =
     (keeps-mapped {f = fields_rest object} {P = OfMembers} (λ x k. k) (keeps-some_field_parts c))
     (keeps-mapped {f = fields_rest interface} {P = OfMembers} (λ x k. k) (keeps-some_field_parts c))
     (keeps-mapped {f = list_rest union} {P = BothOf AreDistinctDirectives Anything} (λ x k. k) (keeps-some_parts c tt (keeps-any {p = members})))
-    (keeps-mapped {f = list_rest enumeration} {P = BothOf AreDistinctDirectives OfEnumValues} (λ x k. k) (keeps-some_parts {P = OfEnumValues} c tt (keeps-enum_values c)))
-    (keeps-mapped {f = list_rest input_object} {P = BothOf AreDistinctDirectives AreDistinctInputValues} (λ x k. k) (keeps-some_parts {P = AreDistinctInputValues} c tt (keeps-input_fields c)))
+    (keeps-mapped {f = list_rest enumeration} {P = BothOf AreDistinctDirectives OfEnumValues} (λ x k. k) (keeps-some_parts {P = OfEnumValues} c tt (keeps-braced (keeps-enum_value c))))
+    (keeps-mapped {f = list_rest input_object} {P = BothOf AreDistinctDirectives AreDistinctInputValues} (λ x k. k) (keeps-some_parts {P = AreDistinctInputValues} c tt (keeps-braced (keeps-input_value c))))
 
 -- ---- definitions and extensions
 

@@ -3,14 +3,14 @@ use Rattle.std.proofs.Common.{false, List}
 use Rattle.graphql_tokens.specs.tokens.Edition.{Former, Current}
 use Rattle.graphql_grammar.proofs.Former.{includes-directive, includes-directives}
 use Rattle.graphql_reading.specs.grammar.Limits.{Limits}
-use Rattle.graphql_reading.specs.grammar.Relations.{Rel, one, opt, after, separated}
+use Rattle.graphql_reading.specs.grammar.Relations.{Rel, one, ◌∪◌, opt, after, separated}
 use Rattle.graphql_reading.specs.grammar.Tests.{punct, keyword, any_name}
 use Rattle.graphql_reading.proofs.Includes.{Includes, includes-same, includes-then, includes-either, includes-mapped, includes-opt, includes-plus}
 use Rattle.graphql_schemas.specs.grammar.Directives.{a_location, a_directive_definition}
 use Rattle.graphql_schemas.specs.grammar.Members.{implements, members}
 use Rattle.graphql_schemas.specs.grammar.Schema.{roots, schema_description, a_schema, a_schema_extension}
 use Rattle.graphql_schemas.specs.grammar.SchemaFile.{a_definition, definitions}
-use Rattle.graphql_schemas.specs.grammar.Types.{parts, some_parts, field_parts, some_field_parts, Rest, a_body, body, extended_body, a_type_definition, a_type_extension}
+use Rattle.graphql_schemas.specs.grammar.Types.{parts, some_parts, field_parts, some_field_parts, Rest, Body, a_body, body, extended_body, a_type_definition, a_type_extension}
 use Rattle.graphql_schemas.proofs.FormerParts.{includes-description, includes-arguments_definition, includes-input_fields, includes-fields, includes-enum_values}
 use Prim.Native.String.{String}
 
@@ -33,23 +33,24 @@ includes-some_field_parts c = includes-either (includes-then (includes-same {p =
 includes-a_body : (word : String) {p q : Rel Rest} → Includes p q → Includes (a_body word p) (a_body word q)
 includes-a_body word h = includes-mapped (includes-then (includes-same {p = one (keyword word)}) (includes-then (includes-same {p = one any_name}) h))
 
+-- the six kinds, whatever their rests say
+abbrev bodies : Rel Rest → Rel Rest → Rel Rest → Rel Rest → Rel Rest → Rel Rest → Rel Body
+bodies s o i u e n = a_body "scalar" s ∪ a_body "type" o ∪ a_body "interface" i ∪ a_body "union" u ∪ a_body "enum" e ∪ a_body "input" n
+
+includes-bodies : {s o i u e n s' o' i' u' e' n' : Rel Rest} → Includes s s' → Includes o o' → Includes i i' → Includes u u' → Includes e e' → Includes n n' → Includes (bodies s o i u e n) (bodies s' o' i' u' e' n')
+includes-bodies scalar an-object an-interface a-union an-enum an-input =
+    includes-either (includes-a_body "scalar" scalar) (includes-either (includes-a_body "type" an-object) (includes-either (includes-a_body "interface" an-interface)
+    (includes-either (includes-a_body "union" a-union) (includes-either (includes-a_body "enum" an-enum) (includes-a_body "input" an-input)))))
+
 includes-body : (c : Limits) → Includes (body Former c) (body Current c)
 includes-body c =
-    includes-either (includes-a_body "scalar" (includes-mapped (includes-directives false c.values)))
-    (includes-either (includes-a_body "type" (includes-mapped (includes-field_parts c)))
-    (includes-either (includes-a_body "interface" (includes-mapped (includes-field_parts c)))
-    (includes-either (includes-a_body "union" (includes-mapped (includes-parts c (includes-same {p = members}))))
-    (includes-either (includes-a_body "enum" (includes-mapped (includes-parts c (includes-enum_values c))))
-    (includes-a_body "input" (includes-mapped (includes-parts c (includes-input_fields c))))))))
+    includes-bodies (includes-mapped (includes-directives false c.values)) (includes-mapped (includes-field_parts c)) (includes-mapped (includes-field_parts c))
+    (includes-mapped (includes-parts c (includes-same {p = members}))) (includes-mapped (includes-parts c (includes-enum_values c))) (includes-mapped (includes-parts c (includes-input_fields c)))
 
 includes-extended_body : (c : Limits) → Includes (extended_body Former c) (extended_body Current c)
 includes-extended_body c =
-    includes-either (includes-a_body "scalar" (includes-mapped (includes-plus (includes-directive false c.values))))
-    (includes-either (includes-a_body "type" (includes-mapped (includes-some_field_parts c)))
-    (includes-either (includes-a_body "interface" (includes-mapped (includes-some_field_parts c)))
-    (includes-either (includes-a_body "union" (includes-mapped (includes-some_parts c (includes-same {p = members}))))
-    (includes-either (includes-a_body "enum" (includes-mapped (includes-some_parts c (includes-enum_values c))))
-    (includes-a_body "input" (includes-mapped (includes-some_parts c (includes-input_fields c))))))))
+    includes-bodies (includes-mapped (includes-plus (includes-directive false c.values))) (includes-mapped (includes-some_field_parts c)) (includes-mapped (includes-some_field_parts c))
+    (includes-mapped (includes-some_parts c (includes-same {p = members}))) (includes-mapped (includes-some_parts c (includes-enum_values c))) (includes-mapped (includes-some_parts c (includes-input_fields c)))
 
 includes-type_definition : (c : Limits) → Includes (a_type_definition Former c) (a_type_definition Current c)
 includes-type_definition c = includes-mapped (includes-then (includes-opt includes-description) (includes-body c))

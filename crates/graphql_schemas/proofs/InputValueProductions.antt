@@ -8,7 +8,7 @@ use Rattle.graphql_grammar.specs.grammar.Placeless.{unplaced}
 use Rattle.graphql_grammar.specs.grammar.Types.{type_reference}
 use Rattle.graphql_grammar.specs.grammar.Values.{Value}
 use Rattle.graphql_reading.specs.grammar.Limits.{Limits}
-use Rattle.graphql_reading.specs.grammar.Relations.{Rel, ◌⨾◌, plus, opt}
+use Rattle.graphql_reading.specs.grammar.Relations.{Rel, ◌⨾◌, plus, opt, between}
 use Rattle.graphql_reading.specs.grammar.Tests.{Test, punct, any_name}
 use Rattle.graphql_reading.specs.reading.Outcome.{opt_at, plus_at}
 use Rattle.graphql_reading.proofs.Theory.{IsSubset, outside}
@@ -102,40 +102,34 @@ input-values c = plus (an_input_value Current c)
 exact-input_values : {b : Limits} {f : Test} → IsSubset f after_member → IsSubset f (outside member_first) → ReadsExactly input-values b f (plus_at member_first (input_value_at b))
 exact-input_values h away = exact-plus-ahead {g = after_member} begins-input_value member-goes-on h away exact-next-input_value
 
+-- ---- in brackets
+
+pub begins-input_values : (opening closing : String) → BeginsWith (λ c. between (punct opening) (input-values c) (punct closing)) (punct opening)
+begins-input_values opening closing = begins-between (punct closing)
+
+pub ignores-input_values : (opening closing : String) → IgnoresPlaces (λ c. between (punct opening) (input-values c) (punct closing)) placeless_input_values
+ignores-input_values opening closing = ignores-between (punct opening) (punct closing) (ignores-plus ignores-input_value)
+
 -- ---- definitions of arguments
 
 pub exact-arguments_definition : {b : Limits} {f : Test} → ReadsExactly (arguments_definition Current) b f (arguments_definition_at b)
 exact-arguments_definition = exact-between "(" ")" has-close (has-plus has-input_value) (exact-input_values (punct-within ")" refl) (punct-within ")" refl))
 
-pub begins-arguments_definition : BeginsWith (arguments_definition Current) (punct "(")
-begins-arguments_definition = begins-between (punct ")")
-
-pub ignores-arguments_definition : IgnoresPlaces (arguments_definition Current) placeless_input_values
-ignores-arguments_definition = ignores-between (punct "(") (punct ")") (ignores-plus ignores-input_value)
-
 -- where there are any
 
 pub exact-maybe_arguments_definition : {b : Limits} {f : Test} → IsSubset f (outside (punct "(")) → ReadsExactly (λ c. opt (arguments_definition Current c)) b f (opt_at (punct "(") (arguments_definition_at b))
-exact-maybe_arguments_definition away = exact-opt begins-arguments_definition away exact-arguments_definition
+exact-maybe_arguments_definition away = exact-opt (begins-input_values "(" ")") away exact-arguments_definition
 
 pub first-maybe_arguments_definition : {f g : Test} → IsTrue (g (punctuator "(")) → IsSubset f g → FirstWithin (λ c. opt (arguments_definition Current c)) f g
-first-maybe_arguments_definition here h = first-opt begins-arguments_definition (punct-within "(" here) h
+first-maybe_arguments_definition here h = first-opt (begins-input_values "(" ")") (punct-within "(" here) h
 
 pub has-maybe_arguments_definition : HasPhrase (λ c. opt (arguments_definition Current c))
 has-maybe_arguments_definition = has-opt {p = arguments_definition Current}
 
 pub ignores-maybe_arguments_definition : IgnoresPlaces (λ c. opt (arguments_definition Current c)) (option_map placeless_input_values)
-ignores-maybe_arguments_definition = ignores-opt ignores-arguments_definition
-
--- a list of them, which may be empty
+ignores-maybe_arguments_definition = ignores-opt (ignores-input_values "(" ")")
 
 -- ---- fields of input objects
 
 pub exact-input_fields : {b : Limits} {f : Test} → ReadsExactly (input_fields Current) b f (input_fields_at b)
 exact-input_fields = exact-between "{" "}" has-close_object (has-plus has-input_value) (exact-input_values (punct-within "}" refl) (punct-within "}" refl))
-
-pub begins-input_fields : BeginsWith (input_fields Current) (punct "{")
-begins-input_fields = begins-between (punct "}")
-
-pub ignores-input_fields : IgnoresPlaces (input_fields Current) placeless_input_values
-ignores-input_fields = ignores-between (punct "{") (punct "}") (ignores-plus ignores-input_value)

@@ -11,6 +11,7 @@ pub mod BodyProductions
 pub mod DirectiveProductions
 pub mod FormerSchemas
 pub mod SchemaFileProductions
+pub mod OnePassed
 pub mod Roots
 pub mod Finished
 pub mod DistinctObjects

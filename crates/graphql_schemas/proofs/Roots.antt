@@ -79,6 +79,14 @@ kept-stops front rest root schema old new error kept h = (root, kept.goes (root 
 pub kept-ends : (front : List Root) (schema : Pos) (roots : code.Roots) → Kept front roots → AreSorted front schema (Ok roots)
 kept-ends front schema roots kept = (ap (first_repeated []) (sym (append-nil front)) ∙ kept.goes [], kept.holds)
 
-pub sorted-stops : (items front others : List CodeRoot) (root : CodeRoot) (schema : Pos) (old new : code.Roots) (error : Error) → items ≡ front ++ root ∷ others → Kept (root_trees front) old → IsAdded (root_trees front) (root_tree root) schema (Err error) new → AreSorted (root_trees items) schema (Err error)
+-- the same of the roots of the code
+abbrev pub AreKept : List CodeRoot → code.Roots → Type 0
+AreKept roots sorted = Kept (root_trees roots) sorted
+
+pub are-kept-more : (front : List CodeRoot) (root : CodeRoot) (schema : Pos) (old new : code.Roots) → AreKept front old → IsAdded (root_trees front) (root_tree root) schema (Ok tt) new → AreKept (front ++ root ∷ []) new
+are-kept-more front root schema old new kept h =
+    subst (λ (roots : List Root). Kept roots new) (sym (map-append root_tree front (root ∷ []))) (kept-more (root_trees front) (root_tree root) schema old new kept h)
+
+pub sorted-stops : (items front others : List CodeRoot) (root : CodeRoot) (schema : Pos) (old new : code.Roots) (error : Error) → items ≡ front ++ root ∷ others → AreKept front old → IsAdded (root_trees front) (root_tree root) schema (Err error) new → AreSorted (root_trees items) schema (Err error)
 sorted-stops items front others root schema old new error split kept h =
     subst (λ (roots : List Root). AreSorted roots schema (Err error)) (sym (ap root_trees split ∙ map-append root_tree front (root ∷ others))) (kept-stops (root_trees front) (root_trees others) (root_tree root) schema old new error kept h)

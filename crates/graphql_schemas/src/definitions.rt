@@ -6,10 +6,10 @@ ghost use Rattle.graphql_schemas.specs.reading.SchemaFile.{described_at, extensi
 ghost use Rattle.graphql_schemas.specs.reading.Types.{body_first};
 ghost use Rattle.graphql_schemas.specs.reading.Views.{definition_tree, in_definitions};
 
-use crate::descriptions::{is_at_description, read_maybe_description};
+use crate::descriptions::{is_at_description, place_of, read_maybe_description};
 use crate::directives::read_directive_definition;
 use crate::schema::{Schema, read_schema, read_schema_extension};
-use crate::types::{read_type_definition, read_type_extension};
+use crate::types::{read_type_body, type_with};
 use graphql_reading::limits::Limits;
 use graphql_reading::parser::{Parser, Reading};
 use graphql_reading::production::{Production, one_or_more};
@@ -58,8 +58,9 @@ fn read_extension(parser: &mut Parser, limits: Limits) -> Reading<Definition>
         let schema = read_schema_extension(parser, limits, extend)?;
         return Ok(Definition::Schema(schema));
     }
-    let extension = read_type_extension(parser, limits, extend)?;
-    Ok(Definition::TypeDef(extension))
+    let body = read_type_body(parser, limits, true)?;
+    let extension = type_with(true, None, body);
+    Ok(Definition::TypeDef(Positioned::new(extension, extend.pos)))
 }
 
 /// `TypeSystemDefinition : SchemaDefinition | TypeDefinition | DirectiveDefinition`: each may have a description.
@@ -75,8 +76,10 @@ fn read_described(parser: &mut Parser, limits: Limits) -> Reading<Definition>
         let directive = read_directive_definition(parser, limits, description)?;
         return Ok(Definition::Directive(directive));
     }
-    let definition = read_type_definition(parser, limits, description)?;
-    Ok(Definition::TypeDef(definition))
+    let body = read_type_body(parser, limits, false)?;
+    let pos = place_of(&description, body.word);
+    let definition = type_with(false, description, body);
+    Ok(Definition::TypeDef(Positioned::new(definition, pos)))
 }
 
 impl Production for Definition {

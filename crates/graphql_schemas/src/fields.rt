@@ -3,8 +3,8 @@ ghost use Rattle.graphql_tokens.specs.declared.pos.Positioned.{Positioned};
 ghost use Rattle.graphql_syntax.specs.trees.Parts.{placed};
 ghost use Rattle.graphql_schema_trees.specs.trees.Schema as trees;
 ghost use Rattle.graphql_schema_trees.specs.trees.SchemaViews.{field_definition_tree};
-ghost use Rattle.graphql_reading.specs.reading.Given.{Gives, trees_in};
-ghost use Rattle.graphql_schemas.specs.reading.Fields.{field_definition_at, given_fields_at};
+ghost use Rattle.graphql_reading.specs.reading.Given.{Gives};
+ghost use Rattle.graphql_schemas.specs.reading.Fields.{field_definition_at};
 ghost use Rattle.graphql_schemas.specs.reading.InputValues.{member_first};
 
 use crate::descriptions::{place_of, read_maybe_description};
@@ -14,12 +14,12 @@ use graphql_grammar::arguments::read_const_directives;
 use graphql_grammar::types::read_type;
 use graphql_reading::limits::Limits;
 use graphql_reading::parser::{Parser, Reading};
-use graphql_reading::production::{Production, maybe_bracketed};
+use graphql_reading::production::Production;
 use graphql_schema_trees::FieldDefinition;
 use graphql_syntax::pos::Positioned;
 
 /// `FieldDefinition : Description? Name ArgumentsDefinition? ':' Type Directives[Const]?`
-struct FieldPhrase;
+pub struct FieldPhrase;
 
 impl Production for FieldPhrase {
     type Node = Positioned<FieldDefinition>;
@@ -56,17 +56,4 @@ impl Production for FieldPhrase {
         };
         Ok(Positioned::new(field, pos))
     }
-}
-
-/// Reads fields with their brackets, where a `{` is in hand; else there are none.
-///
-/// `FieldsDefinition? : ('{' FieldDefinition+ '}')?` (GraphQL October 2021, section 3.6)
-pub fn read_maybe_fields(
-    parser: &mut Parser,
-    limits: Limits,
-) -> Reading<Vec<Positioned<FieldDefinition>>>
-    ensures { Gives (trees_in (placed field_definition_tree)) result parser.old parser.new
-        (given_fields_at limits) }
-{
-    maybe_bracketed::<FieldPhrase>(parser, "{", "}", limits)
 }

@@ -6,7 +6,7 @@ ghost use Rattle.graphql_syntax.specs.trees.Parts.{placed};
 ghost use Rattle.graphql_schema_trees.specs.trees.Schema as trees;
 ghost use Rattle.graphql_schema_trees.specs.trees.SchemaViews.{input_value_tree};
 ghost use Rattle.graphql_reading.specs.reading.Given.{Gives, trees_in};
-ghost use Rattle.graphql_schemas.specs.reading.InputValues.{member_first, input_value_at, given_arguments_at, given_input_fields_at};
+ghost use Rattle.graphql_schemas.specs.reading.InputValues.{member_first, input_value_at, given_arguments_at};
 
 use crate::descriptions::{is_at_description, place_of, read_maybe_description};
 use graphql_grammar::arguments::{read_const_directives, read_maybe_default};
@@ -27,7 +27,7 @@ pub fn is_at_member(parser: &Parser) -> bool
 }
 
 /// `InputValueDefinition : Description? Name ':' Type DefaultValue? Directives[Const]?`
-struct InputValuePhrase;
+pub(crate) struct InputValuePhrase;
 
 impl Production for InputValuePhrase {
     type Node = Positioned<InputValueDefinition>;
@@ -78,17 +78,4 @@ pub fn read_maybe_arguments_definition(
         (given_arguments_at limits) }
 {
     maybe_bracketed::<InputValuePhrase>(parser, "(", ")", limits)
-}
-
-/// Reads the fields of an input object with their brackets, where a `{` is in hand; else there are none.
-///
-/// `InputFieldsDefinition? : ('{' InputValueDefinition+ '}')?` (GraphQL October 2021, section 3.10)
-pub fn read_maybe_input_fields(
-    parser: &mut Parser,
-    limits: Limits,
-) -> Reading<Vec<Positioned<InputValueDefinition>>>
-    ensures { Gives (trees_in (placed input_value_tree)) result parser.old parser.new
-        (given_input_fields_at limits) }
-{
-    maybe_bracketed::<InputValuePhrase>(parser, "{", "}", limits)
 }

@@ -1,16 +1,20 @@
 //! Readers of the interfaces of a type, the types of a union and the values of an enum, by GraphQL October 2021,
 //! sections 3.6, 3.8 and 3.9.
-ghost use Rattle.std.specs.Prelude.{◌≡◌, IfOk};
+ghost use Rattle.std.specs.Prelude.{◌≡◌, true, false, IfOk};
+ghost use Rattle.graphql_tokens.specs.tokens.Cuts.{is_last};
 ghost use Rattle.graphql_tokens.specs.declared.pos.Positioned.{Positioned};
 ghost use Rattle.graphql_tokens.specs.tokens.Seen.{seen};
 ghost use Rattle.graphql_tokens.specs.tokens.Within.{StandsIn};
 ghost use Rattle.graphql_syntax.specs.trees.Parts.{placed};
 ghost use Rattle.graphql_schema_trees.specs.trees.Schema as trees;
 ghost use Rattle.graphql_schema_trees.specs.trees.SchemaViews.{enum_value_tree};
-ghost use Rattle.graphql_reading.specs.reading.Given.{Gives, trees_in};
-ghost use Rattle.graphql_reading.specs.reading.Outcome.{one_at};
+ghost use Rattle.graphql_reading.specs.grammar.Relations.{given};
+ghost use Rattle.graphql_reading.specs.grammar.Tests.{Test};
+ghost use Rattle.graphql_reading.specs.reading.Given.{Gives};
+ghost use Rattle.graphql_reading.specs.reading.Outcome.{one_at, mapped_at, opt_at, after_at, separated_at};
+ghost use Rattle.graphql_reading.specs.reading.Spelled.{punct_of};
 ghost use Rattle.graphql_schemas.specs.grammar.Members.{enum_name};
-ghost use Rattle.graphql_schemas.specs.reading.Members.{implements_at, given_implements_at, members_at, given_members_at, enum_value_first, enum_value_at, given_enum_values_at};
+ghost use Rattle.graphql_schemas.specs.reading.Members.{name_at, given_implements_at, given_members_at, enum_value_first, enum_value_at};
 
 use crate::descriptions::{is_at_description, place_of, read_maybe_description};
 use crate::names::read_enum_named;
@@ -18,52 +22,55 @@ use graphql_grammar::arguments::read_const_directives;
 use graphql_reading::limits::Limits;
 use graphql_reading::names::NamePhrase;
 use graphql_reading::parser::{Parser, Reading, Refusal};
-use graphql_reading::production::{Production, maybe_bracketed, separated};
+use graphql_reading::production::{Production, separated};
 use graphql_schema_trees::EnumValueDefinition;
 use graphql_syntax::lexer::Token;
 use graphql_syntax::pos::Positioned;
 use graphql_syntax::value::Name;
 
-/// `ImplementsInterfaces : 'implements' '&'? Name ('&' Name)*`
-fn read_implements(parser: &mut Parser, limits: Limits) -> Reading<Vec<Positioned<Name>>>
-    ensures { Gives (λ names. names.items) result parser.old parser.new implements_at }
+/// Reads names with this mark between each two of them, after the token in hand where that opens them; else there are
+/// none.
+///
+/// `(Opening Mark? Name (Mark Name)*)?`
+#[tactic(auto, unfolding(graphql_reading::specs::reading::Outcome::opt_at))]
+#[inline(always)]
+fn read_maybe_names(
+    parser: &mut Parser,
+    is_there: bool,
+    mark: &str,
+    limits: Limits,
+) -> Reading<Vec<Positioned<Name>>>
+    requires { is_there ≡ true → is_last parser.old.hand.bare.kind ≡ false }
+    ensures { (opening : Test) → is_there ≡ opening parser.old.hand.bare →
+        Gives (λ names. names.items) result parser.old parser.new
+        (mapped_at given (opt_at opening (after_at opening
+        (separated_at (punct_of mark.now) name_at)))) }
 {
-    parser.expect_keyword("implements")?;
-    separated::<NamePhrase>(parser, "&", limits)
+    if !is_there {
+        return Ok(parser.empty_list());
+    }
+    parser.advance();
+    separated::<NamePhrase>(parser, mark, limits)
 }
 
 /// Reads the interfaces that a type implements, where `implements` is in hand; else there are none.
 ///
-/// `ImplementsInterfaces?` (GraphQL October 2021, section 3.6)
-#[tactic(auto, unfolding(graphql_reading::specs::reading::Outcome::opt_at))]
+/// `ImplementsInterfaces? : ('implements' '&'? Name ('&' Name)*)?` (GraphQL October 2021, section 3.6)
 pub fn read_maybe_implements(parser: &mut Parser, limits: Limits) -> Reading<Vec<Positioned<Name>>>
     ensures { Gives (λ names. names.items) result parser.old parser.new given_implements_at }
 {
-    if !parser.is_at_keyword("implements") {
-        return Ok(parser.empty_list());
-    }
-    read_implements(parser, limits)
-}
-
-/// `UnionMemberTypes : '=' '|'? Name ('|' Name)*`
-fn read_members(parser: &mut Parser, limits: Limits) -> Reading<Vec<Positioned<Name>>>
-    ensures { Gives (λ names. names.items) result parser.old parser.new members_at }
-{
-    parser.expect_punct("=")?;
-    separated::<NamePhrase>(parser, "|", limits)
+    let is_there = parser.is_at_keyword("implements");
+    read_maybe_names(parser, is_there, "&", limits)
 }
 
 /// Reads the types of a union, where a `=` is in hand; else there are none.
 ///
-/// `UnionMemberTypes?` (GraphQL October 2021, section 3.8)
-#[tactic(auto, unfolding(graphql_reading::specs::reading::Outcome::opt_at))]
+/// `UnionMemberTypes? : ('=' '|'? Name ('|' Name)*)?` (GraphQL October 2021, section 3.8)
 pub fn read_maybe_members(parser: &mut Parser, limits: Limits) -> Reading<Vec<Positioned<Name>>>
     ensures { Gives (λ names. names.items) result parser.old parser.new given_members_at }
 {
-    if !parser.is_at_punct("=") {
-        return Ok(parser.empty_list());
-    }
-    read_members(parser, limits)
+    let is_there = parser.is_at_punct("=");
+    read_maybe_names(parser, is_there, "|", limits)
 }
 
 /// Whether a name is in hand that an enum's value may have.
@@ -88,7 +95,7 @@ pub fn expect_enum_name<'a>(parser: &mut Parser<'a>) -> Reading<Token<'a>>
 }
 
 /// `EnumValueDefinition : Description? EnumValue Directives[Const]?`
-struct EnumValuePhrase;
+pub(crate) struct EnumValuePhrase;
 
 impl Production for EnumValuePhrase {
     type Node = Positioned<EnumValueDefinition>;
@@ -120,17 +127,4 @@ impl Production for EnumValuePhrase {
         };
         Ok(Positioned::new(definition, pos))
     }
-}
-
-/// Reads the values of an enum with their brackets, where a `{` is in hand; else there are none.
-///
-/// `EnumValuesDefinition? : ('{' EnumValueDefinition+ '}')?` (GraphQL October 2021, section 3.9)
-pub fn read_maybe_enum_values(
-    parser: &mut Parser,
-    limits: Limits,
-) -> Reading<Vec<Positioned<EnumValueDefinition>>>
-    ensures { Gives (trees_in (placed enum_value_tree)) result parser.old parser.new
-        (given_enum_values_at limits) }
-{
-    maybe_bracketed::<EnumValuePhrase>(parser, "{", "}", limits)
 }

@@ -10,12 +10,13 @@ ghost use Rattle.graphql_schemas.specs.reading.Schema.{root_first, root_at, root
 ghost use Rattle.graphql_schemas.specs.reading.Views.{root_tree, schema_tree};
 
 use crate::descriptions::place_of;
+use crate::types::read_braced;
 use graphql_grammar::arguments::read_const_directives;
 use graphql_grammar::operations::read_operation_type;
 use graphql_reading::limits::Limits;
 use graphql_reading::names::name_in;
-use graphql_reading::parser::{Parser, Reading, Refusal};
-use graphql_reading::production::{Production, bracketed, maybe_bracketed};
+use graphql_reading::parser::{Parser, Reading};
+use graphql_reading::production::{Production, bracketed};
 use graphql_syntax::lexer::Token;
 use graphql_syntax::pos::{Pos, Positioned};
 use graphql_syntax::types::{ConstDirective, OperationType};
@@ -126,11 +127,7 @@ pub fn read_schema_extension(
         (extended_schema_at limits)) }
 {
     parser.expect_keyword("schema")?;
-    if !(parser.is_at_punct("@") || parser.is_at_punct("{")) {
-        return Err(Refusal::Syntax);
-    }
-    let directives = read_const_directives(parser, limits)?;
-    let roots = maybe_bracketed::<RootPhrase>(parser, "{", "}", limits)?;
+    let (directives, roots) = read_braced::<RootPhrase>(parser, limits, true)?;
     let schema = Schema {
         description: None,
         extend: true,

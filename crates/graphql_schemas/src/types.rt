@@ -1,24 +1,25 @@
 //! Readers of definitions and extensions of types, by GraphQL October 2021, sections 3.4 to 3.10.
-ghost use Rattle.std.specs.Prelude.{◌≡◌, false, true, not, ◌&&◌, MatchResult};
+ghost use Rattle.std.specs.Prelude.{◌≡◌, false, true, cond, not, ◌&&◌, MatchResult};
 ghost use Rattle.graphql_reading.specs.declared.parser.Refusal.TheVariants.{Syntax};
 ghost use Rattle.graphql_tokens.specs.tokens.Seen.{seen};
-ghost use Rattle.graphql_syntax.specs.trees.Parts.{placed};
+ghost use Rattle.graphql_syntax.specs.trees.PartViews.{const_directives_tree};
 ghost use Rattle.graphql_schema_trees.specs.trees.Schema.{object, interface};
 ghost use Rattle.graphql_schema_trees.specs.trees.SchemaViews.{description_tree, type_definition_tree};
-ghost use Rattle.graphql_reading.specs.reading.Given.{Gives};
-ghost use Rattle.graphql_reading.specs.reading.Outcome.{mapped_at};
+ghost use Rattle.graphql_reading.specs.grammar.Tests.{punct};
+ghost use Rattle.graphql_reading.specs.reading.Given.{Gives, trees_in};
+ghost use Rattle.graphql_reading.specs.reading.Outcome.{Takes, mapped_at, plus_at, between_at};
 ghost use Rattle.graphql_schemas.specs.grammar.Types as grammar;
 ghost use Rattle.graphql_schemas.specs.reading.Bodies.{in_members, in_rest, in_body, word_at, rest_at, body_by_word_at, members_by_part_at};
-ghost use Rattle.graphql_schemas.specs.reading.Types.{some_field_parts_at, scalar_rest_at, fields_rest_at, union_rest_at, enum_rest_at, input_rest_at, body_at};
+ghost use Rattle.graphql_schemas.specs.reading.Types.{some_parts_at, some_field_parts_at, scalar_rest_at, fields_rest_at, union_rest_at, enum_rest_at, input_rest_at, body_at};
 
-use crate::descriptions::place_of;
-use crate::fields::read_maybe_fields;
-use crate::input_values::read_maybe_input_fields;
-use crate::members::{read_maybe_enum_values, read_maybe_implements, read_maybe_members};
+use crate::fields::FieldPhrase;
+use crate::input_values::InputValuePhrase;
+use crate::members::{EnumValuePhrase, read_maybe_implements, read_maybe_members};
 use graphql_grammar::arguments::read_const_directives;
 use graphql_reading::limits::Limits;
 use graphql_reading::names::name_in;
 use graphql_reading::parser::{Parser, Reading, Refusal};
+use graphql_reading::production::{Production, maybe_bracketed};
 use graphql_schema_trees::{
     EnumType, FieldDefinition, InputObjectType, InterfaceType, ObjectType, TypeDefinition,
     TypeKind, UnionType,
@@ -39,24 +40,22 @@ pub enum Word {
     Input,
 }
 
-/// What an object type and an interface may have.
-struct Members {
-    implements: Vec<Positioned<Name>>,
-    directives: Vec<Positioned<ConstDirective>>,
-    fields: Vec<Positioned<FieldDefinition>>,
-}
+type Directives = Vec<Positioned<ConstDirective>>;
+
+/// What an object type and an interface may have: interfaces, directives and fields.
+type Members = (
+    Vec<Positioned<Name>>,
+    (Directives, Vec<Positioned<FieldDefinition>>),
+);
 
 /// What stands after the name of a type: its directives, and its kind with the parts of that.
-struct Rest {
-    directives: Vec<Positioned<ConstDirective>>,
-    kind: TypeKind,
-}
+type Rest = (Directives, TypeKind);
 
 /// What a definition and an extension of a type share.
-struct Body<'a> {
-    word: Token<'a>,
+pub(crate) struct Body<'a> {
+    pub(crate) word: Token<'a>,
     name: Positioned<Name>,
-    directives: Vec<Positioned<ConstDirective>>,
+    directives: Directives,
     kind: TypeKind,
 }
 
@@ -101,12 +100,8 @@ fn read_members(parser: &mut Parser, limits: Limits) -> Reading<Members>
 {
     let implements = read_maybe_implements(parser, limits)?;
     let directives = read_const_directives(parser, limits)?;
-    let fields = read_maybe_fields(parser, limits)?;
-    Ok(Members {
-        implements,
-        directives,
-        fields,
-    })
+    let fields = maybe_bracketed::<FieldPhrase>(parser, "{", "}", limits)?;
+    Ok((implements, (directives, fields)))
 }
 
 /// The same; an extension has at least one of them.
@@ -120,34 +115,32 @@ fn read_owed_members(parser: &mut Parser, limits: Limits, extend: bool) -> Readi
     read_members(parser, limits)
 }
 
-/// The rest of an object type.
-fn read_object_rest(parser: &mut Parser, limits: Limits, extend: bool) -> Reading<Rest>
-    ensures { Gives in_rest result parser.old parser.new (fields_rest_at object extend limits) }
+/// What stands after the name of an object type or of an interface.
+fn fields_rest(is_interface: bool, members: Members) -> Rest
+    ensures { in_rest result ≡
+        grammar.fields_rest (cond is_interface interface object) (in_members members) }
 {
-    let Members {
-        implements,
-        directives,
-        fields,
-    } = read_owed_members(parser, limits, extend)?;
-    Ok(Rest {
-        directives,
-        kind: TypeKind::Object(ObjectType { implements, fields }),
-    })
+    let (implements, (directives, fields)) = members;
+    let kind = if is_interface {
+        TypeKind::Interface(InterfaceType { implements, fields })
+    } else {
+        TypeKind::Object(ObjectType { implements, fields })
+    };
+    (directives, kind)
 }
 
-/// The rest of an interface.
-fn read_interface_rest(parser: &mut Parser, limits: Limits, extend: bool) -> Reading<Rest>
-    ensures { Gives in_rest result parser.old parser.new (fields_rest_at interface extend limits) }
+/// The rest of an object type or of an interface.
+fn read_fields_rest(
+    parser: &mut Parser,
+    limits: Limits,
+    is_interface: bool,
+    extend: bool,
+) -> Reading<Rest>
+    ensures { Gives in_rest result parser.old parser.new
+        (fields_rest_at (cond is_interface interface object) extend limits) }
 {
-    let Members {
-        implements,
-        directives,
-        fields,
-    } = read_owed_members(parser, limits, extend)?;
-    Ok(Rest {
-        directives,
-        kind: TypeKind::Interface(InterfaceType { implements, fields }),
-    })
+    let members = read_owed_members(parser, limits, extend)?;
+    Ok(fields_rest(is_interface, members))
 }
 
 /// `Directives[Const]?`; an extension has them.
@@ -157,10 +150,7 @@ fn read_scalar_rest(parser: &mut Parser, limits: Limits, extend: bool) -> Readin
     let is_there = parser.is_at_punct("@");
     expect_part(extend, is_there)?;
     let directives = read_const_directives(parser, limits)?;
-    Ok(Rest {
-        directives,
-        kind: TypeKind::Scalar,
-    })
+    Ok((directives, TypeKind::Scalar))
 }
 
 /// `Directives[Const]? UnionMemberTypes?`; an extension has at least one of them.
@@ -171,38 +161,45 @@ fn read_union_rest(parser: &mut Parser, limits: Limits, extend: bool) -> Reading
     expect_part(extend, is_there)?;
     let directives = read_const_directives(parser, limits)?;
     let members = read_maybe_members(parser, limits)?;
-    Ok(Rest {
-        directives,
-        kind: TypeKind::Union(UnionType { members }),
-    })
+    Ok((directives, TypeKind::Union(UnionType { members })))
+}
+
+/// `Directives[Const]? ('{' Phrase+ '}')?`; an extension has at least one of them.
+#[inline(always)]
+pub(crate) fn read_braced<P: Production>(
+    parser: &mut Parser,
+    limits: Limits,
+    extend: bool,
+) -> Reading<(Directives, Vec<P::Node>)>
+    requires { Takes (P.reader limits) }
+    ensures { Gives (λ x. (const_directives_tree x.0.items, trees_in P.tree x.1)) result parser.old
+        parser.new (some_parts_at extend limits (punct "{")
+        (between_at (punct "{") (plus_at P.first (P.reader limits)) (punct "}"))) }
+{
+    let is_there = parser.is_at_punct("@") || parser.is_at_punct("{");
+    expect_part(extend, is_there)?;
+    let directives = read_const_directives(parser, limits)?;
+    let items = maybe_bracketed::<P>(parser, "{", "}", limits)?;
+    Ok((directives, items))
 }
 
 /// `Directives[Const]? EnumValuesDefinition?`; an extension has at least one of them.
 fn read_enum_rest(parser: &mut Parser, limits: Limits, extend: bool) -> Reading<Rest>
     ensures { Gives in_rest result parser.old parser.new (enum_rest_at extend limits) }
 {
-    let is_there = parser.is_at_punct("@") || parser.is_at_punct("{");
-    expect_part(extend, is_there)?;
-    let directives = read_const_directives(parser, limits)?;
-    let values = read_maybe_enum_values(parser, limits)?;
-    Ok(Rest {
-        directives,
-        kind: TypeKind::Enum(EnumType { values }),
-    })
+    let (directives, values) = read_braced::<EnumValuePhrase>(parser, limits, extend)?;
+    Ok((directives, TypeKind::Enum(EnumType { values })))
 }
 
 /// `Directives[Const]? InputFieldsDefinition?`; an extension has at least one of them.
 fn read_input_rest(parser: &mut Parser, limits: Limits, extend: bool) -> Reading<Rest>
     ensures { Gives in_rest result parser.old parser.new (input_rest_at extend limits) }
 {
-    let is_there = parser.is_at_punct("@") || parser.is_at_punct("{");
-    expect_part(extend, is_there)?;
-    let directives = read_const_directives(parser, limits)?;
-    let fields = read_maybe_input_fields(parser, limits)?;
-    Ok(Rest {
+    let (directives, fields) = read_braced::<InputValuePhrase>(parser, limits, extend)?;
+    Ok((
         directives,
-        kind: TypeKind::InputObject(InputObjectType { fields }),
-    })
+        TypeKind::InputObject(InputObjectType { fields }),
+    ))
 }
 
 /// What stands after the name, by the keyword.
@@ -211,8 +208,8 @@ fn read_rest(parser: &mut Parser, limits: Limits, word: Word, extend: bool) -> R
 {
     match word {
         Word::Scalar => read_scalar_rest(parser, limits, extend),
-        Word::Type => read_object_rest(parser, limits, extend),
-        Word::Interface => read_interface_rest(parser, limits, extend),
+        Word::Type => read_fields_rest(parser, limits, false, extend),
+        Word::Interface => read_fields_rest(parser, limits, true, extend),
         Word::Union => read_union_rest(parser, limits, extend),
         Word::Enum => read_enum_rest(parser, limits, extend),
         Word::Input => read_input_rest(parser, limits, extend),
@@ -234,7 +231,7 @@ fn read_body<'a>(parser: &mut Parser<'a>, limits: Limits, extend: bool) -> Readi
     let (token, word) = read_word(parser)?;
     let name = parser.expect_name()?;
     let name = name_in(parser, name)?;
-    let Rest { directives, kind } = read_rest(parser, limits, word, extend)?;
+    let (directives, kind) = read_rest(parser, limits, word, extend)?;
     Ok(Body {
         word: token,
         name,
@@ -243,59 +240,39 @@ fn read_body<'a>(parser: &mut Parser<'a>, limits: Limits, extend: bool) -> Readi
     })
 }
 
-/// Reads the definition of a type after its description.
-///
-/// `TypeDefinition : Description? TypeBody` (GraphQL October 2021, section 3.4)
-pub fn read_type_definition(
-    parser: &mut Parser,
-    limits: Limits,
+/// What a body says, in a definition or in an extension.
+pub(crate) fn type_with(
+    extend: bool,
     description: Option<Positioned<String>>,
-) -> Reading<Positioned<TypeDefinition>>
-    ensures { Gives (placed type_definition_tree) result parser.old parser.new
-        (mapped_at (λ body. grammar.type_definition_of (description_tree description, body))
-        (body_at false limits)) }
-{
-    let Body {
-        word,
-        name,
-        directives,
-        kind,
-    } = read_body(parser, limits, false)?;
-    let pos = place_of(&description, word);
-    let definition = TypeDefinition {
-        extend: false,
-        description,
-        name,
-        directives,
-        kind,
-    };
-    Ok(Positioned::new(definition, pos))
-}
-
-/// Reads the extension of a type after this `extend`.
-///
-/// `TypeExtension : 'extend' TypeBody`, with at least one of the optional parts (GraphQL October 2021, section 3.4.3)
-pub fn read_type_extension(
-    parser: &mut Parser,
-    limits: Limits,
-    extend: Token,
-) -> Reading<Positioned<TypeDefinition>>
-    ensures { Gives (placed type_definition_tree) result parser.old parser.new
-        (mapped_at (λ body. grammar.type_extension_of (seen extend.entry, body))
-        (body_at true limits)) }
+    body: Body,
+) -> TypeDefinition
+    ensures { type_definition_tree result ≡
+        grammar.type_with extend (description_tree description) (in_body body.entry) }
 {
     let Body {
         word: _,
         name,
         directives,
         kind,
-    } = read_body(parser, limits, true)?;
-    let definition = TypeDefinition {
-        extend: true,
-        description: None,
+    } = body;
+    TypeDefinition {
+        extend,
+        description,
         name,
         directives,
         kind,
-    };
-    Ok(Positioned::new(definition, extend.pos))
+    }
+}
+
+/// Reads what a type's definition says after its description, and an extension after its `extend`.
+///
+/// `TypeBody` (GraphQL October 2021, section 3.4); in an extension with at least one of the optional parts (section 3.4.3)
+pub(crate) fn read_type_body<'a>(
+    parser: &mut Parser<'a>,
+    limits: Limits,
+    extend: bool,
+) -> Reading<Body<'a>>
+    ensures { Gives in_body result parser.old parser.new (body_at extend limits) }
+{
+    read_body(parser, limits, extend)
 }

@@ -44,7 +44,3 @@ abbrev pub breach_of : List Definition → Definition → Option Error
 breach_of before (schema s) = or_else (repeats_a_root s) (lacks_a_query s)
 breach_of before (type_def t) = None
 breach_of before (directive d) = None
-
--- a list of definitions lacks nothing
-abbrev pub lack_of : List Definition → Option Error
-lack_of ds = None

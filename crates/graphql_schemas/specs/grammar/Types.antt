@@ -1,5 +1,5 @@
 -- Definitions and extensions of types, and their places (GraphQL October 2021, sections 3.4 to 3.10).
-use Rattle.std.specs.Prelude.{true, false, Option, None, List, []}
+use Rattle.std.specs.Prelude.{Bool, true, false, Option, None, List, []}
 use Rattle.graphql_tokens.specs.declared.pos.Positioned.{Positioned}
 use Rattle.graphql_tokens.specs.tokens.Edition.{Edition}
 use Rattle.graphql_tokens.specs.tokens.Token.{Token}
@@ -106,27 +106,25 @@ extended_body edition limits =
 
 -- ---- definitions and extensions
 
-abbrev pub type_definition_of : Description × Body → Positioned TypeDefinition
-type_definition_of (description, (word, (name, (directives, kind)))) = described description word (record {
-  extend = false;
+-- what a body says, in a definition or in an extension
+abbrev pub type_with : Bool → Description → Body → TypeDefinition
+type_with extend description (word, (name, (directives, kind))) = record {
+  extend = extend;
   description = description;
   name = name;
   directives = directives;
   kind = kind;
-})
+}
+
+abbrev pub type_definition_of : Description × Body → Positioned TypeDefinition
+type_definition_of (description, body) = described description body.0 (type_with false description body)
 
 -- TypeDefinition : Description? TypeBody
 abbrev pub a_type_definition : Edition → Grammar (Positioned TypeDefinition)
 a_type_definition edition limits = mapped type_definition_of (opt (a_description edition) ⨾ body edition limits)
 
 abbrev pub type_extension_of : Token × Body → Positioned TypeDefinition
-type_extension_of (extend, (word, (name, (directives, kind)))) = at extend (record {
-  extend = true;
-  description = None;
-  name = name;
-  directives = directives;
-  kind = kind;
-})
+type_extension_of (extend, body) = at extend (type_with true None body)
 
 -- TypeExtension : 'extend' TypeBody, with at least one of the optional parts of the TypeBody's line
 -- It stands at 'extend'.

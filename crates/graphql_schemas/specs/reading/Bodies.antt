@@ -1,9 +1,14 @@
 -- Reading the bodies of types as the code does: the keyword, the name, and the rest by the keyword.
-use Rattle.std.specs.Prelude.{Bool, false, map}
+use Rattle.std.specs.Prelude.{Bool, false, map, Vec}
+use Rattle.std.specs.declared.alloc.Global.{Global}
+use Rattle.graphql_tokens.specs.declared.pos.Positioned.{Positioned}
 use Rattle.graphql_tokens.specs.tokens.Seen.{seen}
 use Rattle.graphql_tokens.specs.tokens.Token.{Token}
+use Rattle.graphql_syntax.specs.declared.types.ConstDirective.{ConstDirective}
 use Rattle.graphql_syntax.specs.trees.PartViews.{const_directives_tree}
-use Rattle.graphql_syntax.specs.trees.Parts.{placed}
+use Rattle.graphql_syntax.specs.trees.Parts.{Name, placed}
+use Rattle.graphql_schema_trees.specs.declared.service.FieldDefinition.{FieldDefinition}
+use Rattle.graphql_schema_trees.specs.declared.service.TypeKind.{TypeKind}
 use Rattle.graphql_schema_trees.specs.trees.Schema.{object, interface}
 use Rattle.graphql_schema_trees.specs.trees.SchemaViews.{field_definition_tree, kind_tree}
 use Rattle.graphql_reading.specs.grammar.Limits.{Limits}
@@ -12,8 +17,6 @@ use Rattle.graphql_reading.specs.grammar.Places.{name_of}
 use Rattle.graphql_reading.specs.grammar.Tests.{keyword, any_name}
 use Rattle.graphql_reading.specs.reading.Outcome.{Reader, ◌>>=◌, one_at, then_at, mapped_at, choose_at}
 use Rattle.graphql_schemas.specs.declared.types.Body as code_body
-use Rattle.graphql_schemas.specs.declared.types.Members as code_members
-use Rattle.graphql_schemas.specs.declared.types.Rest as code_rest
 use Rattle.graphql_schemas.specs.declared.types.Word.{Word}
 use Rattle.graphql_schemas.specs.declared.types.Word.TheVariants as words
 use Rattle.graphql_schemas.specs.grammar.Types.{Members, Rest, Body}
@@ -23,11 +26,11 @@ use Rattle.graphql_schemas.specs.reading.Types.{fields_rest_at, scalar_rest_at, 
 
 -- ---- what those of the code stand for
 
-abbrev pub in_members : code_members.Members → Members
-in_members m = (m.implements.items, (const_directives_tree m.directives.items, map (placed field_definition_tree) m.fields.items))
+abbrev pub in_members : Vec (Positioned Name) Global × (Vec (Positioned ConstDirective) Global × Vec (Positioned FieldDefinition) Global) → Members
+in_members m = (m.0.items, (const_directives_tree m.1.0.items, map (placed field_definition_tree) m.1.1.items))
 
-abbrev pub in_rest : code_rest.Rest → Rest
-in_rest r = (const_directives_tree r.directives.items, kind_tree r.kind)
+abbrev pub in_rest : Vec (Positioned ConstDirective) Global × TypeKind → Rest
+in_rest r = (const_directives_tree r.0.items, kind_tree r.1)
 
 abbrev pub in_body : code_body.Body → Body
 in_body b = (seen b.word, (b.name, (const_directives_tree b.directives.items, kind_tree b.kind)))

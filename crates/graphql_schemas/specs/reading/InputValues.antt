@@ -28,6 +28,3 @@ given_arguments_at limits = mapped_at given (opt_at (punct "(") (arguments_defin
 
 abbrev pub input_fields_at : Limits → Reader InputValues
 input_fields_at limits = between_at (punct "{") (plus_at member_first (input_value_at limits)) (punct "}")
-
-abbrev pub given_input_fields_at : Limits → Reader InputValues
-given_input_fields_at limits = mapped_at given (opt_at (punct "{") (input_fields_at limits))

@@ -37,6 +37,3 @@ enum_value_at limits = mapped_at enum_value_of (then_at maybe_description_at (th
 
 abbrev pub enum_values_at : Limits → Reader (List (Positioned EnumValueDefinition))
 enum_values_at limits = between_at (punct "{") (plus_at enum_value_first (enum_value_at limits)) (punct "}")
-
-abbrev pub given_enum_values_at : Limits → Reader (List (Positioned EnumValueDefinition))
-given_enum_values_at limits = mapped_at given (opt_at (punct "{") (enum_values_at limits))

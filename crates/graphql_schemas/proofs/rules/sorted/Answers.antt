@@ -1,20 +1,18 @@
-use Rattle.std.proofs.Common.{[], ◌∷◌, ap, sym, ◌∙◌, ◌++◌, subst, append_assoc}
-use Rattle.std.proofs.lemmas.List.{map-append}
+use Rattle.std.proofs.Common.{ap, ◌∙◌, ◌++◌}
 use Rattle.std.specs.Vec.Iter.{into_iter_items}
 use Rattle.std.proofs.lemmas.Result.{err_from_is_err_and}
-use Rattle.graphql_schemas.specs.reading.Views.{root_tree, root_trees}
-use Rattle.graphql_schemas.proofs.Roots.{Kept, kept-more, sorted-stops}
+use Rattle.graphql_schemas.specs.reading.Views.{root_trees}
+use Rattle.graphql_schemas.proofs.OnePassed.{one-passed}
+use Rattle.graphql_schemas.proofs.Roots.{are-kept-more, sorted-stops}
 use Rattle.graphql_schemas.proofs.rules.sorted.Goals as goal
 
 pub loop-root-preserved : goal.loop-root-preserved
-loop-root-preserved c =
-    let kept = c.loop-root.invariant in
-    let front = c.loop-root.yielded in (
-      tt,
-      tt,
-      kept.2 ∙ ap (λ l. front ++ l) c.in-Some.ensures.steps.0 ∙ sym (append_assoc front (c.in-Some.root ∷ []) _),
-      subst (λ roots. Kept roots c.add.new.self) (sym (map-append root_tree front (c.in-Some.root ∷ []))) (kept-more (root_trees front) (root_tree c.in-Some.root) c.args.schema _ _ kept.3 (c.in_ok-add.ensures (root_trees front) kept.3.holds)),
-    )
+loop-root-preserved c = (
+  tt,
+  tt,
+  one-passed c.loop-root.yielded c.loop-root.invariant.2 c.in-Some.ensures.steps.0,
+  are-kept-more c.loop-root.yielded c.in-Some.root c.args.schema _ _ c.loop-root.invariant.3 (c.in_ok-add.ensures (root_trees c.loop-root.yielded) c.loop-root.invariant.3.holds),
+)
 
 pub returns-in_err-add : goal.returns-in_err-add
 returns-in_err-add c =

@@ -1,7 +1,6 @@
 use Rattle.std.proofs.Common.{◌≡◌, ◌++◌}
 use Rattle.std.specs.Vec.Iter.{into_iter_items}
-use Rattle.graphql_schemas.specs.reading.Views.{root_trees}
-use Rattle.graphql_schemas.proofs.Roots.{Kept}
+use Rattle.graphql_schemas.proofs.Roots.{AreKept}
 use Rattle.graphql_schemas.proofs.rules.sorted.Given as goal
 
 abbrev pub invariant-loop-root : goal.invariant-loop-root
@@ -9,4 +8,4 @@ invariant-loop-root l =
     (goal.iterator-loop-root).can_next l.root-iterator ×
     (goal.iterator-loop-root).is_finite l.root-iterator ×
     (l.fn.roots.items ≡ l.yielded ++ into_iter_items l.root-iterator) ×
-    Kept (root_trees l.yielded) l.sorted
+    AreKept l.yielded l.sorted
