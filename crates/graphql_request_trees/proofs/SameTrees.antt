@@ -18,7 +18,7 @@ use Rattle.graphql_request_trees.specs.contracts.executable.VariableDefinitionCl
 use Rattle.graphql_request_trees.specs.trees.RequestViews.{entry_tree, fragment_spread_tree, fragment_tree, operation_tree, selection_set_tree, type_condition_tree, variable_definition_tree}
 use Rattle.graphql_request_trees.proofs.Entries.{same_entries}
 
-same_variable : (x y : VariableDefinition) → variable.is_clone-value.it x y → variable_definition_tree y ≡ variable_definition_tree x
+pub same_variable : (x y : VariableDefinition) → variable.is_clone-value.it x y → variable_definition_tree y ≡ variable_definition_tree x
 same_variable x y clone = λ i. record {
   name = same_node x.name y.name clone.0 i;
   var_type = same_placed type_tree x.var_type y.var_type clone.1.0 i;
@@ -48,7 +48,7 @@ same_operation x y clone = λ i. record {
   selection_set = same_placed selection_set_tree x.selection_set y.selection_set clone.1.1.1 i;
 }
 
-same_fragment : (x y : FragmentDefinition) → fragment.is_clone-value.it x y → fragment_tree y ≡ fragment_tree x
+pub same_fragment : (x y : FragmentDefinition) → fragment.is_clone-value.it x y → fragment_tree y ≡ fragment_tree x
 same_fragment x y clone = λ i. record {
   type_condition = same_placed type_condition_tree x.type_condition y.type_condition clone.0 i;
   directives = same_list directive_tree x.directives.items y.directives.items clone.1.0.0 i;

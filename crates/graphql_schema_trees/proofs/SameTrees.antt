@@ -43,14 +43,14 @@ module _ {A B : Type 0} (tree : A → B) (is_clone : A → A → Type 0) (same :
 
 -- ---- the parts of types
 
-same_enum_value : (x y : EnumValueDefinition) → enum_value.is_clone-value.it x y → enum_value_tree y ≡ enum_value_tree x
+pub same_enum_value : (x y : EnumValueDefinition) → enum_value.is_clone-value.it x y → enum_value_tree y ≡ enum_value_tree x
 same_enum_value x y clone = λ i. record {
   description = same_option string_bytes x.description y.description clone.0 i;
   value = same_node x.value y.value clone.1.0 i;
   directives = same_list const_directive_tree x.directives.items y.directives.items clone.1.1.0 i;
 }
 
-same_input_value : (x y : InputValueDefinition) → input_value.is_clone-value.it x y → input_value_tree y ≡ input_value_tree x
+pub same_input_value : (x y : InputValueDefinition) → input_value.is_clone-value.it x y → input_value_tree y ≡ input_value_tree x
 same_input_value x y clone = λ i. record {
   description = same_option string_bytes x.description y.description clone.0 i;
   name = same_node x.name y.name clone.1.0 i;
@@ -59,7 +59,7 @@ same_input_value x y clone = λ i. record {
   directives = same_list const_directive_tree x.directives.items y.directives.items clone.1.1.1.1.0 i;
 }
 
-same_field : (x y : FieldDefinition) → field.is_clone-value.it x y → field_definition_tree y ≡ field_definition_tree x
+pub same_field : (x y : FieldDefinition) → field.is_clone-value.it x y → field_definition_tree y ≡ field_definition_tree x
 same_field x y clone = λ i. record {
   description = same_option string_bytes x.description y.description clone.0 i;
   name = same_node x.name y.name clone.1.0 i;
