@@ -4,26 +4,23 @@ ghost use Rattle.std.specs.Prelude.{true, false};
 ghost use Rattle.graphql_check.specs.Checked.{Checks};
 ghost use Rattle.graphql_tokens.specs.declared.pos.Positioned.{Positioned as Place};
 ghost use Rattle.graphql_syntax.specs.trees.Parts as trees;
-ghost use Rattle.graphql_grammar.specs.grammar.Values.{Value as SpecValue};
-ghost use Rattle.graphql_grammar.specs.reading.Arguments.{argument_at, arguments_at, maybe_arguments_at, directive_at, directives_at, default_at, maybe_default_at};
+ghost use Rattle.graphql_grammar.specs.reading.Arguments.{argument_at, arguments_at, maybe_arguments_at, directive_at, directives_at, maybe_default_at};
 ghost use Rattle.graphql_reading.specs.grammar.Tests.{any_name, punct};
 
-use crate::production::{Phrase, check_any_number, check_bracketed, check_optional};
+use crate::production::{Phrase, check_any_number, check_bracketed};
 use crate::value::check_value;
 use graphql_reading::limits::Limits;
 use graphql_reading::parser::{Parser, Reading};
-use graphql_syntax::value::{ConstValue, Literal, Value};
-use std::marker::PhantomData;
 
-/// `Argument : Name ':' Value`, with values of the type `V`.
-struct ArgumentPhrase<V>(PhantomData<V>);
+/// `Argument : Name ':' Value`, in whose value variables may stand or not.
+struct ArgumentPhrase<const VARIABLES: bool>;
 
-impl<V: Literal> Phrase for ArgumentPhrase<V> {
+impl<const VARIABLES: bool> Phrase for ArgumentPhrase<VARIABLES> {
     ghost Tree = { trees.Argument };
 
     ghost first = { any_name };
 
-    ghost reader = { λ limits. argument_at V.VARIABLES limits.values };
+    ghost reader = { λ limits. argument_at VARIABLES limits.values };
 
     #[inline(always)]
     fn is_next(parser: &Parser) -> bool {
@@ -34,7 +31,7 @@ impl<V: Literal> Phrase for ArgumentPhrase<V> {
     fn check(parser: &mut Parser, limits: Limits) -> Reading<()> {
         parser.expect_name()?;
         parser.expect_punct(":")?;
-        check_value(parser, V::VARIABLES, limits)
+        check_value(parser, VARIABLES, limits)
     }
 }
 
@@ -42,22 +39,25 @@ impl<V: Literal> Phrase for ArgumentPhrase<V> {
 ///
 /// `Arguments : '(' Argument+ ')'` (GraphQL October 2021, section 2.6)
 #[inline(never)]
-fn check_arguments<V: Literal>(parser: &mut Parser, limits: Limits) -> Reading<()>
-    ensures { Checks result parser.old parser.new (arguments_at V.VARIABLES limits.values) }
+fn check_arguments<const VARIABLES: bool>(parser: &mut Parser, limits: Limits) -> Reading<()>
+    ensures { Checks result parser.old parser.new (arguments_at VARIABLES limits.values) }
 {
-    check_bracketed::<ArgumentPhrase<V>>(parser, "(", ")", limits)
+    check_bracketed::<ArgumentPhrase<VARIABLES>>(parser, "(", ")", limits)
 }
 
 /// `Arguments?`
 #[tactic(auto, unfolding(graphql_reading::specs::reading::Outcome::opt_at))]
 #[inline(always)]
-fn check_maybe_arguments_of<V: Literal>(parser: &mut Parser, limits: Limits) -> Reading<()>
-    ensures { Checks result parser.old parser.new (maybe_arguments_at V.VARIABLES limits.values) }
+fn check_maybe_arguments_of<const VARIABLES: bool>(
+    parser: &mut Parser,
+    limits: Limits,
+) -> Reading<()>
+    ensures { Checks result parser.old parser.new (maybe_arguments_at VARIABLES limits.values) }
 {
     if !parser.is_at_punct("(") {
         return Ok(());
     }
-    check_arguments::<V>(parser, limits)
+    check_arguments::<VARIABLES>(parser, limits)
 }
 
 /// Reads arguments with their brackets, where a `(` is in hand; else there are none. Values may have variables.
@@ -67,18 +67,18 @@ fn check_maybe_arguments_of<V: Literal>(parser: &mut Parser, limits: Limits) -> 
 pub fn check_maybe_arguments(parser: &mut Parser, limits: Limits) -> Reading<()>
     ensures { Checks result parser.old parser.new (maybe_arguments_at true limits.values) }
 {
-    check_maybe_arguments_of::<Value>(parser, limits)
+    check_maybe_arguments_of::<true>(parser, limits)
 }
 
-/// `Directive : '@' Name Arguments?`, with values of the type `V`.
-struct DirectivePhrase<V>(PhantomData<V>);
+/// `Directive : '@' Name Arguments?`, in whose values variables may stand or not.
+struct DirectivePhrase<const VARIABLES: bool>;
 
-impl<V: Literal> Phrase for DirectivePhrase<V> {
+impl<const VARIABLES: bool> Phrase for DirectivePhrase<VARIABLES> {
     ghost Tree = { Place trees.Directive };
 
     ghost first = { punct "@" };
 
-    ghost reader = { λ limits. directive_at V.VARIABLES limits.values };
+    ghost reader = { λ limits. directive_at VARIABLES limits.values };
 
     #[inline(always)]
     fn is_next(parser: &Parser) -> bool {
@@ -89,7 +89,7 @@ impl<V: Literal> Phrase for DirectivePhrase<V> {
     fn check(parser: &mut Parser, limits: Limits) -> Reading<()> {
         parser.expect_punct("@")?;
         parser.expect_name()?;
-        check_maybe_arguments_of::<V>(parser, limits)
+        check_maybe_arguments_of::<VARIABLES>(parser, limits)
     }
 }
 
@@ -100,43 +100,25 @@ impl<V: Literal> Phrase for DirectivePhrase<V> {
 pub fn check_directives(parser: &mut Parser, limits: Limits) -> Reading<()>
     ensures { Checks result parser.old parser.new (directives_at true limits.values) }
 {
-    check_any_number::<DirectivePhrase<Value>>(parser, limits)
+    check_any_number::<DirectivePhrase<true>>(parser, limits)
 }
 
 /// As [`check_directives`], without variables.
 pub fn check_const_directives(parser: &mut Parser, limits: Limits) -> Reading<()>
     ensures { Checks result parser.old parser.new (directives_at false limits.values) }
 {
-    check_any_number::<DirectivePhrase<ConstValue>>(parser, limits)
-}
-
-/// `DefaultValue : '=' Value[Const]`.
-struct DefaultPhrase;
-
-impl Phrase for DefaultPhrase {
-    ghost Tree = { SpecValue };
-
-    ghost first = { punct "=" };
-
-    ghost reader = { λ limits. default_at limits.values };
-
-    #[inline(always)]
-    fn is_next(parser: &Parser) -> bool {
-        parser.is_at_punct("=")
-    }
-
-    #[inline(always)]
-    fn check(parser: &mut Parser, limits: Limits) -> Reading<()> {
-        parser.expect_punct("=")?;
-        check_value(parser, false, limits)
-    }
+    check_any_number::<DirectivePhrase<false>>(parser, limits)
 }
 
 /// Reads a default value after its `=`, where a `=` is in hand.
 ///
 /// `DefaultValue? : ('=' Value[Const])?` (GraphQL October 2021, section 2.10)
+#[tactic(auto, unfolding(graphql_reading::specs::reading::Outcome::opt_at))]
 pub fn check_maybe_default(parser: &mut Parser, limits: Limits) -> Reading<()>
     ensures { Checks result parser.old parser.new (maybe_default_at limits.values) }
 {
-    check_optional::<DefaultPhrase>(parser, limits)
+    if !parser.take_punct("=") {
+        return Ok(());
+    }
+    check_value(parser, false, limits)
 }

@@ -5,7 +5,7 @@ ghost use Rattle.std.specs.Prelude.{◌≡◌};
 ghost use Rattle.graphql_check.specs.Checked.{Checks};
 ghost use Rattle.graphql_reading.specs.grammar.Limits.{Limits as Budgets};
 ghost use Rattle.graphql_reading.specs.grammar.Tests.{Test};
-ghost use Rattle.graphql_reading.specs.reading.Outcome.{Reader, Takes, many_at, plus_at, opt_at, between_at};
+ghost use Rattle.graphql_reading.specs.reading.Outcome.{Reader, Takes, many_at, plus_at, between_at};
 ghost use Rattle.graphql_reading.specs.reading.Spelled.{punct_of};
 
 use graphql_reading::limits::Limits;
@@ -56,18 +56,6 @@ pub fn check_any_number<P: Phrase>(parser: &mut Parser, limits: Limits) -> Readi
         return Ok(());
     }
     check_one_or_more::<P>(parser, limits)
-}
-
-/// Reads a phrase where the token in hand begins one.
-#[tactic(auto, unfolding(graphql_reading::specs::reading::Outcome::opt_at))]
-#[inline(always)]
-pub fn check_optional<P: Phrase>(parser: &mut Parser, limits: Limits) -> Reading<()>
-    ensures { Checks result parser.old parser.new (opt_at P.first (P.reader limits)) }
-{
-    if !P::is_next(parser) {
-        return Ok(());
-    }
-    P::check(parser, limits)
 }
 
 /// Reads one phrase or more between two brackets.

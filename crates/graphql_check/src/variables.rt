@@ -1,7 +1,7 @@
 //! Readers of variable definitions that make no tree, by GraphQL October 2021, section 2.10.
 ghost use Rattle.graphql_check.specs.Checked.{Checks};
 ghost use Rattle.graphql_tokens.specs.declared.pos.Positioned.{Positioned};
-ghost use Rattle.graphql_request_trees.specs.trees.Request as request;
+ghost use Rattle.graphql_request_trees.specs.trees.Request.{VariableDefinition};
 ghost use Rattle.graphql_reading.specs.grammar.Tests.{punct};
 ghost use Rattle.graphql_reading.specs.reading.Outcome.{opt_at};
 ghost use Rattle.graphql_requests.specs.reading.Variables.{default_and_directives_at, variable_definition_at, variable_definitions_at};
@@ -30,7 +30,7 @@ fn check_default_and_directives(parser: &mut Parser, limits: Limits) -> Reading<
 struct VariablePhrase;
 
 impl Phrase for VariablePhrase {
-    ghost Tree = { Positioned request.VariableDefinition };
+    ghost Tree = { Positioned VariableDefinition };
 
     ghost first = { punct "$" };
 
