@@ -1,5 +1,5 @@
 -- What the loop over open sets keeps, of which only the number is kept, and each way on.
-use Rattle.std.proofs.Common.{◌≡◌, ℕ, zero, suc, pred, ◌+◌, ◌<◌, ◌≤◌, Bool, true, false, nat_lt, Some, None, is_some, List, [], ◌∷◌, ◌++◌, length, refl, sym, ap, ◌∙◌, arith}
+use Rattle.std.proofs.Common.{◌≡◌, ℕ, zero, suc, pred, ◌+◌, ◌<◌, ◌≤◌, Bool, true, false, ◌||◌, nat_lt, Some, None, is_some, List, [], ◌∷◌, ◌++◌, length, refl, sym, ap, ◌∙◌, arith}
 use Rattle.std.proofs.lemmas.Bool.Decides.{nat_tests}
 use Rattle.graphql_tokens.specs.declared.pos.Pos.{Pos}
 use Rattle.graphql_tokens.specs.declared.pos.Positioned.{Positioned}
@@ -145,21 +145,17 @@ nests-is (suc left) outer selections e = grind (arith, nat_tests)
 
 -- ---- the ways on
 
-module _ {values selections outer : ℕ} {start now : Ahead} where
-  -- a selection has to follow where that is known,
-  pub has-to : {wanted : Bool} → Kept values selections start now outer wanted → wanted ≡ true → Kept values selections start now outer true
-  has-to kept is = record {
-    left = kept.left;
-    told = kept.told ∙ ap (λ (w : Bool). sets values kept.left outer w (tokens now)) is;
-    shared = kept.shared;
-    on = kept.on;
-  }
+neither : (v w : Bool) → (v || w) ≡ false → (v ≡ false) × (w ≡ false)
+neither true w e = absurd cc
+neither false w e = (refl, e)
 
-  -- and where one begins
-  pub goes-on : {wanted : Bool} → Kept values selections start now outer wanted → wanted ≡ false → selection_first now.hand.bare ≡ true → Kept values selections start now outer true
-  goes-on kept is at = record {
+module _ {values selections outer : ℕ} {start now : Ahead} where
+  -- a selection is next where one has to follow, and where one begins
+  pub goes-on : {wanted : Bool} → Kept values selections start now outer wanted → (wanted || selection_first now.hand.bare) ≡ true → Kept values selections start now outer true
+  goes-on {wanted = true} kept next = kept
+  goes-on {wanted = false} kept next = record {
     left = kept.left;
-    told = kept.told ∙ ap (λ (w : Bool). sets values kept.left outer w (tokens now)) is ∙ more-law values kept.left outer now.hand now.after at;
+    told = kept.told ∙ more-law values kept.left outer now.hand now.after next;
     shared = kept.shared;
     on = kept.on;
   }
@@ -226,9 +222,12 @@ module _ {values selections outer : ℕ} {start now : Ahead} where
               omega (arith, less, size)
           go (Refused v rest) e k = absurd cc
 
-  module _ {wanted : Bool} (kept : Kept values selections start now outer wanted) (is : wanted ≡ false) (none : selection_first now.hand.bare ≡ false) (after : Ahead) where
+  module _ {wanted : Bool} (kept : Kept values selections start now outer wanted) (next : (wanted || selection_first now.hand.bare) ≡ false) (after : Ahead) where
+    is : wanted ≡ false
+    is = (neither wanted (selection_first now.hand.bare) next).0
+
     end : ended (selection_set_at values selections (tokens start)) ≡ (one_at (punct "}") (tokens now) >>= λ _ rest. outs values kept.left outer rest)
-    end = kept.told ∙ ap (λ (w : Bool). sets values kept.left outer w (tokens now)) is ∙ end-law values kept.left outer now.hand now.after none
+    end = kept.told ∙ ap (λ (w : Bool). sets values kept.left outer w (tokens now)) is ∙ end-law values kept.left outer now.hand now.after (neither wanted (selection_first now.hand.bare) next).1
 
     pub end-not : (e : Refusal) → Refuses e now after (one_at (punct "}")) → GoesOn now after → Refuses e start after (selection_set_at values selections) × GoesOn start after
     end-not e h on = stops-as e start now after (selection_set_at values selections) (one_at (punct "}")) (λ v k. end ∙ ap (λ (o : Outcome Token). o >>= λ _ rest. outs values kept.left outer rest) k) kept.on h on

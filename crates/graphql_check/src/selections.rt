@@ -1,6 +1,8 @@
 //! Readers of selection sets that make no tree: one loop that counts the sets that are open.
+ghost use Rattle.std.specs.Prelude.{◌≡◌, ◌||◌};
 ghost use Rattle.graphql_check.specs.Checked.{Checks};
 ghost use Rattle.graphql_requests.specs.reading.Request.{own_set_at};
+ghost use Rattle.graphql_requests.specs.reading.Selections.{selection_first};
 
 mod heads;
 
@@ -9,6 +11,14 @@ use graphql_reading::parser::{Parser, Reading};
 use graphql_requests::selections::is_at_selection;
 use heads::check_head;
 pub use heads::check_type_condition;
+
+/// Whether a selection is next: one has to follow, or one begins here.
+#[inline(always)]
+fn is_at_head(parser: &Parser, is_wanted: bool) -> bool
+    ensures { result ≡ (is_wanted || selection_first parser.now.hand.bare) }
+{
+    is_wanted || is_at_selection(parser)
+}
 
 /// The selection set of a definition, whose own nesting isn't counted.
 ///
@@ -21,7 +31,7 @@ pub fn check_selection_set(parser: &mut Parser, limits: Limits) -> Reading<()>
     let mut outer = 0;
     let mut is_wanted = true;
     loop {
-        if is_wanted || is_at_selection(parser) {
+        if is_at_head(parser, is_wanted) {
             is_wanted = check_head(parser, limits, outer < limits.selections())?;
             if is_wanted {
                 outer += 1;
