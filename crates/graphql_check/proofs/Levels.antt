@@ -2,10 +2,10 @@
 use Rattle.std.proofs.Common.{◌≡◌, ℕ, suc, pred, ◌<◌, ◌≤◌, Bool, true, false, Option, Some, None, List, [], ◌∷◌, ◌++◌, length, refl, ap, ap₂, ◌∙◌, subst, arith}
 use Rattle.graphql_tokens.specs.tokens.Token.{Token}
 use Rattle.graphql_syntax.specs.trees.ValueTree.{Tree}
-use Rattle.graphql_reading.specs.grammar.Tests.{punct, any_name}
+use Rattle.graphql_reading.specs.grammar.Tests.{Test, punct, any_name}
 use Rattle.graphql_reading.specs.reading.Outcome.{Outcome, Read, Refused, ◌>>=◌, one_at, take_at, many_at, with_front}
 use Rattle.graphql_grammar.specs.grammar.Values.{Value}
-use Rattle.graphql_grammar.specs.reading.OpenValues.{Field, node_of, node_at, Opened, in_list, in_object, Waiting, list_waits, object_waits, list_rest, object_rest, open_rest, list_tree, object_tree, close_list, close_object, add, filled, enter_at, key_at}
+use Rattle.graphql_grammar.specs.reading.OpenValues.{Field, node_of, node_at, Opened, in_list, in_object, Waiting, list_waits, object_waits, list_rest, object_rest, open_rest, list_tree, object_tree, add, filled, enter_at, key_at}
 use Rattle.graphql_grammar.specs.reading.Values.{simple_at, value_first, value_at, field_at}
 use Rattle.graphql_grammar.proofs.ValueFrames.{value-law, begun, entered, list-law, object-law, after-item, after-key, taken, not-taken, takes-key, takes-node}
 use Rattle.graphql_check.specs.Levels.{opens, is_none, end_at, Met, closes, passes, enters, after_enter, after_end, step_at}
@@ -32,26 +32,18 @@ went vars b object outer (enters o) ts = rests vars (pred b) (is_object o ∷ ob
 
 -- ---- what was read of a list or an object doesn't matter
 
-closing-list : (front : List Tree) (o : Outcome (List Tree)) → ended (with_front front o >>= close_list) ≡ ended (with_front [] o >>= close_list)
-closing-list front (Read items rest) = go (one_at (punct "]") rest)
+closing : {A : Type 0} (test : Test) (tree : List A → Tree) (front : List A) (o : Outcome (List A)) → ended (with_front front o >>= λ items rest. one_at test rest >>= λ _ rest'. Read (tree items) rest') ≡ ended (with_front [] o >>= λ items rest. one_at test rest >>= λ _ rest'. Read (tree items) rest')
+closing {A} test tree front (Read items rest) = go (one_at test rest)
   where
-    go : (c : Outcome Token) → ended (c >>= λ _ rest'. Read (list_tree (front ++ items)) rest') ≡ ended (c >>= λ _ rest'. Read (list_tree items) rest')
+    go : (c : Outcome Token) → ended (c >>= λ _ rest'. Read (tree (front ++ items)) rest') ≡ ended (c >>= λ _ rest'. Read (tree items) rest')
     go (Read t rest') = refl
     go (Refused v rest') = refl
-closing-list front (Refused v rest) = refl
-
-closing-object : (front : List Field) (o : Outcome (List Field)) → ended (with_front front o >>= close_object) ≡ ended (with_front [] o >>= close_object)
-closing-object front (Read fields rest) = go (one_at (punct "}") rest)
-  where
-    go : (c : Outcome Token) → ended (c >>= λ _ rest'. Read (object_tree (front ++ fields)) rest') ≡ ended (c >>= λ _ rest'. Read (object_tree fields) rest')
-    go (Read t rest') = refl
-    go (Refused v rest') = refl
-closing-object front (Refused v rest) = refl
+closing test tree front (Refused v rest) = refl
 
 pub front-none : (vars : Bool) (b : ℕ) (o : Opened) (ts : List Token) → ended (open_rest vars b o ts) ≡ ended (open_rest vars b (opens (is_object o)) ts)
 unfolding list_rest object_rest
-front-none vars b (in_list front) ts = closing-list front (many_at (value_first vars) (node_at (value_at vars b)) ts)
-front-none vars b (in_object front) ts = closing-object front (many_at any_name (field_at (value_at vars b)) ts)
+front-none vars b (in_list front) ts = closing (punct "]") list_tree front (many_at (value_first vars) (node_at (value_at vars b)) ts)
+front-none vars b (in_object front) ts = closing (punct "}") object_tree front (many_at any_name (field_at (value_at vars b)) ts)
 
 -- ---- a step
 

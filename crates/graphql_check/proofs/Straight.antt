@@ -1,5 +1,5 @@
 -- What is left to read after the first of two readers has read, where its tree isn't kept.
-use Rattle.std.proofs.Common.{◌≡◌, List, Some, refl, ap, ◌∙◌}
+use Rattle.std.proofs.Common.{◌≡◌, List, Some, refl, sym, ap, ◌∙◌}
 use Rattle.graphql_tokens.specs.tokens.Token.{Token}
 use Rattle.graphql_reading.specs.grammar.Fronts.{Verdict}
 use Rattle.graphql_reading.specs.reading.Outcome.{Outcome, Read, Refused, Reader, ◌>>=◌, then_at, mapped_at}
@@ -13,12 +13,12 @@ ended-mapped {A} {B} f r ts = go (r ts)
     go (Read a rest) = refl
     go (Refused v rest) = refl
 
+rest-ended : {A : Type 0} (o : Outcome A) → rest_of (ended o) ≡ rest_of o
+rest-ended (Read a rest) = refl
+rest-ended (Refused v rest) = refl
+
 pub rest-mapped : {A B : Type 0} (f : A → B) (r : Reader A) (ts : List Token) → rest_of (mapped_at f r ts) ≡ rest_of (r ts)
-rest-mapped {A} {B} f r ts = go (r ts)
-  where
-    go : (o : Outcome A) → rest_of (o >>= λ a rest. Read (f a) rest) ≡ rest_of o
-    go (Read a rest) = refl
-    go (Refused v rest) = refl
+rest-mapped f r ts = sym (rest-ended (mapped_at f r ts)) ∙ ap rest_of (ended-mapped f r ts) ∙ rest-ended (r ts)
 
 pub mapped-twice : {A B C : Type 0} (f : A → B) (g : B → C) (r : Reader A) (ts : List Token) → mapped_at g (mapped_at f r) ts ≡ mapped_at (λ a. g (f a)) r ts
 mapped-twice {A} {B} {C} f g r ts = go (r ts)
