@@ -1,21 +1,27 @@
 -- Selections up to their sets, part by part.
-use Rattle.std.proofs.Common.{◌≡◌, ℕ, Bool, true, Option, Some, is_some, List, ◌∷◌, refl, ◌∙◌}
+use Rattle.std.proofs.Common.{◌≡◌, ℕ, Bool, true, Option, Some, is_some, List, ◌∷◌, Result, refl, ap, ◌∙◌}
 use Rattle.graphql_tokens.specs.declared.pos.Pos.{Pos}
 use Rattle.graphql_tokens.specs.declared.pos.Positioned.{Positioned}
 use Rattle.graphql_tokens.specs.tokens.Token.{Token}
 use Rattle.graphql_syntax.specs.trees.Parts.{Arguments, Directives}
 use Rattle.graphql_request_trees.specs.trees.Request.{TypeCondition}
+use Rattle.graphql_reading.specs.declared.parser.Refusal.{Refusal}
 use Rattle.graphql_reading.specs.grammar.Fronts.{Verdict}
 use Rattle.graphql_reading.specs.grammar.Places.{nowhere}
 use Rattle.graphql_reading.specs.grammar.Relations.{given}
 use Rattle.graphql_reading.specs.grammar.Tests.{punct}
+use Rattle.graphql_reading.specs.reading.Ahead.{Ahead, tokens}
+use Rattle.graphql_reading.specs.reading.Given.{Gives, GoesOn, Refuses}
 use Rattle.graphql_reading.specs.reading.Outcome.{Refused, Reader, one_at, then_at, mapped_at}
 use Rattle.graphql_grammar.specs.reading.Arguments.{maybe_arguments_at, directives_at}
 use Rattle.graphql_requests.specs.grammar.Selections.{fragment_name}
 use Rattle.graphql_requests.specs.reading.SelectionSteps.{Heading, Names, names_at, given_arguments_at, maybe_brace_at, bare_field, bare_inline, maybe_condition_at, field_head_at, inline_head_at, after_dots_at}
-use Rattle.graphql_check.specs.Checked.{rest_of}
+use Rattle.graphql_reading.proofs.Loops.{go-on}
+use Rattle.graphql_reading.proofs.Steps.{gives-after}
+use Rattle.graphql_check.specs.Checked.{rest_of, Checks}
 use Rattle.graphql_check.specs.Heads.{entered, entered_at}
-use Rattle.graphql_check.proofs.Rests.{ended}
+use Rattle.graphql_check.proofs.Parts.{goes-as, stops-as}
+use Rattle.graphql_check.proofs.Rests.{ended, Passed}
 use Rattle.graphql_check.proofs.Straight.{ended-mapped, rest-mapped, mapped-twice, past, past-seen}
 
 -- ---- fields
@@ -34,22 +40,38 @@ module _ (values : ℕ) (nests : Bool) where
   abbrev heading : Names × (Arguments × (Directives × Option Pos)) → Heading
   heading x = (bare_field x.0 x.1.0 x.1.1.0, x.1.1.1)
 
-  pub past-names : (ts mid : List Token) → rest_of (names_at ts) ≡ Some mid → entered_at (field_head_at values nests) ts ≡ after-names mid
+  past-names : (ts mid : List Token) → rest_of (names_at ts) ≡ Some mid → entered_at (field_head_at values nests) ts ≡ after-names mid
   past-names ts mid h =
       mapped-twice heading entered (then_at names_at (then_at (given_arguments_at values) (then_at (directives_at true values) (maybe_brace_at nests)))) ts
       ∙ past-seen (λ (y : Arguments × (Directives × Option Pos)). is_some y.1.1) names_at (then_at (given_arguments_at values) (then_at (directives_at true values) (maybe_brace_at nests))) ts mid h
 
-  pub past-arguments : (ts mid : List Token) → rest_of (maybe_arguments_at true values ts) ≡ Some mid → after-names ts ≡ after-arguments mid
+  past-arguments : (ts mid : List Token) → rest_of (maybe_arguments_at true values ts) ≡ Some mid → after-names ts ≡ after-arguments mid
   past-arguments ts mid h = past-seen (λ (y : Directives × Option Pos). is_some y.1) (given_arguments_at values) (then_at (directives_at true values) (maybe_brace_at nests)) ts mid (rest-mapped given (maybe_arguments_at true values) ts ∙ h)
 
-  pub past-directives : (ts mid : List Token) → rest_of (directives_at true values ts) ≡ Some mid → after-arguments ts ≡ after-directives mid
+  past-directives : (ts mid : List Token) → rest_of (directives_at true values ts) ≡ Some mid → after-arguments ts ≡ after-directives mid
   past-directives ts mid h = past-seen (λ (p : Option Pos). is_some p) (directives_at true values) (maybe_brace_at nests) ts mid h
 
-  pub arguments-not : (ts rest : List Token) (v : Verdict) → maybe_arguments_at true values ts ≡ Refused v rest → ended (after-names ts) ≡ Refused v rest
+  arguments-not : (ts rest : List Token) (v : Verdict) → maybe_arguments_at true values ts ≡ Refused v rest → ended (after-names ts) ≡ Refused v rest
   arguments-not ts rest v h = rw h refl
 
-  pub directives-not : (ts rest : List Token) (v : Verdict) → directives_at true values ts ≡ Refused v rest → ended (after-arguments ts) ≡ Refused v rest
+  directives-not : (ts rest : List Token) (v : Verdict) → directives_at true values ts ≡ Refused v rest → ended (after-arguments ts) ≡ Refused v rest
   directives-not ts rest v h = rw h refl
+
+  -- the arguments are refused
+  pub arguments-stop : (e : Refusal) (old named new : Ahead) → Passed old named names_at → Refuses e named new (maybe_arguments_at true values) × GoesOn named new → Refuses e old new (entered_at (field_head_at values nests)) × GoesOn old new
+  arguments-stop e old named new names h = stops-as e old named new (entered_at (field_head_at values nests)) (maybe_arguments_at true values) (λ v k. ap ended (past-names (tokens old) (tokens named) names.0) ∙ arguments-not (tokens named) (tokens new) v k) names.1 h.0 h.1
+
+  module _ (old named given : Ahead) (names : Passed old named names_at) (arguments : Passed named given (maybe_arguments_at true values)) where
+    come : entered_at (field_head_at values nests) (tokens old) ≡ after-arguments (tokens given)
+    come = past-names (tokens old) (tokens named) names.0 ∙ past-arguments (tokens named) (tokens given) arguments.0
+
+    -- the directives are refused
+    pub directives-stop : (e : Refusal) (new : Ahead) → Refuses e given new (directives_at true values) × GoesOn given new → Refuses e old new (entered_at (field_head_at values nests)) × GoesOn old new
+    directives-stop e new h = stops-as e old given new (entered_at (field_head_at values nests)) (directives_at true values) (λ v k. ap ended come ∙ directives-not (tokens given) (tokens new) v k) (go-on old named given names.1 arguments.1) h.0 h.1
+
+    -- all but the set is read
+    pub field-goes : (result : Result Bool Refusal) (directed new : Ahead) → Passed given directed (directives_at true values) → Gives (λ follows. follows) result directed new after-directives → Gives (λ follows. follows) result old new (entered_at (field_head_at values nests))
+    field-goes result directed new directives = gives-after (λ follows. follows) result old directed new (entered_at (field_head_at values nests)) after-directives (come ∙ past-directives (tokens given) (tokens directed) directives.0) (go-on old given directed (go-on old named given names.1 arguments.1) directives.1)
 
 -- ---- inline fragments
 
@@ -60,8 +82,11 @@ module _ (values : ℕ) where
   abbrev inline : Option (Positioned TypeCondition) × (Directives × Token) → Heading
   inline x = (bare_inline nowhere x.0 x.1.0, Some x.1.1.pos)
 
-  pub past-condition : (ts mid : List Token) → rest_of (maybe_condition_at ts) ≡ Some mid → ended (inline_head_at values nowhere ts) ≡ ended (after-condition mid)
+  past-condition : (ts mid : List Token) → rest_of (maybe_condition_at ts) ≡ Some mid → ended (inline_head_at values nowhere ts) ≡ ended (after-condition mid)
   past-condition ts mid h = ended-mapped inline (then_at maybe_condition_at after-condition) ts ∙ past maybe_condition_at after-condition ts mid h
+
+  pub inline-goes : {X : Type 0} (result : Result X Refusal) (old mid new : Ahead) → Passed old mid maybe_condition_at → Checks result mid new after-condition → Checks result old new (inline_head_at values nowhere)
+  inline-goes result old mid new condition = goes-as result old mid new (inline_head_at values nowhere) after-condition (past-condition (tokens old) (tokens mid) condition.0) condition.1
 
 -- ---- spreads
 

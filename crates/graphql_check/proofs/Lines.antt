@@ -3,14 +3,19 @@ use Rattle.std.proofs.Common.{◌≡◌, Bool, false, not, ◌&&◌, Some, Resul
 use Rattle.graphql_tokens.specs.tokens.Token.{Token}
 use Rattle.graphql_reading.specs.declared.parser.Refusal.{Refusal}
 use Rattle.graphql_reading.specs.declared.parser.Refusal.TheVariants.{Memory, Syntax, Limit}
-use Rattle.graphql_reading.specs.grammar.Tests.{Test}
+use Rattle.graphql_reading.specs.grammar.Tests.{Test, keyword, punct}
 use Rattle.graphql_reading.specs.reading.Ahead.{Ahead, tokens}
 use Rattle.graphql_reading.specs.reading.Given.{GoesOn, Refuses}
-use Rattle.graphql_reading.specs.reading.Outcome.{Outcome, Read, Refused, Reader, ◌>>=◌, then_at, mapped_at}
+use Rattle.graphql_reading.specs.reading.Outcome.{Outcome, Read, Refused, Reader, ◌>>=◌, then_at, mapped_at, opt_at}
 use Rattle.graphql_reading.proofs.Loops.{go-on}
-use Rattle.graphql_schemas.specs.reading.Types.{owed_at}
+use Rattle.graphql_grammar.specs.reading.Arguments.{directives_at}
+use Rattle.graphql_reading.specs.grammar.Limits.{Limits}
+use Rattle.graphql_schemas.specs.grammar.Types.{members_of, parts_of}
+use Rattle.graphql_schemas.specs.reading.Fields.{fields_at}
+use Rattle.graphql_schemas.specs.reading.Members.{implements_at}
+use Rattle.graphql_schemas.specs.reading.Types.{owed_at, part_first, parts_at, some_parts_at, field_parts_at}
 use Rattle.graphql_check.specs.Checked.{rest_of, Checks}
-use Rattle.graphql_check.proofs.Rests.{IsRead, is-read}
+use Rattle.graphql_check.proofs.Rests.{IsRead, is-read, Passed}
 
 rest-mapped : {A B : Type 0} (f : A → B) (o : Outcome A) (rest : List Token) → rest_of o ≡ Some rest → rest_of (o >>= λ a rest'. Read (f a) rest') ≡ Some rest
 rest-mapped f (Read a rest') rest e = e
@@ -58,3 +63,19 @@ goes-there (Err Limit) old new r s same h = (same ∙ h.0, h.1)
 -- a part that is owed is there
 pub owed-goes : {X Y : Type 0} (result : Result X Refusal) (extend : Bool) (first : Test) (old new : Ahead) (r : Reader Y) → (extend && not (first old.hand.bare)) ≡ false → Checks result old new r → Checks result old new (owed_at extend first r)
 owed-goes result extend first old new r there h = goes-there result old new r (owed_at extend first r) (rw there refl) h
+
+-- directives and a list after them
+pub parts-go : {X A : Type 0} (result : Result X Refusal) (limits : Limits) (first : Test) (old mid new : Ahead) (list : Reader (List A)) → Passed old mid (directives_at false limits.values) → Checks result mid new (opt_at first list) → Checks result old new (parts_at limits first list)
+parts-go result limits first old mid new list read h =
+    mapped-goes parts_of result old new (then_at (directives_at false limits.values) (opt_at first list))
+    (then-goes result old mid new (directives_at false limits.values) (opt_at first list) read.0 read.1 h)
+
+-- of which one is owed
+pub some-parts-go : {X A : Type 0} (result : Result X Refusal) (extend : Bool) (limits : Limits) (first : Test) (old mid new : Ahead) (list : Reader (List A)) → (extend && not (part_first first old.hand.bare)) ≡ false → Passed old mid (directives_at false limits.values) → Checks result mid new (opt_at first list) → Checks result old new (some_parts_at extend limits first list)
+some-parts-go result extend limits first old mid new list there read h = owed-goes result extend (part_first first) old new (parts_at limits first list) there (parts-go result limits first old mid new list read h)
+
+-- interfaces before them
+pub field-parts-go : {X : Type 0} (result : Result X Refusal) (limits : Limits) (old mid new : Ahead) → Passed old mid (opt_at (keyword "implements") implements_at) → Checks result mid new (parts_at limits (punct "{") (fields_at limits)) → Checks result old new (field_parts_at limits)
+field-parts-go result limits old mid new read h =
+    mapped-goes members_of result old new (then_at (opt_at (keyword "implements") implements_at) (parts_at limits (punct "{") (fields_at limits)))
+    (then-goes result old mid new (opt_at (keyword "implements") implements_at) (parts_at limits (punct "{") (fields_at limits)) read.0 read.1 h)

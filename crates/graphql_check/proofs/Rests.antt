@@ -2,13 +2,19 @@
 use Rattle.std.proofs.Common.{◌≡◌, Some, List, refl}
 use Rattle.graphql_tokens.specs.tokens.Token.{Token}
 use Rattle.graphql_reading.specs.grammar.Fronts.{Verdict}
-use Rattle.graphql_reading.specs.reading.Outcome.{Outcome, Read, Refused, with_front}
+use Rattle.graphql_reading.specs.reading.Ahead.{Ahead, tokens}
+use Rattle.graphql_reading.specs.reading.Given.{GoesOn}
+use Rattle.graphql_reading.specs.reading.Outcome.{Outcome, Reader, Read, Refused, with_front}
 use Rattle.graphql_check.specs.Checked.{rest_of}
 
 -- without its tree
 abbrev pub ended : {Y : Type 0} → Outcome Y → Outcome (Unit {0})
 ended (Read tree rest) = Read tt rest
 ended (Refused v rest) = Refused v rest
+
+-- a tree is read, and the parser has come past it
+abbrev pub Passed : {Y : Type 0} → Ahead → Ahead → Reader Y → Type 0
+Passed old new r = (rest_of (r (tokens old)) ≡ Some (tokens new)) × GoesOn old new
 
 pub record IsRead {Y : Type 0} (o : Outcome Y) (rest : List Token) : Type 0 where
   pub tree : Y
