@@ -5,7 +5,7 @@ use Rattle.graphql_syntax.specs.trees.ValueTree.{Tree}
 use Rattle.graphql_reading.specs.grammar.Tests.{Test, punct, any_name}
 use Rattle.graphql_reading.specs.reading.Outcome.{Outcome, Read, Refused, ◌>>=◌, one_at, take_at, many_at, with_front}
 use Rattle.graphql_grammar.specs.grammar.Values.{Value}
-use Rattle.graphql_grammar.specs.reading.OpenValues.{Field, node_of, node_at, Opened, in_list, in_object, Waiting, list_waits, object_waits, list_rest, object_rest, open_rest, list_tree, object_tree, add, filled, enter_at, key_at}
+use Rattle.graphql_grammar.specs.reading.OpenValues.{node_of, node_at, Opened, in_list, in_object, Waiting, list_waits, object_waits, list_rest, object_rest, open_rest, list_tree, object_tree, add, filled, enter_at, key_at}
 use Rattle.graphql_grammar.specs.reading.Values.{simple_at, value_first, value_at, field_at}
 use Rattle.graphql_grammar.proofs.ValueFrames.{value-law, begun, entered, list-law, object-law, after-item, after-key, taken, not-taken, takes-key, takes-node}
 use Rattle.graphql_check.specs.Levels.{opens, is_none, end_at, Met, closes, passes, enters, after_enter, after_end, step_at}

@@ -3,14 +3,16 @@ use Rattle.std.proofs.Common.{◌≡◌, Bool, false, not, ◌&&◌, Some, Resul
 use Rattle.graphql_tokens.specs.tokens.Token.{Token}
 use Rattle.graphql_reading.specs.declared.parser.Refusal.{Refusal}
 use Rattle.graphql_reading.specs.declared.parser.Refusal.TheVariants.{Memory, Syntax, Limit}
-use Rattle.graphql_reading.specs.grammar.Tests.{Test, keyword, punct}
+use Rattle.graphql_reading.specs.grammar.Tests.{Test, any_name, keyword, punct}
 use Rattle.graphql_reading.specs.reading.Ahead.{Ahead, tokens}
 use Rattle.graphql_reading.specs.reading.Given.{GoesOn, Refuses}
-use Rattle.graphql_reading.specs.reading.Outcome.{Outcome, Read, Refused, Reader, ◌>>=◌, then_at, mapped_at, opt_at}
+use Rattle.graphql_reading.specs.reading.Outcome.{Outcome, Read, Refused, Reader, ◌>>=◌, one_at, then_at, mapped_at, opt_at}
 use Rattle.graphql_reading.proofs.Loops.{go-on}
 use Rattle.graphql_grammar.specs.reading.Arguments.{directives_at}
 use Rattle.graphql_reading.specs.grammar.Limits.{Limits}
 use Rattle.graphql_schemas.specs.grammar.Types.{members_of, parts_of}
+use Rattle.graphql_grammar.specs.reading.Types.{type_at}
+use Rattle.graphql_schemas.specs.reading.Descriptions.{maybe_description_at}
 use Rattle.graphql_schemas.specs.reading.Fields.{fields_at}
 use Rattle.graphql_schemas.specs.reading.Members.{implements_at}
 use Rattle.graphql_schemas.specs.reading.Types.{owed_at, part_first, parts_at, some_parts_at, field_parts_at}
@@ -63,6 +65,18 @@ goes-there (Err Limit) old new r s same h = (same ∙ h.0, h.1)
 -- a part that is owed is there
 pub owed-goes : {X Y : Type 0} (result : Result X Refusal) (extend : Bool) (first : Test) (old new : Ahead) (r : Reader Y) → (extend && not (first old.hand.bare)) ≡ false → Checks result old new r → Checks result old new (owed_at extend first r)
 owed-goes result extend first old new r there h = goes-there result old new r (owed_at extend first r) (rw there refl) h
+
+-- a description, where there is one, and a name
+pub described-go : {X Y : Type 0} (result : Result X Refusal) (name : Token) (old described named new : Ahead) (rest : Reader Y) → Passed old described maybe_description_at → (one_at any_name (tokens described) ≡ Read name (tokens named)) × GoesOn described named → Checks result named new rest → Checks result old new (then_at maybe_description_at (then_at (one_at any_name) rest))
+described-go result name old described named new rest described-is named-is h =
+    then-goes result old described new maybe_description_at (then_at (one_at any_name) rest) described-is.0 described-is.1
+    (then-goes result described named new (one_at any_name) rest (ap rest_of named-is.0) named-is.1 h)
+
+-- a colon and a type
+pub typed-go : {X Y : Type 0} (result : Result X Refusal) (limits : Limits) (mark : Token) (old colon typed new : Ahead) (rest : Reader Y) → (one_at (punct ":") (tokens old) ≡ Read mark (tokens colon)) × GoesOn old colon → Passed colon typed (type_at limits.types) → Checks result typed new rest → Checks result old new (then_at (one_at (punct ":")) (then_at (type_at limits.types) rest))
+typed-go result limits mark old colon typed new rest colon-is typed-is h =
+    then-goes result old colon new (one_at (punct ":")) (then_at (type_at limits.types) rest) (ap rest_of colon-is.0) colon-is.1
+    (then-goes result colon typed new (type_at limits.types) rest typed-is.0 typed-is.1 h)
 
 -- directives and a list after them
 pub parts-go : {X A : Type 0} (result : Result X Refusal) (limits : Limits) (first : Test) (old mid new : Ahead) (list : Reader (List A)) → Passed old mid (directives_at false limits.values) → Checks result mid new (opt_at first list) → Checks result old new (parts_at limits first list)
