@@ -3,7 +3,6 @@ ghost use Rattle.graphql_tokens.specs.declared.pos.Positioned.{Positioned};
 ghost use Rattle.graphql_syntax.specs.trees.Parts.{placed};
 ghost use Rattle.graphql_schema_trees.specs.trees.Schema as trees;
 ghost use Rattle.graphql_schema_trees.specs.trees.SchemaViews.{field_definition_tree};
-ghost use Rattle.graphql_reading.specs.reading.Given.{Gives};
 ghost use Rattle.graphql_schemas.specs.reading.Fields.{field_definition_at};
 ghost use Rattle.graphql_schemas.specs.reading.InputValues.{member_first};
 
