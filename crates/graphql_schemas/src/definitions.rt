@@ -69,8 +69,15 @@ fn read_described(parser: &mut Parser, limits: Limits) -> Reading<Definition>
 {
     let description = read_maybe_description(parser)?;
     if parser.is_at_keyword("schema") {
-        let schema = read_schema(parser, limits, description)?;
-        return Ok(Definition::Schema(schema));
+        let (word, (directives, roots)) = read_schema(parser, limits)?;
+        let pos = place_of(&description, word);
+        let schema = Schema {
+            description,
+            extend: false,
+            directives,
+            roots,
+        };
+        return Ok(Definition::Schema(Positioned::new(schema, pos)));
     }
     if parser.is_at_keyword("directive") {
         let directive = read_directive_definition(parser, limits, description)?;

@@ -2,14 +2,13 @@
 ghost use Rattle.graphql_tokens.specs.declared.pos.Positioned.{Positioned};
 ghost use Rattle.graphql_tokens.specs.tokens.Seen.{seen};
 ghost use Rattle.graphql_syntax.specs.trees.Parts.{placed};
-ghost use Rattle.graphql_schema_trees.specs.trees.SchemaViews.{description_tree};
+ghost use Rattle.graphql_syntax.specs.trees.PartViews.{const_directives_tree};
 ghost use Rattle.graphql_reading.specs.reading.Given.{Gives, trees_in};
 ghost use Rattle.graphql_reading.specs.reading.Outcome.{mapped_at};
 ghost use Rattle.graphql_schemas.specs.grammar.Schema as grammar;
 ghost use Rattle.graphql_schemas.specs.reading.Schema.{root_first, root_at, roots_at, schema_rest_at, extended_schema_at};
 ghost use Rattle.graphql_schemas.specs.reading.Views.{root_tree, schema_tree};
 
-use crate::descriptions::place_of;
 use crate::types::read_braced;
 use graphql_grammar::arguments::read_const_directives;
 use graphql_grammar::operations::read_operation_type;
@@ -45,6 +44,9 @@ pub struct Schema {
     /// The roots, in source order.
     pub roots: Vec<Root>,
 }
+
+/// What a definition of a schema says: its keyword, its directives and its roots.
+type Parts<'a> = (Token<'a>, (Vec<Positioned<ConstDirective>>, Vec<Root>));
 
 /// `RootOperationTypeDefinition : OperationType ':' Name`
 struct RootPhrase;
@@ -91,26 +93,14 @@ fn read_roots(parser: &mut Parser, limits: Limits) -> Reading<Vec<Root>>
 /// Reads the definition of a schema after its description.
 ///
 /// `SchemaDefinition : Description? 'schema' Directives[Const]? Roots` (GraphQL October 2021, section 3.3)
-pub fn read_schema(
-    parser: &mut Parser,
-    limits: Limits,
-    description: Option<Positioned<String>>,
-) -> Reading<Positioned<Schema>>
-    ensures { Gives (placed schema_tree) result parser.old parser.new
-        (mapped_at (λ rest. grammar.schema_of (description_tree description, rest))
-        (schema_rest_at limits)) }
+pub fn read_schema<'a>(parser: &mut Parser<'a>, limits: Limits) -> Reading<Parts<'a>>
+    ensures { Gives (λ x. (seen x.0, (const_directives_tree x.1.0.items, trees_in root_tree x.1.1)))
+        result parser.old parser.new (schema_rest_at limits) }
 {
     let word = parser.expect_keyword("schema")?;
-    let pos = place_of(&description, word);
     let directives = read_const_directives(parser, limits)?;
     let roots = read_roots(parser, limits)?;
-    let schema = Schema {
-        description,
-        extend: false,
-        directives,
-        roots,
-    };
-    Ok(Positioned::new(schema, pos))
+    Ok((word, (directives, roots)))
 }
 
 /// Reads the extension of a schema after this `extend`.
