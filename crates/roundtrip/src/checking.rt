@@ -8,7 +8,7 @@ use std::alloc::{AllocError, Global};
 use std::fmt;
 
 /// How many texts had which answer, up to the first that failed.
-#[derive(Drop)]
+#[derive(Default, Drop)]
 pub struct Tally {
     pub accepted: u64,
     pub broke_rules: u64,
@@ -35,12 +35,7 @@ pub fn run<L: Language>(
     count: u64,
 ) -> Result<Tally, AllocError> {
     let mut source = Source::new(alloc, language.grammar(), grammars::TOKENS, seed)?;
-    let mut tally = Tally {
-        accepted: 0,
-        broke_rules: 0,
-        refused: 0,
-        failure: None,
-    };
+    let mut tally = Tally::default();
     for _ in 0..count {
         let made = source.next_text(alloc)?;
         let text = made.text.as_str();

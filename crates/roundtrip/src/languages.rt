@@ -25,6 +25,16 @@ pub enum Form {
     Shallow,
 }
 
+impl Form {
+    // The limits of a form that has some.
+    fn limits(self) -> Limits {
+        if self == Form::Shallow {
+            return Limits::new(1, 1, 1).unwrap_or_default();
+        }
+        Limits::default()
+    }
+}
+
 /// What an answer is seen by. Equal answers have equal parts.
 #[derive(Drop)]
 pub struct Seen {
@@ -86,100 +96,99 @@ pub fn asked<L: Language>(
     })
 }
 
-/// Requests.
+/// The languages of the parser.
 #[derive(Clone, Copy)]
-pub struct Requests;
-
-/// Schema files.
-#[derive(Clone, Copy)]
-pub struct Schemas;
-
-fn narrow() -> Limits {
-    Limits::new(1, 1, 1).unwrap_or_default()
+pub enum Parsed {
+    Requests,
+    Schemas,
 }
 
-impl Language for Requests {
+impl Language for Parsed {
     fn grammar(&self) -> &'static str {
-        grammars::REQUESTS
+        match self {
+            Parsed::Requests => grammars::REQUESTS,
+            Parsed::Schemas => grammars::SCHEMAS,
+        }
     }
 
     fn seen(&self, alloc: Global, form: Form, text: &str) -> Result<Seen, AllocError> {
-        let answer = match form {
-            Form::Plain => parse_query(alloc, text),
-            Form::Limited => parse_query_limited(alloc, text, Limits::default()),
-            Form::FromTokens => parse_query_from(alloc, &mut Tokens::new(text)),
-            Form::Shallow => parse_query_limited(alloc, text, narrow()),
-        };
-        of_request(alloc, answer)
+        match self {
+            Parsed::Requests => answered(alloc, request(alloc, form, text)),
+            Parsed::Schemas => answered(alloc, schema_file(alloc, form, text)),
+        }
     }
 
     fn checked(&self, alloc: Global, form: Form, text: &str) -> Answer<()> {
-        match form {
-            Form::Plain => check_query(alloc, text),
-            Form::Limited => check_query_limited(alloc, text, Limits::default()),
-            Form::FromTokens => check_query_from(alloc, &mut Tokens::new(text)),
-            Form::Shallow => check_query_limited(alloc, text, narrow()),
+        let limits = form.limits();
+        match (self, form) {
+            (Parsed::Requests, Form::Plain) => check_query(alloc, text),
+            (Parsed::Requests, Form::FromTokens) => check_query_from(alloc, &mut Tokens::new(text)),
+            (Parsed::Requests, _) => check_query_limited(alloc, text, limits),
+            (Parsed::Schemas, Form::Plain) => check_schema(alloc, text),
+            (Parsed::Schemas, Form::FromTokens) => check_schema_from(alloc, &mut Tokens::new(text)),
+            (Parsed::Schemas, _) => check_schema_limited(alloc, text, limits),
         }
     }
 }
 
-impl Language for Schemas {
-    fn grammar(&self) -> &'static str {
-        grammars::SCHEMAS
-    }
-
-    fn seen(&self, alloc: Global, form: Form, text: &str) -> Result<Seen, AllocError> {
-        let answer = match form {
-            Form::Plain => parse_schema(alloc, text),
-            Form::Limited => parse_schema_limited(alloc, text, Limits::default()),
-            Form::FromTokens => parse_schema_from(alloc, &mut Tokens::new(text)),
-            Form::Shallow => parse_schema_limited(alloc, text, narrow()),
-        };
-        of_file(alloc, answer)
-    }
-
-    fn checked(&self, alloc: Global, form: Form, text: &str) -> Answer<()> {
-        match form {
-            Form::Plain => check_schema(alloc, text),
-            Form::Limited => check_schema_limited(alloc, text, Limits::default()),
-            Form::FromTokens => check_schema_from(alloc, &mut Tokens::new(text)),
-            Form::Shallow => check_schema_limited(alloc, text, narrow()),
-        }
+fn request(alloc: Global, form: Form, text: &str) -> Answer<ExecutableDocument> {
+    match form {
+        Form::Plain => parse_query(alloc, text),
+        Form::FromTokens => parse_query_from(alloc, &mut Tokens::new(text)),
+        _ => parse_query_limited(alloc, text, form.limits()),
     }
 }
 
-fn of_request(alloc: Global, answer: Answer<ExecutableDocument>) -> Result<Seen, AllocError> {
-    match answer {
-        Ok(document) => {
-            let mut placed = Shown::new(alloc, true);
-            write_request(&mut placed, &document);
-            let mut placeless = Shown::new(alloc, false);
-            write_request(&mut placeless, &document);
-            accepted(placed, placeless, print_request(alloc, &document)?)
-        }
-        Err(error) => refused(alloc, &error),
+fn schema_file(alloc: Global, form: Form, text: &str) -> Answer<ServiceDocument> {
+    match form {
+        Form::Plain => parse_schema(alloc, text),
+        Form::FromTokens => parse_schema_from(alloc, &mut Tokens::new(text)),
+        _ => parse_schema_limited(alloc, text, form.limits()),
     }
 }
 
-fn of_file(alloc: Global, answer: Answer<ServiceDocument>) -> Result<Seen, AllocError> {
-    match answer {
-        Ok(document) => {
-            let mut placed = Shown::new(alloc, true);
-            write_file(&mut placed, &document);
-            let mut placeless = Shown::new(alloc, false);
-            write_file(&mut placeless, &document);
-            accepted(placed, placeless, print_schema(alloc, &document)?)
-        }
-        Err(error) => refused(alloc, &error),
+// A tree that a parser answers.
+trait Tree: Drop {
+    // Writes it with its places, where the text has places.
+    fn write(&self, shown: &mut Shown);
+
+    fn print(&self, alloc: Global) -> Result<String, AllocError>;
+}
+
+impl Tree for ExecutableDocument {
+    fn write(&self, shown: &mut Shown) {
+        write_request(shown, self);
+    }
+
+    fn print(&self, alloc: Global) -> Result<String, AllocError> {
+        print_request(alloc, self)
     }
 }
 
-fn accepted(placed: Shown, placeless: Shown, printed: String) -> Result<Seen, AllocError> {
+impl Tree for ServiceDocument {
+    fn write(&self, shown: &mut Shown) {
+        write_file(shown, self);
+    }
+
+    fn print(&self, alloc: Global) -> Result<String, AllocError> {
+        print_schema(alloc, self)
+    }
+}
+
+fn answered<T: Tree>(alloc: Global, answer: Answer<T>) -> Result<Seen, AllocError> {
+    let tree = match answer {
+        Ok(tree) => tree,
+        Err(error) => return refused(alloc, &error),
+    };
+    let mut placed = Shown::new(alloc, true);
+    tree.write(&mut placed);
+    let mut placeless = Shown::new(alloc, false);
+    tree.write(&mut placeless);
     Ok(Seen {
         kind: Kind::Accepted,
         placed: placed.finish()?,
         placeless: placeless.finish()?,
-        printed,
+        printed: tree.print(alloc)?,
     })
 }
 

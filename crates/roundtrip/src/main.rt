@@ -19,7 +19,7 @@ mod texts;
 mod values;
 
 use checking::run;
-use languages::{Language, Requests, Schemas};
+use languages::{Language, Parsed};
 use mistakes::overlooked;
 use printed::printed_otherwise;
 use std::process::ExitCode;
@@ -35,8 +35,8 @@ fn main(rt: HostRuntime) -> io::Result<ExitCode> {
         println!(rt; "{USAGE}")?;
         return Ok(ExitCode::from(2));
     };
-    if is_whole(&rt, "requests", &Requests, seed, count)?
-        && is_whole(&rt, "schema files", &Schemas, seed, count)?
+    if is_whole(&rt, "requests", &Parsed::Requests, seed, count)?
+        && is_whole(&rt, "schema files", &Parsed::Schemas, seed, count)?
         && are_values_whole(&rt, seed, count)?
     {
         return Ok(ExitCode::from(0));

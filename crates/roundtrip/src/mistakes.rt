@@ -1,6 +1,6 @@
 //! Printers and calls with a mistake, which the checks have to find.
 use crate::checking::run;
-use crate::languages::{Form, Language, Requests, Schemas, Seen};
+use crate::languages::{Form, Language, Parsed, Seen};
 use crate::values::run_values;
 use graphql_parser::Result as Answer;
 use std::alloc::{AllocError, Global};
@@ -68,11 +68,11 @@ pub fn overlooked(alloc: Global, seed: u64, count: u64) -> Result<usize, AllocEr
     let mut overlooked = 0usize;
     for forgotten in ["!", "@", "$", "\\", "="] {
         let requests = Forgetful {
-            language: Requests,
+            language: Parsed::Requests,
             forgotten,
         };
         let schemas = Forgetful {
-            language: Schemas,
+            language: Parsed::Schemas,
             forgotten,
         };
         if !is_found(alloc, &requests, seed, count)?
@@ -84,12 +84,12 @@ pub fn overlooked(alloc: Global, seed: u64, count: u64) -> Result<usize, AllocEr
     for form in [Form::Plain, Form::Limited, Form::FromTokens, Form::Shallow] {
         for is_check in [false, true] {
             let requests = Astray {
-                language: Requests,
+                language: Parsed::Requests,
                 form,
                 is_check,
             };
             let schemas = Astray {
-                language: Schemas,
+                language: Parsed::Schemas,
                 form,
                 is_check,
             };

@@ -1,5 +1,5 @@
 //! Texts and their canonical forms, worked out by hand from the rules of `example_printer`.
-use crate::languages::{Form, Kind, Language, Requests, Schemas, asked};
+use crate::languages::{Form, Kind, Language, Parsed, asked};
 use std::alloc::{AllocError, Global};
 
 /// Requests, and what is printed of them.
@@ -76,8 +76,8 @@ const SCHEMAS: [(&str, &str); 4] = [
 
 /// How many of these texts are printed otherwise.
 pub fn printed_otherwise(alloc: Global) -> Result<usize, AllocError> {
-    let requests = otherwise(alloc, &Requests, &REQUESTS)?;
-    Ok(requests.wrapping_add(otherwise(alloc, &Schemas, &SCHEMAS)?))
+    let requests = otherwise(alloc, &Parsed::Requests, &REQUESTS)?;
+    Ok(requests.wrapping_add(otherwise(alloc, &Parsed::Schemas, &SCHEMAS)?))
 }
 
 fn otherwise<L: Language>(

@@ -54,7 +54,7 @@ impl<'a> Source<'a> {
         let is_meant = self.random.one_in(2);
         let edited = if is_meant { 4 } else { self.random.below(4) };
         if edited < 3 {
-            self.edit(alloc, &mut tokens, edited)?;
+            self.edit(&mut tokens, edited)?;
         }
         let text = self.spaced(alloc, &tokens)?;
         if edited == 3 {
@@ -81,12 +81,7 @@ impl<'a> Source<'a> {
     }
 
     // One token dropped, doubled, or swapped with its neighbour.
-    fn edit(
-        &mut self,
-        alloc: Global,
-        tokens: &mut Vec<String>,
-        edit: usize,
-    ) -> Result<(), AllocError> {
+    fn edit(&mut self, tokens: &mut Vec<String>, edit: usize) -> Result<(), AllocError> {
         let index = self.random.below(tokens.len());
         if index >= tokens.len() {
             return Ok(());

@@ -1,6 +1,6 @@
 //! Random values as trees, and whether their texts are read as them again.
 use crate::random::Random;
-use graphql_parser::types::{DocumentOperations, ExecutableDocument, Selection};
+use graphql_parser::types::{DocumentOperations, OperationDefinition, Selection};
 use graphql_parser::value::{ConstValue, Name, Number, Value};
 use graphql_parser::{check_query, parse_query};
 use std::alloc::{AllocError, Global};
@@ -172,7 +172,7 @@ impl ValueSource {
 }
 
 /// How many values were printed and read again.
-#[derive(Drop)]
+#[derive(Default, Drop)]
 pub struct ValueTally {
     /// Those without variables.
     pub constants: u64,
@@ -193,12 +193,7 @@ pub fn run_values(
     forgotten: Option<&str>,
 ) -> Result<ValueTally, AllocError> {
     let mut source = ValueSource::new(seed);
-    let mut tally = ValueTally {
-        constants: 0,
-        wrong_arguments: 0,
-        wrong_defaults: 0,
-        failure: None,
-    };
+    let mut tally = ValueTally::default();
     for _ in 0..count {
         let value = source.next_value(alloc)?;
         let mut text = format!(in alloc; "{value}")?;
@@ -224,22 +219,23 @@ pub fn run_values(
     Ok(tally)
 }
 
-// The tree of a request that its check accepts too.
-fn accepted(alloc: Global, text: &str) -> Option<ExecutableDocument> {
+// The operation of a request that its parser and its check accept, if it has no name.
+fn only_operation(alloc: Global, text: &str) -> Option<OperationDefinition> {
     check_query(alloc, text).ok()?;
-    parse_query(alloc, text).ok()
+    let operations = parse_query(alloc, text).ok()?.operations;
+    match operations {
+        DocumentOperations::Single(operation) => Some(operation.node),
+        DocumentOperations::Multiple(_) => None,
+    }
 }
 
 /// Whether a text is read as this value where it stands for an argument.
 pub fn is_argument(alloc: Global, text: &str, value: &Value) -> Result<bool, AllocError> {
     let request = format!(in alloc; "{{f(a: {text})}}")?;
-    let Some(document) = accepted(alloc, request.as_str()) else {
+    let Some(operation) = only_operation(alloc, request.as_str()) else {
         return Ok(false);
     };
-    let DocumentOperations::Single(operation) = &document.operations else {
-        return Ok(false);
-    };
-    let first = operation.node.selection_set.node.items.first();
+    let first = operation.selection_set.node.items.first();
     let Some(Selection::Field(field)) = first.map(|item| &item.node) else {
         return Ok(false);
     };
@@ -250,13 +246,10 @@ pub fn is_argument(alloc: Global, text: &str, value: &Value) -> Result<bool, All
 /// Whether a text is read as this value where it stands for the default of a variable.
 pub fn is_default(alloc: Global, text: &str, value: &ConstValue) -> Result<bool, AllocError> {
     let request = format!(in alloc; "query($v: T = {text}){{f}}")?;
-    let Some(document) = accepted(alloc, request.as_str()) else {
+    let Some(operation) = only_operation(alloc, request.as_str()) else {
         return Ok(false);
     };
-    let DocumentOperations::Single(operation) = &document.operations else {
-        return Ok(false);
-    };
-    let Some(variable) = operation.node.variable_definitions.first() else {
+    let Some(variable) = operation.variable_definitions.first() else {
         return Ok(false);
     };
     let default = variable.node.default_value.as_ref();
