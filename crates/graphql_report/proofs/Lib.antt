@@ -5,4 +5,5 @@ mod ToldFronts
 mod TakenSamples
 mod ExpectedNames
 mod Trees
+mod Checks
 mod ReportParts

@@ -1,5 +1,5 @@
 -- The samples that are taken, one more at a time.
-use Rattle.std.proofs.Common.{◌≡◌, ℕ, ◌+◌, ◌<◌, Bool, true, false, cond, List, [], ◌∷◌, ◌++◌, length, take, get_or, refl, sym, ap, ◌∙◌, subst, append-nil}
+use Rattle.std.proofs.Common.{◌≡◌, ℕ, ◌+◌, ◌<◌, Bool, true, false, cond, List, [], ◌∷◌, ◌++◌, length, take, get_or, refl, sym, ap, ◌∙◌, subst}
 use Rattle.std.proofs.lemmas.List.{take_more, map_push}
 use Rattle.std.specs.Borrow.{Bor}
 use Rattle.graphql_reading.specs.grammar.Limits.{Limits}
@@ -27,8 +27,8 @@ taken-more language limits front (x ∷ samples) names text name answer h told =
   taken-more language limits front samples h.1 text name answer h.4 told,
 )
 
--- one sample of the code's more
-taken-next : (language : Language) (limits : Limits) (front here : List ℕ) (samples : List Sample) (k : ℕ) (d : Sample) (names after : List (List ℕ)) (answer value : Bool)
+-- one sample of the code's more, which is taken or isn't
+pub taken-next : (language : Language) (limits : Limits) (front here : List ℕ) (samples : List Sample) (k : ℕ) (d : Sample) (names after : List (List ℕ)) (answer value : Bool)
     → k < length samples
     → here ≡ front
     → AreTaken language limits front (samples_of (take k samples)) names
@@ -42,25 +42,3 @@ taken-next language limits front here samples k d names after answer value h sam
     let more : AreTaken language limits front (samples_of (take k samples) ++ (s.0.now, s.1.now) ∷ []) (names ++ cond value (s.1.now ∷ []) []) = taken-more language limits front (samples_of (take k samples)) names s.0.now s.1.now value taken tells in
     let one-more : samples_of (take (k + 1) samples) ≡ samples_of (take k samples) ++ (s.0.now, s.1.now) ∷ [] = ap samples_of (take_more samples k d h) ∙ map_push (λ (s : Sample). (s.0.now, s.1.now)) (take k samples) s in
     subst (λ (l : Samples). AreTaken language limits front l after) (sym one-more) (subst (λ (n : List (List ℕ)). AreTaken language limits front (samples_of (take k samples) ++ (s.0.now, s.1.now) ∷ []) n) (sym e) more)
-
--- the sample of this number is taken
-pub taken-yes : (language : Language) (limits : Limits) (front here : List ℕ) (samples : List Sample) (k : ℕ) (d : Sample) (names after : List (List ℕ)) (answer : Bool)
-    → k < length samples
-    → here ≡ front
-    → AreTaken language limits front (samples_of (take k samples)) names
-    → TellsFrontOf language limits (with_sample here (get_or samples k d).0.now) answer
-    → answer ≡ true
-    → after ≡ names ++ (get_or samples k d).1.now ∷ []
-    → AreTaken language limits front (samples_of (take (k + 1) samples)) after
-taken-yes language limits front here samples k d names after answer h same taken told is e = taken-next language limits front here samples k d names after answer true h same taken told is e
-
--- it is not
-pub taken-no : (language : Language) (limits : Limits) (front here : List ℕ) (samples : List Sample) (k : ℕ) (d : Sample) (names after : List (List ℕ)) (answer : Bool)
-    → k < length samples
-    → here ≡ front
-    → AreTaken language limits front (samples_of (take k samples)) names
-    → TellsFrontOf language limits (with_sample here (get_or samples k d).0.now) answer
-    → answer ≡ false
-    → after ≡ names
-    → AreTaken language limits front (samples_of (take (k + 1) samples)) after
-taken-no language limits front here samples k d names after answer h same taken told is e = taken-next language limits front here samples k d names after answer false h same taken told is (e ∙ sym (append-nil names))

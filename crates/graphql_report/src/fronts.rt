@@ -4,11 +4,9 @@ ghost use Rattle.std.specs.Str.{chars};
 ghost use Rattle.graphql_tokens.specs.tokens.Cuts.{IsCutInto};
 ghost use Rattle.graphql_tokens.specs.tokens.Place.{place_after};
 ghost use Rattle.graphql_tokens.specs.tokens.Token.{Token as SpecToken};
-ghost use Rattle.graphql_requests.specs.grammar.Requests.{requests};
-ghost use Rattle.graphql_schemas.specs.grammar.Schemas.{schemas};
-ghost use Rattle.graphql_report.specs.fronts.Front.{LastIsLineFeed, IsFront, IsFrontOf};
-ghost use Rattle.graphql_report.specs.inner.Expected.{HasTree, TellsTreeOf};
-ghost use Rattle.graphql_report.specs.inner.Told.{TellsFront, TellsTree};
+ghost use Rattle.graphql_report.specs.fronts.Front.{LastIsLineFeed, IsFrontOf};
+ghost use Rattle.graphql_report.specs.inner.Expected.{TellsTreeOf};
+ghost use Rattle.graphql_report.specs.inner.Told.{ReadsAs, TellsFront, TellsTree};
 
 use graphql_parser::pos::PositionCalculator;
 use graphql_parser::{Error, Limits, Pos, check_query_limited, check_schema_limited};
@@ -38,31 +36,8 @@ pub fn is_front(
     ensures { IfOk result (λ answer. (tokens : List SpecToken) → IsCutInto text.now tokens →
         IsTrue answer ↔ IsFrontOf language limits tokens) }
 {
-    match language {
-        Language::Requests => is_request_front(alloc, text, limits),
-        Language::Schemas => is_schema_front(alloc, text, limits),
-    }
-}
-
-fn is_request_front(alloc: Global, text: &str, limits: Limits) -> Result<bool, AllocError>
-    requires { LastIsLineFeed (chars text.now) }
-    ensures { IfOk result (λ answer. (tokens : List SpecToken) → IsCutInto text.now tokens →
-        IsTrue answer ↔ IsFront requests limits tokens) }
-{
     let end = end_of(text);
-    match check_query_limited(alloc, text, limits) {
-        Ok(_) => Ok(true),
-        Err(error) => goes_on(&error, end),
-    }
-}
-
-fn is_schema_front(alloc: Global, text: &str, limits: Limits) -> Result<bool, AllocError>
-    requires { LastIsLineFeed (chars text.now) }
-    ensures { IfOk result (λ answer. (tokens : List SpecToken) → IsCutInto text.now tokens →
-        IsTrue answer ↔ IsFront schemas limits tokens) }
-{
-    let end = end_of(text);
-    match check_schema_limited(alloc, text, limits) {
+    match check(alloc, language, text, limits) {
         Ok(_) => Ok(true),
         Err(error) => goes_on(&error, end),
     }
@@ -77,29 +52,19 @@ pub fn is_whole(
 ) -> Result<bool, AllocError>
     ensures { IfOk result (TellsTreeOf language limits text.now) }
 {
+    match check(alloc, language, text, limits) {
+        Ok(_) => Ok(true),
+        Err(error) => has_tree(&error),
+    }
+}
+
+// What the check of the language tells of the text.
+fn check(alloc: Global, language: Language, text: &str, limits: Limits) -> Result<(), Error>
+    ensures { ReadsAs language limits text.now result }
+{
     match language {
-        Language::Requests => is_whole_request(alloc, text, limits),
-        Language::Schemas => is_whole_schema(alloc, text, limits),
-    }
-}
-
-fn is_whole_request(alloc: Global, text: &str, limits: Limits) -> Result<bool, AllocError>
-    ensures { IfOk result (λ answer. (tokens : List SpecToken) → IsCutInto text.now tokens →
-        IsTrue answer ↔ HasTree requests limits tokens) }
-{
-    match check_query_limited(alloc, text, limits) {
-        Ok(_) => Ok(true),
-        Err(error) => has_tree(&error),
-    }
-}
-
-fn is_whole_schema(alloc: Global, text: &str, limits: Limits) -> Result<bool, AllocError>
-    ensures { IfOk result (λ answer. (tokens : List SpecToken) → IsCutInto text.now tokens →
-        IsTrue answer ↔ HasTree schemas limits tokens) }
-{
-    match check_schema_limited(alloc, text, limits) {
-        Ok(_) => Ok(true),
-        Err(error) => has_tree(&error),
+        Language::Requests => check_query_limited(alloc, text, limits),
+        Language::Schemas => check_schema_limited(alloc, text, limits),
     }
 }
 
