@@ -15,9 +15,13 @@ use Rattle.graphql_json.specs.declared.place.Place.{Place}
 use Rattle.graphql_json.specs.nodes.Requests.{selection_json, selections_json, set_node, some_of}
 use Rattle.graphql_json.specs.nodes.Nodes.{at}
 use Rattle.graphql_json.specs.inner.Written.{member_tokens, optional_tokens}
-use Rattle.json.specs.Json.{Json}
 
-abbrev field_parts : Field → request.Field
+-- a node with the tree of its parts has the JSON of the node with its tree
+pub json_of_parts : {A B : Type 0} (place : Place) (selection : Positioned B → request.Selection) (parts tree : A → B) → ((node : A) → parts node ≡ tree node) → (p : Positioned A)
+    → selection_json place (selection (placed parts p)) ≡ selection_json place (selection (placed tree p))
+json_of_parts place selection parts tree same p = ap (λ node. selection_json place (selection (record { pos = p.pos; node = node }))) (same p.node)
+
+abbrev pub field_parts : Field → request.Field
 field_parts f =
     let parts = out-Field f in
     record {
@@ -28,15 +32,10 @@ field_parts f =
       selection_set = placed selection_set_tree parts.selection_set;
     }
 
-abbrev pub field_by_parts : Place → Positioned Field → Json
-field_by_parts place f = selection_json place (request.of_field (record { pos = f.pos; node = field_parts f.node }))
+pub field_of_parts : (f : Field) → field_parts f ≡ field_tree f
+field_of_parts f = sym (fold_out-Field request.Selection request.Field request.InlineFragment request.SelectionSet selection_step field_step inline_fragment_step selection_set_step f)
 
-pub json_of_field : (place : Place) (f : Positioned Field) → field_by_parts place f ≡ selection_json place (request.of_field (placed field_tree f))
-json_of_field place f =
-    ap (λ (n : request.Field). selection_json place (request.of_field (record { pos = f.pos; node = n })))
-    (sym (fold_out-Field request.Selection request.Field request.InlineFragment request.SelectionSet selection_step field_step inline_fragment_step selection_set_step f.node))
-
-abbrev inline_parts : InlineFragment → request.InlineFragment
+abbrev pub inline_parts : InlineFragment → request.InlineFragment
 inline_parts f =
     let parts = out-InlineFragment f in
     record {
@@ -45,13 +44,8 @@ inline_parts f =
       selection_set = placed selection_set_tree parts.selection_set;
     }
 
-abbrev pub inline_by_parts : Place → Positioned InlineFragment → Json
-inline_by_parts place f = selection_json place (request.of_inline_fragment (record { pos = f.pos; node = inline_parts f.node }))
-
-pub json_of_inline : (place : Place) (f : Positioned InlineFragment) → inline_by_parts place f ≡ selection_json place (request.of_inline_fragment (placed inline_fragment_tree f))
-json_of_inline place f =
-    ap (λ (n : request.InlineFragment). selection_json place (request.of_inline_fragment (record { pos = f.pos; node = n })))
-    (sym (fold_out-InlineFragment request.Selection request.Field request.InlineFragment request.SelectionSet selection_step field_step inline_fragment_step selection_set_step f.node))
+pub inline_of_parts : (f : InlineFragment) → inline_parts f ≡ inline_fragment_tree f
+inline_of_parts f = sym (fold_out-InlineFragment request.Selection request.Field request.InlineFragment request.SelectionSet selection_step field_step inline_fragment_step selection_set_step f)
 
 pub tree_of_set : (s : SelectionSet) → request.set_of (selection_trees (out-SelectionSet s).items.items) ≡ selection_set_tree s
 tree_of_set s = sym (fold_out-SelectionSet request.Selection request.Field request.InlineFragment request.SelectionSet selection_step field_step inline_fragment_step selection_set_step s)

@@ -1,5 +1,5 @@
 -- Calls that add tokens, one after another.
-use Rattle.std.proofs.Common.{◌≡◌, ℕ, List, [], ◌∷◌, ◌++◌, ◌+◌, drop, Bool, true, false, Option, Some, None, option_map, Result, Ok, Err, if◌then◌else◌, ◌==◌, ◌&&◌, codes, refl, ap, sym, ◌∙◌, append_assoc, subst}
+use Rattle.std.proofs.Common.{◌≡◌, ◌≤◌, ℕ, List, [], ◌∷◌, ◌++◌, ◌+◌, drop, Bool, true, false, Option, Some, None, option_map, Result, Ok, Err, if◌then◌else◌, ◌==◌, ◌&&◌, codes, refl, ap, sym, ◌∙◌, append_assoc, subst}
 use Rattle.std.specs.List.{slice_get}
 use Rattle.std.proofs.lemmas.List.{drop_more}
 use Rattle.std.proofs.lemmas.Option.{slice_get_within, get_or_from_slice_get}
@@ -11,7 +11,7 @@ use Rattle.graphql_json.specs.declared.place.Places.{Places}
 use Rattle.graphql_json.specs.declared.place.Places.TheVariants.{LeftOut, Written}
 use Rattle.graphql_json.specs.inner.Written.{Adds, opening, place_tokens, pos_tokens, member_tokens, optional_tokens}
 use Rattle.graphql_json.specs.nodes.Nodes.{node, optional, place_members, pos_members}
-use Rattle.json.specs.Json.{Json, Members, Items, no_items, item, array}
+use Rattle.json.specs.Json.{Json, Members, member, Items, no_items, item, array}
 use Rattle.json.specs.Token.{Token, begin_object, begin_array, end_array, key, string}
 use Rattle.json.specs.Tree.{json_tokens, members_tokens, items_tokens}
 
@@ -54,6 +54,20 @@ pub next_optional : {A E F : Type 0} {u : Unit {0}} {r : Result (Unit {0}) E} {a
     → Adds {E = F} (Ok u) a b (optional_tokens name json part) → Adds r b c (members_tokens others) → Adds r a c (members_tokens (optional name json part others))
 next_optional name json part others written rest = as_tokens (tokens_of_optional name json part others) (next written rest)
 
+-- a node that has a description and a name: what opens it with these, and then its other members
+pub whole_described : {A E F : Type 0} {u : Unit {0}} {r : Result (Unit {0}) E} {a b c : List Token} (kind : List ℕ) (place : Place) (json : A → Json) (description : Option A) (name : Json) (others : Members)
+    → Adds {E = F} (Ok u) a b (opening kind place ++ optional_tokens (codes "description") json description ++ member_tokens (codes "name") name) → Adds r b c (members_tokens others)
+    → Adds r a c (json_tokens (node kind place (optional (codes "description") json description (member (codes "name") name others))))
+whole_described kind place json description name others opened rest =
+    let described = optional_tokens (codes "description") json description in
+    let named = members_tokens (member (codes "name") name others) in
+    as_tokens
+    (append_assoc (opening kind place ++ described) (member_tokens (codes "name") name) (members_tokens others)
+    ∙ append_assoc (opening kind place) described named
+    ∙ ap (λ ts. opening kind place ++ ts) (tokens_of_optional (codes "description") json description (member (codes "name") name others))
+    ∙ sym (tokens_of_node kind place (optional (codes "description") json description (member (codes "name") name others))))
+    (next opened rest)
+
 -- a list that is a member: what opens it, its items, of which the rest is none at last, and what closes it
 pub whole_list : {E F : Type 0} {u : Unit {0}} {r : Result (Unit {0}) E} {a b l c : List Token} {name : List ℕ} (all rest : Items)
     → Adds {E = F} (Ok u) a b (key name ∷ begin_array ∷ []) → l ++ items_tokens rest ≡ b ++ items_tokens all → rest ≡ no_items → Adds r l c (end_array ∷ [])
@@ -66,6 +80,10 @@ whole_list {r = Err x} all rest opened so_far none closed = record { ok = tt }
 pub same_option : {A : Type 0} (part : Option (Positioned A)) → option_map (placed (λ (x : A). x)) part ≡ part
 same_option None = refl
 same_option (Some part) = refl
+
+-- of the items of a list, or the fields of an object, the rest is left to be written, and is no larger than all of them
+abbrev pub IsWrittenTo : {A : Type 0} → (A → ℕ) → (A → Items) → A → A → List Token → List Token → Type 0
+IsWrittenTo size json all rest begun written = (size rest ≤ size all) × (written ++ items_tokens (json rest) ≡ begun ++ items_tokens (json all))
 
 -- one item of a list is written
 pub item_written : {E : Type 0} {u : Unit {0}} {a b all : List Token} (json : Json) (others : Items) → Adds {E = E} (Ok u) a b (json_tokens json) → a ++ items_tokens (item json others) ≡ all → b ++ items_tokens others ≡ all

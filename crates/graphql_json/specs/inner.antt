@@ -1,3 +1,4 @@
--- Inner: what is written so far.
+-- Inner: what is written of a value, and what is written so far.
+pub mod Forms
 pub mod Written
 pub mod Roots

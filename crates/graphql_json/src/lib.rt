@@ -21,7 +21,7 @@ ghost use Rattle.graphql_parser.specs.errors.Errors.{error_text, error_places};
 ghost use Rattle.graphql_parser.specs.trees.RequestViews.{document_tree};
 ghost use Rattle.graphql_parser.specs.trees.SchemaViews.{schema_document_tree};
 ghost use Rattle.graphql_json.specs.nodes.Errors.{error_value};
-ghost use Rattle.graphql_json.specs.nodes.Nodes.{json_text};
+ghost use Rattle.graphql_json.specs.nodes.Nodes.{json_text, no_place};
 ghost use Rattle.graphql_json.specs.nodes.Requests.{request_value};
 ghost use Rattle.graphql_json.specs.nodes.Schemas.{schema_value};
 
@@ -34,9 +34,13 @@ mod values;
 
 use graphql_parser::Error;
 use graphql_parser::types::{ExecutableDocument, ServiceDocument};
+use place::Place;
 pub use place::Places;
-use sheet::Sheet;
+use sheet::{Node, Sheet};
 use std::alloc::{AllocError, Global};
+
+/// What each call gives: the bytes of the JSON. An error says that memory was refused.
+pub type Json = Result<Vec<u8>, AllocError>;
 
 /// The tree of a request as JSON, a `Document` of GraphQL.js.
 ///
@@ -45,18 +49,12 @@ use std::alloc::{AllocError, Global};
 /// before the next fragment unless the fragment's place is smaller. So the order is that of the text wherever places
 /// grow. They do, but after a carriage return without a line feed: there the columns begin anew on the same line, and
 /// the tree doesn't keep whether the operation or the fragment comes first. It fails only where memory runs out.
-pub fn request_json(
-    alloc: Global,
-    document: &ExecutableDocument,
-    places: Places,
-) -> Result<Vec<u8>, AllocError>
+pub fn request_json(alloc: Global, document: &ExecutableDocument, places: Places) -> Json
     ensures text { IfOk result (λ json. json.items ≡
         json_text (request_value places (document_tree document.now))) }
     ensures utf8 { IfOk result (λ json. IsUtf8 json.items) }
 {
-    let mut sheet = Sheet::new(alloc);
-    request::write_document(&mut sheet, document, places)?;
-    Ok(sheet.finish())
+    tree_json(alloc, document, places)
 }
 
 /// The tree of a schema file as JSON, a `Document` of GraphQL.js.
@@ -65,17 +63,22 @@ pub fn request_json(
 /// and extensions come in the order of the tree, which is that of the text. The roots of a schema come in the order of
 /// the places of their types, which is that of the text but after a carriage return without a line feed. It fails only
 /// where memory runs out.
-pub fn schema_json(
-    alloc: Global,
-    document: &ServiceDocument,
-    places: Places,
-) -> Result<Vec<u8>, AllocError>
+pub fn schema_json(alloc: Global, document: &ServiceDocument, places: Places) -> Json
     ensures text { IfOk result (λ json. json.items ≡
         json_text (schema_value places (schema_document_tree document.now))) }
     ensures utf8 { IfOk result (λ json. IsUtf8 json.items) }
 {
+    tree_json(alloc, document, places)
+}
+
+// A tree as JSON, with or without the places of its nodes.
+fn tree_json<N: Node>(alloc: Global, tree: &N, places: Places) -> Json
+    ensures text { IfOk result (λ json. json.items ≡
+        json_text (N.form.json (no_place places) (N.form.tree tree.now))) }
+    ensures utf8 { IfOk result (λ json. IsUtf8 json.items) }
+{
     let mut sheet = Sheet::new(alloc);
-    schema::write_document(&mut sheet, document, places)?;
+    tree.write(&mut sheet, Place { places, pos: None })?;
     Ok(sheet.finish())
 }
 
@@ -84,7 +87,7 @@ pub fn schema_json(
 /// It has the text of the error as `message`, and the places that the error names as `locations`, the most important
 /// first, each with its `line` and `column`. An error that names no place has no `locations`. It fails only where memory
 /// runs out.
-pub fn error_json(alloc: Global, error: &Error) -> Result<Vec<u8>, AllocError>
+pub fn error_json(alloc: Global, error: &Error) -> Json
     ensures text { IfOk result (λ json. json.items ≡
         json_text (error_value (error_text error.now) (error_places error.now))) }
     ensures utf8 { IfOk result (λ json. IsUtf8 json.items) }

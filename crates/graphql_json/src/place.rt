@@ -1,5 +1,5 @@
 //! Where nodes stand, and whether that is written.
-ghost use Rattle.std.specs.Prelude.{◌≡◌, None};
+ghost use Rattle.std.specs.Prelude.{◌≡◌};
 ghost use Rattle.graphql_json.specs.nodes.Nodes.{at, nowhere, stands_before as stands_before_at};
 
 use graphql_parser::Pos;
@@ -22,13 +22,6 @@ pub struct Place {
 }
 
 impl Place {
-    /// No place, for a node that the tree keeps none of.
-    pub fn none(places: Places) -> Place
-        ensures { result ≡ record { places = places; pos = None } }
-    {
-        Place { places, pos: None }
-    }
-
     /// Another place in the same tree.
     pub fn at(self, pos: Pos) -> Place
         ensures { result ≡ at self pos }
@@ -43,7 +36,10 @@ impl Place {
     pub fn nowhere(self) -> Place
         ensures { result ≡ nowhere self }
     {
-        Place::none(self.places)
+        Place {
+            places: self.places,
+            pos: None,
+        }
     }
 }
 

@@ -1,16 +1,17 @@
 //! Requests.
-ghost use Rattle.std.specs.Prelude.{◌≡◌, ◌++◌, List, option_map, IfOk, OnOk, map, drop, codes};
+ghost use Rattle.std.specs.Prelude.{◌≡◌, ◌++◌, List, IfOk, OnOk, map, drop, codes};
 ghost use Rattle.graphql_parser.specs.trees.Parts.{placed};
-ghost use Rattle.graphql_parser.specs.trees.Request.{of_field, of_inline_fragment, operations_of};
-ghost use Rattle.graphql_parser.specs.trees.RequestViews.{document_tree, entry_tree, field_tree, fragment_tree, inline_fragment_tree, operation_tree, selection_tree, selection_set_tree, type_condition_tree};
+ghost use Rattle.graphql_parser.specs.trees.Request.{of_field, of_inline_fragment};
+ghost use Rattle.graphql_parser.specs.trees.RequestViews.{document_tree, entry_tree, field_tree, fragment_spread_tree, fragment_tree, inline_fragment_tree, operation_tree, selection_tree, selection_set_tree, type_condition_tree, variable_definition_tree};
+ghost use Rattle.graphql_json.specs.inner.Forms.{form};
 ghost use Rattle.graphql_json.specs.inner.Written.{Adds, lent_name, member_tokens, optional_tokens};
 ghost use Rattle.graphql_json.specs.nodes.Nodes.{at, nowhere, node, items_of, placed_json};
-ghost use Rattle.graphql_json.specs.nodes.Requests.{Fragment as FragmentTree, after_fragments, condition_json, definitions_json, fragment_json, operation_json, request_value, selection_json, selections_json, set_json, set_node, some_of};
+ghost use Rattle.graphql_json.specs.nodes.Requests.{Fragment as FragmentTree, after_fragments, condition_json, document_json, fragment_json, operation_json, selection_json, selections_json, set_json, set_node, some_of, spread_json, variable_json};
 ghost use Rattle.graphql_json.specs.nodes.Values.{name_json};
 ghost use Rattle.json.specs.Json.{Json, Items, no_items, item, array, member, no_members};
 ghost use Rattle.json.specs.Tree.{json_tokens, items_tokens};
 
-use crate::place::{Place, Places, stands_before};
+use crate::place::{Place, stands_before};
 use crate::sheet::{Node, Outcome, Sheet};
 use crate::values::{operation_word, write_arguments, write_name, write_named_type};
 use graphql_parser::types::{
@@ -21,34 +22,25 @@ use graphql_parser::value::Name;
 use graphql_parser::{IndexMap, Pos, Positioned};
 use std::alloc::AllocError;
 
-/// The tree of a request: its operations in their order and its fragments in theirs, merged by their places.
-pub fn write_document(sheet: &mut Sheet, document: &ExecutableDocument, places: Places) -> Outcome
-    ensures { Adds result sheet.old sheet.new
-        (json_tokens (request_value places (document_tree document.now))) }
-{
-    let place = Place::none(places);
-    sheet.begin("Document", place)?;
-    write_definitions(sheet, document, place)?;
-    sheet.close()
-}
+/// The tree of a request: its operations in their order and its fragments in theirs, merged by their places. Each operation
+/// comes after the fragments whose places are smaller.
+impl Node for ExecutableDocument {
+    ghost form = { form document_tree document_json };
 
-// The member `definitions`: each operation after the fragments whose places are smaller.
-#[tactic(auto, using(graphql_request_trees::proofs::Requests::operations_walked))]
-fn write_definitions(sheet: &mut Sheet, document: &ExecutableDocument, place: Place) -> Outcome
-    ensures { Adds result sheet.old sheet.new
-        (member_tokens (codes "definitions")
-        (array (definitions_json place (operations_of (document_tree document.now).operations)
-        (document_tree document.now).fragments))) }
-{
-    sheet.open_list("definitions")?;
-    let fragments = &document.fragments;
-    let mut next = 0;
-    for (name, operation) in document.operations.iter() {
-        next = write_fragments_before(sheet, fragments, next, operation.pos, place)?;
-        write_operation(sheet, name, operation, place)?;
+    #[tactic(auto, using(graphql_request_trees::proofs::Requests::operations_walked))]
+    fn write(&self, sheet: &mut Sheet, place: Place) -> Outcome {
+        sheet.begin("Document", place)?;
+        sheet.open_list("definitions")?;
+        let fragments = &self.fragments;
+        let mut next = 0;
+        for (name, operation) in self.operations.iter() {
+            next = write_fragments_before(sheet, fragments, next, operation.pos, place)?;
+            write_operation(sheet, name, operation, place)?;
+        }
+        write_fragments(sheet, fragments, next, place)?;
+        sheet.close_list()?;
+        sheet.close()
     }
-    write_fragments(sheet, fragments, next, place)?;
-    sheet.close_list()
 }
 
 // The fragments from an index on whose places are smaller than one. Gives the index of the first whose isn't.
@@ -140,7 +132,7 @@ fn write_fragment(
 {
     sheet.begin("FragmentDefinition", place.at(fragment.pos))?;
     write_name(sheet, name, place.nowhere())?;
-    write_condition(sheet, &fragment.node.type_condition, place)?;
+    sheet.node("typeCondition", &fragment.node.type_condition, place)?;
     sheet.nodes("directives", &fragment.node.directives, place)?;
     write_set(sheet, &fragment.node.selection_set, place)?;
     sheet.close()
@@ -148,24 +140,13 @@ fn write_fragment(
 
 /// The variable stands at its `$`, as its definition does.
 impl Node for VariableDefinition {
-    ghost use Rattle.graphql_parser.specs.trees.Request.{VariableDefinition as VariableTree};
-    ghost use Rattle.graphql_parser.specs.trees.RequestViews.{variable_definition_tree};
-    ghost use Rattle.graphql_json.specs.nodes.Requests.{variable_json};
-
-    ghost Tree = { VariableTree };
-
-    ghost tree = { variable_definition_tree };
-
-    ghost json = { variable_json };
+    ghost form = { form variable_definition_tree variable_json };
 
     fn write(&self, sheet: &mut Sheet, place: Place) -> Outcome {
         sheet.begin("VariableDefinition", place)?;
         sheet.key("variable")?;
         write_variable(sheet, &self.name, place)?;
-        sheet.node("type", &self.var_type, place)?;
-        sheet.optional("defaultValue", &self.default_value, place)?;
-        sheet.nodes("directives", &self.directives, place)?;
-        sheet.close()
+        sheet.last_typed(&self.var_type, &self.default_value, &self.directives, place)
     }
 }
 
@@ -180,32 +161,12 @@ fn write_variable(sheet: &mut Sheet, name: &Positioned<Name>, place: Place) -> O
     sheet.close()
 }
 
-fn write_condition(
-    sheet: &mut Sheet,
-    condition: &Positioned<TypeCondition>,
-    place: Place,
-) -> Outcome
-    ensures { Adds result sheet.old sheet.new
-        (member_tokens (codes "typeCondition")
-        (condition_json place (placed type_condition_tree condition.now))) }
-{
-    let name = &condition.node.on;
-    sheet.key("typeCondition")?;
-    write_named_type(sheet, &name.node, place.at(name.pos))
-}
+/// The type that a fragment applies to stands at its name.
+impl Node for TypeCondition {
+    ghost form = { form type_condition_tree condition_json };
 
-fn write_optional_condition(
-    sheet: &mut Sheet,
-    condition: &Option<Positioned<TypeCondition>>,
-    place: Place,
-) -> Outcome
-    ensures { Adds result sheet.old sheet.new
-        (optional_tokens (codes "typeCondition") (condition_json place)
-        (option_map (placed type_condition_tree) condition.now)) }
-{
-    match condition {
-        Some(condition) => write_condition(sheet, condition, place),
-        None => Ok(()),
+    fn write(&self, sheet: &mut Sheet, place: Place) -> Outcome {
+        write_named_type(sheet, &self.on.node, place.at(self.on.pos))
     }
 }
 
@@ -275,21 +236,12 @@ fn write_optional_set(sheet: &mut Sheet, set: &Positioned<SelectionSet>, place: 
 }
 
 impl Node for FragmentSpread {
-    ghost use Rattle.graphql_parser.specs.trees.Request.{FragmentSpread as SpreadTree};
-    ghost use Rattle.graphql_parser.specs.trees.RequestViews.{fragment_spread_tree};
-    ghost use Rattle.graphql_json.specs.nodes.Requests.{spread_json};
-
-    ghost Tree = { SpreadTree };
-
-    ghost tree = { fragment_spread_tree };
-
-    ghost json = { spread_json };
+    ghost form = { form fragment_spread_tree spread_json };
 
     fn write(&self, sheet: &mut Sheet, place: Place) -> Outcome {
         sheet.begin("FragmentSpread", place)?;
         sheet.node("name", &self.fragment_name, place)?;
-        sheet.nodes("directives", &self.directives, place)?;
-        sheet.close()
+        sheet.last("directives", &self.directives, place)
     }
 }
 
@@ -304,7 +256,7 @@ fn write_inline_fragment(
         (selection_json place (of_inline_fragment (placed inline_fragment_tree fragment.now)))) }
 {
     sheet.begin("InlineFragment", place.at(fragment.pos))?;
-    write_optional_condition(sheet, &fragment.node.type_condition, place)?;
+    sheet.optional("typeCondition", &fragment.node.type_condition, place)?;
     sheet.nodes("directives", &fragment.node.directives, place)?;
     write_set(sheet, &fragment.node.selection_set, place)?;
     sheet.close()

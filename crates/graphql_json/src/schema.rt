@@ -1,15 +1,15 @@
 //! Schema files.
-ghost use Rattle.std.specs.Prelude.{◌≡◌, [], codes, map};
-ghost use Rattle.graphql_parser.specs.trees.Parts.{placed};
-ghost use Rattle.graphql_parser.specs.trees.SchemaViews.{definition_tree, kind_tree, schema_definition_tree, schema_document_tree};
+ghost use Rattle.std.specs.Prelude.{◌≡◌, [], codes};
+ghost use Rattle.graphql_parser.specs.trees.SchemaViews.{definition_tree, directive_definition_tree, enum_value_tree, field_definition_tree, input_value_tree, kind_tree, schema_definition_tree, schema_document_tree, type_definition_tree};
+ghost use Rattle.graphql_json.specs.inner.Forms.{form};
 ghost use Rattle.graphql_json.specs.inner.Roots.{and_then, goes_before as goes_before_of, root_tokens};
 ghost use Rattle.graphql_json.specs.inner.Written.{Adds, member_tokens, optional_tokens};
-ghost use Rattle.graphql_json.specs.nodes.Nodes.{items_of, placed_list};
-ghost use Rattle.graphql_json.specs.nodes.Schemas.{named_types_json, kind_word as kind_word_of, schema_word as schema_word_of, interfaces, contents, root_json, with_root, roots_of, definition_json, schema_value};
+ghost use Rattle.graphql_json.specs.nodes.Nodes.{items_of};
+ghost use Rattle.graphql_json.specs.nodes.Schemas.{named_types_json, input_value_json, field_definition_json, enum_value_json, kind_word as kind_word_of, schema_word as schema_word_of, interfaces, contents, type_definition_json, root_json, with_root, roots_of, schema_definition_json, location_json, directive_definition_json, definition_json, document_json};
 ghost use Rattle.json.specs.Json.{array, no_members, member};
 ghost use Rattle.json.specs.Tree.{json_tokens, members_tokens};
 
-use crate::place::{Place, Places, stands_before};
+use crate::place::{Place, stands_before};
 use crate::sheet::{Node, Outcome, Sheet};
 use crate::values::{operation_word, write_named_type, write_text};
 use graphql_parser::Positioned;
@@ -21,30 +21,18 @@ use graphql_parser::types::{
 use graphql_parser::value::Name;
 
 /// The tree of a schema file, its definitions and extensions in their order.
-pub fn write_document(sheet: &mut Sheet, document: &ServiceDocument, places: Places) -> Outcome
-    ensures { Adds result sheet.old sheet.new
-        (json_tokens (schema_value places (schema_document_tree document.now))) }
-{
-    let place = Place::none(places);
-    sheet.begin("Document", place)?;
-    write_definitions(sheet, &document.definitions, place)?;
-    sheet.close()
-}
+impl Node for ServiceDocument {
+    ghost form = { form schema_document_tree document_json };
 
-fn write_definitions(
-    sheet: &mut Sheet,
-    definitions: &Vec<TypeSystemDefinition>,
-    place: Place,
-) -> Outcome
-    ensures { Adds result sheet.old sheet.new
-        (member_tokens (codes "definitions")
-        (array (items_of (definition_json place) (map definition_tree definitions.now.items)))) }
-{
-    sheet.open_list("definitions")?;
-    for definition in definitions {
-        write_definition(sheet, definition, place)?;
+    fn write(&self, sheet: &mut Sheet, place: Place) -> Outcome {
+        sheet.begin("Document", place)?;
+        sheet.open_list("definitions")?;
+        for definition in &self.definitions {
+            write_definition(sheet, definition, place)?;
+        }
+        sheet.close_list()?;
+        sheet.close()
     }
-    sheet.close_list()
 }
 
 fn write_definition(sheet: &mut Sheet, definition: &TypeSystemDefinition, place: Place) -> Outcome
@@ -61,15 +49,7 @@ fn write_definition(sheet: &mut Sheet, definition: &TypeSystemDefinition, place:
 }
 
 impl Node for SchemaDefinition {
-    ghost use Rattle.graphql_parser.specs.trees.Schema.{SchemaDefinition as SchemaTree};
-    ghost use Rattle.graphql_parser.specs.trees.SchemaViews.{schema_definition_tree};
-    ghost use Rattle.graphql_json.specs.nodes.Schemas.{schema_definition_json};
-
-    ghost Tree = { SchemaTree };
-
-    ghost tree = { schema_definition_tree };
-
-    ghost json = { schema_definition_json };
+    ghost form = { form schema_definition_tree schema_definition_json };
 
     fn write(&self, sheet: &mut Sheet, place: Place) -> Outcome {
         sheet.begin(schema_word(self.extend), place)?;
@@ -93,43 +73,51 @@ fn schema_word(is_extension: bool) -> &'static str
 // A kind of operation, and the name of the type that it begins at, where there is one.
 type Root<'a> = (OperationType, &'a Option<Positioned<Name>>);
 
+type Roots<'a> = (Root<'a>, Root<'a>, Root<'a>);
+
 // The roots, in the order of their places.
 fn write_roots(sheet: &mut Sheet, schema: &SchemaDefinition, place: Place) -> Outcome
     ensures { Adds result sheet.old sheet.new
         (member_tokens (codes "operationTypes")
         (array (items_of (root_json place) (roots_of (schema_definition_tree schema.now))))) }
 {
+    let roots = ordered_roots(schema);
+    sheet.open_list("operationTypes")?;
+    write_root(sheet, roots.0, place)?;
+    write_root(sheet, roots.1, place)?;
+    write_root(sheet, roots.2, place)?;
+    sheet.close_list()
+}
+
+fn ordered_roots(schema: &SchemaDefinition) -> Roots<'_>
+    ensures { and_then result.0.0 result.0.1.now
+        (and_then result.1.0 result.1.1.now (and_then result.2.0 result.2.1.now []))
+        ≡ roots_of (schema_definition_tree schema.now) }
+{
     let query = (OperationType::Query, &schema.query);
     let mutation = (OperationType::Mutation, &schema.mutation);
     let subscription = (OperationType::Subscription, &schema.subscription);
     if goes_before(&schema.mutation, &schema.query) {
-        write_third(sheet, mutation, query, subscription, place)
+        with_third(mutation, query, subscription)
     } else {
-        write_third(sheet, query, mutation, subscription, place)
+        with_third(query, mutation, subscription)
     }
 }
 
 // The third root goes before the first whose place is larger.
-fn write_third(
-    sheet: &mut Sheet,
-    first: Root<'_>,
-    second: Root<'_>,
-    third: Root<'_>,
-    place: Place,
-) -> Outcome
-    ensures { Adds result sheet.old sheet.new
-        (member_tokens (codes "operationTypes")
-        (array (items_of (root_json place)
-        (with_root third.entry.0 third.entry.1.now
+fn with_third<'a>(first: Root<'a>, second: Root<'a>, third: Root<'a>) -> Roots<'a>
+    ensures { and_then result.0.0 result.0.1.now
+        (and_then result.1.0 result.1.1.now (and_then result.2.0 result.2.1.now []))
+        ≡ with_root third.entry.0 third.entry.1.now
         (and_then first.entry.0 first.entry.1.now
-        (and_then second.entry.0 second.entry.1.now [])))))) }
+        (and_then second.entry.0 second.entry.1.now [])) }
 {
     if goes_before(third.1, first.1) {
-        write_ordered(sheet, third, first, second, place)
+        (third, first, second)
     } else if goes_before(third.1, second.1) {
-        write_ordered(sheet, first, third, second, place)
+        (first, third, second)
     } else {
-        write_ordered(sheet, first, second, third, place)
+        (first, second, third)
     }
 }
 
@@ -141,27 +129,6 @@ fn goes_before(one: &Option<Positioned<Name>>, other: &Option<Positioned<Name>>)
         (Some(one), Some(other)) => stands_before(one.pos, other.pos),
         _ => false,
     }
-}
-
-fn write_ordered(
-    sheet: &mut Sheet,
-    first: Root<'_>,
-    second: Root<'_>,
-    third: Root<'_>,
-    place: Place,
-) -> Outcome
-    ensures { Adds result sheet.old sheet.new
-        (member_tokens (codes "operationTypes")
-        (array (items_of (root_json place)
-        (and_then first.entry.0 first.entry.1.now
-        (and_then second.entry.0 second.entry.1.now
-        (and_then third.entry.0 third.entry.1.now [])))))) }
-{
-    sheet.open_list("operationTypes")?;
-    write_root(sheet, first, place)?;
-    write_root(sheet, second, place)?;
-    write_root(sheet, third, place)?;
-    sheet.close_list()
 }
 
 fn write_root(sheet: &mut Sheet, root: Root<'_>, place: Place) -> Outcome
@@ -190,20 +157,11 @@ fn write_named_root(
 }
 
 impl Node for TypeDefinition {
-    ghost use Rattle.graphql_parser.specs.trees.Schema.{TypeDefinition as TypeTree};
-    ghost use Rattle.graphql_parser.specs.trees.SchemaViews.{type_definition_tree};
-    ghost use Rattle.graphql_json.specs.nodes.Schemas.{type_definition_json};
-
-    ghost Tree = { TypeTree };
-
-    ghost tree = { type_definition_tree };
-
-    ghost json = { type_definition_json };
+    ghost form = { form type_definition_tree type_definition_json };
 
     fn write(&self, sheet: &mut Sheet, place: Place) -> Outcome {
-        sheet.begin(kind_word(&self.kind, self.extend), place)?;
-        sheet.optional("description", &self.description, place)?;
-        sheet.node("name", &self.name, place)?;
+        let kind = kind_word(&self.kind, self.extend);
+        sheet.begin_described(kind, place, &self.description, &self.name)?;
         write_interfaces(sheet, &self.kind, place)?;
         sheet.nodes("directives", &self.directives, place)?;
         write_contents(sheet, &self.kind, place)
@@ -253,28 +211,12 @@ fn write_contents(sheet: &mut Sheet, kind: &TypeKind, place: Place) -> Outcome
 {
     match kind {
         TypeKind::Scalar => sheet.close(),
-        TypeKind::Object(object) => write_last(sheet, "fields", &object.fields, place),
-        TypeKind::Interface(interface) => write_last(sheet, "fields", &interface.fields, place),
+        TypeKind::Object(object) => sheet.last("fields", &object.fields, place),
+        TypeKind::Interface(interface) => sheet.last("fields", &interface.fields, place),
         TypeKind::Union(union) => write_types(sheet, &union.members, place),
-        TypeKind::Enum(values) => write_last(sheet, "values", &values.values, place),
-        TypeKind::InputObject(input) => write_last(sheet, "fields", &input.fields, place),
+        TypeKind::Enum(values) => sheet.last("values", &values.values, place),
+        TypeKind::InputObject(input) => sheet.last("fields", &input.fields, place),
     }
-}
-
-// The last member, which is a list of nodes, and what closes the node.
-fn write_last<N: Node>(
-    sheet: &mut Sheet,
-    key: &str,
-    nodes: &Vec<Positioned<N>>,
-    place: Place,
-) -> Outcome
-    ensures { Adds result sheet.old sheet.new
-        (members_tokens
-        (member key.now (placed_list N.json place (map (placed N.tree) nodes.now.items))
-        no_members)) }
-{
-    sheet.nodes(key, nodes, place)?;
-    sheet.close()
 }
 
 // The types of a union, its last member, and what closes the node.
@@ -305,101 +247,48 @@ fn write_named_types(
 }
 
 impl Node for FieldDefinition {
-    ghost use Rattle.graphql_parser.specs.trees.Schema.{FieldDefinition as FieldTree};
-    ghost use Rattle.graphql_parser.specs.trees.SchemaViews.{field_definition_tree};
-    ghost use Rattle.graphql_json.specs.nodes.Schemas.{field_definition_json};
-
-    ghost Tree = { FieldTree };
-
-    ghost tree = { field_definition_tree };
-
-    ghost json = { field_definition_json };
+    ghost form = { form field_definition_tree field_definition_json };
 
     fn write(&self, sheet: &mut Sheet, place: Place) -> Outcome {
-        sheet.begin("FieldDefinition", place)?;
-        sheet.optional("description", &self.description, place)?;
-        sheet.node("name", &self.name, place)?;
+        sheet.begin_described("FieldDefinition", place, &self.description, &self.name)?;
         sheet.nodes("arguments", &self.arguments, place)?;
         sheet.node("type", &self.ty, place)?;
-        sheet.nodes("directives", &self.directives, place)?;
-        sheet.close()
+        sheet.last("directives", &self.directives, place)
     }
 }
 
 impl Node for InputValueDefinition {
-    ghost use Rattle.graphql_parser.specs.trees.Schema.{InputValueDefinition as InputValueTree};
-    ghost use Rattle.graphql_parser.specs.trees.SchemaViews.{input_value_tree};
-    ghost use Rattle.graphql_json.specs.nodes.Schemas.{input_value_json};
-
-    ghost Tree = { InputValueTree };
-
-    ghost tree = { input_value_tree };
-
-    ghost json = { input_value_json };
+    ghost form = { form input_value_tree input_value_json };
 
     fn write(&self, sheet: &mut Sheet, place: Place) -> Outcome {
-        sheet.begin("InputValueDefinition", place)?;
-        sheet.optional("description", &self.description, place)?;
-        sheet.node("name", &self.name, place)?;
-        sheet.node("type", &self.ty, place)?;
-        sheet.optional("defaultValue", &self.default_value, place)?;
-        sheet.nodes("directives", &self.directives, place)?;
-        sheet.close()
+        sheet.begin_described("InputValueDefinition", place, &self.description, &self.name)?;
+        sheet.last_typed(&self.ty, &self.default_value, &self.directives, place)
     }
 }
 
 impl Node for EnumValueDefinition {
-    ghost use Rattle.graphql_parser.specs.trees.Schema.{EnumValueDefinition as EnumValueTree};
-    ghost use Rattle.graphql_parser.specs.trees.SchemaViews.{enum_value_tree};
-    ghost use Rattle.graphql_json.specs.nodes.Schemas.{enum_value_json};
-
-    ghost Tree = { EnumValueTree };
-
-    ghost tree = { enum_value_tree };
-
-    ghost json = { enum_value_json };
+    ghost form = { form enum_value_tree enum_value_json };
 
     fn write(&self, sheet: &mut Sheet, place: Place) -> Outcome {
-        sheet.begin("EnumValueDefinition", place)?;
-        sheet.optional("description", &self.description, place)?;
-        sheet.node("name", &self.value, place)?;
-        sheet.nodes("directives", &self.directives, place)?;
-        sheet.close()
+        sheet.begin_described("EnumValueDefinition", place, &self.description, &self.value)?;
+        sheet.last("directives", &self.directives, place)
     }
 }
 
 impl Node for DirectiveDefinition {
-    ghost use Rattle.graphql_parser.specs.trees.Schema.{DirectiveDefinition as DirectiveTree};
-    ghost use Rattle.graphql_parser.specs.trees.SchemaViews.{directive_definition_tree};
-    ghost use Rattle.graphql_json.specs.nodes.Schemas.{directive_definition_json};
-
-    ghost Tree = { DirectiveTree };
-
-    ghost tree = { directive_definition_tree };
-
-    ghost json = { directive_definition_json };
+    ghost form = { form directive_definition_tree directive_definition_json };
 
     fn write(&self, sheet: &mut Sheet, place: Place) -> Outcome {
-        sheet.begin("DirectiveDefinition", place)?;
-        sheet.optional("description", &self.description, place)?;
-        sheet.node("name", &self.name, place)?;
+        sheet.begin_described("DirectiveDefinition", place, &self.description, &self.name)?;
         sheet.nodes("arguments", &self.arguments, place)?;
         sheet.boolean("repeatable", self.is_repeatable)?;
-        sheet.nodes("locations", &self.locations, place)?;
-        sheet.close()
+        sheet.last("locations", &self.locations, place)
     }
 }
 
 /// A name, as GraphQL.js has it.
 impl Node for DirectiveLocation {
-    ghost use Rattle.graphql_parser.specs.types.DirectiveLocation.{DirectiveLocation};
-    ghost use Rattle.graphql_json.specs.nodes.Schemas.{location_json};
-
-    ghost Tree = { DirectiveLocation };
-
-    ghost tree = { λ location. location };
-
-    ghost json = { location_json };
+    ghost form = { form (λ location. location) location_json };
 
     fn write(&self, sheet: &mut Sheet, place: Place) -> Outcome {
         write_text(sheet, "Name", place, self.as_str())

@@ -1,13 +1,13 @@
 //! The JSON that is being written, node by node.
-ghost use Rattle.std.specs.Prelude.{◌≡◌, [], ◌∷◌, List, map, option_map};
+ghost use Rattle.std.specs.Prelude.{◌≡◌, [], ◌∷◌, ◌++◌, List, map, option_map, codes};
 ghost use Rattle.std.specs.Str.{IsUtf8};
 ghost use Rattle.graphql_parser.specs.trees.Parts.{placed};
 ghost use Rattle.graphql_json.specs.inner.Written.{Adds, pos_tokens, opening, member_tokens, optional_tokens};
-ghost use Rattle.graphql_json.specs.nodes.Nodes.{placed_json, placed_list};
-ghost use Rattle.json.specs.Json.{Json, string, boolean};
+ghost use Rattle.graphql_json.specs.nodes.Nodes.{optional, placed_json, placed_list};
+ghost use Rattle.json.specs.Json.{string, boolean, member, no_members};
 ghost use Rattle.json.specs.Print.{print};
 ghost use Rattle.json.specs.Token.{begin_object, end_object, begin_array, end_array, key as key_token};
-ghost use Rattle.json.specs.Tree.{json_tokens};
+ghost use Rattle.json.specs.Tree.{json_tokens, members_tokens};
 
 use crate::place::{Place, Places};
 use graphql_parser::{Pos, Positioned};
@@ -20,19 +20,15 @@ pub type Outcome = Result<(), AllocError>;
 
 /// What is written as an object with a `kind`.
 pub trait Node {
-    ghost use Rattle.graphql_json.specs.declared.place.Place.{Place};
+    ghost use Rattle.graphql_json.specs.inner.Forms.{Form};
 
-    /// The tree of a node.
-    ghost Tree: { Type 0 };
-
-    ghost tree: { Self → Tree };
-
-    /// The JSON of a tree that stands at a place.
-    ghost json: { Place → Tree → Json };
+    /// The tree of a node, and the JSON of a tree.
+    ghost form: { Form Self };
 
     /// Writes the node.
     fn write(&self, sheet: &mut Sheet, place: Place) -> Outcome
-        ensures { Adds result sheet.old sheet.new (json_tokens (json place (tree self.now))) };
+        ensures { Adds result sheet.old sheet.new
+            (json_tokens (form.json place (form.tree self.now))) };
 }
 
 /// A text of JSON that is being written: nothing stands before it. Objects and lists are closed by the caller.
@@ -101,6 +97,26 @@ impl Sheet {
         }
     }
 
+    /// Opens the object of a node, and writes its description, where it has one, and its name.
+    pub fn begin_described<D: Node, N: Node>(
+        &mut self,
+        kind: &str,
+        place: Place,
+        description: &Option<Positioned<D>>,
+        name: &Positioned<N>,
+    ) -> Outcome
+        ensures { Adds result self.old self.new
+            (opening kind.now place
+            ++ optional_tokens (codes "description") (placed_json D.form.json place)
+            (option_map (placed D.form.tree) description.now)
+            ++ member_tokens (codes "name")
+            (placed_json N.form.json place (placed N.form.tree name.now))) }
+    {
+        self.begin(kind, place)?;
+        self.optional("description", description, place)?;
+        self.node("name", name, place)
+    }
+
     /// The members `line` and `column`.
     pub fn pos(&mut self, pos: Pos) -> Outcome
         ensures { Adds result self.old self.new (pos_tokens pos) }
@@ -152,7 +168,7 @@ impl Sheet {
     /// A member that is a node.
     pub fn node<N: Node>(&mut self, key: &str, node: &Positioned<N>, place: Place) -> Outcome
         ensures { Adds result self.old self.new
-            (member_tokens key.now (placed_json N.json place (placed N.tree node.now))) }
+            (member_tokens key.now (placed_json N.form.json place (placed N.form.tree node.now))) }
     {
         self.key(key)?;
         node.node.write(self, place.at(node.pos))
@@ -166,8 +182,8 @@ impl Sheet {
         place: Place,
     ) -> Outcome
         ensures { Adds result self.old self.new
-            (optional_tokens key.now (placed_json N.json place)
-            (option_map (placed N.tree) node.now)) }
+            (optional_tokens key.now (placed_json N.form.json place)
+            (option_map (placed N.form.tree) node.now)) }
     {
         match node {
             Some(node) => self.node(key, node, place),
@@ -179,12 +195,46 @@ impl Sheet {
     pub fn nodes<N: Node>(&mut self, key: &str, nodes: &Vec<Positioned<N>>, place: Place) -> Outcome
         ensures { Adds result self.old self.new
             (member_tokens key.now
-            (placed_list N.json place (map (placed N.tree) nodes.now.items))) }
+            (placed_list N.form.json place (map (placed N.form.tree) nodes.now.items))) }
     {
         self.open_list(key)?;
         for node in nodes {
             node.node.write(self, place.at(node.pos))?;
         }
         self.close_list()
+    }
+
+    /// The last members of a variable or an input value, and what closes the node.
+    pub fn last_typed<T: Node, V: Node, D: Node>(
+        &mut self,
+        ty: &Positioned<T>,
+        default_value: &Option<Positioned<V>>,
+        directives: &Vec<Positioned<D>>,
+        place: Place,
+    ) -> Outcome
+        ensures { Adds result self.old self.new
+            (members_tokens
+            (member (codes "type") (placed_json T.form.json place (placed T.form.tree ty.now))
+            (optional (codes "defaultValue") (placed_json V.form.json place)
+            (option_map (placed V.form.tree) default_value.now)
+            (member (codes "directives")
+            (placed_list D.form.json place (map (placed D.form.tree) directives.now.items))
+            no_members)))) }
+    {
+        self.node("type", ty, place)?;
+        self.optional("defaultValue", default_value, place)?;
+        self.last("directives", directives, place)
+    }
+
+    /// The last member of a node, which is a list of nodes, and what closes the node.
+    pub fn last<N: Node>(&mut self, key: &str, nodes: &Vec<Positioned<N>>, place: Place) -> Outcome
+        ensures { Adds result self.old self.new
+            (members_tokens
+            (member key.now
+            (placed_list N.form.json place (map (placed N.form.tree) nodes.now.items))
+            no_members)) }
+    {
+        self.nodes(key, nodes, place)?;
+        self.close()
     }
 }

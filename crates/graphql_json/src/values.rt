@@ -4,13 +4,16 @@ ghost use Rattle.std.specs.List.{list_any};
 ghost use Rattle.graphql_parser.specs.calls.Views.{view_tree, list_items, object_fields};
 ghost use Rattle.graphql_parser.specs.calls.Words.{operation_word as operation_word_of};
 ghost use Rattle.graphql_parser.specs.trees.Parts.{placed};
+ghost use Rattle.graphql_parser.specs.trees.PartViews.{directive_tree, const_directive_tree};
 ghost use Rattle.graphql_parser.specs.trees.TypeTree.{base_tree, type_tree};
-ghost use Rattle.graphql_parser.specs.trees.ValueTree.{variable, null, boolean, list, object, trees_of, fields_of};
+ghost use Rattle.graphql_parser.specs.trees.ValueTree.{variable, null, boolean, trees_of, fields_of};
+ghost use Rattle.graphql_parser.specs.trees.ValueViews.{value_tree, const_tree};
+ghost use Rattle.graphql_json.specs.inner.Forms.{form};
 ghost use Rattle.graphql_json.specs.inner.Written.{Adds, member_tokens};
-ghost use Rattle.graphql_json.specs.nodes.Nodes.{node, nowhere, items_of};
-ghost use Rattle.graphql_json.specs.nodes.Values.{text_json, name_json, value_json, items_json, fields_json, field_node, argument_tree, marks_float, number_kind as number_kind_of, argument_with, named_type_json, type_json};
+ghost use Rattle.graphql_json.specs.nodes.Nodes.{items_of};
+ghost use Rattle.graphql_json.specs.nodes.Values.{text_json, name_json, string_json, value_json, items_json, fields_json, field_node, argument_tree, marks_float, number_kind as number_kind_of, argument_with, directive_node, directive_json, named_type_json, type_json};
 ghost use Rattle.json.specs.Json.{array};
-ghost use Rattle.json.specs.Tree.{json_tokens};
+ghost use Rattle.json.specs.Tree.{json_tokens, items_tokens};
 
 use crate::place::Place;
 use crate::sheet::{Node, Outcome, Sheet};
@@ -19,14 +22,7 @@ use graphql_parser::types::{BaseType, ConstDirective, Directive, OperationType, 
 use graphql_parser::value::{ConstValue, ListView, Name, ObjectView, Value, ValueView};
 
 impl Node for Name {
-    ghost use Rattle.std.specs.Prelude.{ℕ, List};
-    ghost use Rattle.graphql_json.specs.nodes.Values.{name_json};
-
-    ghost Tree = { List ℕ };
-
-    ghost tree = { λ name. name };
-
-    ghost json = { name_json };
+    ghost form = { form (λ name. name) name_json };
 
     fn write(&self, sheet: &mut Sheet, place: Place) -> Outcome {
         write_text(sheet, "Name", place, self.as_str())
@@ -35,14 +31,7 @@ impl Node for Name {
 
 /// What a string or a block string stands for, in a description.
 impl Node for String {
-    ghost use Rattle.std.specs.Prelude.{ℕ, List, string_bytes};
-    ghost use Rattle.graphql_json.specs.nodes.Values.{string_json};
-
-    ghost Tree = { List ℕ };
-
-    ghost tree = { string_bytes };
-
-    ghost json = { string_json };
+    ghost form = { form string_bytes string_json };
 
     fn write(&self, sheet: &mut Sheet, place: Place) -> Outcome {
         write_text(sheet, "StringValue", place, self.as_str())
@@ -50,15 +39,7 @@ impl Node for String {
 }
 
 impl Node for Value {
-    ghost use Rattle.graphql_parser.specs.trees.ValueTree.{Tree as ValueTree};
-    ghost use Rattle.graphql_parser.specs.trees.ValueViews.{value_tree};
-    ghost use Rattle.graphql_json.specs.nodes.Values.{value_json};
-
-    ghost Tree = { ValueTree };
-
-    ghost tree = { value_tree };
-
-    ghost json = { value_json };
+    ghost form = { form value_tree value_json };
 
     fn write(&self, sheet: &mut Sheet, place: Place) -> Outcome {
         write_value(sheet, &self.as_view(), place)
@@ -66,15 +47,7 @@ impl Node for Value {
 }
 
 impl Node for ConstValue {
-    ghost use Rattle.graphql_parser.specs.trees.ValueTree.{Tree as ValueTree};
-    ghost use Rattle.graphql_parser.specs.trees.ValueViews.{const_tree};
-    ghost use Rattle.graphql_json.specs.nodes.Values.{value_json};
-
-    ghost Tree = { ValueTree };
-
-    ghost tree = { const_tree };
-
-    ghost json = { value_json };
+    ghost form = { form const_tree value_json };
 
     fn write(&self, sheet: &mut Sheet, place: Place) -> Outcome {
         write_value(sheet, &self.as_view(), place)
@@ -134,6 +107,7 @@ fn write_boolean(sheet: &mut Sheet, value: bool, place: Place) -> Outcome
     sheet.close()
 }
 
+// What is inside a list or an object has no place of its own.
 #[cycle(value)]
 fn write_value(sheet: &mut Sheet, value: &ValueView<'_>, place: Place) -> Outcome
     ensures { Adds result sheet.old sheet.new
@@ -149,52 +123,39 @@ fn write_value(sheet: &mut Sheet, value: &ValueView<'_>, place: Place) -> Outcom
         ValueView::String(text) => write_text(sheet, "StringValue", place, text),
         ValueView::Boolean(value) => write_boolean(sheet, *value, place),
         ValueView::Enum(name) => write_text(sheet, "EnumValue", place, name.as_str()),
-        ValueView::List(items) => write_list(sheet, items, place),
-        ValueView::Object(fields) => write_object(sheet, fields, place),
+        ValueView::List(items) => {
+            sheet.begin("ListValue", place)?;
+            sheet.open_list("values")?;
+            write_items(sheet, items, place.nowhere())?;
+            sheet.close()
+        }
+        ValueView::Object(fields) => {
+            sheet.begin("ObjectValue", place)?;
+            sheet.open_list("fields")?;
+            write_fields(sheet, fields, place.nowhere())?;
+            sheet.close()
+        }
     }
 }
 
-// What is inside a list or an object has no place of its own.
-#[cycle(value)]
-fn write_list(sheet: &mut Sheet, items: &ListView<'_>, place: Place) -> Outcome
-    ensures { Adds result sheet.old sheet.new
-        (json_tokens (value_json place (list (trees_of (list_items items.now))))) }
-{
-    sheet.begin("ListValue", place)?;
-    write_items(sheet, items, place.nowhere())?;
-    sheet.close()
-}
-
+// The items of a list, and what closes it.
 #[cycle(value)]
 fn write_items(sheet: &mut Sheet, items: &ListView<'_>, place: Place) -> Outcome
     ensures { Adds result sheet.old sheet.new
-        (member_tokens (codes "values")
-        (array (items_json place (trees_of (list_items items.now))))) }
+        (items_tokens (items_json place (trees_of (list_items items.now)))) }
 {
-    sheet.open_list("values")?;
     for item in items.iter() {
         write_value(sheet, &item, place)?;
     }
     sheet.close_list()
 }
 
-#[cycle(value)]
-fn write_object(sheet: &mut Sheet, fields: &ObjectView<'_>, place: Place) -> Outcome
-    ensures { Adds result sheet.old sheet.new
-        (json_tokens (value_json place (object (fields_of (object_fields fields.now))))) }
-{
-    sheet.begin("ObjectValue", place)?;
-    write_fields(sheet, fields, place.nowhere())?;
-    sheet.close()
-}
-
+// The fields of an object, and what closes their list.
 #[cycle(value)]
 fn write_fields(sheet: &mut Sheet, fields: &ObjectView<'_>, place: Place) -> Outcome
     ensures { Adds result sheet.old sheet.new
-        (member_tokens (codes "fields")
-        (array (fields_json place (fields_of (object_fields fields.now))))) }
+        (items_tokens (fields_json place (fields_of (object_fields fields.now)))) }
 {
-    sheet.open_list("fields")?;
     for (name, value) in fields.iter() {
         write_field(sheet, name, &value, place)?;
     }
@@ -221,8 +182,8 @@ pub fn write_arguments<V: Node>(
 ) -> Outcome
     ensures { Adds result sheet.old sheet.new
         (member_tokens (codes "arguments")
-        (array (items_of (argument_with V.json place)
-        (map (argument_tree V.tree) arguments.now.items)))) }
+        (array (items_of (argument_with V.form.json place)
+        (map (argument_tree V.form.tree) arguments.now.items)))) }
 {
     sheet.open_list("arguments")?;
     for argument in arguments {
@@ -238,7 +199,7 @@ fn write_argument<V: Node>(
     place: Place,
 ) -> Outcome
     ensures { Adds result sheet.old sheet.new
-        (json_tokens (argument_with V.json place (name.now, placed V.tree value.now))) }
+        (json_tokens (argument_with V.form.json place (name.now, placed V.form.tree value.now))) }
 {
     sheet.begin("Argument", place.at(name.pos))?;
     sheet.node("name", name, place)?;
@@ -247,41 +208,37 @@ fn write_argument<V: Node>(
 }
 
 impl Node for Directive {
-    ghost use Rattle.graphql_parser.specs.trees.Parts.{Directive as DirectiveTree};
-    ghost use Rattle.graphql_parser.specs.trees.PartViews.{directive_tree};
-    ghost use Rattle.graphql_json.specs.nodes.Values.{directive_json};
-
-    ghost Tree = { DirectiveTree };
-
-    ghost tree = { directive_tree };
-
-    ghost json = { directive_json };
+    ghost form = { form directive_tree directive_json };
 
     fn write(&self, sheet: &mut Sheet, place: Place) -> Outcome {
-        sheet.begin("Directive", place)?;
-        sheet.node("name", &self.name, place)?;
-        write_arguments(sheet, &self.arguments, place)?;
-        sheet.close()
+        write_directive(sheet, &self.name, &self.arguments, place)
     }
 }
 
 impl Node for ConstDirective {
-    ghost use Rattle.graphql_parser.specs.trees.Parts.{Directive as DirectiveTree};
-    ghost use Rattle.graphql_parser.specs.trees.PartViews.{const_directive_tree};
-    ghost use Rattle.graphql_json.specs.nodes.Values.{directive_json};
-
-    ghost Tree = { DirectiveTree };
-
-    ghost tree = { const_directive_tree };
-
-    ghost json = { directive_json };
+    ghost form = { form const_directive_tree directive_json };
 
     fn write(&self, sheet: &mut Sheet, place: Place) -> Outcome {
-        sheet.begin("Directive", place)?;
-        sheet.node("name", &self.name, place)?;
-        write_arguments(sheet, &self.arguments, place)?;
-        sheet.close()
+        write_directive(sheet, &self.name, &self.arguments, place)
     }
+}
+
+fn write_directive<V: Node>(
+    sheet: &mut Sheet,
+    name: &Positioned<Name>,
+    arguments: &Vec<(Positioned<Name>, Positioned<V>)>,
+    place: Place,
+) -> Outcome
+    ensures { Adds result sheet.old sheet.new
+        (json_tokens
+        (directive_node place name.now
+        (array (items_of (argument_with V.form.json place)
+        (map (argument_tree V.form.tree) arguments.now.items))))) }
+{
+    sheet.begin("Directive", place)?;
+    sheet.node("name", name, place)?;
+    write_arguments(sheet, arguments, place)?;
+    sheet.close()
 }
 
 /// A type that is named.
@@ -294,14 +251,7 @@ pub fn write_named_type(sheet: &mut Sheet, name: &Name, place: Place) -> Outcome
 }
 
 impl Node for Type {
-    ghost use Rattle.graphql_parser.specs.trees.TypeTree.{TypeTree, type_tree};
-    ghost use Rattle.graphql_json.specs.nodes.Values.{type_json};
-
-    ghost Tree = { TypeTree };
-
-    ghost tree = { type_tree };
-
-    ghost json = { type_json };
+    ghost form = { form type_tree type_json };
 
     fn write(&self, sheet: &mut Sheet, place: Place) -> Outcome {
         write_type(sheet, self, place)

@@ -22,12 +22,16 @@ place_members LeftOut pos others = others
 place_members Written None others = others
 place_members Written (Some pos) others = if (pos.line == 0) && (pos.column == 0) then others else pos_members pos others
 
+-- no place, for a node that the tree keeps none of
+abbrev pub no_place : Places → Place
+no_place places = record { places = places; pos = None }
+
 -- another place, and none, for nodes of the same tree
 abbrev pub at : Place → Pos → Place
 at place pos = record { places = place.places; pos = Some pos }
 
 abbrev pub nowhere : Place → Place
-nowhere place = record { places = place.places; pos = None }
+nowhere place = no_place place.places
 
 -- A place is smaller than another: on an earlier line, or further left on the same line. It is then earlier in the text,
 -- unless a carriage return without a line feed stands between the two, where the columns begin anew.

@@ -8,15 +8,15 @@ use Rattle.graphql_parser.specs.types.Pos.{Pos}
 use Rattle.graphql_parser.specs.types.Positioned.{Positioned}
 use Rattle.graphql_json.specs.declared.place.Place.{Place}
 use Rattle.graphql_json.specs.declared.place.Places.{Places}
-use Rattle.graphql_json.specs.nodes.Nodes.{at, nowhere, node, optional, items_of, placed_json, placed_list, stands_before}
-use Rattle.graphql_json.specs.nodes.Values.{name_json, value_json, arguments_json, directives_json, named_type_json, type_json}
+use Rattle.graphql_json.specs.nodes.Nodes.{at, nowhere, no_place, node, optional, items_of, placed_json, placed_list, stands_before}
+use Rattle.graphql_json.specs.nodes.Values.{name_json, arguments_json, directives_json, named_type_json, typed_members}
 use Rattle.json.specs.Json.{Json, string, array, Items, no_items, item, no_members, member}
 
 -- ---- selections
 
 -- the name that a fragment applies to, as a type
-abbrev pub condition_json : Place → Positioned TypeCondition → Json
-condition_json place condition = placed_json named_type_json place condition.node.on
+abbrev pub condition_json : Place → TypeCondition → Json
+condition_json place condition = placed_json named_type_json place condition.on
 
 abbrev pub spread_json : Place → FragmentSpread → Json
 spread_json place spread =
@@ -44,7 +44,7 @@ abbrev mutual
   selection_json place (fragment_spread spread) = placed_json spread_json place spread
   selection_json place (inline_fragment pos condition directives set_pos set) =
       node (codes "InlineFragment") (at place pos)
-      (optional (codes "typeCondition") (condition_json place) condition
+      (optional (codes "typeCondition") (placed_json condition_json place) condition
       (member (codes "directives") (directives_json place directives)
       (member (codes "selectionSet") (set_node (at place set_pos) (selections_json place set)) no_members)))
 
@@ -62,9 +62,7 @@ abbrev pub variable_json : Place → VariableDefinition → Json
 variable_json place variable =
     node (codes "VariableDefinition") place
     (member (codes "variable") (node (codes "Variable") place (member (codes "name") (placed_json name_json place variable.name) no_members))
-    (member (codes "type") (placed_json type_json place variable.var_type)
-    (optional (codes "defaultValue") (placed_json value_json place) variable.default_value
-    (member (codes "directives") (directives_json place variable.directives) no_members))))
+    (typed_members place variable.var_type variable.default_value (directives_json place variable.directives)))
 
 abbrev pub Operation : Type 0
 Operation = Option Name × Positioned OperationDefinition
@@ -87,7 +85,7 @@ fragment_json place fragment =
     let definition = fragment.1.node in
     node (codes "FragmentDefinition") (at place fragment.1.pos)
     (member (codes "name") (name_json (nowhere place) fragment.0)
-    (member (codes "typeCondition") (condition_json place definition.type_condition)
+    (member (codes "typeCondition") (placed_json condition_json place definition.type_condition)
     (member (codes "directives") (directives_json place definition.directives)
     (member (codes "selectionSet") (set_json place definition.selection_set) no_members))))
 
@@ -108,8 +106,9 @@ abbrev pub definitions_json : Place → List Operation → List Fragment → Ite
 definitions_json place [] fragments = items_of (fragment_json place) fragments
 definitions_json place (operation ∷ operations) fragments = after_fragments place operation.1.pos (operation_json place operation) (definitions_json place operations) fragments
 
+abbrev pub document_json : Place → Document → Json
+document_json place document = node (codes "Document") place (member (codes "definitions") (array (definitions_json place (operations_of document.operations) document.fragments)) no_members)
+
 -- a request, with or without the places of its nodes
 abbrev pub request_value : Places → Document → Json
-request_value places document =
-    let place : Place = record { places = places; pos = None } in
-    node (codes "Document") place (member (codes "definitions") (array (definitions_json place (operations_of document.operations) document.fragments)) no_members)
+request_value places document = document_json (no_place places) document

@@ -4,15 +4,15 @@ use Rattle.std.specs.Prelude.{ℕ, List, [], ◌∷◌, Option, Some, None, Bool
 use Rattle.graphql_parser.specs.calls.Locations.{location_word}
 use Rattle.graphql_parser.specs.calls.Words.{operation_word}
 use Rattle.graphql_parser.specs.trees.Parts.{Name}
-use Rattle.graphql_parser.specs.trees.Schema.{Names, InputValueDefinition, InputValues, FieldDefinition, EnumValueDefinition, TypeKind, scalar, object, interface, union, enumeration, input_object, SchemaDefinition, TypeDefinition, DirectiveDefinition, Definition, schema, type_def, directive, Document}
+use Rattle.graphql_parser.specs.trees.Schema.{Description, Names, InputValueDefinition, InputValues, FieldDefinition, EnumValueDefinition, TypeKind, scalar, object, interface, union, enumeration, input_object, SchemaDefinition, TypeDefinition, DirectiveDefinition, Definition, schema, type_def, directive, Document}
 use Rattle.graphql_parser.specs.types.DirectiveLocation.{DirectiveLocation}
 use Rattle.graphql_parser.specs.types.OperationType.{OperationType}
 use Rattle.graphql_parser.specs.types.OperationType.TheVariants.{Query, Mutation, Subscription}
 use Rattle.graphql_parser.specs.types.Positioned.{Positioned}
 use Rattle.graphql_json.specs.declared.place.Place.{Place}
 use Rattle.graphql_json.specs.declared.place.Places.{Places}
-use Rattle.graphql_json.specs.nodes.Nodes.{nowhere, node, optional, items_of, placed_json, placed_list, stands_before}
-use Rattle.graphql_json.specs.nodes.Values.{text_json, name_json, string_json, value_json, directives_json, named_type_json, type_json}
+use Rattle.graphql_json.specs.nodes.Nodes.{nowhere, no_place, node, optional, items_of, placed_json, placed_list, stands_before}
+use Rattle.graphql_json.specs.nodes.Values.{text_json, name_json, string_json, directives_json, named_type_json, type_json, typed_members}
 use Rattle.json.specs.Json as json
 use Rattle.json.specs.Json.{Json, Members, no_members, member}
 
@@ -22,33 +22,32 @@ named_types_json place names = placed_list named_type_json place names
 
 -- ---- the parts of types
 
+-- a node that begins with its description, where it has one, and its name
+abbrev pub described_node : List ℕ → Place → Description → Positioned Name → Members → Json
+described_node kind place description name others =
+    node kind place
+    (optional (codes "description") (placed_json string_json place) description
+    (member (codes "name") (placed_json name_json place name) others))
+
 abbrev pub input_value_json : Place → InputValueDefinition → Json
 input_value_json place value =
-    node (codes "InputValueDefinition") place
-    (optional (codes "description") (placed_json string_json place) value.description
-    (member (codes "name") (placed_json name_json place value.name)
-    (member (codes "type") (placed_json type_json place value.ty)
-    (optional (codes "defaultValue") (placed_json value_json place) value.default_value
-    (member (codes "directives") (directives_json place value.directives) no_members)))))
+    described_node (codes "InputValueDefinition") place value.description value.name
+    (typed_members place value.ty value.default_value (directives_json place value.directives))
 
 abbrev pub input_values_json : Place → InputValues → Json
 input_values_json place values = placed_list input_value_json place values
 
 abbrev pub field_definition_json : Place → FieldDefinition → Json
 field_definition_json place field =
-    node (codes "FieldDefinition") place
-    (optional (codes "description") (placed_json string_json place) field.description
-    (member (codes "name") (placed_json name_json place field.name)
+    described_node (codes "FieldDefinition") place field.description field.name
     (member (codes "arguments") (input_values_json place field.arguments)
     (member (codes "type") (placed_json type_json place field.ty)
-    (member (codes "directives") (directives_json place field.directives) no_members)))))
+    (member (codes "directives") (directives_json place field.directives) no_members)))
 
 abbrev pub enum_value_json : Place → EnumValueDefinition → Json
 enum_value_json place value =
-    node (codes "EnumValueDefinition") place
-    (optional (codes "description") (placed_json string_json place) value.description
-    (member (codes "name") (placed_json name_json place value.value)
-    (member (codes "directives") (directives_json place value.directives) no_members)))
+    described_node (codes "EnumValueDefinition") place value.description value.value
+    (member (codes "directives") (directives_json place value.directives) no_members)
 
 -- ---- types
 
@@ -87,11 +86,9 @@ contents place (input_object fields) = member (codes "fields") (input_values_jso
 
 abbrev pub type_definition_json : Place → TypeDefinition → Json
 type_definition_json place type =
-    node (kind_word type.kind type.extend) place
-    (optional (codes "description") (placed_json string_json place) type.description
-    (member (codes "name") (placed_json name_json place type.name)
+    described_node (kind_word type.kind type.extend) place type.description type.name
     (optional (codes "interfaces") (named_types_json place) (interfaces type.kind)
-    (member (codes "directives") (directives_json place type.directives) (contents place type.kind)))))
+    (member (codes "directives") (directives_json place type.directives) (contents place type.kind)))
 
 -- ---- schemas
 
@@ -139,12 +136,10 @@ location_json place location = text_json (codes "Name") place (codes (location_w
 
 abbrev pub directive_definition_json : Place → DirectiveDefinition → Json
 directive_definition_json place definition =
-    node (codes "DirectiveDefinition") place
-    (optional (codes "description") (placed_json string_json place) definition.description
-    (member (codes "name") (placed_json name_json place definition.name)
+    described_node (codes "DirectiveDefinition") place definition.description definition.name
     (member (codes "arguments") (input_values_json place definition.arguments)
     (member (codes "repeatable") (json.boolean definition.is_repeatable)
-    (member (codes "locations") (placed_list location_json place definition.locations) no_members)))))
+    (member (codes "locations") (placed_list location_json place definition.locations) no_members)))
 
 -- ---- files
 
@@ -154,7 +149,9 @@ definition_json place (schema definition) = placed_json schema_definition_json p
 definition_json place (type_def definition) = placed_json type_definition_json place definition
 definition_json place (directive definition) = placed_json directive_definition_json place definition
 
+abbrev pub document_json : Place → Document → Json
+document_json place document = node (codes "Document") place (member (codes "definitions") (json.array (items_of (definition_json place) document)) no_members)
+
+-- a schema file, with or without the places of its nodes
 abbrev pub schema_value : Places → Document → Json
-schema_value places document =
-    let place : Place = record { places = places; pos = None } in
-    node (codes "Document") place (member (codes "definitions") (json.array (items_of (definition_json place) document)) no_members)
+schema_value places document = document_json (no_place places) document

@@ -1,6 +1,6 @@
 -- The JSON of what requests and schema files share: names, values, arguments, directives and types.
 -- Source: the syntax trees of GraphQL.js, version 16. What is inside a list, an object or a list type has no place: our trees keep none.
-use Rattle.std.specs.Prelude.{ℕ, List, ◌||◌, Bool, true, false, if◌then◌else◌, ◌==◌, codes}
+use Rattle.std.specs.Prelude.{ℕ, List, Option, ◌||◌, Bool, true, false, if◌then◌else◌, ◌==◌, codes}
 use Rattle.std.specs.List.{list_any}
 use Rattle.std.specs.Str.{byte}
 use Rattle.graphql_parser.specs.trees.Parts.{Name, placed, Arguments, Directive, Directives}
@@ -8,9 +8,9 @@ use Rattle.graphql_parser.specs.trees.TypeTree.{TypeTree, named, list as list_ty
 use Rattle.graphql_parser.specs.trees.ValueTree.{Tree, variable, null, number, string, boolean, enumeration, list, object, Trees, no_trees, more_trees, Fields, no_fields, field}
 use Rattle.graphql_parser.specs.types.Positioned.{Positioned}
 use Rattle.graphql_json.specs.declared.place.Place.{Place}
-use Rattle.graphql_json.specs.nodes.Nodes.{at, nowhere, node, items_of, placed_json, placed_list}
+use Rattle.graphql_json.specs.nodes.Nodes.{at, nowhere, node, optional, items_of, placed_json, placed_list}
 use Rattle.json.specs.Json as json
-use Rattle.json.specs.Json.{Json, Items, no_items, item, no_members, member}
+use Rattle.json.specs.Json.{Json, Items, no_items, item, Members, no_members, member}
 
 -- ---- names and texts
 
@@ -71,9 +71,12 @@ argument_with json place argument =
 abbrev pub arguments_json : Place → Arguments → Json
 arguments_json place arguments = json.array (items_of (argument_with value_json place) arguments)
 
+-- a directive, over the JSON of its arguments
+abbrev pub directive_node : Place → Positioned Name → Json → Json
+directive_node place name arguments = node (codes "Directive") place (member (codes "name") (placed_json name_json place name) (member (codes "arguments") arguments no_members))
+
 abbrev pub directive_json : Place → Directive → Json
-directive_json place directive =
-    node (codes "Directive") place (member (codes "name") (placed_json name_json place directive.name) (member (codes "arguments") (arguments_json place directive.arguments) no_members))
+directive_json place directive = directive_node place directive.name (arguments_json place directive.arguments)
 
 abbrev pub directives_json : Place → Directives → Json
 directives_json place directives = placed_list directive_json place directives
@@ -92,3 +95,12 @@ marked_json false place type = node (codes "NonNullType") place (member (codes "
 abbrev pub type_json : Place → TypeTree → Json
 type_json place (named name nullable) = marked_json nullable place (named_type_json place name)
 type_json place (list_type inner nullable) = marked_json nullable place (node (codes "ListType") place (member (codes "type") (type_json (nowhere place) inner) no_members))
+
+-- ---- variables and input values
+
+-- the members that a variable and an input value end with: the type, the default value, and the JSON of the directives
+abbrev pub typed_members : Place → Positioned TypeTree → Option (Positioned Tree) → Json → Members
+typed_members place type default directives =
+    member (codes "type") (placed_json type_json place type)
+    (optional (codes "defaultValue") (placed_json value_json place) default
+    (member (codes "directives") directives no_members))

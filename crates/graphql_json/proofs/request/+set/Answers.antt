@@ -1,12 +1,12 @@
 use Rattle.std.proofs.Common.{List, drop, ap, codes, sym, ◌∙◌}
 use Rattle.std.proofs.lemmas.List.{at_drop_all}
-use Rattle.graphql_parser.specs.trees.Request.{set_of}
-use Rattle.graphql_parser.specs.trees.RequestViews.{selection_trees}
+use Rattle.graphql_parser.specs.trees.Request.{of_field, of_inline_fragment, set_of}
+use Rattle.graphql_parser.specs.trees.RequestViews.{field_tree, inline_fragment_tree, selection_trees}
 use Rattle.graphql_json.proofs.Steps.{next, next_optional, as_tokens, whole_node, whole_list, same_option}
 use Rattle.graphql_parser.specs.types.Positioned.{Positioned}
 use Rattle.graphql_request_trees.specs.declared.executable.Field.{Field, out-Field}
 use Rattle.graphql_request_trees.specs.declared.executable.SelectionSet.{SelectionSet}
-use Rattle.graphql_json.proofs.Selections.{json_of_field, json_of_inline, tree_of_set, some_set}
+use Rattle.graphql_json.proofs.Selections.{field_parts, field_of_parts, inline_parts, inline_of_parts, json_of_parts, tree_of_set, some_set}
 use Rattle.graphql_json.specs.inner.Written.{member_tokens, optional_tokens, opening}
 use Rattle.graphql_json.specs.nodes.Nodes.{placed_json}
 use Rattle.graphql_json.specs.nodes.Requests.{selections_json}
@@ -34,15 +34,15 @@ write_field-returns t c =
     let field : Positioned Field = c.args.field.now in
     let opened = as_tokens (ap (λ p. opening _ p) c.at.ensures) c.in_ok-begin.ensures in
     let alias = as_tokens (ap (λ a. optional_tokens (codes "alias") (placed_json name_json place) a) (same_option (out-Field field.node).alias)) c.in_ok-optional.ensures in
-    as_tokens (ap json_tokens (json_of_field place field))
+    as_tokens (ap json_tokens (json_of_parts place of_field field_parts field_tree field_of_parts field))
     (whole_node _ _ _ opened
     (next_optional _ _ _ _ alias (next c.in_ok-node.ensures (next c.in_ok-write_arguments.ensures (next c.in_ok-nodes.ensures (next_optional _ _ _ _ c.in_ok-write_optional_set.ensures c.close.ensures))))))
 
 pub write_inline_fragment-returns : goal.write_inline_fragment-returns
 write_inline_fragment-returns t c =
     let opened = as_tokens (ap (λ p. opening _ p) c.at.ensures) c.in_ok-begin.ensures in
-    as_tokens (ap json_tokens (json_of_inline c.args.place c.args.fragment.now))
-    (whole_node _ _ _ opened (next_optional _ _ _ _ c.in_ok-write_optional_condition.ensures (next c.in_ok-nodes.ensures (next c.in_ok-write_set.ensures c.close.ensures))))
+    as_tokens (ap json_tokens (json_of_parts c.args.place of_inline_fragment inline_parts inline_fragment_tree inline_of_parts c.args.fragment.now))
+    (whole_node _ _ _ opened (next_optional _ _ _ _ c.in_ok-optional.ensures (next c.in_ok-nodes.ensures (next c.in_ok-write_set.ensures c.close.ensures))))
 
 pub write_optional_set-returns : goal.write_optional_set-returns
 write_optional_set-returns t c =

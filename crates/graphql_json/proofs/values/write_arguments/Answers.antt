@@ -10,7 +10,7 @@ use Rattle.graphql_json.proofs.values.write_arguments.Goals as goal
 pub returns : goal.returns
 returns g c =
     let lent = c.deref-argument-items in
-    let json = λ (arguments : List _). items_of (argument_with g.V.Node.json c.args.place) (map (argument_tree g.V.Node.tree) arguments) in
+    let json = λ (arguments : List _). items_of (argument_with g.V.Node.form.json c.args.place) (map (argument_tree g.V.Node.form.tree) arguments) in
     let none = at_drop_all json lent.result.now c.loop-argument.argument-index c.loop-argument-test.false in
     as_tokens (ap (λ arguments. member_tokens (codes "arguments") (array (json arguments))) lent.ensures.value)
     (whole_list (json lent.result.now) (json (drop c.loop-argument.argument-index lent.result.now)) c.in_ok-open_list.ensures c.loop-argument.invariant none c.close_list.ensures)

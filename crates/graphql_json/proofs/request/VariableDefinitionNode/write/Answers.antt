@@ -1,7 +1,5 @@
-use Rattle.graphql_json.proofs.Steps.{next, next_optional, whole_node}
+use Rattle.graphql_json.proofs.Steps.{next, whole_node}
 use Rattle.graphql_json.proofs.request.VariableDefinitionNode.write.Goals as goal
 
 pub returns : goal.returns
-returns c =
-    whole_node _ _ _ c.in_ok-begin.ensures
-    (next c.in_ok-key.ensures (next c.in_ok-write_variable.ensures (next c.in_ok-node.ensures (next_optional _ _ _ _ c.in_ok-optional.ensures (next c.in_ok-nodes.ensures c.close.ensures)))))
+returns c = whole_node _ _ _ c.in_ok-begin.ensures (next c.in_ok-key.ensures (next c.in_ok-write_variable.ensures c.last_typed.ensures))

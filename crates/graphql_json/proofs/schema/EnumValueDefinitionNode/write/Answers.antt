@@ -1,5 +1,5 @@
-use Rattle.graphql_json.proofs.Steps.{next, next_optional, whole_node}
+use Rattle.graphql_json.proofs.Steps.{whole_described}
 use Rattle.graphql_json.proofs.schema.EnumValueDefinitionNode.write.Goals as goal
 
 pub returns : goal.returns
-returns c = whole_node _ _ _ c.in_ok-begin.ensures (next_optional _ _ _ _ c.in_ok-optional.ensures (next c.in_ok-node.ensures (next c.in_ok-nodes.ensures c.close.ensures)))
+returns c = whole_described _ _ _ _ _ _ c.in_ok-begin_described.ensures c.last.ensures

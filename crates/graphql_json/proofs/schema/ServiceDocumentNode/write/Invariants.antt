@@ -3,7 +3,7 @@ use Rattle.graphql_parser.specs.trees.SchemaViews.{definition_tree}
 use Rattle.graphql_json.specs.nodes.Nodes.{items_of}
 use Rattle.graphql_json.specs.nodes.Schemas.{definition_json}
 use Rattle.json.specs.Tree.{items_tokens}
-use Rattle.graphql_json.proofs.schema.write_definitions.Given as goal
+use Rattle.graphql_json.proofs.schema.ServiceDocumentNode.write.Given as goal
 
 abbrev pub invariant-loop-definition : goal.invariant-loop-definition
 invariant-loop-definition l =

@@ -1,5 +1,5 @@
 use Rattle.graphql_json.proofs.Steps.{next}
-use Rattle.graphql_json.proofs.schema.write_last.Goals as goal
+use Rattle.graphql_json.proofs.sheet.Sheet.last.Goals as goal
 
 pub returns : goal.returns
 returns g c = next c.in_ok-nodes.ensures c.close.ensures
