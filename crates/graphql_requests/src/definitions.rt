@@ -125,8 +125,6 @@ impl Production for Definition {
 
     ghost reader = { definition_at };
 
-    const ROOM: usize = 1;
-
     fn is_next(parser: &Parser) -> bool {
         is_at_definition(parser)
     }
