@@ -4,10 +4,10 @@ ghost use Rattle.graphql_tokens.specs.tokens.Seen.{seen};
 ghost use Rattle.graphql_tokens.specs.tokens.Within.{StandsIn};
 ghost use Rattle.graphql_requests.specs.grammar.Request.{Definition as SpecDefinition};
 ghost use Rattle.graphql_requests.specs.grammar.Selections.{fragment_name};
-ghost use Rattle.graphql_requests.specs.reading.Definitions.{definition_tree, in_definitions, maybe_name_at, worded_at};
+ghost use Rattle.graphql_requests.specs.reading.Definitions.{definition_tree, maybe_name_at, worded_at};
 ghost use Rattle.graphql_reading.specs.reading.Given.{Gives};
 ghost use Rattle.graphql_reading.specs.reading.Outcome.{one_at};
-ghost use Rattle.graphql_requests.specs.reading.Request.{short_operation_at, fragment_at, definition_first, definition_at, definitions_at};
+ghost use Rattle.graphql_requests.specs.reading.Request.{short_operation_at, fragment_at, definition_first, definition_at};
 
 use crate::selections::{is_at_fragment_name, read_selection_set, read_type_condition};
 use crate::variables::VariablePhrase;
@@ -15,7 +15,7 @@ use graphql_grammar::arguments::read_directives;
 use graphql_grammar::operations::read_operation_type;
 use graphql_reading::limits::Limits;
 use graphql_reading::parser::{Parser, Reading, Refusal};
-use graphql_reading::production::{Production, maybe_bracketed, one_or_more};
+use graphql_reading::production::{Production, maybe_bracketed};
 use graphql_request_trees::{FragmentDefinition, OperationDefinition};
 use graphql_syntax::lexer::Token;
 use graphql_syntax::pos::Positioned;
@@ -139,13 +139,4 @@ impl Production for Definition {
             read_operation(parser, limits)
         }
     }
-}
-
-/// The definitions of a request, up to its end.
-///
-/// `ExecutableDocument : ExecutableDefinition+` (GraphQL October 2021, section 2.2)
-pub fn read_definitions(parser: &mut Parser, limits: Limits) -> Reading<Vec<Definition>>
-    ensures { Gives in_definitions result parser.old parser.new (definitions_at limits) }
-{
-    one_or_more::<Definition>(parser, limits)
 }

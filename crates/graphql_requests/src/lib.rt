@@ -29,12 +29,13 @@ mod rules;
 pub mod selections;
 mod variables;
 
-use definitions::{Definition, read_definitions};
+use definitions::Definition;
 use graphql_grammar::document::{Kept, read_document};
 use graphql_grammar::error::Result;
 use graphql_memory::Memory;
 use graphql_reading::limits::Limits;
 use graphql_reading::parser::{Parser, Reading};
+use graphql_reading::production::one_or_more;
 use graphql_request_trees::ExecutableDocument;
 use graphql_tokens::lexer::Tokens;
 use rules::document_of;
@@ -61,8 +62,9 @@ impl<'a> Kept<'a> for KeptDefinitions {
 
     ghost reader = { definitions_at };
 
+    /// `ExecutableDocument : ExecutableDefinition+` (GraphQL October 2021, section 2.2)
     fn read_all(parser: &mut Parser<'a>, limits: Limits) -> Reading<KeptDefinitions> {
-        let items = read_definitions(parser, limits)?;
+        let items = one_or_more::<Definition>(parser, limits)?;
         Ok(KeptDefinitions { items })
     }
 
@@ -90,7 +92,7 @@ pub fn parse_query(alloc: Global, text: &str) -> Result<ExecutableDocument>
     // fields of each object.
     ensures lawful { IfOk result (λ document. IsLawful (document_tree document)) }
 {
-    parse_query_limited(alloc, text, Limits::default())
+    parse_query_within(&mut Memory::new(alloc), text, Limits::default())
 }
 
 /// As [`parse_query`], with limits that the caller chooses (this project's own call).

@@ -2,9 +2,9 @@
 ghost use Rattle.std.specs.Prelude.{◌≡◌};
 ghost use Rattle.graphql_reading.specs.reading.Given.{Gives};
 ghost use Rattle.graphql_schemas.specs.grammar.SchemaFile.{Definition as SpecDefinition};
-ghost use Rattle.graphql_schemas.specs.reading.SchemaFile.{described_at, extension_at, definition_first, definition_at, definitions_at};
+ghost use Rattle.graphql_schemas.specs.reading.SchemaFile.{described_at, extension_at, definition_first, definition_at};
 ghost use Rattle.graphql_schemas.specs.reading.Types.{body_first};
-ghost use Rattle.graphql_schemas.specs.reading.Views.{definition_tree, in_definitions};
+ghost use Rattle.graphql_schemas.specs.reading.Views.{definition_tree};
 
 use crate::descriptions::{is_at_description, place_of, read_maybe_description};
 use crate::directives::read_directive_definition;
@@ -12,7 +12,7 @@ use crate::schema::{Schema, read_schema, read_schema_extension};
 use crate::types::{read_type_body, type_with};
 use graphql_reading::limits::Limits;
 use graphql_reading::parser::{Parser, Reading};
-use graphql_reading::production::{Production, one_or_more};
+use graphql_reading::production::Production;
 use graphql_schema_trees::{DirectiveDefinition, TypeDefinition};
 use graphql_syntax::pos::Positioned;
 
@@ -111,13 +111,4 @@ impl Production for Definition {
         }
         read_described(parser, limits)
     }
-}
-
-/// The definitions of a schema file, up to its end.
-///
-/// `TypeSystemExtensionDocument : TypeSystemDefinitionOrExtension+` (GraphQL October 2021, section 3.1)
-pub fn read_definitions(parser: &mut Parser, limits: Limits) -> Reading<Vec<Definition>>
-    ensures { Gives in_definitions result parser.old parser.new (definitions_at limits) }
-{
-    one_or_more::<Definition>(parser, limits)
 }

@@ -35,12 +35,13 @@ mod rules;
 mod schema;
 pub mod types;
 
-use definitions::{Definition, read_definitions};
+use definitions::Definition;
 use graphql_grammar::document::{Kept, read_document};
 use graphql_grammar::error::Result;
 use graphql_memory::Memory;
 use graphql_reading::limits::Limits;
 use graphql_reading::parser::{Parser, Reading};
+use graphql_reading::production::one_or_more;
 use graphql_schema_trees::ServiceDocument;
 use graphql_tokens::lexer::Tokens;
 use rules::document_of;
@@ -67,8 +68,9 @@ impl<'a> Kept<'a> for KeptDefinitions {
 
     ghost reader = { definitions_at };
 
+    /// `TypeSystemExtensionDocument : TypeSystemDefinitionOrExtension+` (GraphQL October 2021, section 3.1)
     fn read_all(parser: &mut Parser<'a>, limits: Limits) -> Reading<KeptDefinitions> {
-        let items = read_definitions(parser, limits)?;
+        let items = one_or_more::<Definition>(parser, limits)?;
         Ok(KeptDefinitions { items })
     }
 
@@ -97,7 +99,7 @@ pub fn parse_schema(alloc: Global, text: &str) -> Result<ServiceDocument>
     // A schema has a query root, or is an extension; and no extension has a description.
     ensures lawful { IfOk result (λ document. IsLawful (schema_document_tree document)) }
 {
-    parse_schema_limited(alloc, text, Limits::default())
+    parse_schema_within(&mut Memory::new(alloc), text, Limits::default())
 }
 
 /// As [`parse_schema`], with limits that the caller chooses (this project's own call). The first number isn't used:

@@ -25,9 +25,6 @@ abbrev pub definition_tree : code.Definition → Definition
 definition_tree (Operation name node) = operation name (placed operation_tree node)
 definition_tree (Fragment name node) = fragment name (placed fragment_tree node)
 
-abbrev pub in_definitions : Vec code.Definition Global → List Definition
-in_definitions v = map definition_tree v.items
-
 -- ---- an operation that begins with its keyword
 
 abbrev pub maybe_name_at : Reader (Option Name)

@@ -32,6 +32,3 @@ definition_tree (variants.Directive d) = directive (placed directive_definition_
 
 abbrev pub definition_trees : List code.Definition → List Definition
 definition_trees ds = map definition_tree ds
-
-abbrev pub in_definitions : Vec code.Definition Global → List Definition
-in_definitions v = definition_trees v.items
