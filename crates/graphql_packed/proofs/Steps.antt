@@ -1,5 +1,5 @@
 -- Calls that add bytes, one after another.
-use Rattle.std.proofs.Common.{◌≡◌, List, [], ◌∷◌, ◌++◌, map, Option, Some, None, option_map, Result, Ok, Err, refl, ap, sym, ◌∙◌, append_assoc, append-nil, subst}
+use Rattle.std.proofs.Common.{◌≡◌, ◌≤◌, ℕ, List, [], ◌∷◌, ◌++◌, map, Option, Some, None, option_map, Result, Ok, Err, refl, ap, sym, ◌∙◌, append_assoc, append-nil, subst}
 use Rattle.graphql_parser.specs.trees.Parts.{placed}
 use Rattle.graphql_parser.specs.types.Positioned.{Positioned}
 use Rattle.graphql_packed.specs.inner.Written.{Adds}
@@ -18,6 +18,10 @@ as_bytes e added = subst (Adds _ _ _) e added
 pub whole_list : {E F : Type 0} {u v : Unit {0}} {a b c ts : Bytes} (all rest : Bytes) → Adds {E = F} (Ok u) a b ts → c ++ rest ≡ b ++ all → rest ≡ [] → Adds {E = E} (Ok v) a c (ts ++ all)
 whole_list {a = a} {c = c} {ts = ts} all rest counted so_far none =
     record { ok = sym (append-nil c) ∙ ap (λ us. c ++ us) (sym none) ∙ so_far ∙ ap (λ us. us ++ all) counted.ok ∙ append_assoc a ts all }
+
+-- of the items of a list, or the fields of an object, the rest is left to be written, and is no larger than all of them
+abbrev pub IsWrittenTo : {A : Type 0} → (A → ℕ) → (A → Bytes) → A → A → Bytes → Bytes → Type 0
+IsWrittenTo size bytes all rest begun written = (size rest ≤ size all) × (written ++ bytes rest ≡ begun ++ bytes all)
 
 -- ---- what is its own tree
 

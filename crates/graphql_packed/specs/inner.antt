@@ -1,2 +1,3 @@
--- Inner: what is written so far.
+-- Inner: what is written of a value, and what is written so far.
+pub mod Forms
 pub mod Written

@@ -13,19 +13,14 @@ pub type Outcome = Result<(), AllocError>;
 
 /// What is written as a node, after its place.
 pub trait Packed {
-    ghost use Rattle.graphql_packed.specs.packed.Bytes.{Bytes};
+    ghost use Rattle.graphql_packed.specs.inner.Forms.{Form};
 
-    /// The tree of a node.
-    ghost Tree: { Type 0 };
-
-    ghost tree: { Self → Tree };
-
-    /// The bytes of a tree, without its place.
-    ghost bytes: { Tree → Bytes };
+    /// The tree of a node, and the bytes of a tree.
+    ghost form: { Form Self };
 
     /// Writes the node.
     fn pack(&self, buffer: &mut Buffer) -> Outcome
-        ensures { Adds result buffer.old buffer.new (bytes (tree self.now)) };
+        ensures { Adds result buffer.old buffer.new (form.bytes (form.tree self.now)) };
 }
 
 /// Bytes that are being written.
@@ -105,7 +100,8 @@ impl Buffer {
     /// A node, with its place.
     #[inline(always)]
     pub fn node<N: Packed>(&mut self, node: &Positioned<N>) -> Outcome
-        ensures { Adds result self.old self.new (node_bytes N.bytes (placed N.tree node.now)) }
+        ensures { Adds result self.old self.new
+            (node_bytes N.form.bytes (placed N.form.tree node.now)) }
     {
         self.place(node.pos)?;
         node.node.pack(self)
@@ -114,7 +110,7 @@ impl Buffer {
     /// A node that may be missing.
     pub fn optional<N: Packed>(&mut self, node: &Option<Positioned<N>>) -> Outcome
         ensures { Adds result self.old self.new
-            (optional_bytes (node_bytes N.bytes) (option_map (placed N.tree) node.now)) }
+            (optional_bytes (node_bytes N.form.bytes) (option_map (placed N.form.tree) node.now)) }
     {
         self.flag(node.is_some())?;
         match node {
@@ -126,7 +122,7 @@ impl Buffer {
     /// A list of nodes.
     pub fn nodes<N: Packed>(&mut self, nodes: &Vec<Positioned<N>>) -> Outcome
         ensures { Adds result self.old self.new
-            (list_bytes (node_bytes N.bytes) (map (placed N.tree) nodes.now.items)) }
+            (list_bytes (node_bytes N.form.bytes) (map (placed N.form.tree) nodes.now.items)) }
     {
         self.number(nodes.len())?;
         for node in nodes {

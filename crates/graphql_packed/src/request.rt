@@ -2,10 +2,11 @@
 ghost use Rattle.std.specs.Prelude.{◌≡◌};
 ghost use Rattle.graphql_parser.specs.trees.Parts.{placed};
 ghost use Rattle.graphql_parser.specs.trees.Request.{of_field, of_inline_fragment};
-ghost use Rattle.graphql_parser.specs.trees.RequestViews.{document_tree, field_tree, inline_fragment_tree, selection_tree, selection_set_tree};
+ghost use Rattle.graphql_parser.specs.trees.RequestViews.{document_tree, field_tree, fragment_spread_tree, fragment_tree, inline_fragment_tree, operation_tree, selection_tree, selection_set_tree, type_condition_tree, variable_definition_tree};
+ghost use Rattle.graphql_packed.specs.inner.Forms.{form};
 ghost use Rattle.graphql_packed.specs.inner.Written.{Adds, lent_name};
 ghost use Rattle.graphql_packed.specs.packed.Bytes.{node_bytes, optional_bytes, text_bytes};
-ghost use Rattle.graphql_packed.specs.packed.Requests.{operation_number as number_of_kind, request_bytes, selection_bytes, set_bytes};
+ghost use Rattle.graphql_packed.specs.packed.Requests.{condition_bytes, fragment_bytes, operation_bytes, operation_number as number_of_kind, request_bytes, selection_bytes, set_bytes, spread_bytes, variable_bytes};
 
 use crate::buffer::{Buffer, Outcome, Packed};
 use crate::values::pack_arguments;
@@ -45,15 +46,7 @@ fn pack_optional_name(buffer: &mut Buffer, name: Option<&Name>) -> Outcome
 }
 
 impl Packed for OperationDefinition {
-    ghost use Rattle.graphql_parser.specs.trees.Request.{OperationDefinition as OperationTree};
-    ghost use Rattle.graphql_parser.specs.trees.RequestViews.{operation_tree};
-    ghost use Rattle.graphql_packed.specs.packed.Requests.{operation_bytes};
-
-    ghost Tree = { OperationTree };
-
-    ghost tree = { operation_tree };
-
-    ghost bytes = { operation_bytes };
+    ghost form = { form operation_tree operation_bytes };
 
     fn pack(&self, buffer: &mut Buffer) -> Outcome {
         buffer.choice(operation_number(self.ty))?;
@@ -75,15 +68,7 @@ fn operation_number(kind: OperationType) -> u8
 }
 
 impl Packed for VariableDefinition {
-    ghost use Rattle.graphql_parser.specs.trees.Request.{VariableDefinition as VariableTree};
-    ghost use Rattle.graphql_parser.specs.trees.RequestViews.{variable_definition_tree};
-    ghost use Rattle.graphql_packed.specs.packed.Requests.{variable_bytes};
-
-    ghost Tree = { VariableTree };
-
-    ghost tree = { variable_definition_tree };
-
-    ghost bytes = { variable_bytes };
+    ghost form = { form variable_definition_tree variable_bytes };
 
     fn pack(&self, buffer: &mut Buffer) -> Outcome {
         buffer.node(&self.name)?;
@@ -94,15 +79,7 @@ impl Packed for VariableDefinition {
 }
 
 impl Packed for FragmentDefinition {
-    ghost use Rattle.graphql_parser.specs.trees.Request.{FragmentDefinition as FragmentTree};
-    ghost use Rattle.graphql_parser.specs.trees.RequestViews.{fragment_tree};
-    ghost use Rattle.graphql_packed.specs.packed.Requests.{fragment_bytes};
-
-    ghost Tree = { FragmentTree };
-
-    ghost tree = { fragment_tree };
-
-    ghost bytes = { fragment_bytes };
+    ghost form = { form fragment_tree fragment_bytes };
 
     fn pack(&self, buffer: &mut Buffer) -> Outcome {
         buffer.node(&self.type_condition)?;
@@ -112,15 +89,7 @@ impl Packed for FragmentDefinition {
 }
 
 impl Packed for TypeCondition {
-    ghost use Rattle.graphql_parser.specs.trees.Request.{TypeCondition as ConditionTree};
-    ghost use Rattle.graphql_parser.specs.trees.RequestViews.{type_condition_tree};
-    ghost use Rattle.graphql_packed.specs.packed.Requests.{condition_bytes};
-
-    ghost Tree = { ConditionTree };
-
-    ghost tree = { type_condition_tree };
-
-    ghost bytes = { condition_bytes };
+    ghost form = { form type_condition_tree condition_bytes };
 
     fn pack(&self, buffer: &mut Buffer) -> Outcome {
         buffer.node(&self.on)
@@ -177,15 +146,7 @@ fn pack_field(buffer: &mut Buffer, field: &Positioned<Field>) -> Outcome
 }
 
 impl Packed for FragmentSpread {
-    ghost use Rattle.graphql_parser.specs.trees.Request.{FragmentSpread as SpreadTree};
-    ghost use Rattle.graphql_parser.specs.trees.RequestViews.{fragment_spread_tree};
-    ghost use Rattle.graphql_packed.specs.packed.Requests.{spread_bytes};
-
-    ghost Tree = { SpreadTree };
-
-    ghost tree = { fragment_spread_tree };
-
-    ghost bytes = { spread_bytes };
+    ghost form = { form fragment_spread_tree spread_bytes };
 
     fn pack(&self, buffer: &mut Buffer) -> Outcome {
         buffer.node(&self.fragment_name)?;

@@ -1,7 +1,8 @@
 //! Schema files.
-ghost use Rattle.graphql_parser.specs.trees.SchemaViews.{definition_tree, kind_tree, schema_document_tree};
+ghost use Rattle.graphql_parser.specs.trees.SchemaViews.{definition_tree, directive_definition_tree, enum_value_tree, field_definition_tree, input_value_tree, kind_tree, schema_definition_tree, schema_document_tree, type_definition_tree};
+ghost use Rattle.graphql_packed.specs.inner.Forms.{form};
 ghost use Rattle.graphql_packed.specs.inner.Written.{Adds};
-ghost use Rattle.graphql_packed.specs.packed.Schemas.{definition_bytes, kind_bytes, schema_bytes};
+ghost use Rattle.graphql_packed.specs.packed.Schemas.{definition_bytes, directive_definition_bytes, enum_value_bytes, field_definition_bytes, input_value_bytes, kind_bytes, location_bytes, schema_bytes, schema_definition_bytes, type_definition_bytes};
 
 use crate::buffer::{Buffer, Outcome, Packed};
 use graphql_parser::types::{
@@ -42,15 +43,7 @@ fn pack_definition(buffer: &mut Buffer, definition: &TypeSystemDefinition) -> Ou
 }
 
 impl Packed for SchemaDefinition {
-    ghost use Rattle.graphql_parser.specs.trees.Schema.{SchemaDefinition as SchemaTree};
-    ghost use Rattle.graphql_parser.specs.trees.SchemaViews.{schema_definition_tree};
-    ghost use Rattle.graphql_packed.specs.packed.Schemas.{schema_definition_bytes};
-
-    ghost Tree = { SchemaTree };
-
-    ghost tree = { schema_definition_tree };
-
-    ghost bytes = { schema_definition_bytes };
+    ghost form = { form schema_definition_tree schema_definition_bytes };
 
     fn pack(&self, buffer: &mut Buffer) -> Outcome {
         buffer.optional(&self.description)?;
@@ -63,15 +56,7 @@ impl Packed for SchemaDefinition {
 }
 
 impl Packed for TypeDefinition {
-    ghost use Rattle.graphql_parser.specs.trees.Schema.{TypeDefinition as TypeTree};
-    ghost use Rattle.graphql_parser.specs.trees.SchemaViews.{type_definition_tree};
-    ghost use Rattle.graphql_packed.specs.packed.Schemas.{type_definition_bytes};
-
-    ghost Tree = { TypeTree };
-
-    ghost tree = { type_definition_tree };
-
-    ghost bytes = { type_definition_bytes };
+    ghost form = { form type_definition_tree type_definition_bytes };
 
     fn pack(&self, buffer: &mut Buffer) -> Outcome {
         buffer.flag(self.extend)?;
@@ -113,15 +98,7 @@ fn pack_kind(buffer: &mut Buffer, kind: &TypeKind) -> Outcome
 }
 
 impl Packed for FieldDefinition {
-    ghost use Rattle.graphql_parser.specs.trees.Schema.{FieldDefinition as FieldTree};
-    ghost use Rattle.graphql_parser.specs.trees.SchemaViews.{field_definition_tree};
-    ghost use Rattle.graphql_packed.specs.packed.Schemas.{field_definition_bytes};
-
-    ghost Tree = { FieldTree };
-
-    ghost tree = { field_definition_tree };
-
-    ghost bytes = { field_definition_bytes };
+    ghost form = { form field_definition_tree field_definition_bytes };
 
     fn pack(&self, buffer: &mut Buffer) -> Outcome {
         buffer.optional(&self.description)?;
@@ -133,15 +110,7 @@ impl Packed for FieldDefinition {
 }
 
 impl Packed for InputValueDefinition {
-    ghost use Rattle.graphql_parser.specs.trees.Schema.{InputValueDefinition as InputValueTree};
-    ghost use Rattle.graphql_parser.specs.trees.SchemaViews.{input_value_tree};
-    ghost use Rattle.graphql_packed.specs.packed.Schemas.{input_value_bytes};
-
-    ghost Tree = { InputValueTree };
-
-    ghost tree = { input_value_tree };
-
-    ghost bytes = { input_value_bytes };
+    ghost form = { form input_value_tree input_value_bytes };
 
     fn pack(&self, buffer: &mut Buffer) -> Outcome {
         buffer.optional(&self.description)?;
@@ -153,15 +122,7 @@ impl Packed for InputValueDefinition {
 }
 
 impl Packed for EnumValueDefinition {
-    ghost use Rattle.graphql_parser.specs.trees.Schema.{EnumValueDefinition as EnumValueTree};
-    ghost use Rattle.graphql_parser.specs.trees.SchemaViews.{enum_value_tree};
-    ghost use Rattle.graphql_packed.specs.packed.Schemas.{enum_value_bytes};
-
-    ghost Tree = { EnumValueTree };
-
-    ghost tree = { enum_value_tree };
-
-    ghost bytes = { enum_value_bytes };
+    ghost form = { form enum_value_tree enum_value_bytes };
 
     fn pack(&self, buffer: &mut Buffer) -> Outcome {
         buffer.optional(&self.description)?;
@@ -171,15 +132,7 @@ impl Packed for EnumValueDefinition {
 }
 
 impl Packed for DirectiveDefinition {
-    ghost use Rattle.graphql_parser.specs.trees.Schema.{DirectiveDefinition as DirectiveTree};
-    ghost use Rattle.graphql_parser.specs.trees.SchemaViews.{directive_definition_tree};
-    ghost use Rattle.graphql_packed.specs.packed.Schemas.{directive_definition_bytes};
-
-    ghost Tree = { DirectiveTree };
-
-    ghost tree = { directive_definition_tree };
-
-    ghost bytes = { directive_definition_bytes };
+    ghost form = { form directive_definition_tree directive_definition_bytes };
 
     fn pack(&self, buffer: &mut Buffer) -> Outcome {
         buffer.optional(&self.description)?;
@@ -192,14 +145,7 @@ impl Packed for DirectiveDefinition {
 
 // Its name.
 impl Packed for DirectiveLocation {
-    ghost use Rattle.graphql_parser.specs.types.DirectiveLocation.{DirectiveLocation as Location};
-    ghost use Rattle.graphql_packed.specs.packed.Schemas.{location_bytes};
-
-    ghost Tree = { Location };
-
-    ghost tree = { λ location. location };
-
-    ghost bytes = { location_bytes };
+    ghost form = { form (λ location. location) location_bytes };
 
     fn pack(&self, buffer: &mut Buffer) -> Outcome {
         buffer.text(self.as_str())

@@ -1,12 +1,15 @@
 //! What requests and schema files share: names, values, arguments, directives and types.
-ghost use Rattle.std.specs.Prelude.{◌++◌, map};
+ghost use Rattle.std.specs.Prelude.{◌++◌, map, string_bytes};
 ghost use Rattle.graphql_parser.specs.calls.Views.{view_tree, list_items, object_fields};
+ghost use Rattle.graphql_parser.specs.trees.PartViews.{directive_tree, const_directive_tree};
 ghost use Rattle.graphql_parser.specs.trees.Parts.{placed};
 ghost use Rattle.graphql_parser.specs.trees.TypeTree.{type_tree};
 ghost use Rattle.graphql_parser.specs.trees.ValueTree.{list, object, trees_of, fields_of};
+ghost use Rattle.graphql_parser.specs.trees.ValueViews.{value_tree, const_tree};
+ghost use Rattle.graphql_packed.specs.inner.Forms.{form};
 ghost use Rattle.graphql_packed.specs.inner.Written.{Adds, argument_tree, base_bytes};
 ghost use Rattle.graphql_packed.specs.packed.Bytes.{choice as choice_of, list_bytes, node_bytes, text_bytes};
-ghost use Rattle.graphql_packed.specs.packed.Values.{argument_with, type_bytes, value_bytes};
+ghost use Rattle.graphql_packed.specs.packed.Values.{argument_with, directive_bytes, type_bytes, value_bytes};
 
 use crate::buffer::{Buffer, Outcome, Packed};
 use graphql_parser::Positioned;
@@ -14,14 +17,7 @@ use graphql_parser::types::{BaseType, ConstDirective, Directive, Type};
 use graphql_parser::value::{ConstValue, ListView, Name, ObjectView, Value, ValueView};
 
 impl Packed for Name {
-    ghost use Rattle.std.specs.Prelude.{ℕ, List};
-    ghost use Rattle.graphql_packed.specs.packed.Bytes.{text_bytes};
-
-    ghost Tree = { List ℕ };
-
-    ghost tree = { λ name. name };
-
-    ghost bytes = { text_bytes };
+    ghost form = { form (λ name. name) text_bytes };
 
     #[inline(always)]
     fn pack(&self, buffer: &mut Buffer) -> Outcome {
@@ -30,14 +26,7 @@ impl Packed for Name {
 }
 
 impl Packed for String {
-    ghost use Rattle.std.specs.Prelude.{ℕ, List, string_bytes};
-    ghost use Rattle.graphql_packed.specs.packed.Bytes.{text_bytes};
-
-    ghost Tree = { List ℕ };
-
-    ghost tree = { string_bytes };
-
-    ghost bytes = { text_bytes };
+    ghost form = { form string_bytes text_bytes };
 
     fn pack(&self, buffer: &mut Buffer) -> Outcome {
         buffer.text(self.as_str())
@@ -45,15 +34,7 @@ impl Packed for String {
 }
 
 impl Packed for Value {
-    ghost use Rattle.graphql_parser.specs.trees.ValueTree.{Tree as ValueTree};
-    ghost use Rattle.graphql_parser.specs.trees.ValueViews.{value_tree};
-    ghost use Rattle.graphql_packed.specs.packed.Values.{value_bytes};
-
-    ghost Tree = { ValueTree };
-
-    ghost tree = { value_tree };
-
-    ghost bytes = { value_bytes };
+    ghost form = { form value_tree value_bytes };
 
     fn pack(&self, buffer: &mut Buffer) -> Outcome {
         pack_value(buffer, &self.as_view())
@@ -61,15 +42,7 @@ impl Packed for Value {
 }
 
 impl Packed for ConstValue {
-    ghost use Rattle.graphql_parser.specs.trees.ValueTree.{Tree as ValueTree};
-    ghost use Rattle.graphql_parser.specs.trees.ValueViews.{const_tree};
-    ghost use Rattle.graphql_packed.specs.packed.Values.{value_bytes};
-
-    ghost Tree = { ValueTree };
-
-    ghost tree = { const_tree };
-
-    ghost bytes = { value_bytes };
+    ghost form = { form const_tree value_bytes };
 
     fn pack(&self, buffer: &mut Buffer) -> Outcome {
         pack_value(buffer, &self.as_view())
@@ -134,7 +107,8 @@ pub fn pack_arguments<V: Packed>(
     arguments: &Vec<(Positioned<Name>, Positioned<V>)>,
 ) -> Outcome
     ensures { Adds result buffer.old buffer.new
-        (list_bytes (argument_with V.bytes) (map (argument_tree V.tree) arguments.now.items)) }
+        (list_bytes (argument_with V.form.bytes)
+        (map (argument_tree V.form.tree) arguments.now.items)) }
 {
     buffer.number(arguments.len())?;
     for argument in arguments {
@@ -153,22 +127,15 @@ fn pack_directive<V: Packed>(
 ) -> Outcome
     ensures { Adds result buffer.old buffer.new
         (node_bytes text_bytes name.now ++
-        list_bytes (argument_with V.bytes) (map (argument_tree V.tree) arguments.now.items)) }
+        list_bytes (argument_with V.form.bytes)
+        (map (argument_tree V.form.tree) arguments.now.items)) }
 {
     buffer.node(name)?;
     pack_arguments(buffer, arguments)
 }
 
 impl Packed for Directive {
-    ghost use Rattle.graphql_parser.specs.trees.Parts.{Directive as DirectiveTree};
-    ghost use Rattle.graphql_parser.specs.trees.PartViews.{directive_tree};
-    ghost use Rattle.graphql_packed.specs.packed.Values.{directive_bytes};
-
-    ghost Tree = { DirectiveTree };
-
-    ghost tree = { directive_tree };
-
-    ghost bytes = { directive_bytes };
+    ghost form = { form directive_tree directive_bytes };
 
     fn pack(&self, buffer: &mut Buffer) -> Outcome {
         pack_directive(buffer, &self.name, &self.arguments)
@@ -176,15 +143,7 @@ impl Packed for Directive {
 }
 
 impl Packed for ConstDirective {
-    ghost use Rattle.graphql_parser.specs.trees.Parts.{Directive as DirectiveTree};
-    ghost use Rattle.graphql_parser.specs.trees.PartViews.{const_directive_tree};
-    ghost use Rattle.graphql_packed.specs.packed.Values.{directive_bytes};
-
-    ghost Tree = { DirectiveTree };
-
-    ghost tree = { const_directive_tree };
-
-    ghost bytes = { directive_bytes };
+    ghost form = { form const_directive_tree directive_bytes };
 
     fn pack(&self, buffer: &mut Buffer) -> Outcome {
         pack_directive(buffer, &self.name, &self.arguments)
@@ -192,14 +151,7 @@ impl Packed for ConstDirective {
 }
 
 impl Packed for Type {
-    ghost use Rattle.graphql_parser.specs.trees.TypeTree.{TypeTree, type_tree};
-    ghost use Rattle.graphql_packed.specs.packed.Values.{type_bytes};
-
-    ghost Tree = { TypeTree };
-
-    ghost tree = { type_tree };
-
-    ghost bytes = { type_bytes };
+    ghost form = { form type_tree type_bytes };
 
     fn pack(&self, buffer: &mut Buffer) -> Outcome {
         pack_type(buffer, self)
