@@ -36,11 +36,8 @@ fn print_description(sheet: &mut Sheet, description: &Option<Positioned<String>>
 
 fn print_roots(sheet: &mut Sheet, schema: &SchemaDefinition) -> Outcome {
     print_description(sheet, &schema.description)?;
-    sheet.word(if schema.extend {
-        "extend schema"
-    } else {
-        "schema"
-    })?;
+    sheet.word(if schema.extend { "extend " } else { "" })?;
+    sheet.word("schema")?;
     print_const_directives(sheet, &schema.directives)?;
     if schema.query.is_none() && schema.mutation.is_none() && schema.subscription.is_none() {
         return Ok(());
@@ -78,11 +75,11 @@ fn print_type(sheet: &mut Sheet, ty: &TypeDefinition) -> Outcome {
     print_const_directives(sheet, &ty.directives)?;
     match &ty.kind {
         TypeKind::Scalar => Ok(()),
-        TypeKind::Object(object) => print_fields(sheet, &object.fields),
-        TypeKind::Interface(interface) => print_fields(sheet, &interface.fields),
+        TypeKind::Object(object) => print_members(sheet, &object.fields),
+        TypeKind::Interface(interface) => print_members(sheet, &interface.fields),
         TypeKind::Union(members) => print_names(sheet, " = ", " | ", &members.members),
-        TypeKind::Enum(values) => print_enum_values(sheet, &values.values),
-        TypeKind::InputObject(input) => print_input_fields(sheet, &input.fields),
+        TypeKind::Enum(values) => print_members(sheet, &values.values),
+        TypeKind::InputObject(input) => print_members(sheet, &input.fields),
     }
 }
 
@@ -101,51 +98,45 @@ fn print_names(
     Ok(())
 }
 
-fn print_fields(sheet: &mut Sheet, fields: &Vec<Positioned<FieldDefinition>>) -> Outcome {
-    if fields.is_empty() {
-        return Ok(());
-    }
-    sheet.word(" ")?;
-    sheet.open()?;
-    for field in fields {
-        sheet.line()?;
-        print_description(sheet, &field.node.description)?;
-        sheet.item("", &field.node.name.node)?;
-        print_parameters(sheet, &field.node.arguments)?;
-        sheet.item(": ", &field.node.ty.node)?;
-        print_const_directives(sheet, &field.node.directives)?;
-    }
-    sheet.close()
+// What stands in the block of a type, on a line of its own.
+trait Member {
+    fn print(&self, sheet: &mut Sheet) -> Outcome;
 }
 
-fn print_enum_values(sheet: &mut Sheet, values: &Vec<Positioned<EnumValueDefinition>>) -> Outcome {
-    if values.is_empty() {
-        return Ok(());
+impl Member for FieldDefinition {
+    fn print(&self, sheet: &mut Sheet) -> Outcome {
+        print_description(sheet, &self.description)?;
+        sheet.item("", &self.name.node)?;
+        print_parameters(sheet, &self.arguments)?;
+        sheet.item(": ", &self.ty.node)?;
+        print_const_directives(sheet, &self.directives)
     }
-    sheet.word(" ")?;
-    sheet.open()?;
-    for value in values {
-        sheet.line()?;
-        print_description(sheet, &value.node.description)?;
-        sheet.item("", &value.node.value.node)?;
-        print_const_directives(sheet, &value.node.directives)?;
-    }
-    sheet.close()
 }
 
-fn print_input_fields(
-    sheet: &mut Sheet,
-    fields: &Vec<Positioned<InputValueDefinition>>,
-) -> Outcome {
-    if fields.is_empty() {
+impl Member for EnumValueDefinition {
+    fn print(&self, sheet: &mut Sheet) -> Outcome {
+        print_description(sheet, &self.description)?;
+        sheet.item("", &self.value.node)?;
+        print_const_directives(sheet, &self.directives)
+    }
+}
+
+impl Member for InputValueDefinition {
+    fn print(&self, sheet: &mut Sheet) -> Outcome {
+        print_description(sheet, &self.description)?;
+        print_input_value(sheet, self)
+    }
+}
+
+fn print_members<M: Member>(sheet: &mut Sheet, members: &Vec<Positioned<M>>) -> Outcome {
+    if members.is_empty() {
         return Ok(());
     }
     sheet.word(" ")?;
     sheet.open()?;
-    for field in fields {
+    for member in members {
         sheet.line()?;
-        print_description(sheet, &field.node.description)?;
-        print_input_value(sheet, &field.node)?;
+        member.node.print(sheet)?;
     }
     sheet.close()
 }
