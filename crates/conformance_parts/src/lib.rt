@@ -4,24 +4,4 @@
 #![tactic(auto)]
 
 #[cfg(test)]
-mod calls;
-#[cfg(test)]
-mod literals_made;
-#[cfg(test)]
-mod literals_read;
-#[cfg(test)]
-mod meanings;
-#[cfg(test)]
-mod names;
-#[cfg(test)]
-mod nodes;
-#[cfg(test)]
-mod numbers;
-#[cfg(test)]
-mod places;
-#[cfg(test)]
-mod tokens;
-#[cfg(test)]
-mod type_texts;
-#[cfg(test)]
-mod written;
+mod tests;

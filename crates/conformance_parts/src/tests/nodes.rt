@@ -1,7 +1,7 @@
 //! What the derives of places and positioned nodes give, as laws and on a few values.
 ghost use Rattle.std.specs.Prelude.{◌≡◌, ◌<◌, ◌⊎◌, ◌↔◌, IsTrue};
 
-use crate::names::hash_of;
+use super::names::hash_of;
 use graphql_tokens::pos::{Pos, Positioned};
 use std::cmp::Ordering;
 use std::test::Fail;

@@ -1,5 +1,5 @@
 //! The calls that the tables are about.
-use crate::{literals_made, meanings, names, numbers, places, tokens, type_texts};
+use super::{literals_made, meanings, names, numbers, places, tokens, type_texts};
 use rows::{Subject, failures};
 use std::alloc::Global;
 use std::test::Fail;
