@@ -68,39 +68,28 @@ fn first_of_operations<'a>(
 }
 
 // The first name that a set spreads and that has no price.
-#[cycle(first)]
 fn first_in<'a>(
     set: &'a SelectionSet,
     document: &ExecutableDocument,
     prices: &[Option<u64>],
 ) -> Option<&'a Name> {
     for item in &set.items {
-        let found = first_of_selection(&item.node, document, prices);
+        let found = match &item.node {
+            Selection::Field(field) => first_in(&field.node.selection_set.node, document, prices),
+            Selection::InlineFragment(fragment) => {
+                first_in(&fragment.node.selection_set.node, document, prices)
+            }
+            Selection::FragmentSpread(spread) => {
+                let name = &spread.node.fragment_name.node;
+                match price_named(document, prices, name) {
+                    Some(_) => None,
+                    None => Some(name),
+                }
+            }
+        };
         if found.is_some() {
             return found;
         }
     }
     None
-}
-
-#[cycle(first)]
-fn first_of_selection<'a>(
-    selection: &'a Selection,
-    document: &ExecutableDocument,
-    prices: &[Option<u64>],
-) -> Option<&'a Name> {
-    match selection {
-        Selection::Field(field) => first_in(&field.node.selection_set.node, document, prices),
-        Selection::FragmentSpread(spread) => {
-            let name = &spread.node.fragment_name.node;
-            if price_named(document, prices, name).is_none() {
-                Some(name)
-            } else {
-                None
-            }
-        }
-        Selection::InlineFragment(fragment) => {
-            first_in(&fragment.node.selection_set.node, document, prices)
-        }
-    }
 }

@@ -78,7 +78,6 @@ fn waiting_fragments(
 }
 
 // Notes what is spread in a set of the fragment at this place.
-#[cycle(note)]
 fn note_set(
     set: &SelectionSet,
     document: &ExecutableDocument,
@@ -86,44 +85,25 @@ fn note_set(
     fragments: &mut [Waiting],
 ) -> Result<(), AllocError> {
     for item in &set.items {
-        note_selection(&item.node, document, place, fragments)?;
+        match &item.node {
+            Selection::Field(field) => {
+                note_set(&field.node.selection_set.node, document, place, fragments)?;
+            }
+            Selection::InlineFragment(inline) => {
+                note_set(&inline.node.selection_set.node, document, place, fragments)?;
+            }
+            Selection::FragmentSpread(spread) => {
+                if let Some(fragment) = fragments.get_mut(place) {
+                    fragment.spreads = fragment.spreads.saturating_add(1);
+                }
+                let name = &spread.node.fragment_name.node;
+                if let Some(spread_place) = document.fragments.get_index_of(name)
+                    && let Some(fragment) = fragments.get_mut(spread_place)
+                {
+                    fragment.spread_by.push(place)?;
+                }
+            }
+        }
     }
     Ok(())
-}
-
-#[cycle(note)]
-fn note_selection(
-    selection: &Selection,
-    document: &ExecutableDocument,
-    place: usize,
-    fragments: &mut [Waiting],
-) -> Result<(), AllocError> {
-    match selection {
-        Selection::Field(field) => {
-            note_set(&field.node.selection_set.node, document, place, fragments)
-        }
-        Selection::FragmentSpread(spread) => {
-            if let Some(fragment) = fragments.get_mut(place) {
-                fragment.spreads = fragment.spreads.saturating_add(1);
-            }
-            let Some(spread_place) = document
-                .fragments
-                .get_index_of(&spread.node.fragment_name.node)
-            else {
-                return Ok(());
-            };
-            if let Some(fragment) = fragments.get_mut(spread_place) {
-                fragment.spread_by.push(place)?;
-            }
-            Ok(())
-        }
-        Selection::InlineFragment(fragment) => {
-            note_set(
-                &fragment.node.selection_set.node,
-                document,
-                place,
-                fragments,
-            )
-        }
-    }
 }
