@@ -39,9 +39,6 @@ pub use place::Places;
 use sheet::{Node, Sheet};
 use std::alloc::{AllocError, Global};
 
-/// What each call gives: the bytes of the JSON. An error says that memory was refused.
-pub type Json = Result<Vec<u8>, AllocError>;
-
 /// The tree of a request as JSON, a `Document` of GraphQL.js.
 ///
 /// `document` is the tree that `parse_query` gives, and `places` tells whether its places are written. The operations
@@ -49,7 +46,11 @@ pub type Json = Result<Vec<u8>, AllocError>;
 /// before the next fragment unless the fragment's place is smaller. So the order is that of the text wherever places
 /// grow. They do, but after a carriage return without a line feed: there the columns begin anew on the same line, and
 /// the tree doesn't keep whether the operation or the fragment comes first. It fails only where memory runs out.
-pub fn request_json(alloc: Global, document: &ExecutableDocument, places: Places) -> Json
+pub fn request_json(
+    alloc: Global,
+    document: &ExecutableDocument,
+    places: Places,
+) -> Result<Vec<u8>, AllocError>
     ensures text { IfOk result (λ json. json.items ≡
         json_text (request_value places (document_tree document.now))) }
     ensures utf8 { IfOk result (λ json. IsUtf8 json.items) }
@@ -63,7 +64,11 @@ pub fn request_json(alloc: Global, document: &ExecutableDocument, places: Places
 /// and extensions come in the order of the tree, which is that of the text. The roots of a schema come in the order of
 /// the places of their types, which is that of the text but after a carriage return without a line feed. It fails only
 /// where memory runs out.
-pub fn schema_json(alloc: Global, document: &ServiceDocument, places: Places) -> Json
+pub fn schema_json(
+    alloc: Global,
+    document: &ServiceDocument,
+    places: Places,
+) -> Result<Vec<u8>, AllocError>
     ensures text { IfOk result (λ json. json.items ≡
         json_text (schema_value places (schema_document_tree document.now))) }
     ensures utf8 { IfOk result (λ json. IsUtf8 json.items) }
@@ -72,7 +77,7 @@ pub fn schema_json(alloc: Global, document: &ServiceDocument, places: Places) ->
 }
 
 // A tree as JSON, with or without the places of its nodes.
-fn tree_json<N: Node>(alloc: Global, tree: &N, places: Places) -> Json
+fn tree_json<N: Node>(alloc: Global, tree: &N, places: Places) -> Result<Vec<u8>, AllocError>
     ensures text { IfOk result (λ json. json.items ≡
         json_text (N.form.json (no_place places) (N.form.tree tree.now))) }
     ensures utf8 { IfOk result (λ json. IsUtf8 json.items) }
@@ -87,7 +92,7 @@ fn tree_json<N: Node>(alloc: Global, tree: &N, places: Places) -> Json
 /// It has the text of the error as `message`, and the places that the error names as `locations`, the most important
 /// first, each with its `line` and `column`. An error that names no place has no `locations`. It fails only where memory
 /// runs out.
-pub fn error_json(alloc: Global, error: &Error) -> Json
+pub fn error_json(alloc: Global, error: &Error) -> Result<Vec<u8>, AllocError>
     ensures text { IfOk result (λ json. json.items ≡
         json_text (error_value (error_text error.now) (error_places error.now))) }
     ensures utf8 { IfOk result (λ json. IsUtf8 json.items) }
