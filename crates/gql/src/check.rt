@@ -7,9 +7,9 @@ ghost use Rattle.gql.specs.declared.check.Found.TheVariants.{Good};
 use crate::command::{Call, Format};
 use crate::language::read_as;
 use crate::output::shown_name;
-use crate::telling::{Names, Reading, Teller};
+use crate::telling::{Names, Source, Teller};
 use crate::texts::{Texts, Unread};
-use graphql_parser::{Error, Limits, Memory, check_query_within, check_schema_within};
+use graphql_parser::{Error, Memory, check_query_within, check_schema_within};
 use graphql_report::Language;
 use std::alloc::{AllocError, Global};
 use std::io::Write;
@@ -55,15 +55,15 @@ impl Found {
 /// says that memory was refused.
 pub fn error_of(
     memory: &mut Memory,
-    language: Language,
-    text: &str,
-    limits: Limits,
+    source: &Source<'_>,
     takes_fragments: bool,
 ) -> Result<Option<Error>, AllocError>
-    ensures good { (result ≡ Ok None) → IsGoodText takes_fragments language limits text.now }
+    ensures good { (result ≡ Ok None) →
+        IsGoodText takes_fragments source.now.language source.now.limits source.now.text.now }
     ensures refused { OnErr result (Refused memory.new) }
 {
-    let error = match language {
+    let Source { limits, text, .. } = *source;
+    let error = match source.language {
         Language::Requests => match check_query_within(memory, text, limits) {
             Ok(_) => return Ok(None),
             Err(Error::MissingOperation) if takes_fragments => return Ok(None),
@@ -153,37 +153,37 @@ fn check_text<E: Write>(
         }
         Ok(text) => {
             let text = text.as_str();
-            let reading = Reading {
+            let source = Source {
+                names,
                 language: read_as(teller.alloc, call.language, names.name, text)?,
                 limits: call.limits,
+                text,
             };
-            check_read(call, names, &reading, text, teller, err)
+            check_source(call, &source, teller, err)
         }
     }
 }
 
 // What is found of a text. Where memory is refused, a budget stops the check of this text alone.
-fn check_read<E: Write>(
+fn check_source<E: Write>(
     call: &Call<'_>,
-    names: Names<'_>,
-    reading: &Reading,
-    text: &str,
+    source: &Source<'_>,
     teller: &mut Teller,
     err: &mut E,
 ) -> Result<Found, AllocError>
     ensures { (result ≡ Ok Good) →
-        IsGoodText call.now.takes_fragments reading.now.language reading.now.limits text.now }
+        IsGoodText call.now.takes_fragments source.now.language source.now.limits
+        source.now.text.now }
 {
-    let Reading { language, limits } = *reading;
     let mut memory = Memory::with_budget(teller.alloc, call.memory.unwrap_or(usize::MAX));
-    match error_of(&mut memory, language, text, limits, call.takes_fragments) {
+    match error_of(&mut memory, source, call.takes_fragments) {
         Ok(None) => Ok(Found::Good),
         Ok(Some(error)) => {
-            teller.tell_all(names, reading, text, &error, err)?;
+            teller.tell_all(source, &error, err)?;
             Ok(Found::Refused)
         }
         Err(_) if call.memory.is_some() => {
-            teller.tell_unread(names, Unread::OverBudget, err)?;
+            teller.tell_unread(source.names, Unread::OverBudget, err)?;
             Ok(Found::Unread)
         }
         Err(refused) => Err(refused),

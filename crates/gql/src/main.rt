@@ -44,11 +44,7 @@ fn main(rt: HostRuntime) -> ExitCode {
 
 // The arguments without the program's name.
 fn words(rt: &HostRuntime) -> io::Result<Vec<String>> {
-    let mut words = Vec::new(rt.alloc());
-    for word in env::args(rt)?.skip(1) {
-        words.push(word)?;
-    }
-    Ok(words)
+    Ok(env::args(rt)?.skip(1).collect(rt.alloc())?)
 }
 
 // Reports have colours on a terminal that can show them, unless the variable NO_COLOR is set to something.

@@ -4,25 +4,12 @@ use std::alloc::{AllocError, Global};
 use std::io;
 use std::io::{ErrorKind, Write};
 
-/// Why the work stops, with status 2.
-#[derive(Clone, Copy)]
-pub enum Stop {
-    Unwritable,
-    NoMemory,
-}
-
-impl From<AllocError> for Stop {
-    fn from(_refused: AllocError) -> Stop {
-        Stop::NoMemory
-    }
-}
-
-/// Writes all of the bytes. That nobody reads them any more, as where `head` has its lines, is no failure: what is left is
-/// then written to nobody.
-pub fn put<W: Write>(to: &mut W, bytes: &[u8]) -> Result<(), Stop> {
+/// Writes all of the bytes, and tells whether it could. That nobody reads them any more, as where `head` has its lines, is
+/// no failure: what is left is then written to nobody.
+pub fn put<W: Write>(to: &mut W, bytes: &[u8]) -> bool {
     match write_whole(to, bytes) {
-        Err(error) if error.kind() != ErrorKind::BrokenPipe => Err(Stop::Unwritable),
-        _ => Ok(()),
+        Ok(()) => true,
+        Err(error) => error.kind() == ErrorKind::BrokenPipe,
     }
 }
 
@@ -33,7 +20,7 @@ fn write_whole<W: Write>(to: &mut W, bytes: &[u8]) -> io::Result<()> {
 
 /// Writes a text to standard error. A failure there changes no status.
 pub fn complain<W: Write>(to: &mut W, text: &str) {
-    let _ = put(to, text.as_bytes());
+    put(to, text.as_bytes());
 }
 
 /// Tells on standard error what is wrong with the arguments, and then how the program is called.

@@ -5,12 +5,12 @@ use crate::check::{check_files, names_of, tell_tally};
 use crate::command::{Asked, Call, Command, Format, Wrong, command_of};
 use crate::language::read_as;
 use crate::listed::token_lines;
-use crate::output::{Stop, complain, complain_of_call, put, shown_name};
-use crate::telling::Teller;
+use crate::output::{complain, complain_of_call, put, shown_name};
+use crate::telling::{Names, Source, Teller};
 use crate::texts::Texts;
 use graphql_json::{Places, request_json, schema_json};
 use graphql_parser::{Error, parse_query_limited, parse_schema_limited};
-use graphql_report::{Language, Style, explain_in};
+use graphql_report::{Language, Style};
 use std::alloc::{AllocError, Global};
 use std::io::Write;
 
@@ -69,81 +69,129 @@ pub fn run<T: Texts, O: Write, E: Write>(
 ) -> u8
     ensures { result ≤ 2 }
 {
-    match served(alloc, words, style, texts, out, err) {
-        Ok(status) => status,
-        Err(Stop::Unwritable) => {
+    match answer_to(alloc, words, style, texts, err) {
+        Ok(answer) => {
+            if answer.printed.is_put(out) {
+                return answer.status;
+            }
             complain(err, "gql: cannot write standard output\n");
-            2
         }
-        Err(Stop::NoMemory) => {
-            complain(err, "gql: out of memory\n");
-            2
+        Err(_) => complain(err, "gql: out of memory\n"),
+    }
+    2
+}
+
+// What a call ends with: the exit status, and what goes to standard output.
+#[derive(Drop)]
+struct Answer {
+    status: u8,
+    printed: Printed,
+}
+
+#[derive(Drop)]
+enum Printed {
+    Nothing,
+    Fixed(&'static str),
+    Lines(String),
+    Json(Vec<u8>),
+}
+
+impl Printed {
+    // Whether it could be written.
+    fn is_put<O: Write>(&self, out: &mut O) -> bool {
+        match self {
+            Printed::Nothing => true,
+            Printed::Fixed(text) => put(out, text.as_bytes()),
+            Printed::Lines(lines) => put(out, lines.as_str().as_bytes()),
+            Printed::Json(json) => put(out, json.as_slice()),
         }
     }
 }
 
-fn served<T: Texts, O: Write, E: Write>(
+fn answer_to<T: Texts, E: Write>(
     alloc: Global,
     words: Option<&[String]>,
     style: Style,
     texts: &mut T,
-    out: &mut O,
     err: &mut E,
-) -> Result<u8, Stop>
-    ensures { IfOk result (λ status. status ≤ 2) }
+) -> Result<Answer, AllocError>
+    ensures { IfOk result (λ answer. answer.status ≤ 2) }
 {
     let asked = match words {
         Some(words) => command_of(alloc, words)?,
         None => Asked::Wrong(Wrong::NotText),
     };
-    match asked {
-        Asked::Help => {
-            put(out, HELP.as_bytes())?;
-            Ok(0)
-        }
-        Asked::Version => {
-            put(out, VERSION.as_bytes())?;
-            Ok(0)
-        }
+    let (status, printed) = match asked {
+        Asked::Help => (0, Printed::Fixed(HELP)),
+        Asked::Version => (0, Printed::Fixed(VERSION)),
         Asked::Wrong(wrong) => {
             complain_of_call(alloc, wrong, USAGE, err)?;
-            Ok(2)
+            (2, Printed::Nothing)
         }
         Asked::Call(call) => {
             let style = call.style.unwrap_or(style);
-            match call.command {
-                Command::Check => check(alloc, &call, style, texts, out, err),
-                Command::Tree | Command::Tokens => print_one(alloc, &call, style, texts, out, err),
-            }
+            return answer_to_call(alloc, &call, style, texts, err);
+        }
+    };
+    Ok(Answer { status, printed })
+}
+
+fn answer_to_call<T: Texts, E: Write>(
+    alloc: Global,
+    call: &Call<'_>,
+    style: Style,
+    texts: &mut T,
+    err: &mut E,
+) -> Result<Answer, AllocError>
+    ensures { IfOk result (λ answer. answer.status ≤ 2) }
+{
+    if call.command == Command::Check {
+        let teller = Teller::new(alloc, call.format, style, call.is_quiet);
+        return check(call, texts, teller, err);
+    }
+    let mut teller = Teller::new(alloc, Format::Text, style, false);
+    let name = call.files.first().copied().unwrap_or("-");
+    let shown = shown_name(alloc, name)?;
+    let names = names_of(name, shown.as_str());
+    match texts.text(alloc, name) {
+        Ok(text) if call.command == Command::Tokens => tokens(alloc, text.as_str()),
+        Ok(text) => tree(call, names, text.as_str(), &mut teller, err),
+        Err(why) => {
+            teller.tell_unread(names, why, err)?;
+            Ok(Answer {
+                status: 2,
+                printed: Printed::Nothing,
+            })
         }
     }
 }
 
 // `check`: what is wrong with each file that is refused, and how many there were of each kind.
-fn check<T: Texts, O: Write, E: Write>(
-    alloc: Global,
+fn check<T: Texts, E: Write>(
     call: &Call<'_>,
-    style: Style,
     texts: &mut T,
-    out: &mut O,
+    teller: Teller,
     err: &mut E,
-) -> Result<u8, Stop>
-    ensures { IfOk result (λ status. status ≤ 2) }
+) -> Result<Answer, AllocError>
+    ensures { IfOk result (λ answer. answer.status ≤ 2) }
 {
-    let mut teller = Teller::new(alloc, call.format, style, call.is_quiet);
-    let mut files: Vec<String> = Vec::new(alloc);
+    let mut teller = teller;
+    let mut files: Vec<String> = Vec::new(teller.alloc);
     let unlisted = push_files(call, texts, &mut files, &mut teller, err)?;
-    let names = texts_of(alloc, &files)?;
+    let names = texts_of(teller.alloc, &files)?;
     let outcome = check_files(call, &names, texts, &mut teller, err)?;
     let mut tally = outcome.tally;
     tally.unread = tally.unread.saturating_add(unlisted);
     if call.format == Format::Text {
         tell_tally(&mut teller, tally)?;
     }
-    if !call.is_quiet {
-        put(out, teller.lines.as_str().as_bytes())?;
-    }
-    Ok(if unlisted > 0 { 2 } else { outcome.status })
+    let status = if unlisted > 0 { 2 } else { outcome.status };
+    let printed = if call.is_quiet {
+        Printed::Nothing
+    } else {
+        Printed::Lines(teller.lines)
+    };
+    Ok(Answer { status, printed })
 }
 
 fn texts_of<'a>(alloc: Global, strings: &'a Vec<String>) -> Result<Vec<&'a str>, AllocError> {
@@ -183,66 +231,61 @@ fn push_files<T: Texts, E: Write>(
     Ok(unlisted)
 }
 
-// `tree` and `tokens`: what is printed of the one file.
-fn print_one<T: Texts, O: Write, E: Write>(
-    alloc: Global,
-    call: &Call<'_>,
-    style: Style,
-    texts: &mut T,
-    out: &mut O,
-    err: &mut E,
-) -> Result<u8, Stop>
-    ensures { IfOk result (λ status. status ≤ 2) }
+// `tokens`: the tokens of the text.
+fn tokens(alloc: Global, text: &str) -> Result<Answer, AllocError>
+    ensures { IfOk result (λ answer. answer.status ≤ 2) }
 {
-    let name = call.files.first().copied().unwrap_or("-");
-    let shown = shown_name(alloc, name)?;
-    let text = match texts.text(alloc, name) {
-        Ok(text) => text,
-        Err(why) => {
-            let mut teller = Teller::new(alloc, Format::Text, style, false);
-            teller.tell_unread(names_of(name, shown.as_str()), why, err)?;
-            return Ok(2);
+    let (lines, is_whole) = token_lines(alloc, text)?;
+    Ok(Answer {
+        status: if is_whole { 0 } else { 1 },
+        printed: Printed::Lines(lines),
+    })
+}
+
+// `tree`: the tree of the text, or what is wrong with it.
+fn tree<E: Write>(
+    call: &Call<'_>,
+    names: Names<'_>,
+    text: &str,
+    teller: &mut Teller,
+    err: &mut E,
+) -> Result<Answer, AllocError>
+    ensures { IfOk result (λ answer. answer.status ≤ 2) }
+{
+    let source = Source {
+        names,
+        language: read_as(teller.alloc, call.language, names.name, text)?,
+        limits: call.limits,
+        text,
+    };
+    let (status, printed) = match tree_json(teller.alloc, &source, call.has_places)? {
+        Ok(json) => (0, Printed::Json(json)),
+        Err(error) => {
+            teller.tell(&source, &error, err)?;
+            (1, Printed::Nothing)
         }
     };
-    let text = text.as_str();
-    if call.command == Command::Tokens {
-        let (lines, is_whole) = token_lines(alloc, text)?;
-        put(out, lines.as_str().as_bytes())?;
-        return Ok(if is_whole { 0 } else { 1 });
-    }
-    let language = read_as(alloc, call.language, name, text)?;
-    match tree_json(alloc, call, language, text)? {
-        Ok(json) => {
-            put(out, json.as_slice())?;
-            Ok(0)
-        }
-        Err(error) => {
-            let name = shown.as_str();
-            let report = explain_in(style, alloc, language, name, text, call.limits, &error)?;
-            complain(err, report.as_str());
-            Ok(1)
-        }
-    }
+    Ok(Answer { status, printed })
 }
 
 // The tree of a text as JSON with a line feed after it, or the text's error.
 fn tree_json(
     alloc: Global,
-    call: &Call<'_>,
-    language: Language,
-    text: &str,
+    source: &Source<'_>,
+    has_places: bool,
 ) -> Result<Result<Vec<u8>, Error>, AllocError> {
-    let places = if call.has_places {
+    let Source { limits, text, .. } = *source;
+    let places = if has_places {
         Places::Written
     } else {
         Places::LeftOut
     };
-    let json = match language {
-        Language::Requests => match parse_query_limited(alloc, text, call.limits) {
+    let json = match source.language {
+        Language::Requests => match parse_query_limited(alloc, text, limits) {
             Ok(document) => Ok(request_json(alloc, &document, places)?),
             Err(error) => Err(error),
         },
-        Language::Schemas => match parse_schema_limited(alloc, text, call.limits) {
+        Language::Schemas => match parse_schema_limited(alloc, text, limits) {
             Ok(document) => Ok(schema_json(alloc, &document, places)?),
             Err(error) => Err(error),
         },

@@ -34,11 +34,13 @@ pub struct Teller {
     pub findings: usize,
 }
 
-/// What a text is read as, and how deep it may nest.
+/// A text that is read: of which file, as what, and how deep it may nest.
 #[derive(Clone, Copy)]
-pub struct Reading {
+pub struct Source<'a> {
+    pub names: Names<'a>,
     pub language: Language,
     pub limits: Limits,
+    pub text: &'a str,
 }
 
 impl Teller {
@@ -61,38 +63,38 @@ impl Teller {
     /// line may belong to a definition that is refused before it.
     pub fn tell_all<E: Write>(
         &mut self,
-        names: Names<'_>,
-        reading: &Reading,
-        text: &str,
+        source: &Source<'_>,
         error: &Error,
         err: &mut E,
     ) -> Result<(), AllocError> {
         if self.is_quiet {
             return Ok(());
         }
-        self.tell(names, reading, text, error, err)?;
-        match rest_after(self.alloc, reading, text, error)? {
+        self.tell(source, error, err)?;
+        match source.rest_after(self.alloc, error)? {
             None => Ok(()),
-            Some(rest) => self.tell_rest(names, reading, rest, err),
+            Some(rest) => self.tell_rest(source, rest, err),
         }
     }
 
     // Tells the first error of each definition in the rest of a text.
     fn tell_rest<E: Write>(
         &mut self,
-        names: Names<'_>,
-        reading: &Reading,
+        whole: &Source<'_>,
         rest: String,
         err: &mut E,
     ) -> Result<(), AllocError> {
-        let alloc = self.alloc;
         let mut rest = rest;
         for _ in 1..MOST_FINDINGS {
-            let Some(error) = next_error(alloc, reading, rest.as_str())? else {
+            let source = Source {
+                text: rest.as_str(),
+                ..*whole
+            };
+            let Some(error) = source.next_error(self.alloc)? else {
                 break;
             };
-            self.tell(names, reading, rest.as_str(), &error, err)?;
-            let Some(next) = rest_after(alloc, reading, rest.as_str(), &error)? else {
+            self.tell(&source, &error, err)?;
+            let Some(next) = source.rest_after(self.alloc, &error)? else {
                 break;
             };
             rest = next;
@@ -100,28 +102,24 @@ impl Teller {
         Ok(())
     }
 
-    // Tells the error of a text: a report goes to `err`, and a line for programs is added to the lines.
-    fn tell<E: Write>(
+    /// Tells the error of a text: a report goes to `err`, and a line for programs is added to the lines.
+    pub fn tell<E: Write>(
         &mut self,
-        names: Names<'_>,
-        reading: &Reading,
-        text: &str,
+        source: &Source<'_>,
         error: &Error,
         err: &mut E,
     ) -> Result<(), AllocError> {
-        let Reading { language, limits } = *reading;
+        let Source {
+            names,
+            language,
+            limits,
+            text,
+        } = *source;
         let alloc = self.alloc;
         self.findings = self.findings.saturating_add(1);
         if self.format == Format::Text {
-            let report = explain_in(
-                self.style,
-                alloc,
-                language,
-                names.shown,
-                text,
-                limits,
-                error,
-            )?;
+            let shown = names.shown;
+            let report = explain_in(self.style, alloc, language, shown, text, limits, error)?;
             complain(err, report.as_str());
             return Ok(());
         }
@@ -165,32 +163,33 @@ impl Teller {
     }
 }
 
-// The error of the rest of a text, if it is one to be told.
-fn next_error(alloc: Global, reading: &Reading, rest: &str) -> Result<Option<Error>, AllocError> {
-    let Reading { language, limits } = *reading;
-    match error_of(&mut Memory::new(alloc), language, rest, limits, true)? {
-        Some(Error::MultipleOperations { .. }) => Ok(None),
-        other => Ok(other),
+impl Source<'_> {
+    // The error of the rest of a text, if it is one to be told.
+    fn next_error(&self, alloc: Global) -> Result<Option<Error>, AllocError> {
+        match error_of(&mut Memory::new(alloc), self, true)? {
+            Some(Error::MultipleOperations { .. }) => Ok(None),
+            other => Ok(other),
+        }
     }
-}
 
-// What is read next of a text that has this error.
-fn rest_after(
-    alloc: Global,
-    reading: &Reading,
-    text: &str,
-    error: &Error,
-) -> Result<Option<String>, AllocError> {
-    if !matches!(error, Error::Syntax { .. } | Error::RecursionLimitExceeded) {
-        return Ok(None);
-    }
-    let Reading { language, limits } = *reading;
-    let Some(token) = refused_token(alloc, language, text, limits, error)? else {
-        return Ok(None);
-    };
-    match next_definition(language, text, token.start) {
-        Some(offset) => rest_at(alloc, text, offset),
-        None => Ok(None),
+    // What is read next of a text that has this error.
+    fn rest_after(&self, alloc: Global, error: &Error) -> Result<Option<String>, AllocError> {
+        if !matches!(error, Error::Syntax { .. } | Error::RecursionLimitExceeded) {
+            return Ok(None);
+        }
+        let Source {
+            language,
+            limits,
+            text,
+            ..
+        } = *self;
+        let Some(token) = refused_token(alloc, language, text, limits, error)? else {
+            return Ok(None);
+        };
+        match next_definition(language, text, token.start) {
+            Some(offset) => rest_at(alloc, text, offset),
+            None => Ok(None),
+        }
     }
 }
 
