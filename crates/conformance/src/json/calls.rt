@@ -1,9 +1,8 @@
 //! The calls that the tables are about.
 use super::{errors, requests, schemas, values};
-use crate::parser::{OTHERWISE, are_alike};
-use graphql_json::{Places, error_json, request_json, schema_json};
+use crate::parser::{Document, OTHERWISE, are_alike};
+use graphql_json::{Places, error_json};
 use graphql_parser::types::{ExecutableDocument, ServiceDocument};
-use graphql_parser::{Result as Answer, check_query, check_schema, parse_query, parse_schema};
 use rows::{Subject, failures};
 use std::alloc::{AllocError, Global};
 use std::test::Fail;
@@ -22,14 +21,15 @@ pub enum Part {
 impl Subject for Part {
     fn answer(&self, alloc: Global, text: &str) -> Result<String, Fail> {
         let json = match self {
-            Part::Request(places) => request(alloc, text, *places)?,
-            Part::Schema(places) => schema(alloc, text, *places)?,
+            Part::Request(places) => json_of::<ExecutableDocument>(alloc, text, *places)?,
+            Part::Schema(places) => json_of::<ServiceDocument>(alloc, text, *places)?,
             Part::Inside(before, after, _, _) => {
                 let text = format!(in alloc; "{before}{text}{after}")?;
-                request(alloc, text.as_str(), Places::LeftOut)?
+                json_of::<ExecutableDocument>(alloc, text.as_str(), Places::LeftOut)?
             }
         };
-        Ok(spaced(alloc, self.part_of(json.as_str()))?)
+        let json = spaced(alloc, self.part_of(json.as_str()))?;
+        Ok(with_short_places(alloc, json.as_str())?)
     }
 }
 
@@ -43,52 +43,14 @@ impl Part {
     }
 }
 
-// The JSON of a request, or of its error.
-fn request(alloc: Global, text: &str, places: Places) -> Result<String, Fail> {
-    of_request(
-        alloc,
-        &parse_query(alloc, text),
-        &check_query(alloc, text),
-        places,
-    )
-}
-
-fn of_request(
-    alloc: Global,
-    answer: &Answer<ExecutableDocument>,
-    checked: &Answer<()>,
-    places: Places,
-) -> Result<String, Fail> {
-    if !are_alike(answer, checked) {
+// The JSON of a document, or of its error.
+fn json_of<D: Document>(alloc: Global, text: &str, places: Places) -> Result<String, Fail> {
+    let answer = D::parse(alloc, text);
+    if !are_alike(&answer, &D::check(alloc, text)) {
         return Ok(String::from_str(alloc, OTHERWISE)?);
     }
-    text_of(match answer {
-        Ok(document) => request_json(alloc, document, places)?,
-        Err(error) => error_json(alloc, error)?,
-    })
-}
-
-// The JSON of a schema file, or of its error.
-fn schema(alloc: Global, text: &str, places: Places) -> Result<String, Fail> {
-    of_file(
-        alloc,
-        &parse_schema(alloc, text),
-        &check_schema(alloc, text),
-        places,
-    )
-}
-
-fn of_file(
-    alloc: Global,
-    answer: &Answer<ServiceDocument>,
-    checked: &Answer<()>,
-    places: Places,
-) -> Result<String, Fail> {
-    if !are_alike(answer, checked) {
-        return Ok(String::from_str(alloc, OTHERWISE)?);
-    }
-    text_of(match answer {
-        Ok(document) => schema_json(alloc, document, places)?,
+    text_of(match &answer {
+        Ok(document) => document.json(alloc, places)?,
         Err(error) => error_json(alloc, error)?,
     })
 }
@@ -126,6 +88,12 @@ fn spaced(alloc: Global, json: &str) -> Result<String, AllocError> {
         }
     }
     Ok(out)
+}
+
+// The same with each line and column as `@1:2`.
+fn with_short_places(alloc: Global, json: &str) -> Result<String, AllocError> {
+    let json = json.replace(alloc, "\"line\": ", "@")?;
+    json.as_str().replace(alloc, ", \"column\": ", ":")
 }
 
 #[test]

@@ -6,14 +6,13 @@ use std::test::Fail;
 
 /// Requests that are refused, and the JSON of their errors.
 pub const REQUESTS: &str = r#"
-{a ?} ⇒ {"message": "syntax error at 1:4", "locations": [{"line": 1, "column": 4}]}
-{␊a ⇒ {"message": "syntax error at 2:2", "locations": [{"line": 2, "column": 2}]}
-{a}query B{b} ⇒ {"message": "document contains multiple operations",
-  "locations": [{"line": 1, "column": 1}, {"line": 1, "column": 4}]}
+{a ?} ⇒ {"message": "syntax error at 1:4", "locations": [{@1:4}]}
+{␊a ⇒ {"message": "syntax error at 2:2", "locations": [{@2:2}]}
+{a}query B{b} ⇒ {"message": "document contains multiple operations", "locations": [{@1:1}, {@1:4}]}
 query A{a}query B{b}query A{c} ⇒ {"message": "operation A is defined twice",
-  "locations": [{"line": 1, "column": 21}, {"line": 1, "column": 1}]}
+  "locations": [{@1:21}, {@1:1}]}
 fragment F on T{a}{b}fragment F on T{c} ⇒ {"message": "fragment F is defined twice",
-  "locations": [{"line": 1, "column": 22}, {"line": 1, "column": 1}]}
+  "locations": [{@1:22}, {@1:1}]}
 -- These name no place.
 fragment F on T{a} ⇒ {"message": "document does not contain an operation"}
 ⟨66×{a⟩ ⇒ {"message": "recursion limit exceeded."}
@@ -21,11 +20,11 @@ fragment F on T{a} ⇒ {"message": "document does not contain an operation"}
 
 /// Schema files that are refused, and the JSON of their errors.
 pub const SCHEMAS: &str = r#"
-type ⇒ {"message": "syntax error at 1:5", "locations": [{"line": 1, "column": 5}]}
+type ⇒ {"message": "syntax error at 1:5", "locations": [{@1:5}]}
 schema{query:A query:B} ⇒ {"message": "multiple query roots in schema definition",
-  "locations": [{"line": 1, "column": 16}, {"line": 1, "column": 1}]}
+  "locations": [{@1:16}, {@1:1}]}
 scalar A schema{mutation:M} ⇒ {"message": "schema definition is missing query root",
-  "locations": [{"line": 1, "column": 10}]}
+  "locations": [{@1:10}]}
 input A{f:⟨65×[⟩ ⇒ {"message": "recursion limit exceeded."}
 "#;
 

@@ -1,8 +1,8 @@
 //! The answers of the two parsers and of their checks, as text.
+use super::documents::Document;
 use super::errors::shown;
 use super::views::View;
 use graphql_parser::lexer::Tokens;
-use graphql_parser::types::{ExecutableDocument, ServiceDocument};
 use graphql_parser::{
     Limits, Result as Answer, check_query, check_query_from, check_query_limited, check_schema,
     check_schema_from, check_schema_limited, parse_query, parse_query_from, parse_query_limited,
@@ -33,19 +33,14 @@ impl Parser {
         text: &str,
     ) -> Result<String, AllocError> {
         match self {
-            Parser::Query => of_request(
-                alloc,
-                view,
-                asked,
-                &parse_query(alloc, text),
-                &check_query(alloc, text),
-            ),
-            Parser::Schema => of_file(
-                alloc,
-                view,
-                &parse_schema(alloc, text),
-                &check_schema(alloc, text),
-            ),
+            Parser::Query => {
+                let checked = check_query(alloc, text);
+                of_answers(alloc, view, asked, &parse_query(alloc, text), &checked)
+            }
+            Parser::Schema => {
+                let checked = check_schema(alloc, text);
+                of_answers(alloc, view, asked, &parse_schema(alloc, text), &checked)
+            }
         }
     }
 
@@ -58,19 +53,16 @@ impl Parser {
         limits: Limits,
     ) -> Result<String, AllocError> {
         match self {
-            Parser::Query => of_request(
-                alloc,
-                view,
-                "",
-                &parse_query_limited(alloc, text, limits),
-                &check_query_limited(alloc, text, limits),
-            ),
-            Parser::Schema => of_file(
-                alloc,
-                view,
-                &parse_schema_limited(alloc, text, limits),
-                &check_schema_limited(alloc, text, limits),
-            ),
+            Parser::Query => {
+                let answer = parse_query_limited(alloc, text, limits);
+                let checked = check_query_limited(alloc, text, limits);
+                of_answers(alloc, view, "", &answer, &checked)
+            }
+            Parser::Schema => {
+                let answer = parse_schema_limited(alloc, text, limits);
+                let checked = check_schema_limited(alloc, text, limits);
+                of_answers(alloc, view, "", &answer, &checked)
+            }
         }
     }
 
@@ -83,9 +75,19 @@ impl Parser {
         tokens: &mut Tokens<'_>,
         others: &mut Tokens<'_>,
     ) -> Result<String, AllocError> {
+        if tokens.is_ended() || others.is_ended() {
+            let is_same = others.taken() == tokens.taken();
+            return String::from_str(alloc, if is_same { "" } else { OTHERWISE });
+        }
         let seen = match self {
-            Parser::Query => of_request_tokens(alloc, view, tokens, others)?,
-            Parser::Schema => of_file_tokens(alloc, view, tokens, others)?,
+            Parser::Query => {
+                let checked = check_query_from(alloc, others);
+                of_answers(alloc, view, "", &parse_query_from(alloc, tokens), &checked)?
+            }
+            Parser::Schema => {
+                let checked = check_schema_from(alloc, others);
+                of_answers(alloc, view, "", &parse_schema_from(alloc, tokens), &checked)?
+            }
         };
         if others.taken() != tokens.taken() {
             return String::from_str(alloc, OTHERWISE);
@@ -121,59 +123,18 @@ pub fn are_alike<T>(answer: &Answer<T>, checked: &Answer<()>) -> bool {
     }
 }
 
-fn of_request_tokens(
-    alloc: Global,
-    view: View,
-    tokens: &mut Tokens<'_>,
-    others: &mut Tokens<'_>,
-) -> Result<String, AllocError> {
-    if tokens.is_ended() || others.is_ended() {
-        return Ok(String::new(alloc));
-    }
-    let checked = check_query_from(alloc, others);
-    of_request(alloc, view, "", &parse_query_from(alloc, tokens), &checked)
-}
-
-fn of_file_tokens(
-    alloc: Global,
-    view: View,
-    tokens: &mut Tokens<'_>,
-    others: &mut Tokens<'_>,
-) -> Result<String, AllocError> {
-    if tokens.is_ended() || others.is_ended() {
-        return Ok(String::new(alloc));
-    }
-    let checked = check_schema_from(alloc, others);
-    of_file(alloc, view, &parse_schema_from(alloc, tokens), &checked)
-}
-
-fn of_request(
+fn of_answers<D: Document>(
     alloc: Global,
     view: View,
     asked: &str,
-    answer: &Answer<ExecutableDocument>,
+    answer: &Answer<D>,
     checked: &Answer<()>,
 ) -> Result<String, AllocError> {
     if !are_alike(answer, checked) {
         return String::from_str(alloc, OTHERWISE);
     }
     match answer {
-        Ok(document) => view.of_document(alloc, asked, document),
-        Err(error) => shown(alloc, !matches!(view, View::Placeless), error),
-    }
-}
-
-fn of_file(
-    alloc: Global,
-    view: View,
-    answer: &Answer<ServiceDocument>,
-    checked: &Answer<()>,
-) -> Result<String, AllocError> {
-    if !are_alike(answer, checked) {
-        return String::from_str(alloc, OTHERWISE);
-    }
-    match answer {
-        Ok(document) => view.of_file(alloc, document),
+        Ok(document) => document.seen(alloc, view, asked),
         Err(error) => shown(alloc, !matches!(view, View::Placeless), error),
     }
 }
