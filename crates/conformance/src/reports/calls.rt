@@ -17,6 +17,13 @@ pub struct Report {
     pub limits: (usize, usize, usize),
 }
 
+impl Report {
+    fn limits(self) -> Result<Limits, Fail> {
+        let (sets, values, types) = self.limits;
+        Ok(Limits::new(sets, values, types).ok_or("no limits")?)
+    }
+}
+
 // The error of a text, if it has one.
 fn error_of(alloc: Global, language: Language, text: &str, limits: Limits) -> Option<Error> {
     match language {
@@ -49,8 +56,7 @@ fn in_rows(alloc: Global, report: &str) -> Result<String, AllocError> {
 
 impl Subject for Report {
     fn answer(&self, alloc: Global, text: &str) -> Result<String, Fail> {
-        let (sets, values, types) = self.limits;
-        let limits = Limits::new(sets, values, types).ok_or("no limits")?;
+        let limits = self.limits()?;
         let error = error_of(alloc, self.language, text, limits);
         if error_of_check(alloc, self.language, text, limits) != error {
             return Ok(String::from_str(alloc, "checked otherwise")?);
@@ -85,68 +91,45 @@ fn told_in_parts(
     Ok(line)
 }
 
-fn requests_at(sets: usize, values: usize, types: usize) -> Report {
+fn report_at(language: Language, sets: usize, values: usize, types: usize) -> Report {
     Report {
-        language: Language::Requests,
-        limits: (sets, values, types),
-    }
-}
-
-fn schemas_at(sets: usize, values: usize, types: usize) -> Report {
-    Report {
-        language: Language::Schemas,
+        language,
         limits: (sets, values, types),
     }
 }
 
 #[test]
-fn requests_are_explained(rt: HostRuntime) -> Result<(), Fail> {
-    let found = failures(
-        rt.alloc(),
-        &[
-            (requests_at(64, 64, 64), messages::MESSAGES),
-            (requests_at(64, 64, 64), requests::REFUSED),
-            (requests_at(64, 64, 64), requests::FAULTS),
-            (requests_at(64, 64, 64), requests::SLIPS),
-            (requests_at(64, 64, 64), requests::BREACHES),
-            (requests_at(64, 64, 64), places::PLACES),
-        ],
-    )?;
-    assert_eq!(rt; found.as_str(), "");
-    Ok(())
-}
-
-#[test]
-fn schema_files_are_explained(rt: HostRuntime) -> Result<(), Fail> {
-    let found = failures(
-        rt.alloc(),
-        &[
-            (schemas_at(64, 64, 64), schemas::REFUSED),
-            (schemas_at(64, 64, 64), schemas::SLIPS),
-            (schemas_at(64, 64, 64), schemas::BREACHES),
-            (schemas_at(64, 64, 64), places::OF_SCHEMAS),
-        ],
-    )?;
-    assert_eq!(rt; found.as_str(), "");
-    Ok(())
-}
-
-#[test]
-fn limits_are_told(rt: HostRuntime) -> Result<(), Fail> {
-    let found = failures(
-        rt.alloc(),
-        &[
-            (requests_at(64, 64, 64), limits::DEFAULT),
-            (requests_at(0, 0, 0), limits::NOTHING),
-            (requests_at(1, 2, 3), limits::FEW),
-            (requests_at(256, 0, 0), limits::MANY),
-            (requests_at(0, 256, 256), limits::MANY_OTHERS),
-            (requests_at(256, 256, 256), limits::MOST),
-            (requests_at(2, 2, 2), limits::TWO),
-            (schemas_at(0, 1, 2), limits::SCHEMAS),
-            (schemas_at(256, 256, 256), limits::SCHEMAS_MOST),
-        ],
-    )?;
+fn errors_are_explained(rt: HostRuntime) -> Result<(), Fail> {
+    let request = report_at(Language::Requests, 64, 64, 64);
+    let schema = report_at(Language::Schemas, 64, 64, 64);
+    let tables = [
+        (request, messages::MESSAGES),
+        (request, requests::REFUSED),
+        (request, requests::FAULTS),
+        (request, requests::SLIPS),
+        (request, requests::BREACHES),
+        (request, places::PLACES),
+        (request, limits::DEFAULT),
+        (report_at(Language::Requests, 0, 0, 0), limits::NOTHING),
+        (report_at(Language::Requests, 1, 2, 3), limits::FEW),
+        (report_at(Language::Requests, 256, 0, 0), limits::MANY),
+        (
+            report_at(Language::Requests, 0, 256, 256),
+            limits::MANY_OTHERS,
+        ),
+        (report_at(Language::Requests, 256, 256, 256), limits::MOST),
+        (report_at(Language::Requests, 2, 2, 2), limits::TWO),
+        (schema, schemas::REFUSED),
+        (schema, schemas::SLIPS),
+        (schema, schemas::BREACHES),
+        (schema, places::OF_SCHEMAS),
+        (report_at(Language::Schemas, 0, 1, 2), limits::SCHEMAS),
+        (
+            report_at(Language::Schemas, 256, 256, 256),
+            limits::SCHEMAS_MOST,
+        ),
+    ];
+    let found = failures(rt.alloc(), &tables)?;
     assert_eq!(rt; found.as_str(), "");
     Ok(())
 }
@@ -228,27 +211,49 @@ fn is_viable(
     is_front(alloc, language, line.as_str(), limits)
 }
 
+/// Whether some document goes on from a text, in this language and within these limits.
+#[derive(Clone, Copy)]
+struct Front(Report);
+
+impl Subject for Front {
+    fn answer(&self, alloc: Global, text: &str) -> Result<String, Fail> {
+        let is = is_viable(alloc, self.0.language, text, self.0.limits()?)?;
+        Ok(String::from_str(alloc, if is { "a front" } else { "none" })?)
+    }
+}
+
+const FRONTS_OF_REQUESTS: &str = "
+ ⇒ a front
+{a ⇒ a front
+{a} ⇒ a front
+{a}} ⇒ none
+{a ? ⇒ none
+{a{b ⇒ a front
+-- A rule that is broken makes no difference to the front.
+{a}query B{b} ⇒ a front
+type A ⇒ none
+";
+
+const FRONTS_OF_SCHEMAS: &str = "
+type A ⇒ a front
+extend type ⇒ a front
+{a ⇒ none
+";
+
 #[test]
 fn fronts_are_told(rt: HostRuntime) -> Result<(), Fail> {
-    let alloc = rt.alloc();
-    let limits = Limits::default();
-    let flat = Limits::new(0, 0, 0).ok_or("no limits")?;
-    for (language, text, limits, is) in [
-        (Language::Requests, "", limits, true),
-        (Language::Requests, "{a", limits, true),
-        (Language::Requests, "{a}", limits, true),
-        (Language::Requests, "{a}}", limits, false),
-        (Language::Requests, "{a ?", limits, false),
-        (Language::Requests, "{a{b", limits, true),
-        (Language::Requests, "{a{b", flat, false),
-        // A rule that is broken makes no difference to the front.
-        (Language::Requests, "{a}query B{b}", limits, true),
-        (Language::Requests, "type A", limits, false),
-        (Language::Schemas, "type A", limits, true),
-        (Language::Schemas, "extend type", limits, true),
-        (Language::Schemas, "{a", limits, false),
-    ] {
-        assert_eq!(rt; is_viable(alloc, language, text, limits)?, is, "{text}");
-    }
+    let tables = [
+        (
+            Front(report_at(Language::Requests, 64, 64, 64)),
+            FRONTS_OF_REQUESTS,
+        ),
+        (Front(report_at(Language::Requests, 0, 0, 0)), "{a{b ⇒ none"),
+        (
+            Front(report_at(Language::Schemas, 64, 64, 64)),
+            FRONTS_OF_SCHEMAS,
+        ),
+    ];
+    let found = failures(rt.alloc(), &tables)?;
+    assert_eq!(rt; found.as_str(), "");
     Ok(())
 }
