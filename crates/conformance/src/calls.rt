@@ -1,11 +1,11 @@
 //! The calls that the tables are about.
+use crate::files::written;
 use crate::parser::{Asked, Call, Parser, View};
 use crate::requests::{
-    REQUESTS, chosen, definitions, errors, hostile, limits, selections, sent, taken, values, views,
+    REQUESTS, chosen, definitions, hostile, limits, selections, sent, taken, values, views,
 };
 use crate::schemas;
-use rows::{Subject, failure, failures};
-use std::alloc::Global;
+use rows::{failure, failures};
 use std::test::Fail;
 
 // What is asked of the parser of requests.
@@ -21,31 +21,6 @@ const fn schema(asked: Asked) -> Call {
 // What is looked at in the tree of a request.
 const fn look(view: View) -> Call {
     query(Asked::Looked(view))
-}
-
-/// What the rows say of limits and of errors.
-#[derive(Clone, Copy)]
-enum Part {
-    /// Whether `Limits::new` takes three numbers, and whether they are the default.
-    NewLimits,
-    /// What an error prints, and its places as JSON.
-    Error,
-    /// How two errors compare.
-    ErrorEquality,
-    /// What the places of an error give when they are taken from the front, by `next`, and from the back,
-    /// by `back`: after each place those that are left.
-    ErrorPlaces,
-}
-
-impl Subject for Part {
-    fn answer(&self, alloc: Global, text: &str) -> Result<String, Fail> {
-        match self {
-            Part::NewLimits => Ok(chosen::new(alloc, text)?),
-            Part::Error => errors::printed(alloc, text),
-            Part::ErrorEquality => errors::two_compared(alloc, text),
-            Part::ErrorPlaces => errors::places(alloc, text),
-        }
-    }
 }
 
 #[test]
@@ -80,7 +55,7 @@ fn schema_files_are_answered(rt: HostRuntime) -> Result<(), Fail> {
         (schema(Asked::Accepted), schemas::roots::RULES),
         (schema(Asked::Accepted), schemas::refused::DEFINITIONS),
         (schema(Asked::Accepted), schemas::refused::TYPES),
-        (schema(Asked::Accepted), schemas::cut::CUT),
+        (schema(Asked::Cuts), schemas::cut::CUT),
         (schema(Asked::Accepted), schemas::limits::NESTED),
         (schema(Asked::Limited), schemas::limits::LIMITED),
         (schema(Asked::Budgets), schemas::limits::BUDGETS),
@@ -93,9 +68,13 @@ fn schema_files_are_answered(rt: HostRuntime) -> Result<(), Fail> {
 }
 
 #[test]
-fn long_requests_are_answered(rt: HostRuntime) -> Result<(), Fail> {
+fn long_texts_are_answered(rt: HostRuntime) -> Result<(), Fail> {
     for (name, request, tree) in sent::REQUESTS {
         let failure = failure(rt.alloc(), &query(Asked::Whole), request, tree, name)?;
+        assert_eq!(rt; failure.as_str(), "");
+    }
+    for (name, file, tree) in written::WHOLE {
+        let failure = failure(rt.alloc(), &schema(Asked::Whole), file, tree, name)?;
         assert_eq!(rt; failure.as_str(), "");
     }
     Ok(())
@@ -139,19 +118,6 @@ fn hostile_texts_are_answered(rt: HostRuntime) -> Result<(), Fail> {
             schema(Asked::Looked(View::Sizes)),
             schemas::hostile::HUGE_PARTS,
         ),
-    ];
-    let failures = failures(rt.alloc(), &tables)?;
-    assert_eq!(rt; failures.as_str(), "");
-    Ok(())
-}
-
-#[test]
-fn limits_and_errors_are_made(rt: HostRuntime) -> Result<(), Fail> {
-    let tables = [
-        (Part::NewLimits, chosen::NUMBERS),
-        (Part::Error, errors::PRINTED),
-        (Part::ErrorEquality, errors::EQUALITY),
-        (Part::ErrorPlaces, errors::PLACES),
     ];
     let failures = failures(rt.alloc(), &tables)?;
     assert_eq!(rt; failures.as_str(), "");

@@ -6,4 +6,4 @@ mod introspection;
 mod kept;
 mod reading;
 mod scalars;
-mod written;
+pub mod written;

@@ -1,10 +1,7 @@
 //! A file with comments between all of its tokens.
-use super::reading::File;
 
-/// The file with what is expected of it.
-pub const COMMENTS: File = ("comments", TEXT, LINES, PARTS);
-
-const TEXT: &str = r#"# A file of which hardly anything is left.
+/// The file.
+pub const TEXT: &str = r#"# A file of which hardly anything is left.
 #
 schema # type A { b: C }
   @ # an @ and
@@ -91,18 +88,16 @@ ENUM # "
 #}
 "#;
 
-const LINES: &str = "schema 3:1
-type Query 11:1
-union U 55:1
-enum E 62:1
-extend input I 68:1
-directive @on 76:1";
-
-const PARTS: &[&str] = &[
-    "(schema 3:1 (directive 4:3 on@5:3) query Query@9:3)",
-    "(type 11:1 'Of queries.'@11:1 Query@13:1 implements Node@16:1 Named@19:1 (field 21:3 '# Not a comment'@21:3 a@24:3 (value 26:5 b@26:5 [Int!]@28:5 default [ -1 2.5 { c=' # no comment' } ]@33:5 (directive 43:5 k@44:5 v@46:5=null@48:5)) Float!@52:3))",
-    "(union 55:1 U@56:1 members A@59:1 B@61:1)",
-    "(enum 62:1 E@63:1 (value 65:1 X@65:1) (value 66:1 Y@66:1))",
-    "(extend input 68:1 I@70:1 (value 72:1 f@72:1 J@74:1))",
-    "(directive 76:1 on@78:1 repeatable on Field@82:1 Enum@84:1)",
-];
+/// Its whole tree.
+pub const TREE: &str = r#"
+file
+(schema 3:1 (directive 4:3 on@5:3) query Query@9:3)
+(type 11:1 'Of queries.'@11:1 Query@13:1 implements Node@16:1 Named@19:1
+  (field 21:3 '# Not a comment'@21:3 a@24:3
+    (value 26:5 b@26:5 [Int!]@28:5 default [ -1 2.5 { c=' # no comment' } ]@33:5
+      (directive 43:5 k@44:5 v@46:5=null@48:5)) Float!@52:3))
+(union 55:1 U@56:1 members A@59:1 B@61:1)
+(enum 62:1 E@63:1 (value 65:1 X@65:1) (value 66:1 Y@66:1))
+(extend input 68:1 I@70:1 (value 72:1 f@72:1 J@74:1))
+(directive 76:1 on@78:1 repeatable on Field@82:1 Enum@84:1)
+"#;

@@ -27,6 +27,8 @@ pub enum Asked {
     Budgets,
     /// How many beginnings a text has, if each of them is refused late or not at all.
     Beginnings,
+    /// After how many of its tokens a line may end, if it is refused at its end after any other.
+    Cuts,
     /// How many tokens a text has, if a quote before any of them but the end is refused at that quote.
     Quotes,
     /// How many tokens are taken of a text, if it gives the same when its tokens stand on lines of their own.
@@ -52,6 +54,7 @@ impl Subject for Call {
             }
             Asked::Taken => taken::counted(alloc, parser, View::Acceptance, text)?,
             Asked::Beginnings => hostile::beginnings(alloc, parser, text)?,
+            Asked::Cuts => hostile::cuts(alloc, parser, text)?,
             Asked::Quotes => hostile::quotes(alloc, parser, text)?,
             Asked::Lines => hostile::lines(alloc, parser, text)?,
             Asked::ShortTexts => hostile::short_texts(alloc, parser, text)?,

@@ -40,6 +40,34 @@ fn is_refused_late(alloc: Global, parser: Parser, text: &str) -> Result<bool, Al
     Ok(is_refused_at(alloc, answer, before)? || is_refused_at(alloc, answer, last)?)
 }
 
+/// After how many of its tokens a line may end, and how many it has, if it is refused at its end when
+/// it is cut off after any other; else the first answer that is not so.
+pub fn cuts(alloc: Global, parser: Parser, text: &str) -> Result<String, AllocError> {
+    let mut shown = Shown::new(alloc, true);
+    shown.word("after");
+    let mut count = 0usize;
+    for token in Tokens::new(text) {
+        if token.kind != TokenKind::End {
+            count = count.wrapping_add(1);
+            let end = token.start.wrapping_add(token.text.len());
+            let (front, _) = text.split_at_checked(end).unwrap_or((text, ""));
+            let answer = parser.of_each_call(alloc, View::Acceptance, front)?;
+            if answer.as_str() == "accepted" {
+                shown.item(" ", &count);
+            } else if !is_refused_at_end(alloc, answer.as_str(), front)? {
+                return format!(in alloc; "{front}: {answer}");
+            }
+        }
+    }
+    shown.item(" of ", &count);
+    shown.finish()
+}
+
+fn is_refused_at_end(alloc: Global, answer: &str, line: &str) -> Result<bool, AllocError> {
+    let column = line.chars().count().wrapping_add(1);
+    is_refused_at(alloc, answer, Pos { line: 1, column })
+}
+
 /// How many tokens a text has, if a quote before any of them but the end is refused at that quote; else the
 /// text that is not.
 pub fn quotes(alloc: Global, parser: Parser, text: &str) -> Result<String, AllocError> {

@@ -1,17 +1,30 @@
 //! Limits that the caller chooses.
 use crate::parser::limits;
 use graphql_parser::Limits;
-use std::alloc::{AllocError, Global};
+use rows::{Subject, failures};
+use std::alloc::Global;
 use std::test::Fail;
 
-/// Whether there are such limits, and whether they are the default.
-pub fn new(alloc: Global, text: &str) -> Result<String, AllocError> {
-    let answer = match limits(text) {
-        None => "none",
-        Some(limits) if limits == Limits::default() => "the default",
-        Some(_) => "some",
-    };
-    String::from_str(alloc, answer)
+// Whether `Limits::new` takes three numbers, and whether they are the default.
+#[derive(Clone, Copy)]
+struct NewLimits;
+
+impl Subject for NewLimits {
+    fn answer(&self, alloc: Global, text: &str) -> Result<String, Fail> {
+        let answer = match limits(text) {
+            None => "none",
+            Some(limits) if limits == Limits::default() => "the default",
+            Some(_) => "some",
+        };
+        Ok(String::from_str(alloc, answer)?)
+    }
+}
+
+#[test]
+fn limits_are_made(rt: HostRuntime) -> Result<(), Fail> {
+    let failures = failures(rt.alloc(), &[(NewLimits, NUMBERS)])?;
+    assert_eq!(rt; failures.as_str(), "");
+    Ok(())
 }
 
 #[test]
@@ -30,8 +43,8 @@ fn limits_are_copied_and_shown(rt: HostRuntime) -> Result<(), Fail> {
     Ok(())
 }
 
-/// Numbers, and whether they are limits.
-pub const NUMBERS: &str = r"
+// Numbers, and whether they are limits.
+const NUMBERS: &str = r"
 -- Numbers that are limits.
 0 0 0 ⇒ some
 256 256 256 ⇒ some

@@ -3,7 +3,7 @@ use crate::parser::shown;
 use graphql_parser::types::OperationType;
 use graphql_parser::value::Name;
 use graphql_parser::{Error, ErrorPositions, Pos};
-use rows::{Shown, compared, pair};
+use rows::{Shown, Subject, compared, failures, pair};
 use std::alloc::{AllocError, Global};
 use std::test::Fail;
 
@@ -12,6 +12,40 @@ const A: Pos = Pos { line: 1, column: 2 };
 const B: Pos = Pos { line: 3, column: 4 };
 
 const C: Pos = Pos { line: 1, column: 5 };
+
+// What the rows say of errors.
+#[derive(Clone, Copy)]
+enum Part {
+    // What an error prints, and its places as JSON.
+    Printed,
+    // How two errors compare.
+    Equality,
+    // What the places of an error give when they are taken from the front, by `next`, and from the back,
+    // by `back`: after each place those that are left.
+    Places,
+}
+
+impl Subject for Part {
+    fn answer(&self, alloc: Global, text: &str) -> Result<String, Fail> {
+        match self {
+            Part::Printed => printed(alloc, text),
+            Part::Equality => two_compared(alloc, text),
+            Part::Places => places(alloc, text),
+        }
+    }
+}
+
+#[test]
+fn errors_are_told(rt: HostRuntime) -> Result<(), Fail> {
+    let tables = [
+        (Part::Printed, PRINTED),
+        (Part::Equality, EQUALITY),
+        (Part::Places, PLACES),
+    ];
+    let failures = failures(rt.alloc(), &tables)?;
+    assert_eq!(rt; failures.as_str(), "");
+    Ok(())
+}
 
 // The error that a row speaks of.
 fn made(alloc: Global, what: &str) -> Result<Error, Fail> {
@@ -70,21 +104,21 @@ fn of_request(alloc: Global, what: &str) -> Result<Error, Fail> {
     })
 }
 
-/// What the error of a row prints, and its places as JSON; and whether a copy is equal and shown as the error is.
-pub fn printed(alloc: Global, row: &str) -> Result<String, Fail> {
+// What the error of a row prints, and its places as JSON; and whether a copy is equal and shown as the error is.
+fn printed(alloc: Global, row: &str) -> Result<String, Fail> {
     let error = made(alloc, row)?;
     with_places(alloc, &error)
 }
 
-/// How the two errors of a row compare.
-pub fn two_compared(alloc: Global, row: &str) -> Result<String, Fail> {
+// How the two errors of a row compare.
+fn two_compared(alloc: Global, row: &str) -> Result<String, Fail> {
     let (one, other) = pair(row, " and ")?;
     let one = made(alloc, one)?;
     Ok(compared(alloc, &one, &made(alloc, other)?)?)
 }
 
-/// What the places of the error of a row give when they are taken from both ends.
-pub fn places(alloc: Global, row: &str) -> Result<String, Fail> {
+// What the places of the error of a row give when they are taken from both ends.
+fn places(alloc: Global, row: &str) -> Result<String, Fail> {
     let (error, steps) = pair(row, ": ")?;
     let error = made(alloc, error)?;
     Ok(stepped(alloc, error.positions(), steps)?)
@@ -142,8 +176,8 @@ fn write_left(shown: &mut Shown, places: &ErrorPositions) -> Result<(), AllocErr
     Ok(())
 }
 
-/// Errors, and what they print.
-pub const PRINTED: &str = r#"
+// Errors, and what they print.
+const PRINTED: &str = r#"
 -- What errors print.
 syntax ⇒ syntax error at 1:2 [{"line":1,"column":2}]
 syntax with an end ⇒ syntax error at 1:2 [{"line":1,"column":2},{"line":3,"column":4}]
@@ -163,8 +197,8 @@ fragment twice ⇒ fragment F is defined twice [{"line":3,"column":4},{"line":1,
 no operation ⇒ document does not contain an operation []
 "#;
 
-/// Pairs of errors, and how they compare.
-pub const EQUALITY: &str = r"
+// Pairs of errors, and how they compare.
+const EQUALITY: &str = r"
 -- Every field counts.
 syntax with an end and syntax with an end ⇒ equal
 syntax and syntax with a message ⇒ different
@@ -179,8 +213,8 @@ operation twice and fragment twice ⇒ different
 memory and refused memory ⇒ equal
 ";
 
-/// Errors, and their places as they are taken.
-pub const PLACES: &str = r"
+// Errors, and their places as they are taken.
+const PLACES: &str = r"
 -- Places come from both ends.
 syntax with an end: back next next back next back ⇒
   all [ 1:2 3:4 ] 3:4 [ 1:2 ] 1:2 [ ] none [ ] none [ ] none [ ] none [ ]
