@@ -1,14 +1,11 @@
 //! Readers of selections up to their sets.
-ghost use Rattle.std.specs.Prelude.{◌≡◌, ◌++◌, ◌∷◌, [], None, Some, option_map, IfOk, OnErr};
-ghost use Rattle.graphql_memory.specs.Memory.{Refused};
-ghost use Rattle.graphql_reading.specs.reading.Ahead.{Stays};
+ghost use Rattle.std.specs.Prelude.{◌≡◌, Some, option_map};
 ghost use Rattle.graphql_syntax.specs.trees.Parts.{placed};
-ghost use Rattle.graphql_syntax.specs.trees.PartViews.{arguments_tree, directives_tree};
-ghost use Rattle.graphql_request_trees.specs.trees.RequestViews.{selection_tree, selection_trees, type_condition_tree};
+ghost use Rattle.graphql_request_trees.specs.trees.RequestViews.{selection_trees, type_condition_tree};
 ghost use Rattle.graphql_tokens.specs.tokens.Seen.{seen};
 ghost use Rattle.graphql_tokens.specs.tokens.Within.{StandsIn};
 ghost use Rattle.graphql_requests.specs.grammar.Selections.{fragment_name};
-ghost use Rattle.graphql_requests.specs.reading.SelectionSteps.{names_at, maybe_brace_at, bare_field, bare_inline, onto, field_head_at, spread_at, inline_head_at, maybe_condition_at, after_dots_at, head_at};
+ghost use Rattle.graphql_requests.specs.reading.SelectionSteps.{names_at, maybe_brace_at, onto, field_head_at, spread_at, inline_head_at, maybe_condition_at, head_at};
 ghost use Rattle.graphql_reading.specs.reading.Given.{Gives};
 ghost use Rattle.graphql_requests.specs.reading.Selections.{type_condition_at, inline_first, selection_first};
 
@@ -21,16 +18,12 @@ use graphql_request_trees::{
 };
 use graphql_syntax::lexer::Token;
 use graphql_syntax::pos::{Pos, Positioned};
-use graphql_syntax::types::Directive;
-use graphql_syntax::value::{Name, Value};
-use std::alloc::{AllocError, Global};
+use graphql_syntax::value::Name;
 
 // A field without a set has an empty one, which stands nowhere.
 const NOWHERE: Pos = Pos { line: 0, column: 0 };
 
 type Names = (Option<Positioned<Name>>, Positioned<Name>);
-
-type Arguments = Vec<(Positioned<Name>, Positioned<Value>)>;
 
 type Selections = Vec<Positioned<Selection>>;
 
@@ -56,20 +49,6 @@ pub fn is_at_selection(parser: &Parser) -> bool
     ensures { result ≡ selection_first parser.now.hand.bare }
 {
     parser.is_at_name() || parser.is_at_punct("...")
-}
-
-#[inline(always)]
-fn add_selection(
-    parser: &mut Parser,
-    items: &mut Selections,
-    selection: Positioned<Selection>,
-) -> Result<(), AllocError>
-    ensures items { IfOk result (λ _. selection_trees items.new.items ≡
-        selection_trees items.old.items ++ placed selection_tree selection ∷ []) }
-    ensures refused { OnErr result (Refused parser.new.memory) }
-    ensures stays { Stays parser.old parser.new }
-{
-    parser.push(items, selection)
 }
 
 /// An alias, if there is one, and a name.
@@ -103,31 +82,6 @@ fn read_maybe_brace(parser: &mut Parser, nests: bool) -> Reading<Option<Pos>>
     Ok(Some(brace.pos))
 }
 
-#[inline(always)]
-fn bare_field(
-    alloc: Global,
-    names: Names,
-    arguments: Arguments,
-    directives: Vec<Positioned<Directive>>,
-) -> Positioned<Selection>
-    ensures { placed selection_tree result ≡
-        bare_field names (arguments_tree arguments.items) (directives_tree directives.items) }
-{
-    let (alias, name) = names;
-    let pos = match &alias {
-        Some(alias) => alias.pos,
-        None => name.pos,
-    };
-    let field = Field {
-        alias,
-        name,
-        arguments,
-        directives,
-        selection_set: Positioned::new(SelectionSet::new(alloc), NOWHERE),
-    };
-    Positioned::new(Selection::Field(Positioned::new(field, pos)), pos)
-}
-
 /// A field up to its set.
 ///
 /// `Field : Alias? Name Arguments? Directives? SelectionSet?` (GraphQL October 2021, section 2.5)
@@ -140,12 +94,18 @@ fn read_field(
     ensures { Gives (λ place. (selection_trees items.new.items, place)) result parser.old parser.new
         (onto (selection_trees items.old.items) (field_head_at limits.values nests)) }
 {
-    let names = read_names(parser)?;
-    let arguments = read_maybe_arguments(parser, limits)?;
-    let directives = read_directives(parser, limits)?;
+    let (alias, name) = read_names(parser)?;
+    let pos = alias.as_ref().unwrap_or(&name).pos;
+    let field = Field {
+        alias,
+        name,
+        arguments: read_maybe_arguments(parser, limits)?,
+        directives: read_directives(parser, limits)?,
+        selection_set: Positioned::new(SelectionSet::new(parser.heap()), NOWHERE),
+    };
     let place = read_maybe_brace(parser, nests)?;
-    let field = bare_field(parser.heap(), names, arguments, directives);
-    add_selection(parser, items, field)?;
+    let node = Selection::Field(Positioned::new(field, pos));
+    parser.push(items, Positioned::new(node, pos))?;
     Ok(place)
 }
 
@@ -170,7 +130,7 @@ fn read_spread(
         directives,
     };
     let node = Selection::FragmentSpread(Positioned::new(spread, dots));
-    add_selection(parser, items, Positioned::new(node, dots))?;
+    parser.push(items, Positioned::new(node, dots))?;
     Ok(None)
 }
 
@@ -197,27 +157,6 @@ fn read_maybe_condition(parser: &mut Parser) -> Reading<Option<Positioned<TypeCo
     Ok(Some(condition))
 }
 
-fn bare_inline(
-    alloc: Global,
-    dots: Pos,
-    type_condition: Option<Positioned<TypeCondition>>,
-    directives: Vec<Positioned<Directive>>,
-) -> Positioned<Selection>
-    ensures { placed selection_tree result ≡
-        bare_inline dots (option_map (placed type_condition_tree) type_condition)
-        (directives_tree directives.items) }
-{
-    let inline = InlineFragment {
-        type_condition,
-        directives,
-        selection_set: Positioned::new(SelectionSet::new(alloc), NOWHERE),
-    };
-    Positioned::new(
-        Selection::InlineFragment(Positioned::new(inline, dots)),
-        dots,
-    )
-}
-
 /// An inline fragment up to its set, after its `...`.
 ///
 /// `InlineFragment : '...' TypeCondition? Directives? SelectionSet` (GraphQL October 2021, section 2.8)
@@ -230,40 +169,15 @@ fn read_inline(
     ensures { Gives (λ place. (selection_trees items.new.items, Some place)) result parser.old
         parser.new (onto (selection_trees items.old.items) (inline_head_at limits.values dots)) }
 {
-    let condition = read_maybe_condition(parser)?;
-    let directives = read_directives(parser, limits)?;
+    let inline = InlineFragment {
+        type_condition: read_maybe_condition(parser)?,
+        directives: read_directives(parser, limits)?,
+        selection_set: Positioned::new(SelectionSet::new(parser.heap()), NOWHERE),
+    };
     let brace = parser.expect_punct("{")?;
-    let inline = bare_inline(parser.heap(), dots, condition, directives);
-    add_selection(parser, items, inline)?;
+    let node = Selection::InlineFragment(Positioned::new(inline, dots));
+    parser.push(items, Positioned::new(node, dots))?;
     Ok(brace.pos)
-}
-
-/// The rest of a spread or of an inline fragment after its `...`.
-///
-/// `FragmentName Directives? | TypeCondition? Directives? SelectionSet`
-fn read_after_dots(
-    parser: &mut Parser,
-    limits: Limits,
-    nests: bool,
-    dots: Pos,
-    items: &mut Selections,
-) -> Reading<Option<Pos>>
-    ensures { Gives (λ place. (selection_trees items.new.items, place)) result parser.old parser.new
-        (onto (selection_trees items.old.items) (after_dots_at limits.values nests dots)) }
-{
-    if is_at_fragment_name(parser) {
-        let name = parser.take();
-        return read_spread(parser, limits, dots, name, items);
-    }
-    if !nests {
-        return Err(if is_at_inline(parser) {
-            Refusal::Limit
-        } else {
-            Refusal::Syntax
-        });
-    }
-    let place = read_inline(parser, limits, dots, items)?;
-    Ok(Some(place))
 }
 
 /// Puts a selection after the others, without its set. If that follows, it gives the place of its `{`,
@@ -279,10 +193,21 @@ pub(super) fn read_head(
     ensures { Gives (λ place. (selection_trees items.new.items, place)) result parser.old parser.new
         (onto (selection_trees items.old.items) (head_at limits.values nests)) }
 {
-    if parser.is_at_punct("...") {
-        let dots = parser.take();
-        read_after_dots(parser, limits, nests, dots.pos, items)
-    } else {
-        read_field(parser, limits, nests, items)
+    if !parser.is_at_punct("...") {
+        return read_field(parser, limits, nests, items);
     }
+    let dots = parser.take().pos;
+    if is_at_fragment_name(parser) {
+        let name = parser.take();
+        return read_spread(parser, limits, dots, name, items);
+    }
+    if !nests {
+        return Err(if is_at_inline(parser) {
+            Refusal::Limit
+        } else {
+            Refusal::Syntax
+        });
+    }
+    let place = read_inline(parser, limits, dots, items)?;
+    Ok(Some(place))
 }
