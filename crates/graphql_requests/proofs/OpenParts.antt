@@ -1,18 +1,18 @@
 -- The open sets of the code lie in one list, the innermost last.
-use Rattle.std.proofs.Common.{◌≡◌, ℕ, zero, suc, ◌<◌, ◌≤◌, Option, Some, None, List, [], ◌∷◌, ◌++◌, length, take, drop, refl, sym, ap, ◌∙◌, Bool, true, false, arith}
-use Rattle.std.proofs.lemmas.List.{take_all, drop_all, take-append-le, drop-append-le, length-append}
+use Rattle.std.proofs.Common.{◌≡◌, ℕ, zero, suc, ◌<◌, ◌≤◌, ◌+◌, ◌-◌, nat_lt, Option, Some, None, List, [], ◌∷◌, ◌++◌, length, take, drop, reverse, refl, sym, ap, ◌∙◌, Bool, true, false, arith}
+use Rattle.std.proofs.lemmas.Bool.{le-ltb, lt-ltb}
+use Rattle.std.proofs.lemmas.List.{take_all, drop_all, take-append-le, drop-append-le, length-append, reverse-append}
 use Rattle.graphql_tokens.specs.declared.pos.Pos.{Pos}
 use Rattle.graphql_tokens.specs.declared.pos.Positioned.{Positioned}
 use Rattle.graphql_tokens.specs.tokens.Token.{Token}
 use Rattle.graphql_request_trees.specs.trees.Request.{Selection}
 use Rattle.graphql_reading.specs.declared.parser.Refusal.{Refusal}
-use Rattle.graphql_requests.specs.declared.selections.frames.OpenSet.{OpenSet}
+use Rattle.graphql_requests.specs.declared.selections.OpenSet.{OpenSet}
 use Rattle.graphql_reading.specs.grammar.Fronts.{Verdict}
 use Rattle.graphql_requests.specs.grammar.Selections.{Set}
 use Rattle.graphql_reading.specs.grammar.Tests.{punct}
 use Rattle.graphql_reading.specs.reading.Ahead.{Ahead, Stays, tokens}
 use Rattle.graphql_reading.specs.reading.Given.{Refuses, GoesOn}
-use Rattle.graphql_requests.specs.reading.Nest.{Nest}
 use Rattle.graphql_requests.specs.reading.SelectionSteps.{Heading, Opened, closed, more, filled_in, fill_last, onto, head_at, may_nest}
 use Rattle.graphql_requests.specs.reading.OpenSets.{part}
 use Rattle.graphql_reading.specs.reading.Outcome.{Outcome, Read, Refused, ◌>>=◌, one_at}
@@ -21,6 +21,43 @@ use Rattle.graphql_requests.proofs.OpenSets as sets
 
 abbrev Trees : Type 0
 Trees = List (Positioned Selection)
+
+-- the sets around one, the innermost first, and how many more may be opened
+pub record Nest : Type 0 where
+  pub outer : List OpenSet
+  pub left : ℕ
+
+-- where so many may nest
+abbrev pub nest : ℕ → List OpenSet → Nest
+nest limit outer = record { outer = reverse outer; left = limit - length outer }
+
+may-is : (n limit left : ℕ) → left ≡ limit - n → nat_lt n limit ≡ may_nest left
+may-is n limit zero e = le-ltb n limit (omega (arith, e))
+may-is n limit (suc left) e = lt-ltb n limit (omega (arith, e))
+
+pub may-enter : {n most limit : ℕ} (outer : List OpenSet) → n ≡ length outer → most ≡ limit → nat_lt n most ≡ may_nest (nest limit outer).left
+may-enter {n} {most} {limit} outer size is = rw (size, is) (may-is (length outer) limit (limit - length outer) refl)
+
+some-left : (n : ℕ) → may_nest n ≡ true → 0 < n
+some-left zero e = absurd cc
+some-left (suc n) e = omega arith
+
+-- with one more around
+pub entered : {limit : ℕ} (outer inner : List OpenSet) (own : OpenSet) → may_nest (nest limit outer).left ≡ true → inner ≡ outer ++ own ∷ [] → ((nest limit inner).outer ≡ own ∷ (nest limit outer).outer) × (suc (nest limit inner).left ≡ (nest limit outer).left) × (length inner ≤ limit)
+entered {limit} outer inner own may e =
+    let more : length inner ≡ length outer + 1 = ap length e ∙ length-append outer (own ∷ []) in
+    let some = some-left (limit - length outer) may in
+    (ap reverse e ∙ reverse-append outer (own ∷ []), omega (arith, more, some), omega (arith, more, some))
+
+-- and with one less
+pub left : {limit : ℕ} (inner outer : List OpenSet) (own : OpenSet) → length inner ≤ limit → inner ≡ outer ++ own ∷ [] → (((nest limit inner).outer ≡ own ∷ (nest limit outer).outer) × ((nest limit outer).left ≡ suc (nest limit inner).left)) × (length outer ≤ limit)
+left {limit} inner outer own within e =
+    let more : length inner ≡ length outer + 1 = ap length e ∙ length-append outer (own ∷ []) in
+    ((ap reverse e ∙ reverse-append outer (own ∷ []), omega (arith, more, within)), omega (arith, more, within))
+
+pub none-around : (outer : List OpenSet) → (0 < length outer → false ≡ true) → reverse outer ≡ []
+none-around [] h = refl
+none-around (x ∷ xs) h = absurd (let some = h (omega arith) in cc)
 
 -- ---- lists whose last selection gets its set
 

@@ -3,14 +3,15 @@ use Rattle.std.proofs.Common.{◌≡◌, ℕ, zero, suc, List, [], ◌∷◌, le
 use Rattle.graphql_tokens.specs.declared.pos.Positioned.{Positioned}
 use Rattle.graphql_request_trees.specs.declared.executable.Field.{Field, out-Field, roll-Field, fold-roll-Field, fold_out-Field}
 use Rattle.graphql_request_trees.specs.declared.executable.InlineFragment.{InlineFragment, out-InlineFragment, roll-InlineFragment, fold-roll-InlineFragment, fold_out-InlineFragment}
+use Rattle.graphql_request_trees.specs.declared.executable.FragmentSpread.{FragmentSpread}
 use Rattle.graphql_request_trees.specs.declared.executable.Selection.{Selection, fold-roll-Selection}
 use Rattle.graphql_request_trees.specs.declared.executable.Selection.TheOpen.{Selection-F}
 use Rattle.graphql_request_trees.specs.declared.executable.Selection.TheVariants as selections
-use Rattle.graphql_request_trees.specs.declared.executable.Selection.TheViews.{rolls-Field, rolls-InlineFragment}
+use Rattle.graphql_request_trees.specs.declared.executable.Selection.TheViews.{rolls-Field, rolls-FragmentSpread, rolls-InlineFragment}
 use Rattle.graphql_request_trees.specs.declared.executable.SelectionSet.{SelectionSet}
 use Rattle.graphql_request_trees.specs.trees.Request as request
 use Rattle.graphql_syntax.specs.trees.Parts.{placed}
-use Rattle.graphql_request_trees.specs.trees.RequestViews.{selection_step, field_step, inline_fragment_step, selection_set_step, selection_tree, field_tree, inline_fragment_tree, selection_set_tree, selection_trees}
+use Rattle.graphql_request_trees.specs.trees.RequestViews.{selection_step, field_step, inline_fragment_step, selection_set_step, selection_tree, field_tree, fragment_spread_tree, inline_fragment_tree, selection_set_tree, selection_trees}
 use Rattle.graphql_requests.specs.grammar.Selections.{Set}
 use Rattle.graphql_requests.specs.reading.SelectionSteps.{with_set, fill_last}
 
@@ -18,6 +19,9 @@ use Rattle.graphql_requests.specs.reading.SelectionSteps.{with_set, fill_last}
 
 pub of-field : (f : Positioned Field) → selection_tree (selections.Field f) ≡ request.of_field (placed field_tree f)
 of-field f = ap selection_tree (sym (rolls-Field f)) ∙ fold-roll-Selection request.Selection request.Field request.InlineFragment request.SelectionSet selection_step field_step inline_fragment_step selection_set_step (Selection-F.Field f)
+
+of-spread : (s : Positioned FragmentSpread) → selection_tree (selections.FragmentSpread s) ≡ request.fragment_spread (placed fragment_spread_tree s)
+of-spread s = ap selection_tree (sym (rolls-FragmentSpread s)) ∙ fold-roll-Selection request.Selection request.Field request.InlineFragment request.SelectionSet selection_step field_step inline_fragment_step selection_set_step (Selection-F.FragmentSpread s)
 
 pub of-inline : (i : Positioned InlineFragment) → selection_tree (selections.InlineFragment i) ≡ request.of_inline_fragment (placed inline_fragment_tree i)
 of-inline i = ap selection_tree (sym (rolls-InlineFragment i)) ∙ fold-roll-Selection request.Selection request.Field request.InlineFragment request.SelectionSet selection_step field_step inline_fragment_step selection_set_step (Selection-F.InlineFragment i)
@@ -29,6 +33,10 @@ field-with f set =
     let g : request.Field → request.Selection = λ n. request.of_field (record { pos = f.pos; node = n }) in
     of-field _ ∙ ap g (fold-roll-Field request.Selection request.Field request.InlineFragment request.SelectionSet selection_step field_step inline_fragment_step selection_set_step _)
     ∙ sym (ap (with_set (placed selection_set_tree set)) (of-field f ∙ ap g (fold_out-Field request.Selection request.Field request.InlineFragment request.SelectionSet selection_step field_step inline_fragment_step selection_set_step f.node)))
+
+-- a spread has none
+pub spread-with : (s : Positioned FragmentSpread) (set : Set) → selection_tree (selections.FragmentSpread s) ≡ with_set set (selection_tree (selections.FragmentSpread s))
+spread-with s set = of-spread s ∙ sym (ap (with_set set) (of-spread s))
 
 pub inline-with : (i : Positioned InlineFragment) (set : Positioned SelectionSet) → selection_tree (selections.InlineFragment (record i { node = roll-InlineFragment (record (out-InlineFragment i.node) { selection_set = set }) })) ≡ with_set (placed selection_set_tree set) (selection_tree (selections.InlineFragment i))
 inline-with i set =

@@ -1,6 +1,5 @@
 -- Inner: what private clauses cite.
 pub mod Definitions
-pub mod Nest
 pub mod OpenSets
 pub mod Request
 pub mod SelectionSteps

@@ -1,18 +1,74 @@
 //! Readers of selection sets: one loop over the sets that are open.
+ghost use Rattle.std.specs.Prelude.{◌≡◌, ◌≤◌, take, IfOk, OnErr};
+ghost use Rattle.std.specs.Vec.{vec_len};
+ghost use Rattle.graphql_memory.specs.Memory.{Refused};
 ghost use Rattle.graphql_syntax.specs.trees.Parts.{placed};
-ghost use Rattle.graphql_request_trees.specs.trees.RequestViews.{selection_set_tree};
+ghost use Rattle.graphql_request_trees.specs.trees.RequestViews.{selection_trees, selection_set_tree};
+ghost use Rattle.graphql_reading.specs.reading.Ahead.{Stays};
 ghost use Rattle.graphql_reading.specs.reading.Given.{Gives};
+ghost use Rattle.graphql_requests.specs.reading.OpenSets.{part};
 ghost use Rattle.graphql_requests.specs.reading.Request.{own_set_at};
+ghost use Rattle.graphql_requests.specs.reading.SelectionSteps.{fill_last, closed};
 
-mod frames;
 mod heads;
 
-use frames::{Frames, OpenSet, fill_last};
 use graphql_reading::limits::Limits;
 use graphql_reading::parser::{Parser, Reading};
-use graphql_request_trees::SelectionSet;
-use graphql_syntax::pos::Positioned;
+use graphql_request_trees::{Selection, SelectionSet};
+use graphql_syntax::pos::{Pos, Positioned};
 pub use heads::{is_at_fragment_name, is_at_inline, is_at_selection, read_type_condition};
+use smallvec::SmallVec;
+use std::alloc::AllocError;
+use std::mem;
+
+/// A set, as far as it is read. One list has the selections of all open sets.
+#[derive(Default, Drop)]
+struct OpenSet {
+    /// Where its `{` stands.
+    place: Pos,
+    /// How many selections of the sets around it lie before its own.
+    first: usize,
+}
+
+impl OpenSet {
+    /// Cuts the set off the list. Its selections get a block that is as large as they need: where they are the whole
+    /// list they keep its block, and give back the rest of it.
+    fn close(
+        &self,
+        parser: &mut Parser,
+        items: &mut Vec<Positioned<Selection>>,
+    ) -> Result<Positioned<SelectionSet>, AllocError>
+        requires { self.now.first ≤ vec_len items.old }
+        ensures set { IfOk result (λ set. placed selection_set_tree set ≡
+            closed (part self.now (selection_trees items.old.items))) }
+        ensures rest { IfOk result (λ _. selection_trees items.new.items ≡
+            take self.now.first (selection_trees items.old.items)) }
+        ensures refused { OnErr result (Refused parser.new.memory) }
+        ensures stays { Stays parser.old parser.new }
+    {
+        if self.first > 0 {
+            let items = parser.split_off(items, self.first)?;
+            return Ok(Positioned::new(SelectionSet { items }, self.place));
+        }
+        let mut items = mem::replace(items, parser.empty_list());
+        items.shrink_to_fit();
+        Ok(Positioned::new(SelectionSet { items }, self.place))
+    }
+}
+
+/// Gives the last selection its set.
+fn fill_last(items: &mut Vec<Positioned<Selection>>, set: Positioned<SelectionSet>)
+    ensures { selection_trees items.new.items ≡
+        fill_last (selection_trees items.old.items) (placed selection_set_tree set) }
+{
+    if let Some(last) = items.last_mut() {
+        match &mut last.node {
+            Selection::Field(field) => field.node.selection_set = set,
+            Selection::InlineFragment(fragment) => fragment.node.selection_set = set,
+            Selection::FragmentSpread(_) => {}
+        }
+    }
+}
 
 /// The selection set of a definition, whose own nesting isn't counted.
 ///
@@ -23,16 +79,18 @@ pub fn read_selection_set(parser: &mut Parser, limits: Limits) -> Reading<Positi
     let brace = parser.expect_punct("{")?;
     // The selections of all sets that are open, the innermost set's last.
     let mut items = parser.empty_list();
-    let mut frames = Frames::new(parser.heap(), limits.selections());
+    // The sets around the one that is read, the outermost first: the last selection of each waits for its set. Up to
+    // eight take no block.
+    let mut outer: SmallVec<OpenSet, 8> = SmallVec::new(parser.heap());
     let mut own = OpenSet {
         place: brace.pos,
         first: 0,
     };
     loop {
-        let nests = frames.may_nest();
+        let nests = outer.len() < limits.selections();
         if let Some(place) = heads::read_head(parser, limits, nests, &mut items)? {
             // Its set is read before what stands after it.
-            frames.enter(parser, own)?;
+            parser.push_small(&mut outer, own)?;
             own = OpenSet {
                 place,
                 first: items.len(),
@@ -43,11 +101,11 @@ pub fn read_selection_set(parser: &mut Parser, limits: Limits) -> Reading<Positi
         while !is_at_selection(parser) {
             parser.expect_punct("}")?;
             let set = own.close(parser, &mut items)?;
-            match frames.leave() {
+            match outer.pop() {
                 None => return Ok(set),
-                Some(outer) => {
+                Some(around) => {
                     fill_last(&mut items, set);
-                    own = outer;
+                    own = around;
                 }
             }
         }
