@@ -220,15 +220,18 @@ pub closes-ends : (total left : ℕ) (first item : TypeTree) (initial now : Ahea
 unfolding closes_at
 closes-ends total left first item initial now kept done = (kept.told ∙ ap (λ (k : ℕ). closes_at k item (tokens now)) done, kept.on)
 
--- or one doesn't close
-closes-refused : (total left next : ℕ) (first item : TypeTree) (initial now after : Ahead) (v : Verdict) → Becomes (closes_at total first) initial (closes_at left item) now → left ≡ suc next → close_at item (tokens now) ≡ Refused v (tokens after) → closes_at total first (tokens initial) ≡ Refused v (tokens after)
-unfolding closes_at
-closes-refused total left next first item initial now after v kept more h = kept.told ∙ ap (λ (k : ℕ). closes_at k item (tokens now)) more ∙ ap (λ (o : Outcome TypeTree). o >>= closes_at next) h
+-- or there is no `]`
+module _ {X Y : Type 0} (bracket : X → Token) (view : Y → TypeTree) (total left next : ℕ) (first item : TypeTree) (initial now after : Ahead) (kept : Becomes (closes_at total first) initial (closes_at left item) now) (more : left ≡ suc next) where
+  closes-refused : (v : Verdict) → one_at (punct "]") (tokens now) ≡ Refused v (tokens after) → closes_at total first (tokens initial) ≡ Refused v (tokens after)
+  unfolding closes_at
+  closes-refused v h =
+      let close : close_at item (tokens now) ≡ Refused v (tokens after) = rw h refl in
+      kept.told ∙ ap (λ (k : ℕ). closes_at k item (tokens now)) more ∙ ap (λ (o : Outcome TypeTree). o >>= closes_at next) close
 
-pub closes-stops : {X : Type 0} (view : X → TypeTree) (total left next : ℕ) (first item : TypeTree) (initial now after : Ahead) (e : Refusal) → Becomes (closes_at total first) initial (closes_at left item) now → left ≡ suc next → Gives view (Err e) now after (close_at item) → Gives view (Err e) initial after (closes_at total first)
-closes-stops view total left next first item initial now after Memory kept more h = (h.0, go-on initial now after kept.on h.1)
-closes-stops view total left next first item initial now after Syntax kept more h = (closes-refused total left next first item initial now after syntax kept more h.0, go-on initial now after kept.on h.1)
-closes-stops view total left next first item initial now after Limit kept more h = (closes-refused total left next first item initial now after limit kept more h.0, go-on initial now after kept.on h.1)
+  pub closes-stops : (e : Refusal) → Gives bracket (Err e) now after (one_at (punct "]")) → Gives view (Err e) initial after (closes_at total first)
+  closes-stops Memory h = (h.0, go-on initial now after kept.on h.1)
+  closes-stops Syntax h = (closes-refused syntax h.0, go-on initial now after kept.on h.1)
+  closes-stops Limit h = (closes-refused limit h.0, go-on initial now after kept.on h.1)
 
 -- what is read in steps is read
 pub from-steps : {X : Type 0} (view : X → Positioned TypeTree) (result : Result X Refusal) (n : ℕ) (old new : Ahead) → Gives view result old new (steps_at n) → Gives view result old new (type_at n)

@@ -1,11 +1,11 @@
 -- Reading a type reference as a loop does: what opens lists, a name, and what closes them.
-use Rattle.std.specs.Prelude.{ℕ, zero, suc, Bool, true, false}
+use Rattle.std.specs.Prelude.{ℕ, zero, suc, Bool, not}
 use Rattle.graphql_tokens.specs.declared.pos.Positioned.{Positioned}
 use Rattle.graphql_tokens.specs.tokens.Token.{Token}
 use Rattle.graphql_syntax.specs.trees.TypeTree.{TypeTree, named, list}
 use Rattle.graphql_reading.specs.grammar.Places.{at}
 use Rattle.graphql_reading.specs.grammar.Tests.{punct, any_name}
-use Rattle.graphql_reading.specs.reading.Outcome.{Reader, Read, ◌>>=◌, one_at, peek_at, then_at, mapped_at, choose_at, none_at, deep_at}
+use Rattle.graphql_reading.specs.reading.Outcome.{Reader, Read, ◌>>=◌, one_at, peek_at, take_at, then_at, mapped_at, choose_at, none_at, deep_at}
 
 -- how many lists are open, where so many are and so many more may be
 unfoldable pub opens_at : ℕ → ℕ → Reader ℕ
@@ -14,7 +14,7 @@ opens_at opened (suc more) ts = choose_at (punct "[") (mapped_at (λ x. x.1) (th
 
 -- whether the type may be null: no `!` follows
 abbrev pub nullable_at : Reader Bool
-nullable_at = choose_at (punct "!") (mapped_at (λ mark. false) (one_at (punct "!"))) (none_at true)
+nullable_at = mapped_at not (take_at (punct "!"))
 
 abbrev pub named_tree : Token × Bool → TypeTree
 named_tree x = named x.0.bare.spelling x.1

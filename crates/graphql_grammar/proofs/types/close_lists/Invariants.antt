@@ -5,4 +5,4 @@ use Rattle.graphql_grammar.proofs.TypeSteps.{Becomes}
 use Rattle.graphql_grammar.proofs.types.close_lists.Given as goal
 
 abbrev pub invariant-loop : goal.invariant-loop
-invariant-loop l = Becomes (closes_at l.fn.depth.opened (type_tree l.fn.item)) l.fn.parser (closes_at (l.fn.depth.opened - l.counter) (type_tree l.ty)) l.parser
+invariant-loop l = Becomes (closes_at l.fn.opened (type_tree l.fn.item)) l.fn.parser (closes_at (l.fn.opened - l.counter) (type_tree l.ty)) l.parser
