@@ -27,9 +27,20 @@ pub struct RawBlock {
     length: usize,
 }
 
-/// Declares the functions of C that have these parameters, and the type of a pointer to one of them.
+/// Declares functions of C that read a text within limits and have these parameters besides, and the type of a pointer to one
+/// of them.
 macro_rules! functions {
-    ($call:ident: $parameters:tt, $($function:ident),*) => {
+    ($call:ident($($parameter:ident: $type:ty),*): $($function:ident),*) => {
+        functions!(@declared $call, (
+            text: *const u8,
+            length: usize,
+            selections: usize,
+            values: usize,
+            types: usize,
+            $($parameter: $type),*
+        ), $($function),*);
+    };
+    (@declared $call:ident, $parameters:tt, $($function:ident),*) => {
         pub type $call = unsafe extern "C" fn $parameters -> u32;
 
         extern "C" {
@@ -39,43 +50,19 @@ macro_rules! functions {
 }
 
 functions! {
-    CheckCall: (
-        text: *const u8,
-        length: usize,
-        selections: usize,
-        values: usize,
-        types: usize,
-        places: *mut RawPlaces,
-    ),
+    CheckCall(places: *mut RawPlaces):
     graphql_parser_check_query,
     graphql_parser_check_schema
 }
 
 functions! {
-    ParseCall: (
-        text: *const u8,
-        length: usize,
-        selections: usize,
-        values: usize,
-        types: usize,
-        with_places: bool,
-        places: *mut RawPlaces,
-        json: *mut RawBlock,
-    ),
+    ParseCall(with_places: bool, places: *mut RawPlaces, json: *mut RawBlock):
     graphql_parser_parse_query,
     graphql_parser_parse_schema
 }
 
 functions! {
-    HandingCall: (
-        text: *const u8,
-        length: usize,
-        selections: usize,
-        values: usize,
-        types: usize,
-        places: *mut RawPlaces,
-        block: *mut RawBlock,
-    ),
+    HandingCall(places: *mut RawPlaces, block: *mut RawBlock):
     graphql_parser_explain_query,
     graphql_parser_explain_schema,
     graphql_parser_pack_query,
