@@ -8,10 +8,10 @@
 //! assert!(tree.starts_with(r#"{"kind":"Document""#));
 //! # Ok::<(), graphql_parser::Error>(())
 //! ```
+use crate::as_str::is_a_str;
 use crate::raw::{self, ParseCall, Text};
 use crate::{refusal, Limits, Result};
 use std::fmt;
-use std::ops::Deref;
 
 /// Whether the nodes of a tree are written with their places, as the members `line` and `column`. The document, the names of
 /// operations and fragments, the name in a variable that is a value, the roots of a schema, and what is inside a list, an
@@ -61,25 +61,7 @@ impl Json {
     }
 }
 
-impl Deref for Json {
-    type Target = str;
-
-    fn deref(&self) -> &str {
-        self.as_str()
-    }
-}
-
-impl AsRef<str> for Json {
-    fn as_ref(&self) -> &str {
-        self.as_str()
-    }
-}
-
-impl From<Json> for String {
-    fn from(json: Json) -> String {
-        json.as_str().to_owned()
-    }
-}
+is_a_str!(Json);
 
 impl fmt::Display for Json {
     fn fmt(&self, f: &mut fmt::Formatter<'_>) -> fmt::Result {

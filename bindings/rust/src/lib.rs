@@ -30,6 +30,7 @@
 //! ```
 #![deny(missing_docs)]
 
+mod as_str;
 mod error;
 pub mod json;
 mod pos;

@@ -1,10 +1,10 @@
 //! Names.
 use super::ShortText;
+use crate::as_str::is_a_str;
 use std::borrow::Borrow;
 use std::cmp::Ordering;
 use std::fmt;
 use std::hash::{Hash, Hasher};
-use std::ops::Deref;
 use std::sync::Arc;
 
 /// A name of a document: of a field, a type, an argument, a variable and the like.
@@ -36,19 +36,7 @@ impl Name {
     }
 }
 
-impl Deref for Name {
-    type Target = str;
-
-    fn deref(&self) -> &str {
-        self.as_str()
-    }
-}
-
-impl AsRef<str> for Name {
-    fn as_ref(&self) -> &str {
-        self.as_str()
-    }
-}
+is_a_str!(Name);
 
 impl Borrow<str> for Name {
     fn borrow(&self) -> &str {
@@ -59,12 +47,6 @@ impl Borrow<str> for Name {
 impl From<Name> for Arc<str> {
     fn from(name: Name) -> Arc<str> {
         name.as_str().into()
-    }
-}
-
-impl From<Name> for String {
-    fn from(name: Name) -> String {
-        name.as_str().to_owned()
     }
 }
 
