@@ -8,19 +8,14 @@ use crate::value::{ConstValue, IndexMap, Name, Number, Value};
 pub(super) type Arguments<V> = Vec<(Positioned<Name>, Positioned<V>)>;
 
 /// A type of values, in which variables may stand or not.
-pub(super) trait AnyValue: Sized {
+pub(super) trait AnyValue:
+    From<()> + From<Number> + From<String> + From<bool> + From<Name> + From<IndexMap<Name, Self>>
+{
     /// The directives with such values.
     type Directive;
 
-    const NULL: Self;
-
     fn variable(name: Name) -> Option<Self>;
-    fn number(number: Number) -> Self;
-    fn string(text: String) -> Self;
-    fn boolean(value: bool) -> Self;
-    fn name(name: Name) -> Self;
     fn list(items: Vec<Self>) -> Self;
-    fn object(fields: IndexMap<Name, Self>) -> Self;
     fn directive(name: Positioned<Name>, arguments: Arguments<Self>) -> Self::Directive;
 }
 
@@ -29,41 +24,14 @@ macro_rules! any_value {
         impl AnyValue for $value {
             type Directive = $directive;
 
-            const NULL: $value = $value::Null;
-
             #[inline(always)]
             fn variable(name: Name) -> Option<$value> {
                 $variable(name)
             }
 
             #[inline(always)]
-            fn number(number: Number) -> $value {
-                $value::Number(number)
-            }
-
-            #[inline(always)]
-            fn string(text: String) -> $value {
-                $value::String(text)
-            }
-
-            #[inline(always)]
-            fn boolean(value: bool) -> $value {
-                $value::Boolean(value)
-            }
-
-            #[inline(always)]
-            fn name(name: Name) -> $value {
-                $value::Enum(name)
-            }
-
-            #[inline(always)]
             fn list(items: Vec<$value>) -> $value {
                 $value::List(items)
-            }
-
-            #[inline(always)]
-            fn object(fields: IndexMap<Name, $value>) -> $value {
-                $value::Object(fields)
             }
 
             #[inline(always)]
@@ -81,14 +49,14 @@ impl Reader<'_> {
     pub(super) fn value<V: AnyValue>(&mut self) -> Option<V> {
         Some(match self.choice()? {
             0 => V::variable(self.name()?)?,
-            1 => V::NULL,
-            2 => V::number(self.literal()?),
-            3 => V::string(self.string()?),
-            4 => V::boolean(false),
-            5 => V::boolean(true),
-            6 => V::name(self.name()?),
+            1 => ().into(),
+            2 => self.literal()?.into(),
+            3 => self.string()?.into(),
+            4 => false.into(),
+            5 => true.into(),
+            6 => self.name()?.into(),
             7 => V::list(self.items(Self::value)?),
-            8 => V::object(IndexMap::of_distinct(self.items(Self::field_of_object)?)),
+            8 => IndexMap::of_distinct(self.items(Self::field_of_object)?).into(),
             _ => return None,
         })
     }

@@ -75,12 +75,14 @@ macro_rules! from_others {
     ($value:ident: $($integer:ty)*) => {
         /// Null.
         impl From<()> for $value {
+            #[inline]
             fn from((): ()) -> $value {
                 $value::Null
             }
         }
 
         impl From<Number> for $value {
+            #[inline]
             fn from(number: Number) -> $value {
                 $value::Number(number)
             }
@@ -100,6 +102,7 @@ macro_rules! from_others {
         }
 
         impl From<String> for $value {
+            #[inline]
             fn from(text: String) -> $value {
                 $value::String(text)
             }
@@ -112,6 +115,7 @@ macro_rules! from_others {
         }
 
         impl From<bool> for $value {
+            #[inline]
             fn from(value: bool) -> $value {
                 $value::Boolean(value)
             }
@@ -119,6 +123,7 @@ macro_rules! from_others {
 
         /// A value of an enum.
         impl From<Name> for $value {
+            #[inline]
             fn from(name: Name) -> $value {
                 $value::Enum(name)
             }
@@ -137,6 +142,7 @@ macro_rules! from_others {
         }
 
         impl From<IndexMap<Name, $value>> for $value {
+            #[inline]
             fn from(fields: IndexMap<Name, $value>) -> $value {
                 $value::Object(fields)
             }

@@ -2,38 +2,38 @@
 use super::{ConstValue, IndexMap, Name, Value};
 use std::fmt::{self, Display, Formatter, Write};
 
-/// The value as GraphQL writes it (section 2.9): `{a: [1, 2]}`, on one line.
-///
-/// A string stands in quotes. In it `"`, `\` and control characters below U+0020 are escaped, and every other character
-/// stands for itself (this project's choice).
-impl Display for ConstValue {
-    fn fmt(&self, f: &mut Formatter<'_>) -> fmt::Result {
-        match self {
-            ConstValue::Null => f.write_str("null"),
-            ConstValue::Number(number) => f.write_str(number.as_str()),
-            ConstValue::String(text) => write_string(text, f),
-            ConstValue::Boolean(value) => write!(f, "{value}"),
-            ConstValue::Enum(name) => f.write_str(name),
-            ConstValue::List(items) => write_list(items, f),
-            ConstValue::Object(fields) => write_object(fields, f),
+/// Has a type of values shown, with the case of a variable where it has one.
+macro_rules! shown {
+    ($(#[$about:meta])* $value:ident $(, $variable:ident)?) => {
+        $(#[$about])*
+        impl Display for $value {
+            fn fmt(&self, f: &mut Formatter<'_>) -> fmt::Result {
+                match self {
+                    $($value::$variable(name) => write!(f, "${name}"),)?
+                    $value::Null => f.write_str("null"),
+                    $value::Number(number) => f.write_str(number.as_str()),
+                    $value::String(text) => write_string(text, f),
+                    $value::Boolean(value) => write!(f, "{value}"),
+                    $value::Enum(name) => f.write_str(name),
+                    $value::List(items) => write_list(items, f),
+                    $value::Object(fields) => write_object(fields, f),
+                }
+            }
         }
-    }
+    };
 }
 
-/// The value as GraphQL writes it (section 2.9), as for [`ConstValue`]; a variable as `$name`.
-impl Display for Value {
-    fn fmt(&self, f: &mut Formatter<'_>) -> fmt::Result {
-        match self {
-            Value::Variable(name) => write!(f, "${name}"),
-            Value::Null => f.write_str("null"),
-            Value::Number(number) => f.write_str(number.as_str()),
-            Value::String(text) => write_string(text, f),
-            Value::Boolean(value) => write!(f, "{value}"),
-            Value::Enum(name) => f.write_str(name),
-            Value::List(items) => write_list(items, f),
-            Value::Object(fields) => write_object(fields, f),
-        }
-    }
+shown! {
+    /// The value as GraphQL writes it (section 2.9): `{a: [1, 2]}`, on one line.
+    ///
+    /// A string stands in quotes. In it `"`, `\` and control characters below U+0020 are escaped, and every other character
+    /// stands for itself (this project's choice).
+    ConstValue
+}
+
+shown! {
+    /// The value as GraphQL writes it (section 2.9), as for [`ConstValue`]; a variable as `$name`.
+    Value, Variable
 }
 
 fn write_list<V: Display>(items: &[V], f: &mut Formatter<'_>) -> fmt::Result {
