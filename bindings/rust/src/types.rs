@@ -90,15 +90,44 @@ impl fmt::Display for BaseType {
     }
 }
 
-/// A directive in whose arguments no variable stands, as in a schema file (section 2.12).
-///
-/// The node stands at its `@`.
-#[derive(Clone, Debug)]
-pub struct ConstDirective {
-    /// The name after the `@`.
-    pub name: Positioned<Name>,
-    /// The arguments, in source order. One name may come twice.
-    pub arguments: Vec<(Positioned<Name>, Positioned<ConstValue>)>,
+/// The method that looks up an argument, for a type whose arguments have such values.
+macro_rules! get_argument {
+    ($value:ident) => {
+        /// The value of the first argument of this name; None where there is none.
+        #[must_use]
+        pub fn get_argument(&self, name: &str) -> Option<&Positioned<$value>> {
+            let mut arguments = self.arguments.iter();
+            let (_, value) = arguments.find(|(key, _)| key.node == *name)?;
+            Some(value)
+        }
+    };
+}
+
+use get_argument;
+
+/// Declares a type of directives, whose arguments have such values.
+macro_rules! directives {
+    ($(#[$about:meta])* $directive:ident: $value:ident) => {
+        $(#[$about])*
+        ///
+        /// The node stands at its `@`.
+        #[derive(Clone, Debug)]
+        pub struct $directive {
+            /// The name after the `@`.
+            pub name: Positioned<Name>,
+            /// The arguments, in source order. One name may come twice.
+            pub arguments: Vec<(Positioned<Name>, Positioned<$value>)>,
+        }
+
+        impl $directive {
+            get_argument!($value);
+        }
+    };
+}
+
+directives! {
+    /// A directive in whose arguments no variable stands, as in a schema file (section 2.12).
+    ConstDirective: ConstValue
 }
 
 impl ConstDirective {
@@ -113,23 +142,11 @@ impl ConstDirective {
                 .collect(),
         }
     }
-
-    /// The value of the first argument of this name; None where there is none.
-    #[must_use]
-    pub fn get_argument(&self, name: &str) -> Option<&Positioned<ConstValue>> {
-        argument(&self.arguments, name)
-    }
 }
 
-/// A directive in whose arguments variables may stand (section 2.12).
-///
-/// The node stands at its `@`.
-#[derive(Clone, Debug)]
-pub struct Directive {
-    /// The name after the `@`.
-    pub name: Positioned<Name>,
-    /// The arguments, in source order. One name may come twice.
-    pub arguments: Vec<(Positioned<Name>, Positioned<Value>)>,
+directives! {
+    /// A directive in whose arguments variables may stand (section 2.12).
+    Directive: Value
 }
 
 impl Directive {
@@ -146,19 +163,4 @@ impl Directive {
                 .collect::<Option<_>>()?,
         })
     }
-
-    /// The value of the first argument of this name; None where there is none.
-    #[must_use]
-    pub fn get_argument(&self, name: &str) -> Option<&Positioned<Value>> {
-        argument(&self.arguments, name)
-    }
-}
-
-// The value of the first argument of a name.
-fn argument<'a, V>(
-    arguments: &'a [(Positioned<Name>, Positioned<V>)],
-    wanted: &str,
-) -> Option<&'a Positioned<V>> {
-    let (_, value) = arguments.iter().find(|(name, _)| name.node == *wanted)?;
-    Some(value)
 }

@@ -1,5 +1,5 @@
 //! The tree of a request: operations and fragments, and the selections in them.
-use super::{argument, Directive, OperationType, Type};
+use super::{get_argument, Directive, OperationType, Type};
 use crate::pos::Positioned;
 use crate::value::{ConstValue, Name, Value};
 use std::collections::{hash_map, HashMap};
@@ -183,11 +183,7 @@ impl Field {
         self.alias.as_ref().unwrap_or(&self.name)
     }
 
-    /// The value of the first argument of this name; None where there is none.
-    #[must_use]
-    pub fn get_argument(&self, name: &str) -> Option<&Positioned<Value>> {
-        argument(&self.arguments, name)
-    }
+    get_argument!(Value);
 }
 
 /// The use of a fragment by its name (section 2.8).
