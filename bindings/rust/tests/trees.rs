@@ -1,7 +1,7 @@
 //! Trees, held against the JSON of the same texts, which is read out of the library and printed out of the trees.
 mod support;
 
-use graphql_parser::json::{self, Places};
+use graphql_parser::json::{self, Json, Places};
 use graphql_parser::{
     check_query, check_schema, parse_query_limited, parse_schema_limited, Limits, Result,
 };
@@ -30,29 +30,39 @@ const LARGEST: Limits = Limits {
     types: Limits::LARGEST,
 };
 
-// A text, read as a request: the JSON of its tree is the library's. After a carriage return alone the places are not in the
-// order of the text, and there the definitions are held against each other in any order.
-fn compare_request(text: &str, limits: Limits, tally: &mut Tally) {
-    let tree = parse_query_limited(text, limits);
-    let json = json::parse_query(text, limits, Places::Written);
+// What the calls give of a text: the definitions of its tree, as JSON, are those of the library's JSON.
+fn compare<T>(
+    text: &str,
+    check: Result<()>,
+    tree: Result<T>,
+    json: Result<Json>,
+    tally: &mut Tally,
+    definitions: impl FnOnce(&T, &str) -> Vec<String>,
+) {
     tally.count(&tree);
-    assert_eq!(
-        check_query(text, limits).err(),
-        json.as_ref().err().cloned(),
-        "{text}"
-    );
+    assert_eq!(check.err(), json.as_ref().err().cloned(), "{text}");
     match (tree, json) {
         (Ok(tree), Ok(json)) => {
-            let definitions = printer::request_definitions(&tree);
-            if text.replace("\r\n", "\n").contains('\r') {
-                let definitions = in_order_of(&json, definitions);
-                assert_eq!(printer::document(&definitions), &*json, "{text}");
-            } else {
-                assert_eq!(printer::document(&definitions), &*json, "{text}");
-            }
+            let definitions = definitions(&tree, &json);
+            assert_eq!(printer::document(&definitions), &*json, "{text}");
         }
         (tree, json) => assert_eq!(tree.err(), json.err(), "{text}"),
     }
+}
+
+// A text, read as a request. After a carriage return alone the places are not in the order of the text, and there the
+// definitions are held against each other in any order.
+fn compare_request(text: &str, limits: Limits, tally: &mut Tally) {
+    let check = check_query(text, limits);
+    let tree = parse_query_limited(text, limits);
+    let json = json::parse_query(text, limits, Places::Written);
+    compare(text, check, tree, json, tally, |tree, json| {
+        let definitions = printer::request_definitions(tree);
+        if text.replace("\r\n", "\n").contains('\r') {
+            return in_order_of(json, definitions);
+        }
+        definitions
+    });
 }
 
 // The same definitions, in the order in which they stand in a text.
@@ -69,21 +79,12 @@ fn in_order_of(json: &str, mut definitions: Vec<String>) -> Vec<String> {
 
 // A text, read as a schema file.
 fn compare_schema_file(text: &str, limits: Limits, tally: &mut Tally) {
+    let check = check_schema(text, limits);
     let tree = parse_schema_limited(text, limits);
     let json = json::parse_schema(text, limits, Places::Written);
-    tally.count(&tree);
-    assert_eq!(
-        check_schema(text, limits).err(),
-        json.as_ref().err().cloned(),
-        "{text}"
-    );
-    match (tree, json) {
-        (Ok(tree), Ok(json)) => {
-            let definitions = printer::schema_definitions(&tree);
-            assert_eq!(printer::document(&definitions), &*json, "{text}");
-        }
-        (tree, json) => assert_eq!(tree.err(), json.err(), "{text}"),
-    }
+    compare(text, check, tree, json, tally, |tree, _| {
+        printer::schema_definitions(tree)
+    });
 }
 
 #[test]
