@@ -1,9 +1,9 @@
 //! Trees as the JSON that the library makes of them, with places.
 use graphql_parser::types::{
     BaseType, ConstDirective, Directive, ExecutableDocument, Field, FieldDefinition,
-    FragmentDefinition, InputValueDefinition, OperationDefinition, OperationType, SchemaDefinition,
-    Selection, SelectionSet, ServiceDocument, Type, TypeCondition, TypeDefinition, TypeKind,
-    TypeSystemDefinition, VariableDefinition,
+    FragmentDefinition, InputValueDefinition, InterfaceType, ObjectType, OperationDefinition,
+    OperationType, SchemaDefinition, Selection, SelectionSet, ServiceDocument, Type, TypeCondition,
+    TypeDefinition, TypeKind, TypeSystemDefinition, VariableDefinition,
 };
 use graphql_parser::value::{ConstValue, Name, Value};
 use graphql_parser::{Pos, Positioned};
@@ -73,12 +73,19 @@ impl Json {
         self.add("\"");
     }
 
-    // The beginning of a node. One at 0:0 has no place.
-    fn open(&mut self, kind: &str, pos: Pos) {
+    // A node with its members. One at 0:0 has no place.
+    fn node_at(&mut self, kind: &str, pos: Pos, members: impl FnOnce(&mut Json)) {
         self.add(&format!("{{\"kind\":\"{kind}\""));
         if pos != Pos::default() {
             self.add(&format!(",\"line\":{},\"column\":{}", pos.line, pos.column));
         }
+        members(self);
+        self.add("}");
+    }
+
+    // A node of a tree, with what is written of it.
+    fn node<T>(&mut self, kind: &str, node: &Positioned<T>, members: impl FnOnce(&mut Json, &T)) {
+        self.node_at(kind, node.pos, |json| members(json, &node.node));
     }
 
     fn key(&mut self, key: &str) {
@@ -105,9 +112,7 @@ impl Json {
 
     // A node whose value is a text.
     fn leaf(&mut self, kind: &str, pos: Pos, text: &str) {
-        self.open(kind, pos);
-        self.text("value", text);
-        self.add("}");
+        self.node_at(kind, pos, |json| json.text("value", text));
     }
 
     fn name(&mut self, name: &str, pos: Pos) {
@@ -120,47 +125,37 @@ impl Json {
     }
 
     fn operation(&mut self, name: Option<&Name>, operation: &Positioned<OperationDefinition>) {
-        self.open("OperationDefinition", operation.pos);
-        self.text("operation", &operation.node.ty.to_string());
-        if let Some(name) = name {
-            self.name(name, Pos::default());
-        }
-        let node = &operation.node;
-        self.list(
-            "variableDefinitions",
-            &node.variable_definitions,
-            Json::variable,
-        );
-        self.directives(&node.directives);
-        self.set(&node.selection_set);
-        self.add("}");
+        self.node("OperationDefinition", operation, |json, node| {
+            json.text("operation", &node.ty.to_string());
+            if let Some(name) = name {
+                json.name(name, Pos::default());
+            }
+            let variables = &node.variable_definitions;
+            json.list("variableDefinitions", variables, Json::variable);
+            json.directives(&node.directives);
+            json.set(&node.selection_set);
+        });
     }
 
     fn variable(&mut self, variable: &Positioned<VariableDefinition>) {
-        let VariableDefinition {
-            name,
-            var_type,
-            directives,
-            default_value,
-        } = &variable.node;
-        self.open("VariableDefinition", variable.pos);
-        self.key("variable");
-        self.open("Variable", variable.pos);
-        self.placed_name(name);
-        self.add("}");
-        self.ty(var_type);
-        self.default_value(default_value);
-        self.directives(directives);
-        self.add("}");
+        self.node("VariableDefinition", variable, |json, node| {
+            json.key("variable");
+            json.node("Variable", variable, |json, node| {
+                json.placed_name(&node.name)
+            });
+            json.ty(&node.var_type);
+            json.default_value(&node.default_value);
+            json.directives(&node.directives);
+        });
     }
 
     fn fragment(&mut self, name: &Name, fragment: &Positioned<FragmentDefinition>) {
-        self.open("FragmentDefinition", fragment.pos);
-        self.name(name, Pos::default());
-        self.condition(&fragment.node.type_condition);
-        self.directives(&fragment.node.directives);
-        self.set(&fragment.node.selection_set);
-        self.add("}");
+        self.node("FragmentDefinition", fragment, |json, node| {
+            json.name(name, Pos::default());
+            json.condition(&node.type_condition);
+            json.directives(&node.directives);
+            json.set(&node.selection_set);
+        });
     }
 
     fn condition(&mut self, condition: &Positioned<TypeCondition>) {
@@ -170,88 +165,80 @@ impl Json {
 
     fn set(&mut self, set: &Positioned<SelectionSet>) {
         self.key("selectionSet");
-        self.open("SelectionSet", set.pos);
-        self.list("selections", &set.node.items, |json, selection| {
-            let pos = match &selection.node {
-                Selection::Field(field) => {
-                    json.field(field);
-                    field.pos
-                }
-                Selection::FragmentSpread(spread) => {
-                    json.open("FragmentSpread", spread.pos);
-                    json.placed_name(&spread.node.fragment_name);
-                    json.directives(&spread.node.directives);
-                    json.add("}");
-                    spread.pos
-                }
-                Selection::InlineFragment(fragment) => {
-                    json.open("InlineFragment", fragment.pos);
-                    if let Some(condition) = &fragment.node.type_condition {
-                        json.condition(condition);
-                    }
-                    json.directives(&fragment.node.directives);
-                    json.set(&fragment.node.selection_set);
-                    json.add("}");
-                    fragment.pos
-                }
-            };
-            assert_eq!(selection.pos, pos);
+        self.node("SelectionSet", set, |json, set| {
+            json.list("selections", &set.items, Json::selection);
         });
-        self.add("}");
     }
 
-    fn field(&mut self, field: &Positioned<Field>) {
-        let Field {
-            alias,
-            name,
-            arguments,
-            directives,
-            selection_set,
-        } = &field.node;
-        self.open("Field", field.pos);
-        if let Some(alias) = alias {
+    fn selection(&mut self, selection: &Positioned<Selection>) {
+        let pos = match &selection.node {
+            Selection::Field(field) => {
+                self.node("Field", field, Json::members_of_field);
+                field.pos
+            }
+            Selection::FragmentSpread(spread) => {
+                self.node("FragmentSpread", spread, |json, node| {
+                    json.placed_name(&node.fragment_name);
+                    json.directives(&node.directives);
+                });
+                spread.pos
+            }
+            Selection::InlineFragment(fragment) => {
+                self.node("InlineFragment", fragment, |json, node| {
+                    if let Some(condition) = &node.type_condition {
+                        json.condition(condition);
+                    }
+                    json.directives(&node.directives);
+                    json.set(&node.selection_set);
+                });
+                fragment.pos
+            }
+        };
+        assert_eq!(selection.pos, pos);
+    }
+
+    fn members_of_field(&mut self, field: &Field) {
+        if let Some(alias) = &field.alias {
             self.key("alias");
             self.leaf("Name", alias.pos, &alias.node);
         }
-        self.placed_name(name);
-        self.arguments(arguments, Json::value);
-        self.directives(directives);
-        if selection_set.pos != Pos::default() {
-            self.set(selection_set);
+        self.placed_name(&field.name);
+        self.arguments(&field.arguments);
+        self.directives(&field.directives);
+        if field.selection_set.pos != Pos::default() {
+            self.set(&field.selection_set);
         }
-        self.add("}");
     }
 
-    fn arguments<V>(
-        &mut self,
-        arguments: &[(Positioned<Name>, Positioned<V>)],
-        write: impl Fn(&mut Json, &V, Pos),
-    ) {
+    fn arguments(&mut self, arguments: &[(Positioned<Name>, Positioned<Value>)]) {
         self.list("arguments", arguments, |json, (name, value)| {
-            json.open("Argument", name.pos);
-            json.placed_name(name);
-            json.key("value");
-            write(json, &value.node, value.pos);
-            json.add("}");
+            json.node_at("Argument", name.pos, |json| {
+                json.placed_name(name);
+                json.key("value");
+                json.value(&value.node, value.pos);
+            });
         });
     }
 
     fn directives(&mut self, directives: &[Positioned<Directive>]) {
         self.list("directives", directives, |json, directive| {
-            json.open("Directive", directive.pos);
-            json.placed_name(&directive.node.name);
-            json.arguments(&directive.node.arguments, Json::value);
-            json.add("}");
+            json.node("Directive", directive, |json, node| {
+                json.placed_name(&node.name);
+                json.arguments(&node.arguments);
+            });
         });
     }
 
     fn const_directives(&mut self, directives: &[Positioned<ConstDirective>]) {
-        self.list("directives", directives, |json, directive| {
-            json.open("Directive", directive.pos);
-            json.placed_name(&directive.node.name);
-            json.arguments(&directive.node.arguments, Json::const_value);
-            json.add("}");
-        });
+        let directives: Vec<_> = directives
+            .iter()
+            .map(|directive| {
+                let directive = directive.clone().map(ConstDirective::into_directive);
+                assert!(directive.node.clone().into_const().is_some());
+                directive
+            })
+            .collect();
+        self.directives(&directives);
     }
 
     fn const_value(&mut self, value: &ConstValue, pos: Pos) {
@@ -264,50 +251,38 @@ impl Json {
         let nowhere = Pos::default();
         match value {
             Value::Variable(name) => {
-                self.open("Variable", pos);
-                self.name(name, nowhere);
-                self.add("}");
+                self.node_at("Variable", pos, |json| json.name(name, nowhere));
             }
-            Value::Null => {
-                self.open("NullValue", pos);
-                self.add("}");
-            }
+            Value::Null => self.node_at("NullValue", pos, |_| {}),
             Value::Number(number) => {
                 let is_float = number.as_str().contains(['.', 'e', 'E']);
                 let kind = if is_float { "FloatValue" } else { "IntValue" };
                 self.leaf(kind, pos, number.as_str());
             }
             Value::String(text) => self.leaf("StringValue", pos, text),
-            Value::Boolean(value) => {
-                self.open("BooleanValue", pos);
-                self.key("value");
-                self.add(&format!("{value}}}"));
-            }
+            Value::Boolean(value) => self.node_at("BooleanValue", pos, |json| {
+                json.key("value");
+                json.add(&value.to_string());
+            }),
             Value::Enum(name) => self.leaf("EnumValue", pos, name),
-            Value::List(items) => {
-                self.open("ListValue", pos);
-                self.list("values", items, |json, item| json.value(item, nowhere));
-                self.add("}");
-            }
-            Value::Object(fields) => {
+            Value::List(items) => self.node_at("ListValue", pos, |json| {
+                json.list("values", items, |json, item| json.value(item, nowhere));
+            }),
+            Value::Object(fields) => self.node_at("ObjectValue", pos, |json| {
                 let fields: Vec<_> = fields.iter().collect();
-                self.open("ObjectValue", pos);
-                self.list("fields", &fields, |json, (name, value)| {
-                    json.open("ObjectField", nowhere);
-                    json.name(name, nowhere);
-                    json.key("value");
-                    json.value(value, nowhere);
-                    json.add("}");
+                json.list("fields", &fields, |json, (name, value)| {
+                    json.node_at("ObjectField", nowhere, |json| {
+                        json.name(name, nowhere);
+                        json.key("value");
+                        json.value(value, nowhere);
+                    });
                 });
-                self.add("}");
-            }
+            }),
         }
     }
 
     fn named_type(&mut self, name: &Positioned<Name>) {
-        self.open("NamedType", name.pos);
-        self.placed_name(name);
-        self.add("}");
+        self.node_at("NamedType", name.pos, |json| json.placed_name(name));
     }
 
     fn named_types(&mut self, key: &str, names: &[Positioned<Name>]) {
@@ -321,20 +296,21 @@ impl Json {
 
     fn type_at(&mut self, ty: &Type, pos: Pos) {
         if !ty.nullable {
-            self.open("NonNullType", pos);
-            self.key("type");
+            return self.node_at("NonNullType", pos, |json| {
+                json.key("type");
+                json.base_type(&ty.base, pos);
+            });
         }
-        match &ty.base {
+        self.base_type(&ty.base, pos);
+    }
+
+    fn base_type(&mut self, base: &BaseType, pos: Pos) {
+        match base {
             BaseType::Named(name) => self.named_type(&Positioned::new(name.clone(), pos)),
-            BaseType::List(inner) => {
-                self.open("ListType", pos);
-                self.key("type");
-                self.type_at(inner, Pos::default());
-                self.add("}");
-            }
-        }
-        if !ty.nullable {
-            self.add("}");
+            BaseType::List(inner) => self.node_at("ListType", pos, |json| {
+                json.key("type");
+                json.type_at(inner, Pos::default());
+            }),
         }
     }
 
@@ -352,138 +328,118 @@ impl Json {
         }
     }
 
+    // What each definition that has a name begins with.
+    fn described(&mut self, description: &Option<Positioned<String>>, name: &Positioned<Name>) {
+        self.description(description);
+        self.placed_name(name);
+    }
+
     fn definition(&mut self, definition: &TypeSystemDefinition) {
         match definition {
             TypeSystemDefinition::Schema(schema) => self.schema(schema),
             TypeSystemDefinition::Type(definition) => self.type_definition(definition),
             TypeSystemDefinition::Directive(directive) => {
-                let node = &directive.node;
-                self.open("DirectiveDefinition", directive.pos);
-                self.description(&node.description);
-                self.placed_name(&node.name);
-                self.list("arguments", &node.arguments, Json::input_value);
-                self.key("repeatable");
-                self.add(&node.is_repeatable.to_string());
-                self.list("locations", &node.locations, |json, location| {
-                    json.leaf("Name", location.pos, location.node.as_str());
+                self.node("DirectiveDefinition", directive, |json, node| {
+                    json.described(&node.description, &node.name);
+                    json.list("arguments", &node.arguments, Json::input_value);
+                    json.key("repeatable");
+                    json.add(&node.is_repeatable.to_string());
+                    json.list("locations", &node.locations, |json, location| {
+                        json.leaf("Name", location.pos, location.node.as_str());
+                    });
                 });
-                self.add("}");
             }
         }
     }
 
     fn schema(&mut self, schema: &Positioned<SchemaDefinition>) {
-        let SchemaDefinition {
-            description,
-            extend,
-            directives,
-            query,
-            mutation,
-            subscription,
-        } = &schema.node;
-        let kind = if *extend {
-            "SchemaExtension"
-        } else {
-            "SchemaDefinition"
-        };
-        self.open(kind, schema.pos);
-        self.description(description);
-        self.const_directives(directives);
-        let mut roots: Vec<(OperationType, &Positioned<Name>)> = [
-            (OperationType::Query, query),
-            (OperationType::Mutation, mutation),
-            (OperationType::Subscription, subscription),
-        ]
-        .into_iter()
-        .filter_map(|(kind, name)| Some((kind, name.as_ref()?)))
-        .collect();
-        roots.sort_by_key(|(_, name)| name.pos);
-        self.list("operationTypes", &roots, |json, (kind, name)| {
-            json.open("OperationTypeDefinition", Pos::default());
-            json.text("operation", &kind.to_string());
-            json.key("type");
-            json.named_type(name);
-            json.add("}");
+        let suffix = suffix(schema.node.extend);
+        self.node(&format!("Schema{suffix}"), schema, |json, node| {
+            json.description(&node.description);
+            json.const_directives(&node.directives);
+            let roots = [
+                (OperationType::Query, &node.query),
+                (OperationType::Mutation, &node.mutation),
+                (OperationType::Subscription, &node.subscription),
+            ];
+            let mut roots: Vec<(OperationType, &Positioned<Name>)> = roots
+                .into_iter()
+                .filter_map(|(kind, name)| Some((kind, name.as_ref()?)))
+                .collect();
+            roots.sort_by_key(|(_, name)| name.pos);
+            json.list("operationTypes", &roots, |json, (kind, name)| {
+                json.node_at("OperationTypeDefinition", Pos::default(), |json| {
+                    json.text("operation", &kind.to_string());
+                    json.key("type");
+                    json.named_type(name);
+                });
+            });
         });
-        self.add("}");
     }
 
     fn type_definition(&mut self, definition: &Positioned<TypeDefinition>) {
-        let TypeDefinition {
-            extend,
-            description,
-            name,
-            directives,
-            kind,
-        } = &definition.node;
-        let suffix = if *extend { "Extension" } else { "Definition" };
-        let word = match kind {
-            TypeKind::Scalar => "Scalar",
-            TypeKind::Object(_) => "Object",
-            TypeKind::Interface(_) => "Interface",
-            TypeKind::Union(_) => "Union",
-            TypeKind::Enum(_) => "Enum",
-            TypeKind::InputObject(_) => "InputObject",
+        let (interfaces, word) = match &definition.node.kind {
+            TypeKind::Scalar => (None, "Scalar"),
+            TypeKind::Object(object) => (Some(&object.implements), "Object"),
+            TypeKind::Interface(interface) => (Some(&interface.implements), "Interface"),
+            TypeKind::Union(_) => (None, "Union"),
+            TypeKind::Enum(_) => (None, "Enum"),
+            TypeKind::InputObject(_) => (None, "InputObject"),
         };
-        self.open(&format!("{word}Type{suffix}"), definition.pos);
-        self.description(description);
-        self.placed_name(name);
-        match kind {
-            TypeKind::Object(object) => self.named_types("interfaces", &object.implements),
-            TypeKind::Interface(interface) => self.named_types("interfaces", &interface.implements),
-            _ => {}
-        }
-        self.const_directives(directives);
+        let suffix = suffix(definition.node.extend);
+        self.node(&format!("{word}Type{suffix}"), definition, |json, node| {
+            json.described(&node.description, &node.name);
+            if let Some(interfaces) = interfaces {
+                json.named_types("interfaces", interfaces);
+            }
+            json.const_directives(&node.directives);
+            json.parts(&node.kind);
+        });
+    }
+
+    // The parts of a type, but for the interfaces.
+    fn parts(&mut self, kind: &TypeKind) {
         match kind {
             TypeKind::Scalar => {}
-            TypeKind::Object(object) => self.list("fields", &object.fields, Json::field_definition),
-            TypeKind::Interface(interface) => {
-                self.list("fields", &interface.fields, Json::field_definition);
+            TypeKind::Object(ObjectType { fields, .. })
+            | TypeKind::Interface(InterfaceType { fields, .. }) => {
+                self.list("fields", fields, Json::field_definition);
             }
             TypeKind::Union(union) => self.named_types("types", &union.members),
             TypeKind::Enum(values) => self.list("values", &values.values, |json, value| {
-                json.open("EnumValueDefinition", value.pos);
-                json.description(&value.node.description);
-                json.placed_name(&value.node.value);
-                json.const_directives(&value.node.directives);
-                json.add("}");
+                json.node("EnumValueDefinition", value, |json, node| {
+                    json.described(&node.description, &node.value);
+                    json.const_directives(&node.directives);
+                });
             }),
             TypeKind::InputObject(input) => self.list("fields", &input.fields, Json::input_value),
         }
-        self.add("}");
     }
 
     fn field_definition(&mut self, field: &Positioned<FieldDefinition>) {
-        let FieldDefinition {
-            description,
-            name,
-            arguments,
-            ty,
-            directives,
-        } = &field.node;
-        self.open("FieldDefinition", field.pos);
-        self.description(description);
-        self.placed_name(name);
-        self.list("arguments", arguments, Json::input_value);
-        self.ty(ty);
-        self.const_directives(directives);
-        self.add("}");
+        self.node("FieldDefinition", field, |json, node| {
+            json.described(&node.description, &node.name);
+            json.list("arguments", &node.arguments, Json::input_value);
+            json.ty(&node.ty);
+            json.const_directives(&node.directives);
+        });
     }
 
     fn input_value(&mut self, value: &Positioned<InputValueDefinition>) {
-        let InputValueDefinition {
-            description,
-            name,
-            ty,
-            default_value,
-            directives,
-        } = &value.node;
-        self.open("InputValueDefinition", value.pos);
-        self.description(description);
-        self.placed_name(name);
-        self.ty(ty);
-        self.default_value(default_value);
-        self.const_directives(directives);
-        self.add("}");
+        self.node("InputValueDefinition", value, |json, node| {
+            json.described(&node.description, &node.name);
+            json.ty(&node.ty);
+            json.default_value(&node.default_value);
+            json.const_directives(&node.directives);
+        });
+    }
+}
+
+// The end of the kind of a definition, or of an extension.
+fn suffix(extend: bool) -> &'static str {
+    if extend {
+        "Extension"
+    } else {
+        "Definition"
     }
 }
