@@ -28,7 +28,6 @@ enum Times {
     Once,
     AtMostOnce,
     Any,
-    AtLeastOnce,
 }
 
 // The name of a rule, or else a text; and how often it comes.
@@ -40,7 +39,7 @@ struct Grammar<'a>(HashMap<&'a str, Vec<Vec<Symbol<'a>>>>);
 impl<'a> Grammar<'a> {
     fn read(text: &'a str) -> Grammar<'a> {
         let rules = text.lines().filter_map(|line| line.split_once(" : "));
-        let choice = |text: &'a str| text.split_ascii_whitespace().map(symbol).collect();
+        let choice = |text: &'a str| text.split_ascii_whitespace().flat_map(symbols).collect();
         Grammar(
             rules
                 .map(|(name, choices)| (name.trim(), choices.split(" | ").map(choice).collect()))
@@ -75,39 +74,31 @@ impl<'a> Grammar<'a> {
                     left.extend([(part, Times::Any), (part, Times::Once)]);
                 }
                 Times::AtMostOnce | Times::Any => {}
-                Times::AtLeastOnce => left.extend([(part, Times::Any), (part, Times::Once)]),
             }
         }
         pieces
     }
 }
 
-fn symbol(word: &str) -> Symbol<'_> {
-    let marks = [
-        ('?', Times::AtMostOnce),
-        ('*', Times::Any),
-        ('+', Times::AtLeastOnce),
-    ];
-    let marked = marks
-        .into_iter()
-        .find_map(|(mark, times)| Some((word.strip_suffix(mark)?, times)));
-    marked.unwrap_or((word, Times::Once))
+// What a word of a choice stands for. A part that comes at least once is that part, and then the part any number of times.
+fn symbols(word: &str) -> Vec<Symbol<'_>> {
+    let part = word.trim_end_matches(['?', '*', '+']);
+    match &word[part.len()..] {
+        "?" => vec![(part, Times::AtMostOnce)],
+        "*" => vec![(part, Times::Any)],
+        "+" => vec![(part, Times::Once), (part, Times::Any)],
+        _ => vec![(word, Times::Once)],
+    }
 }
 
-// What stands between quotes; a few marks stand for characters that would not be seen.
+// What stands between quotes, or a byte order mark.
 fn meant(word: &str) -> &str {
-    let text = word
+    let quoted = word
         .strip_prefix('\'')
-        .and_then(|rest| rest.strip_suffix('\''))
-        .unwrap_or(word);
-    match text {
-        "␠" => " ",
-        "␉" => "\t",
-        "␊" => "\n",
-        "␍" => "\r",
-        "␀" => "\0",
+        .and_then(|rest| rest.strip_suffix('\''));
+    match quoted.unwrap_or(word) {
         "mark" => "\u{FEFF}",
-        _ => text,
+        text => text,
     }
 }
 
@@ -145,11 +136,13 @@ fn text(phrases: &Grammar, tokens: &Grammar, random: &mut Random) -> String {
     text + &spelling(tokens, random, "Ignored")
 }
 
-// A token of a kind, or the token itself where its kind has one spelling.
+// A token of a kind, or the token itself where its kind has one spelling. A few marks stand for characters that would not be
+// seen.
 fn spelling(tokens: &Grammar, random: &mut Random, kind: &str) -> String {
     let Some((kind, _)) = tokens.0.get_key_value(kind) else {
         return kind.to_owned();
     };
     let growth = random.below(TOKEN_GROWTH);
-    tokens.pieces(random, kind, growth).concat()
+    let text = tokens.pieces(random, kind, growth).concat();
+    tables::plain(&text).replace('␀', "\0")
 }

@@ -83,7 +83,8 @@ fn meant(text: &str) -> String {
     out
 }
 
-fn plain(text: &str) -> String {
+/// A text, with the characters that its marks stand for.
+pub fn plain(text: &str) -> String {
     let mark = |c| match c {
         '␊' => '\n',
         '␍' => '\r',
