@@ -56,7 +56,26 @@ typedef struct {
 #define TIMES_256(text) TIMES_16(TIMES_16(text))
 #define TIMES_4096(text) TIMES_16(TIMES_256(text))
 
+/* Rows that are the same of both languages. The limits are looked at first. Of what isn't UTF-8 there are a lone continuation
+ * byte, a word cut short, a surrogate and an overlong form (the Unicode Standard, section 3.9). */
+#define ROWS_OF(language) \
+    {language, "", 64, GRAPHQL_PARSER_SYNTAX, {{1, 1}, {0, 0}}, 0}, \
+    {language, NULL, 64, GRAPHQL_PARSER_SYNTAX, {{1, 1}, {0, 0}}, \
+     "{\"message\":\"syntax error at 1:1\",\"locations\":[{\"line\":1,\"column\":1}]}"}, \
+    {language, NULL, 257, GRAPHQL_PARSER_LIMIT_TOO_LARGE, NOWHERE, 0}, \
+    {language, "?", 257, GRAPHQL_PARSER_LIMIT_TOO_LARGE, NOWHERE, 0}, \
+    {language, "{a}\x80", 64, GRAPHQL_PARSER_NOT_UTF8, NOWHERE, 0}, \
+    {language, "{a}\x80", 257, GRAPHQL_PARSER_LIMIT_TOO_LARGE, NOWHERE, 0}, \
+    {language, "{a}#\xC3", 64, GRAPHQL_PARSER_NOT_UTF8, NOWHERE, 0}, \
+    {language, "{a}#\xE2\x82", 64, GRAPHQL_PARSER_NOT_UTF8, NOWHERE, 0}, \
+    {language, "#\xE2\x82", 64, GRAPHQL_PARSER_NOT_UTF8, NOWHERE, 0}, \
+    {language, "#\xED\xA0\x80", 64, GRAPHQL_PARSER_NOT_UTF8, NOWHERE, 0}, \
+    {language, "#\xC0\xAF", 64, GRAPHQL_PARSER_NOT_UTF8, NOWHERE, 0}, \
+    {language, "#\xC0\xAF", 257, GRAPHQL_PARSER_LIMIT_TOO_LARGE, NOWHERE, 0}
+
 static const row rows[] = {
+    ROWS_OF(&requests),
+    ROWS_OF(&schema_files),
     {&requests, "{a(b:\"\\u0000c\")}", 64, GRAPHQL_PARSER_ACCEPTED, NOWHERE,
      "{\"kind\":\"Document\",\"definitions\":[{\"kind\":\"OperationDefinition\",\"operation\":\"query\","
      "\"variableDefinitions\":[],\"directives\":[],\"selectionSet\":{\"kind\":\"SelectionSet\",\"selections\":["
@@ -88,11 +107,6 @@ static const row rows[] = {
      {{1, 22}, {1, 1}}, 0},
     {&requests, "fragment F on T{a}", 64, GRAPHQL_PARSER_MISSING_OPERATION, NOWHERE, 0},
     {&requests, "{a}", 257, GRAPHQL_PARSER_LIMIT_TOO_LARGE, NOWHERE, 0},
-    {&requests, "{a}#\xC3", 64, GRAPHQL_PARSER_NOT_UTF8, NOWHERE, 0},
-    {&requests, "", 64, GRAPHQL_PARSER_SYNTAX, {{1, 1}, {0, 0}}, 0},
-    {&requests, NULL, 64, GRAPHQL_PARSER_SYNTAX, {{1, 1}, {0, 0}},
-     "{\"message\":\"syntax error at 1:1\",\"locations\":[{\"line\":1,\"column\":1}]}"},
-    {&requests, NULL, 257, GRAPHQL_PARSER_LIMIT_TOO_LARGE, NOWHERE, 0},
     {&requests, "{a}", 256, GRAPHQL_PARSER_ACCEPTED, NOWHERE, 0},
     {&requests, "{a\n  ?}", 64, GRAPHQL_PARSER_SYNTAX, {{2, 3}, {0, 0}}, 0},
     {&requests, " ", 64, GRAPHQL_PARSER_SYNTAX, {{1, 2}, {0, 0}}, 0},
@@ -101,14 +115,6 @@ static const row rows[] = {
     {&requests, "{a}", 0, GRAPHQL_PARSER_ACCEPTED, NOWHERE, 0},
     {&requests, "{a(b:[1])}", 0, GRAPHQL_PARSER_RECURSION_LIMIT_EXCEEDED, NOWHERE, 0},
     {&requests, "query($a:[A]){a}", 0, GRAPHQL_PARSER_RECURSION_LIMIT_EXCEEDED, NOWHERE, 0},
-    /* A lone continuation byte, a word cut short, a surrogate and an overlong form (the Unicode Standard, section 3.9). */
-    {&requests, "{a}\x80", 64, GRAPHQL_PARSER_NOT_UTF8, NOWHERE, 0},
-    {&requests, "{a}#\xE2\x82", 64, GRAPHQL_PARSER_NOT_UTF8, NOWHERE, 0},
-    {&requests, "#\xED\xA0\x80", 64, GRAPHQL_PARSER_NOT_UTF8, NOWHERE, 0},
-    {&requests, "#\xC0\xAF", 64, GRAPHQL_PARSER_NOT_UTF8, NOWHERE, 0},
-    /* The limits are looked at first. */
-    {&requests, "{a}\x80", 257, GRAPHQL_PARSER_LIMIT_TOO_LARGE, NOWHERE, 0},
-    {&requests, "?", 257, GRAPHQL_PARSER_LIMIT_TOO_LARGE, NOWHERE, 0},
     {&schema_files, "scalar A", 64, GRAPHQL_PARSER_ACCEPTED, NOWHERE,
      "{\"kind\":\"Document\",\"definitions\":[{\"kind\":\"ScalarTypeDefinition\",\"name\":{\"kind\":\"Name\","
      "\"value\":\"A\"},\"directives\":[]}]}"},
@@ -124,19 +130,12 @@ static const row rows[] = {
     {&schema_files, "input A{f:B=1}", 0, GRAPHQL_PARSER_ACCEPTED, NOWHERE, 0},
     {&schema_files, "input A{f:B=[1]}", 0, GRAPHQL_PARSER_RECURSION_LIMIT_EXCEEDED, NOWHERE, 0},
     {&schema_files, "input A{f:[B]}", 0, GRAPHQL_PARSER_RECURSION_LIMIT_EXCEEDED, NOWHERE, 0},
-    {&schema_files, "{a}\x80", 64, GRAPHQL_PARSER_NOT_UTF8, NOWHERE, 0},
-    {&schema_files, "#\xE2\x82", 64, GRAPHQL_PARSER_NOT_UTF8, NOWHERE, 0},
-    {&schema_files, "#\xED\xA0\x80", 64, GRAPHQL_PARSER_NOT_UTF8, NOWHERE, 0},
-    {&schema_files, "#\xC0\xAF", 64, GRAPHQL_PARSER_NOT_UTF8, NOWHERE, 0},
-    {&schema_files, "#\xC0\xAF", 257, GRAPHQL_PARSER_LIMIT_TOO_LARGE, NOWHERE, 0},
     {&schema_files, "input A{f:" TIMES_64("[") "[", 64, GRAPHQL_PARSER_RECURSION_LIMIT_EXCEEDED, NOWHERE, 0},
     {&schema_files, "schema{query:A query:B}", 64, GRAPHQL_PARSER_MULTIPLE_ROOTS, {{1, 16}, {1, 1}}, 0},
     {&schema_files, "scalar A schema{mutation:M}", 64, GRAPHQL_PARSER_MISSING_QUERY_ROOT,
      {{1, 10}, {0, 0}}, 0},
     {&schema_files, "scalar A", 257, GRAPHQL_PARSER_LIMIT_TOO_LARGE, NOWHERE, 0},
     {&schema_files, "\"\xFF\" scalar A", 64, GRAPHQL_PARSER_NOT_UTF8, NOWHERE, 0},
-    {&schema_files, NULL, 64, GRAPHQL_PARSER_SYNTAX, {{1, 1}, {0, 0}},
-     "{\"message\":\"syntax error at 1:1\",\"locations\":[{\"line\":1,\"column\":1}]}"},
 };
 
 #define ROW_COUNT (sizeof rows / sizeof *rows)
