@@ -6,9 +6,9 @@ import doctest
 import json
 import multiprocessing
 import pickle
-import threading
 import unittest
 
+import four_threads
 import graphql_parser
 from graphql_parser import GraphQLError, Kind, _json, _library
 
@@ -220,11 +220,7 @@ class Calls(unittest.TestCase):
                     if error.places != [(1, 3)]:
                         wrong.append("places")
 
-        threads = [threading.Thread(target=rounds) for _ in range(4)]
-        for thread in threads:
-            thread.start()
-        for thread in threads:
-            thread.join()
+        four_threads.run(rounds)
         self.assertEqual(wrong, [])
 
     def test_the_examples_of_the_module(self):

@@ -17,6 +17,7 @@ import unittest
 import graphql
 from graphql.language import Node, Source, ast
 
+import four_threads
 import graphql_parser
 from graphql_parser import Kind, _library, _nodes
 
@@ -401,11 +402,7 @@ class Process(unittest.TestCase):
                 if found:
                     wrong.append(found)
 
-        threads = [threading.Thread(target=rounds) for _ in range(4)]
-        for thread in threads:
-            thread.start()
-        for thread in threads:
-            thread.join()
+        four_threads.run(rounds)
         self.assertEqual(wrong, [])
 
 
