@@ -13,17 +13,53 @@ use std::str;
 
 /// The tree of a request.
 pub(crate) fn request(bytes: &[u8]) -> Option<ExecutableDocument> {
-    let mut reader = Reader { rest: bytes };
-    let document = reader.request()?;
-    reader.rest.is_empty().then_some(document)
+    whole(bytes)
 }
 
 /// The tree of a schema file.
 pub(crate) fn schema_file(bytes: &[u8]) -> Option<ServiceDocument> {
-    let mut reader = Reader { rest: bytes };
-    let document = reader.schema_file()?;
-    reader.rest.is_empty().then_some(document)
+    whole(bytes)
 }
+
+// The part that all of the bytes are.
+fn whole<T: Part>(bytes: &[u8]) -> Option<T> {
+    let mut reader = Reader { rest: bytes };
+    let part = reader.part()?;
+    reader.rest.is_empty().then_some(part)
+}
+
+// What a tree is made of. Each part has a byte at least.
+trait Part: Sized {
+    fn read(reader: &mut Reader<'_>) -> Option<Self>;
+}
+
+/// Nodes whose parts stand one after the other, in this order.
+macro_rules! nodes {
+    ($($(#[$attribute:meta])* $node:ident { $($part:ident),* })*) => {$(
+        impl Part for $node {
+            $(#[$attribute])*
+            fn read(reader: &mut Reader<'_>) -> Option<$node> {
+                Some($node { $($part: reader.part()?),* })
+            }
+        }
+    )*};
+}
+
+/// Choices by their numbers, each with a part or without.
+macro_rules! choices {
+    ($($choice:ident { $($number:literal: $case:ident $(($part:ty))?),* })*) => {$(
+        impl Part for $choice {
+            fn read(reader: &mut Reader<'_>) -> Option<$choice> {
+                Some(match reader.choice()? {
+                    $($number => $choice::$case $((reader.part::<$part>()?))?,)*
+                    _ => return None,
+                })
+            }
+        }
+    )*};
+}
+
+use {choices, nodes};
 
 // The bytes that are left to be read.
 struct Reader<'a> {
@@ -31,21 +67,17 @@ struct Reader<'a> {
 }
 
 impl<'a> Reader<'a> {
+    #[inline(always)]
+    fn part<T: Part>(&mut self) -> Option<T> {
+        T::read(self)
+    }
+
     // The number of a choice.
     #[inline(always)]
     fn choice(&mut self) -> Option<u8> {
         let (number, rest) = self.rest.split_first()?;
         self.rest = rest;
         Some(*number)
-    }
-
-    #[inline(always)]
-    fn flag(&mut self) -> Option<bool> {
-        match self.choice()? {
-            0 => Some(false),
-            1 => Some(true),
-            _ => None,
-        }
     }
 
     #[inline(always)]
@@ -69,73 +101,96 @@ impl<'a> Reader<'a> {
     fn text(&mut self) -> Option<&'a str> {
         str::from_utf8(self.text_bytes()?.0).ok()
     }
+}
 
+impl Part for bool {
     #[inline(always)]
-    fn name(&mut self) -> Option<Name> {
-        let (text, from_there) = self.text_bytes()?;
+    fn read(reader: &mut Reader<'_>) -> Option<bool> {
+        match reader.choice()? {
+            0 => Some(false),
+            1 => Some(true),
+            _ => None,
+        }
+    }
+}
+
+impl Part for String {
+    fn read(reader: &mut Reader<'_>) -> Option<String> {
+        reader.text().map(str::to_owned)
+    }
+}
+
+impl Part for Name {
+    #[inline(always)]
+    fn read(reader: &mut Reader<'_>) -> Option<Name> {
+        let (text, from_there) = reader.text_bytes()?;
         Name::at_front(from_there, text.len())
     }
+}
 
+impl Part for Number {
     #[inline(always)]
-    fn literal(&mut self) -> Option<Number> {
-        let (text, from_there) = self.text_bytes()?;
+    fn read(reader: &mut Reader<'_>) -> Option<Number> {
+        let (text, from_there) = reader.text_bytes()?;
         Number::at_front(from_there, text.len())
     }
+}
 
-    fn string(&mut self) -> Option<String> {
-        self.text().map(str::to_owned)
-    }
-
+impl Part for Pos {
     #[inline(always)]
-    fn place(&mut self) -> Option<Pos> {
+    fn read(reader: &mut Reader<'_>) -> Option<Pos> {
         Some(Pos {
-            line: self.number()?,
-            column: self.number()?,
+            line: reader.number()?,
+            column: reader.number()?,
         })
     }
+}
 
-    // A node, behind its place.
+// A node stands behind its place.
+impl<T: Part> Part for Positioned<T> {
     #[inline(always)]
-    fn placed<T>(&mut self, node: impl FnOnce(&mut Self) -> Option<T>) -> Option<Positioned<T>> {
-        let pos = self.place()?;
-        Some(Positioned::new(node(self)?, pos))
+    fn read(reader: &mut Reader<'_>) -> Option<Positioned<T>> {
+        let pos = reader.part()?;
+        Some(Positioned::new(reader.part()?, pos))
     }
+}
 
-    // A part that may be missing.
+impl<T: Part, U: Part> Part for (T, U) {
     #[inline(always)]
-    fn optional<T>(&mut self, part: impl FnOnce(&mut Self) -> Option<T>) -> Option<Option<T>> {
-        match self.flag()? {
-            true => part(self).map(Some),
+    fn read(reader: &mut Reader<'_>) -> Option<(T, U)> {
+        Some((reader.part()?, reader.part()?))
+    }
+}
+
+// A part that may be missing.
+impl<T: Part> Part for Option<T> {
+    #[inline(always)]
+    fn read(reader: &mut Reader<'_>) -> Option<Option<T>> {
+        match reader.part()? {
+            true => reader.part().map(Some),
             false => Some(None),
         }
     }
+}
 
-    // The items of a list, each of which has a byte at least.
+impl<T: Part> Part for Box<T> {
+    fn read(reader: &mut Reader<'_>) -> Option<Box<T>> {
+        reader.part().map(Box::new)
+    }
+}
+
+impl<T: Part> Part for Vec<T> {
     #[inline(always)]
-    fn items<T>(&mut self, mut item: impl FnMut(&mut Self) -> Option<T>) -> Option<Vec<T>> {
-        let count = self.number()?;
-        if count > self.rest.len() {
+    fn read(reader: &mut Reader<'_>) -> Option<Vec<T>> {
+        let count = reader.number()?;
+        if count > reader.rest.len() {
             return None;
         }
         let mut items = Vec::with_capacity(count);
         for _ in 0..count {
-            items.push(item(self)?);
+            items.push(reader.part()?);
         }
         Some(items)
-    }
-
-    // The nodes of a list.
-    #[inline(always)]
-    fn nodes<T>(
-        &mut self,
-        mut node: impl FnMut(&mut Self) -> Option<T>,
-    ) -> Option<Vec<Positioned<T>>> {
-        self.items(|reader| reader.placed(&mut node))
-    }
-
-    #[inline(always)]
-    fn placed_name(&mut self) -> Option<Positioned<Name>> {
-        self.placed(Self::name)
     }
 }
 

@@ -1,118 +1,54 @@
 //! Requests.
-use super::Reader;
+use super::{choices, nodes, Part, Reader};
 use crate::pos::Positioned;
 use crate::types::{
     DocumentOperations, ExecutableDocument, Field, FragmentDefinition, FragmentSpread,
     InlineFragment, OperationDefinition, OperationType, Selection, SelectionSet, TypeCondition,
     VariableDefinition,
 };
-use crate::value::{Name, Value};
+use crate::value::Name;
 use std::collections::HashMap;
 
-impl Reader<'_> {
-    pub(super) fn request(&mut self) -> Option<ExecutableDocument> {
-        let operations = self.items(Self::named_operation)?;
-        let fragments = self.items(Self::named_fragment)?;
+nodes! {
+    OperationDefinition { ty, variable_definitions, directives, selection_set }
+    VariableDefinition { name, var_type, default_value, directives }
+    FragmentDefinition { type_condition, directives, selection_set }
+    TypeCondition { on }
+    SelectionSet { items }
+    #[inline(always)]
+    Field { alias, name, arguments, directives, selection_set }
+    FragmentSpread { fragment_name, directives }
+    InlineFragment { type_condition, directives, selection_set }
+}
+
+choices! {
+    OperationType { 0: Query, 1: Mutation, 2: Subscription }
+}
+
+impl Part for ExecutableDocument {
+    fn read(reader: &mut Reader<'_>) -> Option<ExecutableDocument> {
+        let operations = reader.part()?;
+        let fragments: Vec<(Name, Positioned<FragmentDefinition>)> = reader.part()?;
         Some(ExecutableDocument {
             operations: operations_of(operations),
             fragments: HashMap::from_iter(fragments),
         })
     }
+}
 
-    fn named_operation(&mut self) -> Option<(Option<Name>, Positioned<OperationDefinition>)> {
-        let name = self.optional(Self::name)?;
-        Some((name, self.placed(Self::operation)?))
-    }
-
-    fn operation(&mut self) -> Option<OperationDefinition> {
-        Some(OperationDefinition {
-            ty: match self.choice()? {
-                0 => OperationType::Query,
-                1 => OperationType::Mutation,
-                2 => OperationType::Subscription,
-                _ => return None,
-            },
-            variable_definitions: self.nodes(Self::variable_definition)?,
-            directives: self.directives::<Value>()?,
-            selection_set: self.selection_set()?,
-        })
-    }
-
-    fn variable_definition(&mut self) -> Option<VariableDefinition> {
-        let name = self.placed_name()?;
-        let var_type = self.placed(Self::type_reference)?;
-        let default_value = self.default_value()?;
-        let directives = self.directives::<Value>()?;
-        Some(VariableDefinition {
-            name,
-            var_type,
-            directives,
-            default_value,
-        })
-    }
-
-    fn named_fragment(&mut self) -> Option<(Name, Positioned<FragmentDefinition>)> {
-        let name = self.name()?;
-        Some((name, self.placed(Self::fragment)?))
-    }
-
-    fn fragment(&mut self) -> Option<FragmentDefinition> {
-        Some(FragmentDefinition {
-            type_condition: self.placed(Self::condition)?,
-            directives: self.directives::<Value>()?,
-            selection_set: self.selection_set()?,
-        })
-    }
-
-    fn condition(&mut self) -> Option<TypeCondition> {
-        let on = self.placed_name()?;
-        Some(TypeCondition { on })
-    }
-
-    fn selection_set(&mut self) -> Option<Positioned<SelectionSet>> {
-        let pos = self.place()?;
-        let items = self.items(Self::selection)?;
-        Some(Positioned::new(SelectionSet { items }, pos))
-    }
-
-    // The selection and the node in it stand at one place.
+// The selection and the node in it stand at one place.
+impl Part for Positioned<Selection> {
     #[inline(always)]
-    fn selection(&mut self) -> Option<Positioned<Selection>> {
-        let choice = self.choice()?;
-        let pos = self.place()?;
+    fn read(reader: &mut Reader<'_>) -> Option<Positioned<Selection>> {
+        let choice = reader.choice()?;
+        let pos = reader.part()?;
         let selection = match choice {
-            0 => Selection::Field(Positioned::new(self.field()?, pos)),
-            1 => Selection::FragmentSpread(Positioned::new(self.spread()?, pos)),
-            2 => Selection::InlineFragment(Positioned::new(self.inline_fragment()?, pos)),
+            0 => Selection::Field(Positioned::new(reader.part()?, pos)),
+            1 => Selection::FragmentSpread(Positioned::new(reader.part()?, pos)),
+            2 => Selection::InlineFragment(Positioned::new(reader.part()?, pos)),
             _ => return None,
         };
         Some(Positioned::new(selection, pos))
-    }
-
-    #[inline(always)]
-    fn field(&mut self) -> Option<Field> {
-        Some(Field {
-            alias: self.optional(Self::placed_name)?,
-            name: self.placed_name()?,
-            arguments: self.arguments()?,
-            directives: self.directives::<Value>()?,
-            selection_set: self.selection_set()?,
-        })
-    }
-
-    fn spread(&mut self) -> Option<FragmentSpread> {
-        Some(FragmentSpread {
-            fragment_name: self.placed_name()?,
-            directives: self.directives::<Value>()?,
-        })
-    }
-
-    fn inline_fragment(&mut self) -> Option<InlineFragment> {
-        Some(InlineFragment {
-            type_condition: self.optional(|reader| reader.placed(Self::condition))?,
-            directives: self.directives::<Value>()?,
-            selection_set: self.selection_set()?,
-        })
     }
 }
 

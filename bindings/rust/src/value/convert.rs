@@ -75,14 +75,12 @@ macro_rules! from_others {
     ($value:ident: $($integer:ty)*) => {
         /// Null.
         impl From<()> for $value {
-            #[inline]
             fn from((): ()) -> $value {
                 $value::Null
             }
         }
 
         impl From<Number> for $value {
-            #[inline]
             fn from(number: Number) -> $value {
                 $value::Number(number)
             }
@@ -102,7 +100,6 @@ macro_rules! from_others {
         }
 
         impl From<String> for $value {
-            #[inline]
             fn from(text: String) -> $value {
                 $value::String(text)
             }
@@ -115,7 +112,6 @@ macro_rules! from_others {
         }
 
         impl From<bool> for $value {
-            #[inline]
             fn from(value: bool) -> $value {
                 $value::Boolean(value)
             }
@@ -123,7 +119,6 @@ macro_rules! from_others {
 
         /// A value of an enum.
         impl From<Name> for $value {
-            #[inline]
             fn from(name: Name) -> $value {
                 $value::Enum(name)
             }
@@ -142,7 +137,6 @@ macro_rules! from_others {
         }
 
         impl From<IndexMap<Name, $value>> for $value {
-            #[inline]
             fn from(fields: IndexMap<Name, $value>) -> $value {
                 $value::Object(fields)
             }
