@@ -1,6 +1,7 @@
 """The package as pip installs it, and its types."""
 
 import ast
+import importlib
 import inspect
 import os
 import shutil
@@ -74,21 +75,27 @@ class Package(unittest.TestCase):
 class Types(unittest.TestCase):
     """The stub says what the module has."""
 
+    def setUp(self):
+        self.stub = ast.parse((HERE / "graphql_parser" / "__init__.pyi").read_text()).body
+        own = [node for node in self.stub if isinstance(node, ast.ImportFrom) and node.level]
+        self.imported = [(node.module, name) for node in own for name in node.names]
+
     def test_each_signature(self):
-        stub = ast.parse((HERE / "graphql_parser" / "__init__.pyi").read_text())
-        declared = {node.name: node for node in stub.body if isinstance(node, (ast.FunctionDef, ast.ClassDef))}
-        self.assertEqual(set(declared) | {"LARGEST_LIMIT"}, set(graphql_parser.__all__))
+        declared = {node.name: node for node in self.stub if isinstance(node, (ast.FunctionDef, ast.ClassDef))}
+        imported = {name.asname for _, name in self.imported}
+        self.assertEqual(set(declared) | imported | {"LARGEST_LIMIT"}, set(graphql_parser.__all__))
         for name, node in declared.items():
             if isinstance(node, ast.FunctionDef):
                 with self.subTest(name=name):
                     signature = inspect.signature(getattr(graphql_parser, name))
                     self.assertEqual(arguments_of(node), [(one.name, one.kind, one.default) for one in signature.parameters.values()])
 
-    def test_each_kind(self):
-        stub = ast.parse((HERE / "graphql_parser" / "__init__.pyi").read_text())
-        kinds = next(node for node in stub.body if isinstance(node, ast.ClassDef) and node.name == "Kind")
-        declared = {one.targets[0].id: one.value.value for one in kinds.body}
-        self.assertEqual(declared, {kind.name: int(kind) for kind in graphql_parser.Kind if not kind.name.startswith("OTHER_")})
+    def test_each_import(self):
+        self.assertIn("Kind", [name.asname for _, name in self.imported])
+        for module, name in self.imported:
+            with self.subTest(name=name.asname):
+                found = importlib.import_module(f"graphql_parser.{module}")
+                self.assertIs(getattr(found, name.name), getattr(graphql_parser, name.asname))
 
 
 def arguments_of(node):

@@ -1,23 +1,13 @@
-import enum
 from typing import Any, Dict, List, Optional, Tuple, Union
 
 from graphql.language import DocumentNode, Source
+
+from ._errors import Kind as Kind
 
 _Text = Union[str, bytes, bytearray, memoryview]
 
 __version__: str
 LARGEST_LIMIT: int
-
-class Kind(enum.IntEnum):
-    NOT_UTF8 = 2
-    SYNTAX = 4
-    RECURSION_LIMIT_EXCEEDED = 5
-    MULTIPLE_OPERATIONS = 6
-    OPERATION_DUPLICATED = 7
-    FRAGMENT_DUPLICATED = 8
-    MISSING_OPERATION = 9
-    MULTIPLE_ROOTS = 10
-    MISSING_QUERY_ROOT = 11
 
 class GraphQLError(ValueError):
     kind: Kind
