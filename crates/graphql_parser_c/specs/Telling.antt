@@ -54,6 +54,10 @@ IsBack text room told = (told.life ≡ text.life) × (told.at ≡ room.at)
 
 -- ---- what is told
 
+-- the parser's answer for a text, in a language and within limits
+abbrev pub AnswersText : {D Document : Type 0} → Language D Document → Limits → List ℕ → Result Document Error → Type 0
+AnswersText language limits text answer = (tokens : List Token) → IsCutInto text tokens → Answers language limits tokens answer
+
 -- why a text isn't read: a limit is too large, or else the text isn't UTF-8
 abbrev pub IsUnread : Limits → List ℕ → Status → Type 0
 IsUnread limits text status = (¬ IsAllowed limits × (status ≡ LimitTooLarge)) ⊎ (IsAllowed limits × (¬ IsUtf8 text) × (status ≡ NotUtf8))

@@ -1,21 +1,14 @@
 //! What the calls of both languages share.
-ghost use Rattle.std.specs.Prelude.{◌≡◌, List, IfOk};
+ghost use Rattle.std.specs.Prelude.{◌≡◌, IfOk};
 ghost use Rattle.graphql_json.specs.nodes.Nodes.{json_text};
-ghost use Rattle.graphql_json.specs.nodes.Requests.{request_value};
-ghost use Rattle.graphql_json.specs.nodes.Schemas.{schema_value};
-ghost use Rattle.graphql_packed.specs.packed.Requests.{request_bytes};
-ghost use Rattle.graphql_packed.specs.packed.Schemas.{schema_bytes};
-ghost use Rattle.graphql_parser.specs.answers.Answers.{Answers};
 ghost use Rattle.graphql_parser.specs.answers.Language.{Language as DocumentLanguage};
 ghost use Rattle.graphql_parser.specs.Checking.{checked};
 ghost use Rattle.graphql_parser.specs.requests.Request.{Definition as RequestDefinition};
 ghost use Rattle.graphql_parser.specs.requests.Requests.{requests};
 ghost use Rattle.graphql_parser.specs.schemas.SchemaFile.{Definition as SchemaDefinition};
 ghost use Rattle.graphql_parser.specs.schemas.Schemas.{schemas};
-ghost use Rattle.graphql_parser.specs.tokens.Cuts.{IsCutInto};
-ghost use Rattle.graphql_parser.specs.tokens.Token.{Token};
-ghost use Rattle.graphql_parser.specs.trees.RequestViews.{document_tree};
-ghost use Rattle.graphql_parser.specs.trees.SchemaViews.{schema_document_tree};
+ghost use Rattle.graphql_parser_c.specs.Documents.{executable_bytes, executable_value, service_bytes, service_value};
+ghost use Rattle.graphql_parser_c.specs.Telling.{AnswersText};
 
 use graphql_json::{Places, request_json, schema_json};
 use graphql_packed::{packed_request, packed_schema};
@@ -49,13 +42,11 @@ pub trait Document: Drop {
 
     /// Reads a text.
     fn read(memory: &mut Memory, text: &str, limits: Limits) -> Result<Self>
-        ensures { (tokens : List Token) → IsCutInto text.now tokens →
-            Answers Self.language limits tokens result };
+        ensures { AnswersText Self.language limits text.now result };
 
     /// Checks a text: the same, without a tree.
     fn check(memory: &mut Memory, text: &str, limits: Limits) -> Result<()>
-        ensures { (tokens : List Token) → IsCutInto text.now tokens →
-            Answers (checked Self.language) limits tokens result };
+        ensures { AnswersText (checked Self.language) limits text.now result };
 
     /// The tree as JSON.
     fn json(&self, alloc: Global, places: Places) -> std::result::Result<Vec<u8>, AllocError>
@@ -73,9 +64,9 @@ impl Document for ExecutableDocument {
 
     const LANGUAGE: Language = Language::Requests;
 
-    ghost value = { λ places document. request_value places (document_tree document) };
+    ghost value = { executable_value };
 
-    ghost bytes = { λ document. request_bytes (document_tree document) };
+    ghost bytes = { executable_bytes };
 
     fn read(memory: &mut Memory, text: &str, limits: Limits) -> Result<ExecutableDocument> {
         parse_query_within(memory, text, limits)
@@ -101,9 +92,9 @@ impl Document for ServiceDocument {
 
     const LANGUAGE: Language = Language::Schemas;
 
-    ghost value = { λ places document. schema_value places (schema_document_tree document) };
+    ghost value = { service_value };
 
-    ghost bytes = { λ document. schema_bytes (schema_document_tree document) };
+    ghost bytes = { service_bytes };
 
     fn read(memory: &mut Memory, text: &str, limits: Limits) -> Result<ServiceDocument> {
         parse_schema_within(memory, text, limits)

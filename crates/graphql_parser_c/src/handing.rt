@@ -1,28 +1,87 @@
-//! How a tree, or an error, is handed over as JSON.
-ghost use Rattle.std.specs.Prelude.{◌≡◌, ◌⊎◌, Err, IfOk, IsErr, Some, Result as SpecResult};
+//! What is handed over of a text, beside what is told of it.
+ghost use Rattle.std.specs.Prelude.{◌≡◌, ◌⊎◌, List, ℕ, Err, IfOk, IsErr, Result as SpecResult};
 ghost use Rattle.graphql_grammar.specs.declared.error.Error.{Error as SpecError};
 ghost use Rattle.graphql_grammar.specs.declared.error.Error.TheVariants.{OutOfMemory};
-ghost use Rattle.graphql_json.specs.nodes.Nodes.{json_text};
-ghost use Rattle.graphql_parser_c.specs.Handing.{IsHanded, IsAnswered, answer_value, places_asked};
+ghost use Rattle.graphql_parser.specs.answers.Language.{Language};
+ghost use Rattle.graphql_parser.specs.Checking.{checked};
+ghost use Rattle.graphql_parser_c.specs.Handing.{HandsOver, IsHanded, IsNothing};
 ghost use Rattle.graphql_parser_c.specs.Statuses.{number_of, status_of};
-ghost use Rattle.graphql_parser_c.specs.Telling.{IsTold, limits_of, places_of};
+ghost use Rattle.graphql_parser_c.specs.Telling.{AnswersText, IsTold, limits_of, places_of};
+ghost use Rattle.graphql_parser_c.specs.declared.block.Block.{Block as SpecBlock};
 
 use crate::block::Block;
 use crate::documents::Document;
 use crate::status::Status;
 use crate::telling::{Places, Question, ReadableText, tell};
-use graphql_json::error_json;
-use graphql_parser::{Error, Memory, Result};
+use graphql_parser::{Error, Limits, Memory, Result};
 use std::alloc::{AllocError, Global};
 
-/// Tells an answer and hands over what was made of it; or, where memory was refused to that, tells this alone and hands over
-/// nothing.
-pub fn hand_over<T>(
-    answer: &Result<T>,
-    made: std::result::Result<Block, AllocError>,
-    places: &mut Places,
-    block: &mut Block,
-) -> Status
+/// What is made to be handed over; an error says that memory was refused.
+pub type Made = std::result::Result<Block, AllocError>;
+
+/// What a call hands over of a text in the language of `D`.
+pub trait Handing<D: Document> {
+    /// What is kept of a text that is accepted.
+    type Kept: Drop;
+
+    // The tree of a definition.
+    ghost Tree: { Type 0 };
+
+    ghost language: { Language Self.Tree Self.Kept };
+
+    // What is handed over of the answer for a text.
+    ghost Hands: { Self → List ℕ → SpecResult Self.Kept SpecError → SpecBlock → Type 0 };
+
+    /// Reads a text.
+    fn read(memory: &mut Memory, text: &str, limits: Limits) -> Result<Self::Kept>
+        ensures { AnswersText Self.language limits text.now result };
+
+    /// Makes what is handed over of the answer for a text.
+    fn make(&self, alloc: Global, text: &str, limits: Limits, answer: &Result<Self::Kept>) -> Made
+        ensures { IfOk result (λ made. Self.Hands self.now text.now answer.now made) };
+}
+
+/// Hands over nothing: the text is checked alone.
+pub struct Nothing;
+
+impl<D: Document> Handing<D> for Nothing {
+    type Kept = ();
+
+    ghost Tree = { D.Tree };
+
+    ghost language = { checked D.language };
+
+    ghost Hands = { λ _ _ _ made. IsNothing made };
+
+    fn read(memory: &mut Memory, text: &str, limits: Limits) -> Result<()> {
+        D::check(memory, text, limits)
+    }
+
+    fn make(&self, _: Global, _: &str, _: Limits, _: &Result<()>) -> Made {
+        Ok(Block::nothing())
+    }
+}
+
+// What is handed over of an answer; an error says that memory was refused, to the parser or to what makes it.
+fn made_of<D: Document, H: Handing<D>>(
+    alloc: Global,
+    handing: &H,
+    text: &str,
+    limits: Limits,
+    answer: &Result<H::Kept>,
+) -> Made
+    ensures made { IfOk result (λ made. H.Hands handing.now text.now answer.now made) }
+    ensures memory { answer.now ≡ Err OutOfMemory → IsErr result }
+{
+    match answer {
+        Err(Error::OutOfMemory) => Err(AllocError),
+        _ => handing.make(alloc, text, limits, answer),
+    }
+}
+
+// Tells an answer and hands over what was made of it; or, where memory was refused to that, tells this alone and hands over
+// nothing.
+fn hand_over<T>(answer: &Result<T>, made: Made, places: &mut Places, block: &mut Block) -> Status
     requires { answer.now ≡ Err OutOfMemory → IsErr made }
     ensures told { (told : SpecResult T SpecError) ×
         ((told ≡ answer.now) ⊎ (told ≡ Err OutOfMemory)) × (result ≡ status_of told) ×
@@ -38,63 +97,32 @@ pub fn hand_over<T>(
     tell(answer, places)
 }
 
-// The JSON of an answer; an error says that memory was refused, to the parser or to the writer.
-fn written<D: Document>(
-    alloc: Global,
-    answer: &Result<D>,
-    with_places: bool,
-) -> std::result::Result<Vec<u8>, AllocError>
-    ensures text { IfOk result (λ json. json.items ≡
-        json_text (answer_value (D.value (places_asked with_places)) answer.now)) }
-    ensures memory { answer.now ≡ Err OutOfMemory → IsErr result }
-{
-    match answer {
-        Ok(document) if with_places => document.json(alloc, graphql_json::Places::Written),
-        Ok(document) => document.json(alloc, graphql_json::Places::LeftOut),
-        Err(Error::OutOfMemory) => Err(AllocError),
-        Err(error) => error_json(alloc, error),
-    }
-}
-
-// The same, in a block.
-fn json_of<D: Document>(
-    alloc: Global,
-    answer: &Result<D>,
-    with_places: bool,
-) -> std::result::Result<Block, AllocError>
-    ensures text { IfOk result (λ json. json.text ≡
-        Some (json_text (answer_value (D.value (places_asked with_places)) answer.now))) }
-    ensures memory { answer.now ≡ Err OutOfMemory → IsErr result }
-{
-    let json = written(alloc, answer, with_places)?;
-    Ok(Block::of(json.leak()))
-}
-
-/// Reads a text, tells the answer, and hands over its JSON; or tells why the text can't be read, and hands over nothing.
-pub fn parse<D: Document>(
+/// Reads a text, tells the answer, and hands over what is made of it; or tells why the text can't be read, and hands over
+/// nothing.
+pub fn answer<D: Document, H: Handing<D>>(
     alloc: Global,
     question: &Question<'_>,
-    with_places: bool,
+    handing: &H,
     places: &mut Places,
-    json: &mut Block,
+    handed: &mut Block,
 ) -> u32
-    ensures told { IsTold D.language
-        (limits_of question.now.selections question.now.values question.now.types)
+    ensures told { IsTold H.language
+        (limits_of question.now.bounds.0 question.now.bounds.1 question.now.bounds.2)
         question.now.text.now result places.new }
-    ensures handed { IsAnswered D.language (D.value (places_asked with_places))
-        (limits_of question.now.selections question.now.values question.now.types)
-        question.now.text.now result json.new }
+    ensures handed { HandsOver H.language (H.Hands handing.now question.now.text.now)
+        (limits_of question.now.bounds.0 question.now.bounds.1 question.now.bounds.2)
+        question.now.text.now result handed.new }
 {
     let ReadableText { text, limits } = match question.readable() {
         Ok(readable) => readable,
         Err(status) => {
             *places = Places::none();
-            *json = Block::nothing();
+            *handed = Block::nothing();
             return status.number();
         }
     };
-    let mut memory = Memory::with_budget(alloc, question.memory);
-    let answer = D::read(&mut memory, text, limits);
-    let made = json_of(alloc, &answer, with_places);
-    hand_over(&answer, made, places, json).number()
+    let mut memory = Memory::with_budget(alloc, question.bounds.3);
+    let answer = H::read(&mut memory, text, limits);
+    let made = made_of::<D, H>(alloc, handing, text, limits, &answer);
+    hand_over(&answer, made, places, handed).number()
 }

@@ -23,12 +23,7 @@ ghost use Rattle.std.specs.Prelude.{◌≡◌};
 ghost use Rattle.graphql_parser.specs.Checking.{checked};
 ghost use Rattle.graphql_parser.specs.requests.Requests.{requests};
 ghost use Rattle.graphql_parser.specs.schemas.Schemas.{schemas};
-ghost use Rattle.graphql_json.specs.nodes.Requests.{request_value};
-ghost use Rattle.graphql_json.specs.nodes.Schemas.{schema_value};
-ghost use Rattle.graphql_packed.specs.packed.Requests.{request_bytes};
-ghost use Rattle.graphql_packed.specs.packed.Schemas.{schema_bytes};
-ghost use Rattle.graphql_parser.specs.trees.RequestViews.{document_tree};
-ghost use Rattle.graphql_parser.specs.trees.SchemaViews.{schema_document_tree};
+ghost use Rattle.graphql_parser_c.specs.Documents.{executable_bytes, executable_value, service_bytes, service_value};
 ghost use Rattle.graphql_parser_c.specs.Explaining.{IsExplained};
 ghost use Rattle.graphql_parser_c.specs.Handing.{IsAnswered, places_asked};
 ghost use Rattle.graphql_parser_c.specs.Packing.{IsPacked};
@@ -43,13 +38,18 @@ mod lending;
 mod packing;
 mod status;
 mod telling;
+mod writing;
 
 pub use block::Block;
-use calls::{check_text, explain_text, pack_text, parse_text};
+use calls::{call, check};
+use explaining::Report;
 use graphql_parser::types::{ExecutableDocument, ServiceDocument};
 pub use lending::{Room, Text, Told};
+use packing::Packed;
 use std::alloc::Global;
+use telling::Bounds;
 pub use telling::{Place, Places};
+use writing::Json;
 
 /// The version of the library: its first number times 10000, its second times 100, and its third, together.
 #[unsafe(no_mangle)]
@@ -77,7 +77,8 @@ pub extern "C" fn graphql_parser_check_query(
         result.number result.places }
     ensures back { IsBack text places result }
 {
-    check_text::<ExecutableDocument>(alloc, text, selections, values, types, usize::MAX, places)
+    let bounds = Bounds(selections, values, types, usize::MAX);
+    check::<ExecutableDocument>(alloc, text, bounds, places)
 }
 
 /// Tells whether a text is a schema file, as [`graphql_parser_check_query`] does of a request.
@@ -96,7 +97,8 @@ pub extern "C" fn graphql_parser_check_schema(
         result.number result.places }
     ensures back { IsBack text places result }
 {
-    check_text::<ServiceDocument>(alloc, text, selections, values, types, usize::MAX, places)
+    let bounds = Bounds(selections, values, types, usize::MAX);
+    check::<ServiceDocument>(alloc, text, bounds, places)
 }
 
 /// Checks a request as [`graphql_parser_check_query`] does, and takes `memory` bytes at most, counted as `Memory` of
@@ -115,7 +117,8 @@ pub extern "C" fn graphql_parser_check_query_within(
         result.number result.places }
     ensures back { IsBack text places result }
 {
-    check_text::<ExecutableDocument>(alloc, text, selections, values, types, memory, places)
+    let bounds = Bounds(selections, values, types, memory);
+    check::<ExecutableDocument>(alloc, text, bounds, places)
 }
 
 /// Checks a schema file as [`graphql_parser_check_schema`] does, within a budget as [`graphql_parser_check_query_within`] has.
@@ -133,7 +136,8 @@ pub extern "C" fn graphql_parser_check_schema_within(
         result.number result.places }
     ensures back { IsBack text places result }
 {
-    check_text::<ServiceDocument>(alloc, text, selections, values, types, memory, places)
+    let bounds = Bounds(selections, values, types, memory);
+    check::<ServiceDocument>(alloc, text, bounds, places)
 }
 
 /// Reads a request as [`graphql_parser_check_query`] does, and hands over its tree as JSON, or its error.
@@ -155,22 +159,12 @@ pub extern "C" fn graphql_parser_parse_query(
 ) -> Told
     ensures told { IsTold requests (limits_of selections values types) text.bytes result.number
         result.places }
-    ensures handed { IsAnswered requests
-        (λ document. request_value (places_asked with_places) (document_tree document))
+    ensures handed { IsAnswered requests (executable_value (places_asked with_places))
         (limits_of selections values types) text.bytes result.number json.new }
     ensures back { IsBack text places result }
 {
-    parse_text::<ExecutableDocument>(
-        alloc,
-        text,
-        selections,
-        values,
-        types,
-        usize::MAX,
-        with_places,
-        places,
-        json,
-    )
+    let bounds = Bounds(selections, values, types, usize::MAX);
+    call::<ExecutableDocument, Json>(alloc, text, bounds, &Json { with_places }, places, json)
 }
 
 /// Reads a schema file as [`graphql_parser_check_schema`] does, and hands over its tree as JSON, or its error, as
@@ -188,22 +182,12 @@ pub extern "C" fn graphql_parser_parse_schema(
 ) -> Told
     ensures told { IsTold schemas (limits_of selections values types) text.bytes result.number
         result.places }
-    ensures handed { IsAnswered schemas
-        (λ document. schema_value (places_asked with_places) (schema_document_tree document))
+    ensures handed { IsAnswered schemas (service_value (places_asked with_places))
         (limits_of selections values types) text.bytes result.number json.new }
     ensures back { IsBack text places result }
 {
-    parse_text::<ServiceDocument>(
-        alloc,
-        text,
-        selections,
-        values,
-        types,
-        usize::MAX,
-        with_places,
-        places,
-        json,
-    )
+    let bounds = Bounds(selections, values, types, usize::MAX);
+    call::<ServiceDocument, Json>(alloc, text, bounds, &Json { with_places }, places, json)
 }
 
 /// Reads a request as [`graphql_parser_parse_query`] does, and takes `memory` bytes at most for its tree and what it reads
@@ -222,22 +206,12 @@ pub extern "C" fn graphql_parser_parse_query_within(
 ) -> Told
     ensures told { IsTold requests (limits_of selections values types) text.bytes result.number
         result.places }
-    ensures handed { IsAnswered requests
-        (λ document. request_value (places_asked with_places) (document_tree document))
+    ensures handed { IsAnswered requests (executable_value (places_asked with_places))
         (limits_of selections values types) text.bytes result.number json.new }
     ensures back { IsBack text places result }
 {
-    parse_text::<ExecutableDocument>(
-        alloc,
-        text,
-        selections,
-        values,
-        types,
-        memory,
-        with_places,
-        places,
-        json,
-    )
+    let bounds = Bounds(selections, values, types, memory);
+    call::<ExecutableDocument, Json>(alloc, text, bounds, &Json { with_places }, places, json)
 }
 
 /// Reads a schema file as [`graphql_parser_parse_schema`] does, within a budget as [`graphql_parser_parse_query_within`] has.
@@ -255,22 +229,12 @@ pub extern "C" fn graphql_parser_parse_schema_within(
 ) -> Told
     ensures told { IsTold schemas (limits_of selections values types) text.bytes result.number
         result.places }
-    ensures handed { IsAnswered schemas
-        (λ document. schema_value (places_asked with_places) (schema_document_tree document))
+    ensures handed { IsAnswered schemas (service_value (places_asked with_places))
         (limits_of selections values types) text.bytes result.number json.new }
     ensures back { IsBack text places result }
 {
-    parse_text::<ServiceDocument>(
-        alloc,
-        text,
-        selections,
-        values,
-        types,
-        memory,
-        with_places,
-        places,
-        json,
-    )
+    let bounds = Bounds(selections, values, types, memory);
+    call::<ServiceDocument, Json>(alloc, text, bounds, &Json { with_places }, places, json)
 }
 
 /// Checks a request as [`graphql_parser_check_query`] does, and hands over a report of its error for people.
@@ -295,16 +259,8 @@ pub extern "C" fn graphql_parser_explain_query(
         result.number report.new }
     ensures back { IsBack text places result }
 {
-    explain_text::<ExecutableDocument>(
-        alloc,
-        text,
-        selections,
-        values,
-        types,
-        usize::MAX,
-        places,
-        report,
-    )
+    let bounds = Bounds(selections, values, types, usize::MAX);
+    call::<ExecutableDocument, Report>(alloc, text, bounds, &Report, places, report)
 }
 
 /// Checks a schema file as [`graphql_parser_check_schema`] does, and hands over a report of its error for people, as
@@ -325,16 +281,8 @@ pub extern "C" fn graphql_parser_explain_schema(
         result.number report.new }
     ensures back { IsBack text places result }
 {
-    explain_text::<ServiceDocument>(
-        alloc,
-        text,
-        selections,
-        values,
-        types,
-        usize::MAX,
-        places,
-        report,
-    )
+    let bounds = Bounds(selections, values, types, usize::MAX);
+    call::<ServiceDocument, Report>(alloc, text, bounds, &Report, places, report)
 }
 
 /// Reads a request as [`graphql_parser_parse_query`] does, and hands over its tree as bytes for a wrapper.
@@ -354,20 +302,12 @@ pub extern "C" fn graphql_parser_pack_query(
 ) -> Told
     ensures told { IsTold requests (limits_of selections values types) text.bytes result.number
         result.places }
-    ensures handed { IsPacked requests (λ document. request_bytes (document_tree document))
+    ensures handed { IsPacked requests executable_bytes
         (limits_of selections values types) text.bytes result.number packed.new }
     ensures back { IsBack text places result }
 {
-    pack_text::<ExecutableDocument>(
-        alloc,
-        text,
-        selections,
-        values,
-        types,
-        usize::MAX,
-        places,
-        packed,
-    )
+    let bounds = Bounds(selections, values, types, usize::MAX);
+    call::<ExecutableDocument, Packed>(alloc, text, bounds, &Packed, places, packed)
 }
 
 /// Reads a schema file as [`graphql_parser_parse_schema`] does, and hands over its tree as bytes for a wrapper, as
@@ -384,18 +324,10 @@ pub extern "C" fn graphql_parser_pack_schema(
 ) -> Told
     ensures told { IsTold schemas (limits_of selections values types) text.bytes result.number
         result.places }
-    ensures handed { IsPacked schemas (λ document. schema_bytes (schema_document_tree document))
+    ensures handed { IsPacked schemas service_bytes
         (limits_of selections values types) text.bytes result.number packed.new }
     ensures back { IsBack text places result }
 {
-    pack_text::<ServiceDocument>(
-        alloc,
-        text,
-        selections,
-        values,
-        types,
-        usize::MAX,
-        places,
-        packed,
-    )
+    let bounds = Bounds(selections, values, types, usize::MAX);
+    call::<ServiceDocument, Packed>(alloc, text, bounds, &Packed, places, packed)
 }

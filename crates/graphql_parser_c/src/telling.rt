@@ -1,15 +1,12 @@
 //! How an answer is told: its status and its places.
 ghost use Rattle.std.specs.Prelude.{◌≡◌, MatchResult};
 ghost use Rattle.std.specs.Str.{IsUtf8};
-ghost use Rattle.graphql_parser.specs.Checking.{checked};
 ghost use Rattle.graphql_parser.specs.notation.Limits.{IsAllowed};
 ghost use Rattle.graphql_parser_c.specs.Statuses.{status_of};
-ghost use Rattle.graphql_parser_c.specs.Telling.{IsTold, IsUnread, limits_of, nowhere, place_of, places_of};
+ghost use Rattle.graphql_parser_c.specs.Telling.{IsUnread, limits_of, nowhere, place_of, places_of};
 
-use crate::documents::Document;
 use crate::status::{Status, status_of_error};
-use graphql_parser::{Limits, Memory, Pos, Result};
-use std::alloc::Global;
+use graphql_parser::{Limits, Pos, Result};
 
 /// A place in a text: the line and the column, both counted from 1, the column in characters (Unicode scalar values).
 /// 0:0 stands where there is no place.
@@ -57,15 +54,16 @@ impl Places {
     }
 }
 
-/// What a caller asks: the bytes of a text, how deep selection sets, values and types may nest, and how many bytes of memory
-/// the parser may take.
+/// What bounds a call: how deep selection sets, values and types may nest, in this order, and how many bytes of memory the
+/// parser may take.
+#[derive(Clone, Copy)]
+pub struct Bounds(pub usize, pub usize, pub usize, pub usize);
+
+/// What a caller asks: the bytes of a text, and what bounds the call.
 #[derive(Clone, Copy)]
 pub struct Question<'a> {
     pub text: &'a [u8],
-    pub selections: usize,
-    pub values: usize,
-    pub types: usize,
-    pub memory: usize,
+    pub bounds: Bounds,
 }
 
 /// A text that can be read, and the limits to read it within.
@@ -78,12 +76,13 @@ pub struct ReadableText<'a> {
 impl<'a> Question<'a> {
     /// The text and the limits, or the status that says why the text can't be read. The limits are looked at first.
     pub fn readable(&self) -> std::result::Result<ReadableText<'a>, Status>
-        ensures { let limits = limits_of self.now.selections self.now.values self.now.types in
+        ensures { let limits = limits_of self.now.bounds.0 self.now.bounds.1 self.now.bounds.2 in
             MatchResult result
             (λ r. (r.text.now ≡ self.now.text.now) × (r.limits ≡ limits) × IsAllowed limits ×
             IsUtf8 self.now.text.now) (λ status. IsUnread limits self.now.text.now status) }
     {
-        let Some(limits) = Limits::new(self.selections, self.values, self.types) else {
+        let Bounds(selections, values, types, _) = self.bounds;
+        let Some(limits) = Limits::new(selections, values, types) else {
             return Err(Status::LimitTooLarge);
         };
         let Ok(text) = std::str::from_utf8(self.text) else {
@@ -111,22 +110,4 @@ pub fn tell<D>(answer: &Result<D>, places: &mut Places) -> Status
             status_of_error(error)
         }
     }
-}
-
-/// Checks a text and tells the answer.
-pub fn check<D: Document>(alloc: Global, question: &Question<'_>, places: &mut Places) -> u32
-    ensures { IsTold (checked D.language)
-        (limits_of question.now.selections question.now.values question.now.types)
-        question.now.text.now result places.new }
-{
-    let ReadableText { text, limits } = match question.readable() {
-        Ok(readable) => readable,
-        Err(status) => {
-            *places = Places::none();
-            return status.number();
-        }
-    };
-    let mut memory = Memory::with_budget(alloc, question.memory);
-    let answer = D::check(&mut memory, text, limits);
-    tell(&answer, places).number()
 }

@@ -1,29 +1,29 @@
-use Rattle.std.proofs.Common.{◌≡◌, ℕ, List, Some, subst, sym, ap, ◌∙◌}
+use Rattle.std.proofs.Common.{ℕ, List, subst, sym, ap, ◌∙◌}
 use Rattle.std.specs.Prelude.{IfOk}
-use Rattle.graphql_json.specs.nodes.Nodes.{json_text}
 use Rattle.graphql_parser.specs.answers.Answers.{Answers}
 use Rattle.graphql_parser.specs.tokens.Cuts.{IsCutInto}
 use Rattle.graphql_parser.specs.tokens.Token.{Token}
-use Rattle.graphql_parser_c.specs.Handing.{IsHanded, answer_value, places_asked}
+use Rattle.graphql_parser_c.specs.Handing.{IsHanded}
 use Rattle.graphql_parser_c.specs.Statuses.{number_of}
 use Rattle.graphql_parser_c.proofs.Numbers.{number_told}
-use Rattle.graphql_parser_c.proofs.handing.parse.Goals as goal
+use Rattle.graphql_parser_c.proofs.handing.answer.Goals as goal
 
 pub returns-clause-handed : goal.returns-clause-handed
 returns-clause-handed g c =
-    let text : List ℕ = json_text (answer_value (g.D.Document.value (places_asked c.args.with_places)) c.read-answer.result) in
-    let Handed : ℕ → Type 0 = λ number. IsHanded c.json_of-made.result number c.hand_over.new.block in
+    let Hands = g.H.Handing.Hands c.args.handing.now in
+    let Handed : ℕ → Type 0 = λ number. IsHanded c.made_of-made.result number c.hand_over.new.block in
     let handed = subst Handed (sym c.number-2.ensures) c.hand_over.ensures.handed in
     let told = c.hand_over.ensures.told in
     let read = λ (tokens : List Token) (cut : IsCutInto c.args.question.now.text.now tokens).
-    subst (λ limits. Answers g.D.Document.language limits tokens c.read-answer.result) c.in-Ok.ensures.1
+    subst (λ limits. Answers g.H.Handing.language limits tokens c.read-answer.result) c.in-Ok.ensures.1
     (c.read-answer.ensures tokens (subst (λ t. IsCutInto t tokens) (sym c.in-Ok.ensures.0) cut)) in
+    let made = subst (λ (text : List ℕ). IfOk c.made_of-made.result (λ block. Hands text c.read-answer.result block)) c.in-Ok.ensures.0 c.made_of-made.ensures.made in
     record {
       nothing = handed.0;
       answer = λ says tokens cut. (
         c.read-answer.result,
         read tokens cut,
         number_told c.read-answer.result told.0 _ told.1 (c.number-2.ensures ∙ ap number_of told.2) says,
-        subst (λ made. IfOk made (λ json. json.text ≡ Some text)) (handed.1 says) c.json_of-made.ensures.text,
+        subst (λ made. IfOk made (λ block. Hands c.args.question.now.text.now c.read-answer.result block)) (handed.1 says) made,
       );
     }
