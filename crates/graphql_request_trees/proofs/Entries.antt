@@ -6,18 +6,15 @@ use Rattle.std.specs.Cmp.Lexicographic.{pointwise, nat_list_eq_equiv}
 use Rattle.graphql_syntax.specs.calls.Named.{named}
 use Rattle.graphql_tokens.specs.declared.pos.Positioned.{Positioned}
 use Rattle.graphql_syntax.specs.trees.Parts.{Name}
-use Rattle.graphql_syntax.proofs.Clones.{same_placed}
+use Rattle.graphql_syntax.proofs.Clones.{same_parts, same_placed}
 use Rattle.graphql_request_trees.specs.trees.RequestViews.{entry_tree}
 
 -- clones in a map, where a clone has the tree of its source
 module _ {D T : Type 0} (tree : D → T) (is_clone : D → D → Type 0) (same : (x y : D) → is_clone x y → tree y ≡ tree x) where
   pub same_entries : (es fs : List (Name × Positioned D)) → AllZip (λ x y. (y.0 ≡ x.0) × ((y.1.pos ≡ x.1.pos) × is_clone x.1.node y.1.node)) es fs →
       map (entry_tree tree) fs ≡ map (entry_tree tree) es
-  same_entries [] [] clones = refl
-  same_entries [] (f ∷ fs) clones = absurd clones
-  same_entries (e ∷ es) [] clones = absurd clones
-  same_entries (e ∷ es) (f ∷ fs) clones =
-      λ i. (clones.0.0 i, same_placed tree e.1 f.1 (clones.0.1.0, same e.1.node f.1.node clones.0.1.1) i) ∷ same_entries es fs clones.1 i
+  same_entries = same_parts (entry_tree tree) (λ e f. (f.0 ≡ e.0) × ((f.1.pos ≡ e.1.pos) × is_clone e.1.node f.1.node))
+      (λ e f clone i. (clone.0 i, same_placed tree e.1 f.1 (clone.1.0, same e.1.node f.1.node clone.1.1) i))
 
 same_either_way : (m n : List ℕ) → pointwise nat_eq m n ≡ pointwise nat_eq n m
 same_either_way m n = nat_list_eq_equiv.symm m n

@@ -1,12 +1,12 @@
 -- A derived clone, each of whose parts is a clone, has the tree of the whole.
-use Rattle.std.proofs.Common.{◌≡◌, List, [], ◌∷◌, map, refl}
+use Rattle.std.proofs.Common.{◌≡◌, List, map}
 use Rattle.std.specs.List.{AllZip}
 use Rattle.graphql_tokens.specs.declared.pos.Positioned.{Positioned}
 use Rattle.graphql_syntax.specs.trees.Parts.{Name, placed}
 use Rattle.graphql_syntax.specs.trees.PartViews.{directive_tree}
 use Rattle.graphql_syntax.specs.trees.TypeTree.{type_tree}
 use Rattle.graphql_syntax.specs.trees.ValueViews.{const_tree}
-use Rattle.graphql_syntax.proofs.Clones.{same_placed, same_node, same_list, same_option}
+use Rattle.graphql_syntax.proofs.Clones.{same_placed, same_node, same_list, same_option, same_trees}
 use Rattle.graphql_request_trees.specs.declared.executable.FragmentDefinition.{FragmentDefinition}
 use Rattle.graphql_request_trees.specs.declared.executable.FragmentSpread.{FragmentSpread}
 use Rattle.graphql_request_trees.specs.declared.executable.OperationDefinition.{OperationDefinition}
@@ -26,14 +26,6 @@ same_variable x y clone = λ i. record {
   default_value = same_option const_tree x.default_value y.default_value clone.1.1.1 i;
 }
 
-same_variables : (xs ys : List (Positioned VariableDefinition)) → AllZip (λ x y. (y.pos ≡ x.pos) × variable.is_clone-value.it x.node y.node) xs ys →
-    map (placed variable_definition_tree) ys ≡ map (placed variable_definition_tree) xs
-same_variables [] [] clones = refl
-same_variables [] (y ∷ ys) clones = absurd clones
-same_variables (x ∷ xs) [] clones = absurd clones
-same_variables (x ∷ xs) (y ∷ ys) clones =
-    λ i. same_placed variable_definition_tree x y (clones.0.0, same_variable x.node y.node clones.0.1) i ∷ same_variables xs ys clones.1 i
-
 pub same_spread : (x y : FragmentSpread) → spread.is_clone-value.it x y → fragment_spread_tree y ≡ fragment_spread_tree x
 same_spread x y clone = λ i. record {
   fragment_name = same_node x.fragment_name y.fragment_name clone.0 i;
@@ -43,7 +35,7 @@ same_spread x y clone = λ i. record {
 pub same_operation : (x y : OperationDefinition) → operation.is_clone-value.it x y → operation_tree y ≡ operation_tree x
 same_operation x y clone = λ i. record {
   ty = clone.0 i;
-  variable_definitions = same_variables x.variable_definitions.items y.variable_definitions.items clone.1.0.0 i;
+  variable_definitions = same_trees variable_definition_tree variable.is_clone-value.it same_variable x.variable_definitions.items y.variable_definitions.items clone.1.0.0 i;
   directives = same_list directive_tree x.directives.items y.directives.items clone.1.1.0.0 i;
   selection_set = same_placed selection_set_tree x.selection_set y.selection_set clone.1.1.1 i;
 }

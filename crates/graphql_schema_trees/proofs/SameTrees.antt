@@ -1,5 +1,5 @@
 -- A derived clone, each of whose parts is a clone, has the tree of the whole.
-use Rattle.std.proofs.Common.{◌≡◌, List, [], ◌∷◌, map, refl}
+use Rattle.std.proofs.Common.{◌≡◌, List, map}
 use Rattle.std.specs.List.{AllZip}
 use Rattle.std.specs.Prelude.{string_bytes}
 use Rattle.graphql_tokens.specs.declared.pos.Positioned.{Positioned}
@@ -7,7 +7,7 @@ use Rattle.graphql_syntax.specs.trees.Parts.{placed}
 use Rattle.graphql_syntax.specs.trees.PartViews.{const_directive_tree}
 use Rattle.graphql_syntax.specs.trees.TypeTree.{type_tree}
 use Rattle.graphql_syntax.specs.trees.ValueViews.{const_tree}
-use Rattle.graphql_syntax.proofs.Clones.{same_placed, same_node, same_list, same_nodes, same_option, same_optional_node}
+use Rattle.graphql_syntax.proofs.Clones.{same_placed, same_node, same_list, same_nodes, same_option, same_optional_node, same_trees}
 use Rattle.graphql_schema_trees.specs.declared.service.DirectiveDefinition.{DirectiveDefinition}
 use Rattle.graphql_schema_trees.specs.declared.service.EnumType.{EnumType}
 use Rattle.graphql_schema_trees.specs.declared.service.EnumValueDefinition.{EnumValueDefinition}
@@ -31,15 +31,6 @@ use Rattle.graphql_schema_trees.specs.contracts.service.SchemaDefinitionClone.Th
 use Rattle.graphql_schema_trees.specs.contracts.service.TypeDefinitionClone.TheImpl as type_definition
 use Rattle.graphql_schema_trees.specs.contracts.service.UnionTypeClone.TheImpl as union
 use Rattle.graphql_schema_trees.specs.trees.SchemaViews.{directive_definition_tree, enum_tree, enum_value_tree, field_definition_tree, input_object_tree, input_value_tree, interface_tree, object_tree, schema_definition_tree, type_definition_tree, union_tree}
-
--- clones in a list, where a clone has the tree of its source
-module _ {A B : Type 0} (tree : A → B) (is_clone : A → A → Type 0) (same : (x y : A) → is_clone x y → tree y ≡ tree x) where
-  same_trees : (xs ys : List (Positioned A)) → AllZip (λ x y. (y.pos ≡ x.pos) × is_clone x.node y.node) xs ys → map (placed tree) ys ≡ map (placed tree) xs
-  same_trees [] [] clones = refl
-  same_trees [] (y ∷ ys) clones = absurd clones
-  same_trees (x ∷ xs) [] clones = absurd clones
-  same_trees (x ∷ xs) (y ∷ ys) clones =
-      λ i. same_placed tree x y (clones.0.0, same x.node y.node clones.0.1) i ∷ same_trees xs ys clones.1 i
 
 -- ---- the parts of types
 

@@ -15,12 +15,26 @@ same_placed tree x y clone = λ i. record { pos = clone.0 i; node = clone.1 i }
 pub same_node : {A : Type 0} (x y : Positioned A) → IsClone (λ n. n) x y → y ≡ x
 same_node x y clone = λ i. record { pos = clone.0 i; node = clone.1 i }
 
+-- the same of lists, whatever makes the tree of a part
+pub same_parts : {A B : Type 0} (tree : A → B) (IsSame : A → A → Type 0) (same : (x y : A) → IsSame x y → tree y ≡ tree x) (xs ys : List A) → AllZip IsSame xs ys → map tree ys ≡ map tree xs
+same_parts tree IsSame same [] [] clones = refl
+same_parts tree IsSame same [] (y ∷ ys) clones = absurd clones
+same_parts tree IsSame same (x ∷ xs) [] clones = absurd clones
+same_parts tree IsSame same (x ∷ xs) (y ∷ ys) clones =
+    λ i. same x y clones.0 i ∷ same_parts tree IsSame same xs ys clones.1 i
+
 pub same_list : {A B : Type 0} (tree : A → B) (xs ys : List (Positioned A)) → AllZip (IsClone tree) xs ys → map (placed tree) ys ≡ map (placed tree) xs
-same_list tree [] [] clones = refl
-same_list tree [] (y ∷ ys) clones = absurd clones
-same_list tree (x ∷ xs) [] clones = absurd clones
-same_list tree (x ∷ xs) (y ∷ ys) clones =
-    λ i. same_placed tree x y clones.0 i ∷ same_list tree xs ys clones.1 i
+same_list tree = same_parts (placed tree) (IsClone tree) (same_placed tree)
+
+-- the same of a list of parts that have no place of their own
+pub same_all : {A B : Type 0} (tree : A → B) (xs ys : List A) → AllZip (λ x y. tree y ≡ tree x) xs ys → map tree ys ≡ map tree xs
+same_all tree = same_parts tree (λ x y. tree y ≡ tree x) (λ x y clone. clone)
+
+-- the same of a list whose nodes' clones are told by a relation of their own
+pub same_trees : {A B : Type 0} (tree : A → B) (is_clone : A → A → Type 0) (same : (x y : A) → is_clone x y → tree y ≡ tree x) (xs ys : List (Positioned A)) →
+    AllZip (λ x y. (y.pos ≡ x.pos) × is_clone x.node y.node) xs ys → map (placed tree) ys ≡ map (placed tree) xs
+same_trees tree is_clone same =
+    same_parts (placed tree) (λ x y. (y.pos ≡ x.pos) × is_clone x.node y.node) (λ x y clone. same_placed tree x y (clone.0, same x.node y.node clone.1))
 
 -- the same of a list of nodes that are plain data
 pub same_nodes : {A : Type 0} (xs ys : List (Positioned A)) → AllZip (IsClone (λ n. n)) xs ys → ys ≡ xs
@@ -28,13 +42,6 @@ same_nodes [] [] clones = refl
 same_nodes [] (y ∷ ys) clones = absurd clones
 same_nodes (x ∷ xs) [] clones = absurd clones
 same_nodes (x ∷ xs) (y ∷ ys) clones = λ i. same_node x y clones.0 i ∷ same_nodes xs ys clones.1 i
-
--- the same of a list of parts that have no place of their own
-pub same_all : {A B : Type 0} (tree : A → B) (xs ys : List A) → AllZip (λ x y. tree y ≡ tree x) xs ys → map tree ys ≡ map tree xs
-same_all tree [] [] clones = refl
-same_all tree [] (y ∷ ys) clones = absurd clones
-same_all tree (x ∷ xs) [] clones = absurd clones
-same_all tree (x ∷ xs) (y ∷ ys) clones = λ i. clones.0 i ∷ same_all tree xs ys clones.1 i
 
 -- the same of arguments
 module _ {V : Type 0} (tree : V → Tree) where
@@ -45,11 +52,7 @@ module _ {V : Type 0} (tree : V → Tree) where
   IsCloneOfArgument x y = IsClone (λ n. n) x.0 y.0 × IsClone tree x.1 y.1
 
   pub same_arguments : (xs ys : List (Positioned Name × Positioned V)) → AllZip IsCloneOfArgument xs ys → map argument ys ≡ map argument xs
-  same_arguments [] [] clones = refl
-  same_arguments [] (y ∷ ys) clones = absurd clones
-  same_arguments (x ∷ xs) [] clones = absurd clones
-  same_arguments (x ∷ xs) (y ∷ ys) clones =
-      λ i. (same_node x.0 y.0 clones.0.0 i, same_placed tree x.1 y.1 clones.0.1 i) ∷ same_arguments xs ys clones.1 i
+  same_arguments = same_parts argument IsCloneOfArgument (λ x y clone i. (same_node x.0 y.0 clone.0 i, same_placed tree x.1 y.1 clone.1 i))
 
 -- the same of what may be left out
 abbrev pub IsCloneOfOption : {A B : Type 0} → (A → B) → Option (Positioned A) → Option (Positioned A) → Type 0
