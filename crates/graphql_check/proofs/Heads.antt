@@ -1,5 +1,5 @@
 -- Selections up to their sets, part by part.
-use Rattle.std.proofs.Common.{◌≡◌, ℕ, Bool, true, Option, Some, is_some, List, ◌∷◌, Result, refl, ap, ◌∙◌}
+use Rattle.std.proofs.Common.{◌≡◌, ℕ, Bool, true, false, Option, Some, is_some, List, ◌∷◌, Result, refl, ap, ◌∙◌}
 use Rattle.graphql_tokens.specs.declared.pos.Pos.{Pos}
 use Rattle.graphql_tokens.specs.declared.pos.Positioned.{Positioned}
 use Rattle.graphql_tokens.specs.tokens.Token.{Token}
@@ -9,19 +9,20 @@ use Rattle.graphql_reading.specs.declared.parser.Refusal.{Refusal}
 use Rattle.graphql_reading.specs.grammar.Fronts.{Verdict}
 use Rattle.graphql_reading.specs.grammar.Places.{nowhere}
 use Rattle.graphql_reading.specs.grammar.Relations.{given}
-use Rattle.graphql_reading.specs.grammar.Tests.{punct}
+use Rattle.graphql_reading.specs.grammar.Tests.{punct, any_name}
 use Rattle.graphql_reading.specs.reading.Ahead.{Ahead, tokens}
 use Rattle.graphql_reading.specs.reading.Given.{Gives, GoesOn, Refuses}
-use Rattle.graphql_reading.specs.reading.Outcome.{Refused, Reader, one_at, then_at, mapped_at}
+use Rattle.graphql_reading.specs.reading.Outcome.{Read, Refused, Reader, one_at, then_at, mapped_at}
 use Rattle.graphql_grammar.specs.reading.Arguments.{maybe_arguments_at, directives_at}
 use Rattle.graphql_requests.specs.grammar.Selections.{fragment_name}
 use Rattle.graphql_requests.specs.reading.SelectionSteps.{Heading, Names, names_at, given_arguments_at, maybe_brace_at, bare_field, bare_inline, maybe_condition_at, field_head_at, inline_head_at, after_dots_at}
 use Rattle.graphql_reading.proofs.Loops.{go-on}
 use Rattle.graphql_reading.proofs.Steps.{gives-after}
+use Rattle.graphql_requests.proofs.SelectionProductions.{fragment-within}
 use Rattle.graphql_check.specs.Checked.{rest_of, Checks}
 use Rattle.graphql_check.specs.Heads.{entered, entered_at}
 use Rattle.graphql_check.proofs.Parts.{goes-as, stops-as}
-use Rattle.graphql_check.proofs.Rests.{ended, Passed}
+use Rattle.graphql_check.proofs.Rests.{ended, Passed, is-read}
 use Rattle.graphql_check.proofs.Straight.{ended-mapped, rest-mapped, mapped-twice, past, past-seen}
 
 -- ---- fields
@@ -90,5 +91,12 @@ module _ (values : ℕ) where
 
 -- ---- spreads
 
-pub spread-not : (values : ℕ) (nests : Bool) (t : Token) (ts rest : List Token) (v : Verdict) → fragment_name t.bare ≡ true → directives_at true values ts ≡ Refused v rest → ended (entered_at (after_dots_at values nests nowhere) (t ∷ ts)) ≡ Refused v rest
-spread-not values nests t ts rest v e h = rw (e, h) refl
+module _ (values : ℕ) (nests : Bool) (t : Token) (ts : List Token) (at : fragment_name t.bare ≡ true) where
+  named : any_name t.bare ≡ true
+  named = fragment-within.by t.bare at
+
+  pub spread-is : (rest : List Token) → rest_of (directives_at true values ts) ≡ Some rest → entered_at (after_dots_at values nests nowhere) (t ∷ ts) ≡ Read false rest
+  spread-is rest h = let read = is-read (directives_at true values ts) rest h in rw (at, named, read.is) refl
+
+  pub spread-not : (rest : List Token) (v : Verdict) → directives_at true values ts ≡ Refused v rest → ended (entered_at (after_dots_at values nests nowhere) (t ∷ ts)) ≡ Refused v rest
+  spread-not rest v h = rw (at, named, h) refl

@@ -12,7 +12,6 @@ pub mod Levels
 pub mod Open
 pub mod Values
 pub mod Strings
-pub mod TypeSteps
 pub mod Heads
 pub mod OpenSets
 pub mod Mapped

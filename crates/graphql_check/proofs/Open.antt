@@ -1,5 +1,5 @@
 -- What the loop over levels keeps, and each way on.
-use Rattle.std.proofs.Common.{◌≡◌, ℕ, suc, pred, ◌+◌, ◌<◌, ◌≤◌, Bool, List, [], ◌∷◌, ◌++◌, reverse, length, refl, sym, ap, ◌∙◌, Some, arith, length-append}
+use Rattle.std.proofs.Common.{◌≡◌, ℕ, suc, pred, ◌+◌, ◌<◌, ◌≤◌, Bool, List, [], ◌∷◌, ◌++◌, reverse, length, refl, sym, ap, ◌∙◌, arith, length-append}
 use Rattle.std.proofs.lemmas.List.{reverse-append}
 use Rattle.graphql_reading.specs.declared.parser.Refusal.{Refusal}
 use Rattle.graphql_reading.specs.declared.parser.Refusal.TheVariants.{Memory, Syntax, Limit}
@@ -9,9 +9,8 @@ use Rattle.graphql_reading.specs.reading.Given.{GoesOn, Refuses}
 use Rattle.graphql_reading.specs.reading.Outcome.{Outcome, Read, Refused, Reader, ◌>>=◌}
 use Rattle.graphql_reading.proofs.Loops.{go-on, stays}
 use Rattle.graphql_grammar.specs.reading.OpenValues.{open_rest}
-use Rattle.graphql_check.specs.Checked.{rest_of}
 use Rattle.graphql_check.specs.Levels.{opens, Met, closes, passes, enters, step_at}
-use Rattle.graphql_check.proofs.Rests.{ended, ended-read, ended-refused}
+use Rattle.graphql_check.proofs.Rests.{ended, ended-refused}
 use Rattle.graphql_check.proofs.Levels.{object-opens, rests, went, step-law, step-shorter}
 
 -- All that is read is, but for its tree, what is read to the end of all that is open; the levels that are open and
@@ -33,9 +32,6 @@ kept-first vars most initial first objects some is = record {
     go : {A : Type 0} (o : Outcome A) → ended o ≡ (ended o >>= λ _ rest. Read tt rest)
     go (Read t rest) = refl
     go (Refused v rest) = refl
-
-pub kept-ends : {Y : Type 0} {vars : Bool} {most : ℕ} {whole : Reader Y} {initial now : Ahead} {objects : List Bool} → Kept vars most whole initial now objects → objects ≡ [] → (rest_of (whole (tokens initial)) ≡ Some (tokens now)) × GoesOn initial now
-kept-ends {vars = vars} {now = now} kept none = (ended-read _ (tokens now) (kept.told ∙ ap (λ (l : List Bool). rests vars kept.left (reverse l) (tokens now)) none), kept.on)
 
 -- the innermost, and those around it
 reversed : (outer : List Bool) (object : Bool) → reverse (outer ++ object ∷ []) ≡ object ∷ reverse outer

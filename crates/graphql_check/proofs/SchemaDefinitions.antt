@@ -48,22 +48,22 @@ description-stands t ts text rest e = go (any_string t.bare) e
     go false e = text-stands any_block block_text t ts text rest e
 
 -- at the token that was in hand before its description
-stands : (t : Token) (ts : List Token) (description : Description) (word : Token) (after : List Token) → maybe_description_at (t ∷ ts) ≡ Read description (word ∷ after) → place_of description word ≡ t.pos
+stands : (t : Token) (ts : List Token) (description : Description) (word : Token) (after : List Token) → maybe_description_at (t ∷ ts) ≡ Read description (word ∷ after) → place_of description word.pos ≡ t.pos
 unfolding opt_at
 stands t ts description word after e = go (is_text t.bare) e
   where
-    there : (o : Outcome Text) → description_at (t ∷ ts) ≡ o → (o >>= λ a rest. Read (Some a) rest) ≡ Read description (word ∷ after) → place_of description word ≡ t.pos
+    there : (o : Outcome Text) → description_at (t ∷ ts) ≡ o → (o >>= λ a rest. Read (Some a) rest) ≡ Read description (word ∷ after) → place_of description word.pos ≡ t.pos
     there (Read text rest) is e =
         let same : description ≡ Some text = cc in
-        ap (λ (d : Description). place_of d word) same ∙ description-stands t ts text rest is
+        ap (λ (d : Description). place_of d word.pos) same ∙ description-stands t ts text rest is
     there (Refused v rest) is e = absurd cc
 
-    go : (b : Bool) → cond b (mapped_at Some description_at (t ∷ ts)) (Read None (t ∷ ts)) ≡ Read description (word ∷ after) → place_of description word ≡ t.pos
+    go : (b : Bool) → cond b (mapped_at Some description_at (t ∷ ts)) (Read None (t ∷ ts)) ≡ Read description (word ∷ after) → place_of description word.pos ≡ t.pos
     go true e = there (description_at (t ∷ ts)) refl e
     go false e =
         let none : description ≡ None = cc in
         let first : word ≡ t = cc in
-        ap (λ (d : Description). place_of d word) none ∙ ap (λ (w : Token). w.pos) first
+        ap (λ (d : Description). place_of d word.pos) none ∙ ap (λ (w : Token). w.pos) first
 
 -- the first token that is read
 first-word : {A : Type 0} (test : Test) (r : Reader A) (t : Token) (ts : List Token) (word : Token) (a : A) (rest : List Token) → then_at (one_at test) r (t ∷ ts) ≡ Read (word, a) rest → word ≡ t
@@ -114,7 +114,7 @@ described-schema limits old mid new roots breach h at read by =
     go description d (word, (directives, list)) m is =
         let first : word ≡ mid.hand = first-word (keyword "schema") (then_at (directives_at false limits.values) roots_at) mid.hand mid.after word (directives, list) (tokens new) m in
         let s : Positioned Schema = schema_of (description, (word, (directives, list))) in
-        let here : old.hand.pos ≡ s.pos = sym (ap (λ (w : Token). place_of description w) first ∙ stands old.hand old.after description mid.hand mid.after d) in
+        let here : old.hand.pos ≡ s.pos = sym (ap (λ (w : Token). place_of description w.pos) first ∙ stands old.hand old.after description mid.hand mid.after d) in
         made (breach_of []) (described_at limits) (tokens old) (schema s) (tokens new)
         (made with_description (then_at maybe_description_at (undescribed_at limits)) (tokens old) (description, of_schema (word, (directives, list))) (tokens new)
         (both maybe_description_at (undescribed_at limits) (tokens old) description (tokens mid) (of_schema (word, (directives, list))) (tokens new) d

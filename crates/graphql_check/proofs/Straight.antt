@@ -1,7 +1,6 @@
 -- What is left to read after the first of two readers has read, where its tree isn't kept.
 use Rattle.std.proofs.Common.{◌≡◌, List, Some, refl, sym, ap, ◌∙◌}
 use Rattle.graphql_tokens.specs.tokens.Token.{Token}
-use Rattle.graphql_reading.specs.grammar.Fronts.{Verdict}
 use Rattle.graphql_reading.specs.reading.Outcome.{Outcome, Read, Refused, Reader, ◌>>=◌, then_at, mapped_at}
 use Rattle.graphql_check.specs.Checked.{rest_of}
 use Rattle.graphql_check.proofs.Rests.{ended, is-read}
@@ -52,7 +51,3 @@ past-seen {A} {B} {C} g r s ts mid h =
     go : (a : A) (o : Outcome B) → seen (o >>= pair a) ≡ (o >>= λ b rest. Read (g b) rest)
     go a (Read b rest) = refl
     go a (Refused v rest) = refl
-
--- the first is refused
-pub refused-first : {A B : Type 0} (r : Reader A) (s : Reader B) (ts rest : List Token) (v : Verdict) → r ts ≡ Refused v rest → ended (then_at r s ts) ≡ Refused v rest
-refused-first {A} {B} r s ts rest v h = ap (λ (o : Outcome A). ended {Y = A × B} (o >>= λ a rest. s rest >>= λ b rest'. Read (a, b) rest')) h

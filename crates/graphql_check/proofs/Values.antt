@@ -1,5 +1,5 @@
 -- A value from its beginning.
-use Rattle.std.proofs.Common.{◌≡◌, ℕ, pred, ◌<◌, Bool, List, Option, Some, None, Result, refl, sym, ap, ◌∙◌}
+use Rattle.std.proofs.Common.{◌≡◌, ℕ, pred, Bool, List, Option, Some, None, Result, refl, sym, ap, ◌∙◌}
 use Rattle.graphql_tokens.specs.tokens.Token.{Token}
 use Rattle.graphql_reading.specs.declared.parser.Refusal.{Refusal}
 use Rattle.graphql_reading.specs.declared.parser.Refusal.TheVariants.{Memory, Syntax, Limit}
@@ -9,7 +9,7 @@ use Rattle.graphql_reading.specs.reading.Given.{GoesOn, Refuses}
 use Rattle.graphql_reading.specs.reading.Outcome.{Outcome, Read, Refused, ◌>>=◌}
 use Rattle.graphql_grammar.specs.reading.OpenValues.{Opened, node_of, enter_at, open_rest}
 use Rattle.graphql_grammar.specs.reading.Values.{simple_at, value_at}
-use Rattle.graphql_grammar.proofs.ValueFrames.{value-law, begun, entered}
+use Rattle.graphql_grammar.proofs.ValueFrames.{value-law, begun}
 use Rattle.graphql_check.specs.Checked.{Checks}
 use Rattle.graphql_check.proofs.Parts.{goes-as}
 use Rattle.graphql_check.proofs.Rests.{ended, ended-refused}
@@ -31,6 +31,3 @@ value-simple result vars b old mid new h = goes-as result old mid new (value_at 
 
 pub value-enters : {X : Type 0} (result : Result X Refusal) (vars : Bool) (b : ℕ) (old mid new : Ahead) (o : Opened) → enter_at b (tokens old) ≡ Read (Some o) (tokens mid) → GoesOn old mid → Checks result mid new (open_rest vars (pred b) o) → Checks result old new (value_at vars b)
 value-enters result vars b old mid new o h = goes-as result old mid new (value_at vars b) (open_rest vars (pred b) o) (begins vars b (tokens old) _ h)
-
-pub value-room : (b : ℕ) (old mid : Ahead) (o : Opened) → enter_at b (tokens old) ≡ Read (Some o) (tokens mid) → 0 < b
-value-room b old mid o h = (entered b (tokens old) o (tokens mid) h).0

@@ -7,4 +7,3 @@ pub mod Heads
 pub mod Levels
 pub mod RequestHeads
 pub mod Sorting
-pub mod Types

@@ -7,7 +7,7 @@ ghost use Rattle.graphql_syntax.specs.trees.Parts as trees;
 ghost use Rattle.graphql_grammar.specs.reading.Arguments.{argument_at, arguments_at, maybe_arguments_at, directive_at, directives_at, maybe_default_at};
 ghost use Rattle.graphql_reading.specs.grammar.Tests.{any_name, punct};
 
-use crate::production::{Phrase, check_any_number, check_bracketed};
+use crate::production::{Phrase, check_any_number, check_one_or_more};
 use crate::value::check_value;
 use graphql_reading::limits::Limits;
 use graphql_reading::parser::{Parser, Reading};
@@ -42,7 +42,10 @@ impl<const VARIABLES: bool> Phrase for ArgumentPhrase<VARIABLES> {
 fn check_arguments<const VARIABLES: bool>(parser: &mut Parser, limits: Limits) -> Reading<()>
     ensures { Checks result parser.old parser.new (arguments_at VARIABLES limits.values) }
 {
-    check_bracketed::<ArgumentPhrase<VARIABLES>>(parser, "(", ")", limits)
+    parser.expect_punct("(")?;
+    check_one_or_more::<ArgumentPhrase<VARIABLES>>(parser, limits)?;
+    parser.expect_punct(")")?;
+    Ok(())
 }
 
 /// `Arguments?`

@@ -17,7 +17,8 @@ use crate::variables::check_maybe_variable_definitions;
 use graphql_grammar::operations::read_operation_type;
 use graphql_reading::limits::Limits;
 use graphql_reading::parser::{Parser, Reading, Refusal};
-use graphql_requests::definitions::is_at_definition;
+use graphql_reading::production::Production;
+use graphql_requests::definitions::Definition;
 use graphql_requests::selections::is_at_fragment_name;
 use graphql_syntax::lexer::Token;
 use graphql_syntax::pos::Pos;
@@ -141,7 +142,7 @@ pub fn read_heads<'a>(parser: &mut Parser<'a>, limits: Limits) -> Reading<SmallV
     loop {
         let head = read_head(parser, limits)?;
         parser.push_small(&mut heads, head)?;
-        if !is_at_definition(parser) {
+        if !Definition::is_next(parser) {
             return Ok(heads);
         }
     }

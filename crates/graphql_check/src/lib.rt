@@ -14,7 +14,6 @@ ghost use Rattle.graphql_memory.specs.Memory.{Refused};
 ghost use Rattle.graphql_tokens.specs.tokens.Token.{left};
 ghost use Rattle.graphql_grammar.specs.answers.Reads.{ReadsText, ReadsTokens};
 ghost use Rattle.graphql_grammar.specs.declared.error.Error.TheVariants.{OutOfMemory};
-ghost use Rattle.graphql_grammar.specs.reading.DocumentOf.{IsDocumentOf};
 ghost use Rattle.graphql_reading.specs.grammar.Limits.{default_limits};
 ghost use Rattle.graphql_requests.specs.grammar.Request.{Definition as SpecDefinition};
 ghost use Rattle.graphql_requests.specs.grammar.Requests.{requests};
@@ -66,6 +65,7 @@ impl<'a> Kept<'a> for KeptHeads<'a> {
 
     fn read_all(parser: &mut Parser<'a>, limits: Limits) -> Reading<KeptHeads<'a>> {
         let items = read_heads(parser, limits)?;
+        parser.expect_end()?;
         Ok(KeptHeads { items })
     }
 

@@ -5,7 +5,7 @@ ghost use Rattle.std.specs.Prelude.{◌≡◌};
 ghost use Rattle.graphql_check.specs.Checked.{Checks};
 ghost use Rattle.graphql_reading.specs.grammar.Limits.{Limits as Budgets};
 ghost use Rattle.graphql_reading.specs.grammar.Tests.{Test};
-ghost use Rattle.graphql_reading.specs.reading.Outcome.{Reader, Takes, many_at, plus_at, between_at};
+ghost use Rattle.graphql_reading.specs.reading.Outcome.{Reader, Takes, many_at, plus_at, opt_at, between_at};
 ghost use Rattle.graphql_reading.specs.reading.Spelled.{punct_of};
 
 use graphql_reading::limits::Limits;
@@ -58,9 +58,10 @@ pub fn check_any_number<P: Phrase>(parser: &mut Parser, limits: Limits) -> Readi
     check_one_or_more::<P>(parser, limits)
 }
 
-/// Reads one phrase or more between two brackets.
+/// Reads one phrase or more with their brackets, where the first bracket is in hand; else none.
+#[tactic(auto, unfolding(graphql_reading::specs::reading::Outcome::opt_at))]
 #[inline(always)]
-pub fn check_bracketed<P: Phrase>(
+pub fn check_maybe_bracketed<P: Phrase>(
     parser: &mut Parser,
     opening: &str,
     closing: &str,
@@ -68,10 +69,12 @@ pub fn check_bracketed<P: Phrase>(
 ) -> Reading<()>
     requires { Takes (P.reader limits) }
     ensures { Checks result parser.old parser.new
-        (between_at (punct_of opening.now) (plus_at P.first (P.reader limits))
-        (punct_of closing.now)) }
+        (opt_at (punct_of opening.now) (between_at (punct_of opening.now)
+        (plus_at P.first (P.reader limits)) (punct_of closing.now))) }
 {
-    parser.expect_punct(opening)?;
+    if !parser.take_punct(opening) {
+        return Ok(());
+    }
     check_one_or_more::<P>(parser, limits)?;
     parser.expect_punct(closing)?;
     Ok(())

@@ -54,6 +54,7 @@ impl<'a> Kept<'a> for FirstBreach {
 
     fn read_all(parser: &mut Parser<'a>, limits: Limits) -> Reading<FirstBreach> {
         let breach = check_definitions(parser, limits)?;
+        parser.expect_end()?;
         Ok(FirstBreach { breach })
     }
 

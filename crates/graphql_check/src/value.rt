@@ -74,13 +74,11 @@ impl Levels {
 fn enter(parser: &mut Parser, left: usize) -> Reading<Option<bool>>
     ensures { Gives (option_map opens) result parser.old parser.new (enter_at left) }
 {
-    let object = if parser.is_at_punct("[") {
-        false
-    } else if parser.is_at_punct("{") {
-        true
-    } else {
+    let list = parser.is_at_punct("[");
+    let object = !list && parser.is_at_punct("{");
+    if !list && !object {
         return Ok(None);
-    };
+    }
     if left == 0 {
         return Err(Refusal::Limit);
     }

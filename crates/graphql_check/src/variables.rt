@@ -7,7 +7,7 @@ ghost use Rattle.graphql_reading.specs.reading.Outcome.{opt_at};
 ghost use Rattle.graphql_requests.specs.reading.Variables.{default_and_directives_at, variable_definition_at, variable_definitions_at};
 
 use crate::arguments::{check_directives, check_maybe_default};
-use crate::production::{Phrase, check_bracketed};
+use crate::production::{Phrase, check_maybe_bracketed};
 use crate::types::check_type;
 use graphql_reading::limits::Limits;
 use graphql_reading::parser::{Parser, Reading};
@@ -53,13 +53,9 @@ impl Phrase for VariablePhrase {
 /// Reads variable definitions with their brackets, where a `(` is in hand; else there are none.
 ///
 /// `VariableDefinitions? : ('(' VariableDefinition+ ')')?` (GraphQL October 2021, section 2.10)
-#[tactic(auto, unfolding(graphql_reading::specs::reading::Outcome::opt_at))]
 pub fn check_maybe_variable_definitions(parser: &mut Parser, limits: Limits) -> Reading<()>
     ensures { Checks result parser.old parser.new
         (opt_at (punct "(") (variable_definitions_at limits.values limits.types)) }
 {
-    if !parser.is_at_punct("(") {
-        return Ok(());
-    }
-    check_bracketed::<VariablePhrase>(parser, "(", ")", limits)
+    check_maybe_bracketed::<VariablePhrase>(parser, "(", ")", limits)
 }

@@ -1,5 +1,7 @@
 -- The fields of an object: pairs put in place one by one give the merged list.
-use Rattle.std.proofs.Common.{◌≡◌, ℕ, Bool, true, false, not, ◌&&◌, ◌||◌, cond, List, [], ◌∷◌, ◌++◌, map, refl, sym, ap, ap₂, ◌∙◌, subst, append_assoc, append-nil}
+use Rattle.std.proofs.Common.{◌≡◌, ℕ, ◌<◌, ◌≤◌, Bool, true, false, not, ◌&&◌, ◌||◌, cond, List, [], ◌∷◌, ◌++◌, map, length, take, drop, get_or, refl, sym, ap, ap₂, ◌∙◌, subst, append_assoc, append-nil, arith}
+use Rattle.std.proofs.lemmas.List.{take-append-drop}
+use Rattle.std.proofs.lemmas.List.Folds.{list_any-append, list_any_at}
 use Rattle.std.specs.Cmp.Lexicographic.{same_text}
 use Rattle.std.specs.List.{list_any}
 use Rattle.std.specs.Str.{bytes_eq}
@@ -80,6 +82,17 @@ merged-distinct [] e = refl
 merged-distinct {A} (p ∷ ps) e =
     let both = both-true (list_any (has_name p.0) ps) (are_distinct ps) e in
     ap₂ (λ (a : A) (l : List (List ℕ × A)). (p.0, a) ∷ l) (last-none p.0 p.1 ps both.0) (ap (without p.0) (merged-distinct ps both.1) ∙ without-none p.0 ps both.0)
+
+front-any : {A : Type 0} (p : A → Bool) (n : ℕ) (xs : List A) → list_any p (take n xs) ≡ true → list_any p xs ≡ true
+front-any p n xs e = ap (list_any p) (sym (take-append-drop n xs)) ∙ list_any-append p (take n xs) (drop n xs) ∙ ap (λ (b : Bool). b || list_any p (drop n xs)) e
+
+-- one of the others has the name of the first
+pub named-twice : {A : Type 0} (ps : List (List ℕ × A)) (n i : ℕ) (first other : List ℕ × A) → 1 ≤ length ps → first ≡ get_or ps 0 first → i < length (take n (drop 1 ps)) → other ≡ get_or (take n (drop 1 ps)) i other → true ≡ bytes_eq other.0 first.0 → false ≡ are_distinct ps
+named-twice [] n i first other some is within there same = absurd (omega (arith, some))
+named-twice {A} (p ∷ ps) n i first other some is within there same =
+    let here : has_name p.0 (get_or (take n ps) i other) ≡ true = ap (has_name p.0) (sym there) ∙ ap (λ (q : List ℕ × A). bytes_eq other.0 q.0) (sym is) ∙ sym same in
+    let any : list_any (has_name p.0) ps ≡ true = front-any (has_name p.0) n ps (list_any_at (has_name p.0) (take n ps) i other within here) in
+    rw any refl
 
 -- ---- values may be replaced before or after, as by the trees for which they stand
 

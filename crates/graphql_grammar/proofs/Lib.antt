@@ -19,4 +19,3 @@ pub mod OperationKinds
 pub mod Unbroken
 pub mod Breaches
 pub mod DistinctValues
-pub mod DirectiveParts

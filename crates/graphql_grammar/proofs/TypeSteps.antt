@@ -1,5 +1,5 @@
 -- Reading a type reference step by step gives what reading it level by level gives; and what the loops keep.
-use Rattle.std.proofs.Common.{◌≡◌, ℕ, zero, suc, ◌≤◌, ◌+◌, ◌-◌, Bool, true, false, cond, Option, List, [], ◌∷◌, refl, sym, ap, ◌∙◌, Result, Err, arith}
+use Rattle.std.proofs.Common.{◌≡◌, ℕ, zero, suc, ◌≤◌, ◌+◌, ◌-◌, Bool, true, false, cond, Option, List, [], ◌∷◌, refl, sym, ap, ◌∙◌, Err, arith}
 use Rattle.graphql_tokens.specs.declared.pos.Positioned.{Positioned}
 use Rattle.graphql_tokens.specs.tokens.Token.{Bare, Token}
 use Rattle.graphql_syntax.specs.trees.TypeTree.{TypeTree, named, list}
@@ -14,7 +14,7 @@ use Rattle.graphql_reading.specs.reading.Given.{Gives, GoesOn}
 use Rattle.graphql_reading.specs.reading.Outcome.{Outcome, Read, Refused, Reader, ◌>>=◌, one_at, then_at, mapped_at, deep_at, opt_at}
 use Rattle.graphql_grammar.specs.reading.Types.{mark_at, named_type_at, list_type_at, type_at}
 use Rattle.graphql_grammar.specs.reading.TypeSteps.{opens_at, nullable_at, named_at, close_at, closes_at, steps_at}
-use Rattle.graphql_reading.proofs.Loops.{go-on, stays, there}
+use Rattle.graphql_reading.proofs.Loops.{go-on}
 use Rattle.graphql_reading.proofs.Readers.{mapped-on, then-on, on-same, grouped}
 use Rattle.graphql_reading.proofs.TokenTests.{any_name-is}
 use Prim.Native.String.{String}
@@ -184,9 +184,6 @@ pub record Becomes {Y : Type 0} (r : Reader Y) (initial : Ahead) (s : Reader Y) 
   pub told : r (tokens initial) ≡ s (tokens now)
   pub on : GoesOn initial now
 
-pub becomes-itself : {Y : Type 0} (r : Reader Y) (initial : Ahead) → Becomes r initial r initial
-becomes-itself r initial = record { told = refl; on = stays initial }
-
 -- one more is open
 pub opens-goes : (n opened next : ℕ) (initial now after : Ahead) → Becomes (opens_at 0 n) initial (opens_at opened (n - opened)) now → next ≤ n → next ≡ opened + 1 → punct "[" now.hand.bare ≡ true → tokens after ≡ now.after → GoesOn now after → Becomes (opens_at 0 n) initial (opens_at next (n - next)) after
 opens-goes n opened next initial now after kept within more at left on =
@@ -207,32 +204,74 @@ opens-stops n opened initial now kept full at =
     let no-more : n - opened ≡ 0 = omega (arith, full) in
     (kept.told ∙ ap (λ (k : ℕ). opens_at opened k (tokens now)) no-more ∙ opens-full opened now.hand now.after at, kept.on)
 
--- one list closes
-pub closes-goes : (total left next : ℕ) (first item whole : TypeTree) (initial now after : Ahead) → Becomes (closes_at total first) initial (closes_at left item) now → left ≡ suc next → (close_at item (tokens now) ≡ Read whole (tokens after)) × GoesOn now after → Becomes (closes_at total first) initial (closes_at next whole) after
-unfolding closes_at
-closes-goes total left next first item whole initial now after kept more h = record {
-  told = kept.told ∙ ap (λ (k : ℕ). closes_at k item (tokens now)) more ∙ ap (λ (o : Outcome TypeTree). o >>= closes_at next) h.0;
-  on = go-on initial now after kept.on h.1;
-}
+-- ---- the whole
 
--- all are closed
-pub closes-ends : (total left : ℕ) (first item : TypeTree) (initial now : Ahead) → Becomes (closes_at total first) initial (closes_at left item) now → left ≡ 0 → (closes_at total first (tokens initial) ≡ Read item (tokens now)) × GoesOn initial now
-unfolding closes_at
-closes-ends total left first item initial now kept done = (kept.told ∙ ap (λ (k : ℕ). closes_at k item (tokens now)) done, kept.on)
+-- what closes so many lists, the inmost of this type, where the whole stands at this token
+abbrev pub closing_at : Token → ℕ → TypeTree → Reader (Positioned TypeTree)
+closing_at first opened item ts = closes_at opened item ts >>= set-at first
 
--- or there is no `]`
-module _ {X Y : Type 0} (bracket : X → Token) (view : Y → TypeTree) (total left next : ℕ) (first item : TypeTree) (initial now after : Ahead) (kept : Becomes (closes_at total first) initial (closes_at left item) now) (more : left ≡ suc next) where
-  closes-refused : (v : Verdict) → one_at (punct "]") (tokens now) ≡ Refused v (tokens after) → closes_at total first (tokens initial) ≡ Refused v (tokens after)
+abbrev after-opens : Token → ℕ → List Token → Outcome (Positioned TypeTree)
+after-opens first opened inside = named_at inside >>= closing_at first opened
+
+by-opens : (n : ℕ) (initial : Ahead) → type_at n (tokens initial) ≡ (opens_at 0 n (tokens initial) >>= after-opens initial.hand)
+by-opens n initial = sym (steps n (tokens initial))
+
+-- no more lists may open
+pub type-full : (n opened : ℕ) (initial now : Ahead) → Becomes (opens_at 0 n) initial (opens_at opened (n - opened)) now → opened ≡ n → punct "[" now.hand.bare ≡ true → (type_at n (tokens initial) ≡ Refused limit (tokens now)) × GoesOn initial now
+type-full n opened initial now kept full at =
+    let stops = opens-stops n opened initial now kept full at in
+    (by-opens n initial ∙ ap (λ (o : Outcome ℕ). o >>= after-opens initial.hand) stops.0, stops.1)
+
+module _ (n opened : ℕ) (initial mid : Ahead) (opens : Becomes (opens_at 0 n) initial (opens_at opened (n - opened)) mid) (at : punct "[" mid.hand.bare ≡ false) where
+  -- all are open
+  inmost : (type_at n (tokens initial) ≡ after-opens initial.hand opened (tokens mid)) × GoesOn initial mid
+  inmost =
+      let ends = opens-ends n opened initial mid opens at in
+      (by-opens n initial ∙ ap (λ (o : Outcome ℕ). o >>= after-opens initial.hand) ends.0, ends.1)
+
+  -- a name follows,
+  pub type-named : (left : ℕ) (item : TypeTree) (now : Ahead) → left ≡ opened → (named_at (tokens mid) ≡ Read item (tokens now)) × GoesOn mid now → Becomes (type_at n) initial (closing_at initial.hand left item) now
+  type-named left item now all h = record {
+    told = inmost.0 ∙ ap (λ (o : Outcome TypeTree). o >>= closing_at initial.hand opened) h.0 ∙ ap (λ (k : ℕ). closing_at initial.hand k item (tokens now)) (sym all);
+    on = go-on initial mid now inmost.1 h.1;
+  }
+
+  nameless : (v : Verdict) (now : Ahead) → one_at any_name (tokens mid) ≡ Refused v (tokens now) → type_at n (tokens initial) ≡ Refused v (tokens now)
+  nameless v now h =
+      let name : named_at (tokens mid) ≡ Refused v (tokens now) = rw h refl in
+      inmost.0 ∙ ap (λ (o : Outcome TypeTree). o >>= closing_at initial.hand opened) name
+
+  -- or there is none
+  pub type-nameless : {X Y : Type 0} (name : X → Token) (view : Y → Positioned TypeTree) (e : Refusal) (now : Ahead) → Gives name (Err e) mid now (one_at any_name) → Gives view (Err e) initial now (type_at n)
+  type-nameless name view Memory now h = (h.0, go-on initial mid now inmost.1 h.1)
+  type-nameless name view Syntax now h = (nameless syntax now h.0, go-on initial mid now inmost.1 h.1)
+  type-nameless name view Limit now h = (nameless limit now h.0, go-on initial mid now inmost.1 h.1)
+
+module _ (n left : ℕ) (item : TypeTree) (initial now : Ahead) (kept : Becomes (type_at n) initial (closing_at initial.hand left item) now) where
+  -- all are closed
+  pub type-ends : left ≡ 0 → (type_at n (tokens initial) ≡ Read (at initial.hand item) (tokens now)) × GoesOn initial now
   unfolding closes_at
-  closes-refused v h =
-      let close : close_at item (tokens now) ≡ Refused v (tokens after) = rw h refl in
-      kept.told ∙ ap (λ (k : ℕ). closes_at k item (tokens now)) more ∙ ap (λ (o : Outcome TypeTree). o >>= closes_at next) close
+  type-ends done = (kept.told ∙ ap (λ (k : ℕ). closing_at initial.hand k item (tokens now)) done, kept.on)
 
-  pub closes-stops : (e : Refusal) → Gives bracket (Err e) now after (one_at (punct "]")) → Gives view (Err e) initial after (closes_at total first)
-  closes-stops Memory h = (h.0, go-on initial now after kept.on h.1)
-  closes-stops Syntax h = (closes-refused syntax h.0, go-on initial now after kept.on h.1)
-  closes-stops Limit h = (closes-refused limit h.0, go-on initial now after kept.on h.1)
+  module _ (next : ℕ) (more : left ≡ suc next) where
+    one-more : type_at n (tokens initial) ≡ ((close_at item (tokens now) >>= closes_at next) >>= set-at initial.hand)
+    unfolding closes_at
+    one-more = kept.told ∙ ap (λ (k : ℕ). closing_at initial.hand k item (tokens now)) more
 
--- what is read in steps is read
-pub from-steps : {X : Type 0} (view : X → Positioned TypeTree) (result : Result X Refusal) (n : ℕ) (old new : Ahead) → Gives view result old new (steps_at n) → Gives view result old new (type_at n)
-from-steps view result n old new h = there view result old new (steps_at n) (type_at n) (steps n (tokens old)) h
+    -- one list closes,
+    pub type-closes : (whole : TypeTree) (after : Ahead) → (close_at item (tokens now) ≡ Read whole (tokens after)) × GoesOn now after → Becomes (type_at n) initial (closing_at initial.hand next whole) after
+    type-closes whole after h = record {
+      told = one-more ∙ ap (λ (o : Outcome TypeTree). (o >>= closes_at next) >>= set-at initial.hand) h.0;
+      on = go-on initial now after kept.on h.1;
+    }
+
+    unclosed : (v : Verdict) (after : Ahead) → one_at (punct "]") (tokens now) ≡ Refused v (tokens after) → type_at n (tokens initial) ≡ Refused v (tokens after)
+    unclosed v after h =
+        let close : close_at item (tokens now) ≡ Refused v (tokens after) = rw h refl in
+        one-more ∙ ap (λ (o : Outcome TypeTree). (o >>= closes_at next) >>= set-at initial.hand) close
+
+    -- or there is no `]`
+    pub type-unclosed : {X Y : Type 0} (bracket : X → Token) (view : Y → Positioned TypeTree) (e : Refusal) (after : Ahead) → Gives bracket (Err e) now after (one_at (punct "]")) → Gives view (Err e) initial after (type_at n)
+    type-unclosed bracket view Memory after h = (h.0, go-on initial now after kept.on h.1)
+    type-unclosed bracket view Syntax after h = (unclosed syntax after h.0, go-on initial now after kept.on h.1)
+    type-unclosed bracket view Limit after h = (unclosed limit after h.0, go-on initial now after kept.on h.1)

@@ -293,10 +293,10 @@ abbrev pub after-key : Bool → ℕ → List Field → Option (List ℕ) → Lis
 after-key vars b front None rest = Read (object_tree front) rest
 after-key vars b front (Some name) rest = filled vars b (object_waits front name) (node_at (value_at vars b) rest)
 
-abbrev with-colon : Token → Outcome Token → Outcome (Token × Token)
+abbrev pub with-colon : Token → Outcome Token → Outcome (Token × Token)
 with-colon n o = o >>= λ c rest. Read (n, c) rest
 
-abbrev keys : Outcome (Token × Token) → Outcome (Option (List ℕ))
+abbrev pub keys : Outcome (Token × Token) → Outcome (Option (List ℕ))
 keys o = o >>= λ x rest. Read (Some x.0.bare.spelling) rest
 
 pub object-law : (vars : Bool) (b : ℕ) (front : List Field) (ts : List Token) → object_rest vars b front ts ≡ (key_at ts >>= after-key vars b front)

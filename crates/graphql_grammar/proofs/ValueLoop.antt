@@ -1,5 +1,5 @@
 -- What the loop over frames keeps, and each way on.
-use Rattle.std.proofs.Common.{◌≡◌, ℕ, suc, pred, ◌+◌, ◌<◌, Bool, map, length, List, Option, Some, None, Result, Ok, Err, [], ◌∷◌, ◌++◌, sym, ap, ◌∙◌, subst, arith, length-append}
+use Rattle.std.proofs.Common.{◌≡◌, ℕ, suc, pred, ◌+◌, ◌-◌, ◌<◌, Bool, true, false, refl, map, length, List, Option, Some, None, Result, Ok, Err, [], ◌∷◌, ◌++◌, sym, ap, ◌∙◌, subst, arith, length-append}
 use Rattle.std.proofs.lemmas.List.{map_push}
 use Rattle.graphql_tokens.specs.declared.pos.Pos.{Pos}
 use Rattle.graphql_tokens.specs.declared.pos.Positioned.{Positioned}
@@ -13,12 +13,13 @@ use Rattle.graphql_grammar.specs.declared.value.frames.Frame.{Frame}
 use Rattle.graphql_reading.specs.grammar.Fronts.{Verdict, syntax, limit}
 use Rattle.graphql_reading.specs.grammar.Places.{at}
 use Rattle.graphql_reading.specs.reading.Ahead.{Ahead, Stays, tokens}
-use Rattle.graphql_grammar.specs.reading.OpenValues.{node_at, Opened, opened, Waiting, waiting, open_rest, add, resume, closes, enters, goes_on, enter_at, Met, MeetsAt, Meets}
+use Rattle.graphql_grammar.specs.reading.OpenValues.{node_of, node_at, Opened, opened, Waiting, waiting, open_rest, add, resume, closes, enters, goes_on, enter_at, Met, MeetsAt, Meets}
 use Rattle.graphql_reading.specs.reading.Given.{Gives, GoesOn, Refuses}
 use Rattle.graphql_reading.specs.reading.Outcome.{Outcome, Read, Refused, Reader, ◌>>=◌}
 use Rattle.graphql_grammar.specs.reading.Values.{simple_at, value_at}
-use Rattle.graphql_reading.proofs.Loops.{go-on, stays, ahead-stays, on-stays}
-use Rattle.graphql_grammar.proofs.ValueFrames.{value-law, begun, resume-refused, resume-push}
+use Rattle.graphql_reading.proofs.Loops.{go-on, ahead-stays, on-stays}
+use Rattle.graphql_grammar.proofs.Made.{refuses-made}
+use Rattle.graphql_grammar.proofs.ValueFrames.{value-law, begun, entered, resume-refused, resume-push}
 use Rattle.graphql_grammar.proofs.ValuePlaces.{value-placed}
 
 abbrev stack : {V : Type 0} → (V → Tree) → List (Frame V) → List Waiting
@@ -32,18 +33,29 @@ pub record Kept {V : Type 0} (tree : V → Tree) (vars : Bool) (most : ℕ) (who
   pub shared : suc left + length fs ≡ most
   pub on : GoesOn initial now
 
-pub kept-first : {V : Type 0} (tree : V → Tree) (vars : Bool) (most : ℕ) (initial : Ahead) (fs : List (Frame V)) (o : Open V) → 0 < most → fs ≡ [] → Kept tree vars most (open_rest vars (pred most) (opened tree o)) initial initial fs o
-kept-first tree vars most initial fs o some none = record {
+-- a list or an object begins, and none is around it
+pub kept-first : {V : Type 0} (tree : V → Tree) (vars : Bool) (most : ℕ) (old mid : Ahead) (fs : List (Frame V)) (o : Open V) → enter_at most (tokens old) ≡ Read (Some (opened tree o)) (tokens mid) → GoesOn old mid → fs ≡ [] → Kept tree vars most (node_at (value_at vars most)) old mid fs o
+kept-first tree vars most old mid fs o h on none = record {
   left = pred most;
-  told = ap (λ (l : List (Frame _)). resume vars (suc (pred most)) (stack tree l) (open_rest vars (pred most) (opened tree o) (tokens initial))) (sym none);
-  shared = let size : length fs ≡ 0 = ap length none in omega (arith, some, size);
-  on = stays initial;
+  told =
+      value-law vars most (tokens old)
+      ∙ ap (λ (r : Outcome (Option Opened)). r >>= begun vars most) h
+      ∙ ap (λ (l : List (Frame _)). resume vars (suc (pred most)) (stack tree l) (open_rest vars (pred most) (opened tree o) (tokens mid))) (sym none);
+  shared =
+      let some : 0 < most = (entered most (tokens old) (opened tree o) (tokens mid) h).0 in
+      let size : length fs ≡ 0 = ap length none in
+      omega (arith, some, size);
+  on = on;
 }
 
 module _ {V : Type 0} {tree : V → Tree} {vars : Bool} {most : ℕ} {whole : Reader Tree} {initial now : Ahead} {fs : List (Frame V)} {o : Open V} (k : Kept tree vars most whole initial now fs o) where
   -- the budget after the frames
   left-is : (left : ℕ) → left + length fs + 1 ≡ most → left ≡ k.left
   left-is left h = omega (arith, h, k.shared)
+
+  -- so many levels may open inside the innermost
+  pub room : (levels len : ℕ) → levels ≡ most → len ≡ length fs → levels - len - 1 + length fs + 1 ≡ most
+  room levels len same size = omega (arith, same, size, k.shared)
 
   -- memory was asked for
   pub kept-stays : (new : Ahead) → Stays now new → Kept tree vars most whole initial new fs o
@@ -96,6 +108,10 @@ module _ {V : Type 0} {tree : V → Tree} {vars : Bool} {most : ℕ} {whole : Re
         on = go-on initial now next k.on on;
       }
 
+  -- it is closed, and none is around it.
+  pub kept-closed : (left : ℕ) (t : Tree) (next : Ahead) → left + length fs + 1 ≡ most → fs ≡ [] → MeetsAt vars left (closes t) now next (open_rest vars left (opened tree o)) → whole (tokens initial) ≡ Read t (tokens next)
+  kept-closed left t next shared none m = goes left (closes t) next shared m ∙ ap (λ (l : List (Frame V)). resume vars (suc k.left) (stack tree l) (Read t (tokens next))) none
+
   -- what is refused inside is refused in all
   pub kept-stops : {X : Type 0} (left : ℕ) (view : X → Met) (e : Refusal) (next : Ahead) → left + length fs + 1 ≡ most → Meets vars left view (Err e) now next (open_rest vars left (opened tree o)) → Gives tree (Err e) initial next whole
   kept-stops left view e next shared meets = (by e meets.0, go-on initial now next k.on meets.1)
@@ -110,6 +126,10 @@ module _ {V : Type 0} {tree : V → Tree} {vars : Bool} {most : ℕ} {whole : Re
       by Memory h = h
       by Syntax h = refused syntax h
       by Limit h = refused limit h
+
+pub none-around : {A : Type 0} (outer : List A) → (0 < length outer → false ≡ true) → outer ≡ []
+none-around [] h = refl
+none-around (x ∷ xs) h = absurd (let some = h (omega arith) in cc)
 
 -- ---- a value from its beginning
 
@@ -134,10 +154,10 @@ value-stops tree part vars b old new e gives = (by e gives.0, gives.1)
 pub value-simple : {V : Type 0} (tree : V → Tree) (vars : Bool) (b : ℕ) (result : Result V Refusal) (old mid new : Ahead) → enter_at b (tokens old) ≡ Read None (tokens mid) → GoesOn old mid → Gives tree result mid new (node_at (simple_at vars)) → Gives tree result old new (node_at (value_at vars b))
 value-simple tree vars b result old mid new h = goes-as tree result old mid new (node_at (value_at vars b)) (node_at (simple_at vars)) (value-law vars b (tokens old) ∙ ap (λ (o : Outcome (Option Opened)). o >>= begun vars b) h)
 
-pub value-enters : {V : Type 0} (tree : V → Tree) (vars : Bool) (b : ℕ) (result : Result V Refusal) (old mid new : Ahead) (o : Opened) → enter_at b (tokens old) ≡ Read (Some o) (tokens mid) → GoesOn old mid → Gives tree result mid new (open_rest vars (pred b) o) → Gives tree result old new (node_at (value_at vars b))
-value-enters tree vars b result old mid new o h = goes-as tree result old mid new (node_at (value_at vars b)) (open_rest vars (pred b) o) (value-law vars b (tokens old) ∙ ap (λ (r : Outcome (Option Opened)). r >>= begun vars b) h)
-
 -- ---- a value with its place
+
+pub placed-stops : {V : Type 0} (tree : V → Tree) (vars : Bool) (b : ℕ) (old new : Ahead) (e : Refusal) → Gives tree (Err e) old new (node_at (value_at vars b)) → Gives (placed tree) (Err e) old new (value_at vars b)
+placed-stops tree vars b old new e h = (refuses-made node_of (value_at vars b) e old new h.0, h.1)
 
 pub value-stands : {V : Type 0} (tree : V → Tree) (vars : Bool) (b : ℕ) (old new : Ahead) (p : Positioned V) → p.pos ≡ old.hand.pos → node_at (value_at vars b) (tokens old) ≡ Read (tree p.node) (tokens new) → value_at vars b (tokens old) ≡ Read (placed tree p) (tokens new)
 value-stands tree vars b old new p e h =

@@ -6,7 +6,7 @@ ghost use Rattle.graphql_syntax.specs.trees.Parts as trees;
 ghost use Rattle.graphql_syntax.specs.trees.PartViews.{directive_tree, const_directive_tree};
 ghost use Rattle.graphql_syntax.specs.trees.ValueViews.{const_tree};
 ghost use Rattle.graphql_grammar.specs.reading.ArgumentViews.{in_argument};
-ghost use Rattle.graphql_grammar.specs.reading.Arguments.{argument_at, arguments_at, maybe_arguments_at, directive_at, directives_at, maybe_default_at};
+ghost use Rattle.graphql_grammar.specs.reading.Arguments.{argument_at, maybe_arguments_at, directive_at, directives_at, maybe_default_at};
 ghost use Rattle.graphql_reading.specs.grammar.Relations.{given};
 ghost use Rattle.graphql_reading.specs.grammar.Tests.{any_name, punct};
 ghost use Rattle.graphql_reading.specs.reading.Given.{Gives, trees_in};
@@ -14,9 +14,9 @@ ghost use Rattle.graphql_reading.specs.reading.Outcome.{mapped_at};
 
 use crate::value::read_value;
 use graphql_reading::limits::Limits;
-use graphql_reading::names::name_in;
+use graphql_reading::names::read_name;
 use graphql_reading::parser::{Parser, Reading};
-use graphql_reading::production::{Production, any_number, bracketed};
+use graphql_reading::production::{Production, any_number, maybe_bracketed};
 use graphql_syntax::pos::Positioned;
 use graphql_syntax::types::{ConstDirective, Directive};
 use graphql_syntax::value::{ConstValue, Literal, Name, Value};
@@ -77,41 +77,22 @@ impl<V: Literal> Production for ArgumentPhrase<V> {
     }
 
     fn read(parser: &mut Parser, limits: Limits) -> Reading<(Positioned<Name>, Positioned<V>)> {
-        let token = parser.expect_name()?;
-        let name = name_in(parser, token)?;
+        let name = read_name(parser)?;
         parser.expect_punct(":")?;
         let value = read_value(parser, limits)?;
         Ok((name, value))
     }
 }
 
-/// Reads arguments with their brackets, in source order.
+/// Reads arguments with their brackets, in source order, where a `(` is in hand; else there are none.
 ///
-/// `Arguments : '(' Argument+ ')'` (GraphQL October 2021, section 2.6)
-#[inline(never)]
-pub fn read_arguments<V: Literal>(parser: &mut Parser, limits: Limits) -> Reading<Arguments<V>>
-    ensures { Gives (trees_in (in_argument V.tree)) result parser.old parser.new
-        (arguments_at V.VARIABLES limits.values) }
-{
-    bracketed::<ArgumentPhrase<V>>(parser, "(", ")", limits)
-}
-
-/// Reads arguments with their brackets, where a `(` is in hand; else there are none.
-///
-/// `Arguments?`
-#[tactic(auto, unfolding(graphql_reading::specs::reading::Outcome::opt_at))]
+/// `Arguments? : ('(' Argument+ ')')?` (GraphQL October 2021, section 2.6)
 #[inline(always)]
-pub fn read_maybe_arguments<V: Literal>(
-    parser: &mut Parser,
-    limits: Limits,
-) -> Reading<Arguments<V>>
+pub fn read_arguments<V: Literal>(parser: &mut Parser, limits: Limits) -> Reading<Arguments<V>>
     ensures { Gives (trees_in (in_argument V.tree)) result parser.old parser.new
         (mapped_at given (maybe_arguments_at V.VARIABLES limits.values)) }
 {
-    if !parser.is_at_punct("(") {
-        return Ok(parser.empty_list());
-    }
-    read_arguments(parser, limits)
+    maybe_bracketed::<ArgumentPhrase<V>>(parser, "(", ")", limits)
 }
 
 /// `Directive : '@' Name Arguments?`, as a node of the type `D`, with values of the type `V`.
@@ -136,9 +117,8 @@ impl<D: DirectiveNode<V>, V: Literal> Production for DirectivePhrase<D, V> {
     #[inline(never)]
     fn read(parser: &mut Parser, limits: Limits) -> Reading<Positioned<D>> {
         let sign = parser.expect_punct("@")?;
-        let token = parser.expect_name()?;
-        let name = name_in(parser, token)?;
-        let arguments = read_maybe_arguments::<V>(parser, limits)?;
+        let name = read_name(parser)?;
+        let arguments = read_arguments::<V>(parser, limits)?;
         Ok(Positioned::new(D::new(name, arguments), sign.pos))
     }
 }

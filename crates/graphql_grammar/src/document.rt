@@ -8,7 +8,7 @@ ghost use Rattle.graphql_grammar.specs.declared.error.Error.TheVariants.{OutOfMe
 ghost use Rattle.graphql_grammar.specs.reading.DocumentOf.{IsDocumentOf};
 ghost use Rattle.graphql_grammar.specs.reading.ReadBy.{IsReadBy};
 ghost use Rattle.graphql_reading.specs.grammar.Limits.{Limits as SpecLimits};
-ghost use Rattle.graphql_reading.specs.reading.Given.{Gives, GivesWhole};
+ghost use Rattle.graphql_reading.specs.reading.Given.{GivesWhole};
 ghost use Rattle.graphql_reading.specs.reading.Outcome.{Reader, mapped_at, whole_at};
 
 use crate::error::Result;
@@ -38,13 +38,13 @@ pub trait Kept<'a>: Drop {
     // The language of the definitions.
     ghost language: { Language Self.Tree Self.Document };
 
-    // How they are read from a list of tokens, up to its end.
+    // How they are read from a list of tokens.
     ghost reader: { SpecLimits → Reader (List Self.Tree) };
 
-    /// Reads the definitions of a text, up to its end.
+    /// Reads the definitions of a text, and its end, which stays in hand.
     fn read_all(parser: &mut Parser<'a>, limits: Limits) -> Reading<Self>
-        ensures { Gives Self.kept result parser.old parser.new
-            (mapped_at Self.sum (Self.reader limits)) };
+        ensures { GivesWhole Self.kept result parser.old parser.new
+            (mapped_at Self.sum (whole_at (Self.reader limits))) };
 
     /// The document of the definitions, or the first of the rules that they break, in source order.
     fn into_document(self, memory: &mut Memory) -> Result<Self::Document>
@@ -52,15 +52,6 @@ pub trait Kept<'a>: Drop {
             IsDocumentOf Self.language ds result }
         ensures refused { (ds : List Self.Tree) → Self.kept self ≡ Self.sum ds →
             result ≡ Err OutOfMemory → Refused memory.new };
-}
-
-fn read_whole<'a, K: Kept<'a>>(parser: &mut Parser<'a>, limits: Limits) -> Reading<K>
-    ensures { GivesWhole K.kept result parser.old parser.new
-        (mapped_at K.sum (whole_at (K.reader limits))) }
-{
-    let kept = K::read_all(parser, limits)?;
-    parser.expect_end()?;
-    Ok(kept)
 }
 
 /// Reads the tokens that are left as a document.
@@ -81,7 +72,7 @@ pub fn read_document<'a, K: Kept<'a>>(
         mem::replace(memory, Memory::new(heap)),
         mem::replace(tokens, Tokens::new("")),
     );
-    let read = read_whole::<K>(&mut parser, limits);
+    let read = K::read_all(&mut parser, limits);
     let place = parser.hand().pos;
     let (left, given) = parser.into_parts();
     *tokens = left;

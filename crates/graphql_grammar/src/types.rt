@@ -2,7 +2,6 @@
 ghost use Rattle.graphql_syntax.specs.trees.Parts.{placed};
 ghost use Rattle.graphql_syntax.specs.trees.TypeTree.{type_tree};
 ghost use Rattle.graphql_reading.specs.reading.Given.{Gives};
-ghost use Rattle.graphql_grammar.specs.reading.TypeSteps.{opens_at, closes_at};
 ghost use Rattle.graphql_grammar.specs.reading.Types.{type_at};
 
 use graphql_reading::limits::Limits;
@@ -10,12 +9,14 @@ use graphql_reading::parser::{Parser, Reading, Refusal};
 use graphql_syntax::pos::Positioned;
 use graphql_syntax::types::{BaseType, Type};
 
-/// A list of the type opens at each `[`: how many do.
+/// Reads a type reference (GraphQL October 2021, section 2.11). It stands at its first token, and may be null where
+/// no `!` follows. A list of it opens at each `[`, and as many close after the name, the inmost first.
 ///
-/// `'['*`
-fn open_lists(parser: &mut Parser, limits: Limits) -> Reading<usize>
-    ensures { Gives (λ opened. opened) result parser.old parser.new (opens_at 0 limits.types) }
+/// `Type : Name '!'? | '[' Type ']' '!'?`
+pub fn read_type(parser: &mut Parser, limits: Limits) -> Reading<Positioned<Type>>
+    ensures { Gives (placed type_tree) result parser.old parser.new (type_at limits.types) }
 {
+    let pos = parser.hand().pos;
     let limit = limits.types();
     let mut opened = 0;
     while parser.is_at_punct("[") {
@@ -25,16 +26,13 @@ fn open_lists(parser: &mut Parser, limits: Limits) -> Reading<usize>
         opened += 1;
         parser.advance();
     }
-    Ok(opened)
-}
-
-/// So many lists close; the inmost is a list of this item.
-///
-/// `(']' '!'?)*`
-fn close_lists(parser: &mut Parser, item: Type, opened: usize) -> Reading<Type>
-    ensures { Gives type_tree result parser.old parser.new (closes_at opened (type_tree item)) }
-{
-    let mut ty = item;
+    let token = parser.expect_name()?;
+    let name = parser.name(token)?;
+    let nullable = !parser.take_punct("!");
+    let mut ty = Type {
+        base: BaseType::Named(name),
+        nullable,
+    };
     for _ in 0..opened {
         parser.expect_punct("]")?;
         let nullable = !parser.take_punct("!");
@@ -44,25 +42,5 @@ fn close_lists(parser: &mut Parser, item: Type, opened: usize) -> Reading<Type>
             nullable,
         };
     }
-    Ok(ty)
-}
-
-/// Reads a type reference (GraphQL October 2021, section 2.11). It stands at its first token, and may be null where
-/// no `!` follows.
-///
-/// `Type : Name '!'? | '[' Type ']' '!'?`
-pub fn read_type(parser: &mut Parser, limits: Limits) -> Reading<Positioned<Type>>
-    ensures { Gives (placed type_tree) result parser.old parser.new (type_at limits.types) }
-{
-    let pos = parser.hand().pos;
-    let opened = open_lists(parser, limits)?;
-    let token = parser.expect_name()?;
-    let name = parser.name(token)?;
-    let nullable = !parser.take_punct("!");
-    let item = Type {
-        base: BaseType::Named(name),
-        nullable,
-    };
-    let ty = close_lists(parser, item, opened)?;
     Ok(Positioned::new(ty, pos))
 }

@@ -5,7 +5,7 @@ use Rattle.graphql_reading.specs.grammar.Tests.{Test}
 use Rattle.graphql_reading.specs.grammar.Limits.{Limits}
 use Rattle.graphql_reading.specs.grammar.Relations.{Rel, ◌⨾◌, ◌∪◌, mapped, star, plus, opt}
 use Rattle.graphql_reading.specs.reading.Outcome.{Reader, then_at, mapped_at, none_at, many_at, plus_at, opt_at}
-use Rattle.graphql_reading.proofs.Parts.{none, nested, below, Nesting, of_selections, left}
+use Rattle.graphql_reading.proofs.Parts.{none, nested, below, of_selections}
 use Rattle.graphql_reading.proofs.Theory.{Starts, IsSubset, outside, within-begins, then-exact, none-exact, star-starts, leads-starts, choose-exact, Begins, many-exact, plus-exact}
 use Rattle.graphql_reading.proofs.ReadsExactly.{ReadsExactly, HasPhrase, BeginsWith, exact-mapped, exact-same, begins-mapped}
 
@@ -107,18 +107,6 @@ factored {A} {B} {C} {X} {D} p q r i j f g h first second x t = (to, from)
     from : (mapped f (p ⨾ q) ∪ mapped g (p ⨾ r)) x t → mapped h (p ⨾ (mapped i q ∪ mapped j r)) x t
     from (inl m) = record { value = (m.value.0, i m.value.1); holds = record { front = m.holds.front; back = m.holds.back; joined = m.holds.joined; first = m.holds.first; second = inl (record { value = m.value.1; holds = m.holds.second; is = refl }) }; is = m.is ∙ sym (first m.value.0 m.value.1) }
     from (inr m) = record { value = (m.value.0, j m.value.1); holds = record { front = m.holds.front; back = m.holds.back; joined = m.holds.joined; first = m.holds.first; second = inr (record { value = m.value.1; holds = m.holds.second; is = refl }) }; is = m.is ∙ sym (second m.value.0 m.value.1) }
-
--- a part, and one a level deeper: the whole is one level deeper
-pub nested-after : {A B : Type 0} (k : Nesting) (p : Rel A) (q : Limits → Rel B) (c : Limits) (x : List Token) (t : A × B) → nested k (λ c. p ⨾ q c) c x t ↔ (p ⨾ nested k q c) x t
-nested-after {A} {B} k p q c x t = (to (left k c), from (left k c))
-  where
-    to : (n : ℕ) → below k (λ c. p ⨾ q c) c n x t → (p ⨾ below k q c n) x t
-    to zero h = absurd h
-    to (suc n) h = record { front = h.front; back = h.back; joined = h.joined; first = h.first; second = h.second }
-
-    from : (n : ℕ) → (p ⨾ below k q c n) x t → below k (λ c. p ⨾ q c) c n x t
-    from zero h = absurd h.second
-    from (suc n) h = record { front = h.front; back = h.back; joined = h.joined; first = h.first; second = h.second }
 
 -- the same, where the part has its own budgets
 pub sets-after : {A B : Type 0} (p : ℕ → Rel A) (q : Limits → Rel B) (c : Limits) (x : List Token) (t : A × B) → nested of_selections (λ c. p c.values ⨾ q c) c x t ↔ (p c.values ⨾ nested of_selections q c) x t

@@ -1,11 +1,10 @@
 -- Places don't matter: with other places there is a tree too, the same but for places.
-use Rattle.std.proofs.Common.{◌≡◌, ℕ, zero, suc, IsTrue, map, option_map, Option, Some, None, List, [], ◌∷◌, ◌++◌, ◌↔◌, inl, inr, refl, sym, ap, ap₂, ◌∙◌, subst}
+use Rattle.std.proofs.Common.{◌≡◌, IsTrue, map, option_map, Option, Some, None, List, [], ◌∷◌, ◌++◌, inl, inr, refl, sym, ap, ap₂, ◌∙◌, subst}
 use Rattle.graphql_tokens.specs.tokens.Token.{Bare, Token}
 use Rattle.graphql_reading.specs.grammar.Tests.{Test}
 use Rattle.graphql_reading.specs.grammar.Limits.{Limits}
 use Rattle.graphql_reading.specs.grammar.Relations.{Rel, one, ◌⨾◌, ◌∪◌, mapped, never, opt, star, plus, cons, given}
 use Rattle.graphql_reading.specs.grammar.Fronts.{bares, without_place, without_places}
-use Rattle.graphql_reading.proofs.Parts.{none, nested, below, Nesting, left, leave}
 
 -- a tree of y, the same as a but for places
 pub record Same {A : Type 0} (p : Rel A) (placeless : A → A) (y : List Token) (a : A) : Type 0 where
@@ -71,9 +70,6 @@ ignores-one test = record { by = by; fixed = λ c x a m e. head-is (without_plac
 pub ignores-never : {A : Type 0} {f : A → A} → IgnoresPlaces (λ c. never {A = A}) f
 ignores-never = record { by = λ c x y a m e. absurd m; fixed = λ c x a m e. absurd m }
 
-pub ignores-none : {A : Type 0} {a : A} {f : A → A} → f a ≡ a → IgnoresPlaces (λ c. none a) f
-ignores-none {a = a} {f = f} e = record { by = λ c x y b m same. record { tree = a; holds = (no-bares y (sym same ∙ ap bares m.0), refl); same = ap f (sym m.1) }; fixed = λ c x b m _. ap f m.1 ∙ e ∙ sym m.1 }
-
 pub ignores-then : {A B : Type 0} {p : Limits → Rel A} {q : Limits → Rel B} {f : A → A} {g : B → B} → IgnoresPlaces p f → IgnoresPlaces q g → IgnoresPlaces (λ c. p c ⨾ q c) (λ x. (f x.0, g x.1))
 ignores-then h k = record {
   by = λ c x y a m e.
@@ -125,23 +121,6 @@ ignores-star {A} {p} {f} h = record { by = by; fixed = fixed }
 
 pub ignores-plus : {A : Type 0} {p : Limits → Rel A} {f : A → A} → IgnoresPlaces p f → IgnoresPlaces (λ c. plus (p c)) (map f)
 ignores-plus {p = p} {f = f} h = ignores-mapped {g = map f} {k = cons} (λ a. refl) (ignores-then h (ignores-star h))
-
-pub ignores-nested : {A : Type 0} (k : Nesting) {p : Limits → Rel A} {f : A → A} → IgnoresPlaces p f → IgnoresPlaces (nested k p) f
-ignores-nested {A} k {p} {f} h = record { by = λ c. by c (left k c); fixed = λ c. fixed c (left k c) }
-  where
-    by : (c : Limits) (n : ℕ) (x y : List Token) (a : A) → below k p c n x a → bares x ≡ bares y → Same (below k p c n) f y a
-    by c zero x y a m e = absurd m
-    by c (suc n) x y a m e = let i = h.by (leave k c n) x y a m e in record { tree = i.tree; holds = i.holds; same = i.same }
-
-    fixed : (c : Limits) (n : ℕ) (x : List Token) (a : A) → below k p c n x a → without_places x ≡ x → f a ≡ a
-    fixed c zero x a m e = absurd m
-    fixed c (suc n) x a m e = h.fixed (leave k c n) x a m e
-
-pub ignores-same : {A : Type 0} {p q : Limits → Rel A} {f : A → A} → ((c : Limits) (x : List Token) (t : A) → p c x t ↔ q c x t) → IgnoresPlaces p f → IgnoresPlaces q f
-ignores-same e h = record {
-  by = λ c x y a m same. let i = h.by c x y a ((e c x a).1 m) same in record { tree = i.tree; holds = (e c y i.tree).0 i.holds; same = i.same };
-  fixed = λ c x a m is. h.fixed c x a ((e c x a).1 m) is;
-}
 
 pub ignores-opt : {A : Type 0} {p : Limits → Rel A} {f : A → A} → IgnoresPlaces p f → IgnoresPlaces (λ c. opt (p c)) (option_map f)
 ignores-opt {A} {p} {f} h = record { by = by; fixed = fixed }

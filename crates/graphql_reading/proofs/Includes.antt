@@ -3,7 +3,7 @@ use Rattle.std.proofs.Common.{inl, inr, Option, Some, None, List, [], ◌∷◌}
 use Rattle.graphql_tokens.specs.tokens.Token.{Bare, Token}
 use Rattle.graphql_reading.specs.grammar.Fronts.{whole}
 use Rattle.graphql_reading.specs.grammar.Limits.{Limits}
-use Rattle.graphql_reading.specs.grammar.Relations.{Rel, one, meaning, ◌⨾◌, ◌∪◌, mapped, star, plus, opt, between, after, separated}
+use Rattle.graphql_reading.specs.grammar.Relations.{Rel, one, meaning, ◌⨾◌, ◌∪◌, mapped, star, plus, opt, between, after}
 use Rattle.graphql_reading.specs.grammar.Tests.{Test, the_end}
 
 pub record Includes {A : Type 0} (p q : Rel A) : Type 0 where
@@ -50,9 +50,6 @@ includes-between opening closing h = includes-mapped (includes-then (includes-sa
 
 pub includes-after : {A : Type 0} (mark : Test) {p q : Rel A} → Includes p q → Includes (after mark p) (after mark q)
 includes-after mark h = includes-mapped (includes-then (includes-same {p = one mark}) h)
-
-pub includes-separated : {A : Type 0} (mark : Test) {p q : Rel A} → Includes p q → Includes (separated mark p) (separated mark q)
-includes-separated mark h = includes-mapped (includes-then (includes-same {p = opt (one mark)}) (includes-then h (includes-star (includes-after mark h))))
 
 pub includes-whole : {A : Type 0} {p q : Limits → Rel A} → ((c : Limits) → Includes (p c) (q c)) → (c : Limits) → Includes (whole p c) (whole q c)
 includes-whole h c = includes-mapped (includes-then (h c) (includes-same {p = one the_end}))

@@ -6,8 +6,8 @@ use Rattle.graphql_reading.specs.grammar.Relations.{Rel, one, between, after, se
 use Rattle.graphql_reading.specs.reading.Outcome.{Reader, between_at, after_at, separated_at}
 use Rattle.graphql_reading.proofs.Theory.{IsSubset, IsInner, outside, anything}
 use Rattle.graphql_reading.proofs.TokenTests.{punct-inner}
-use Rattle.graphql_reading.proofs.ReadsExactly.{ReadsExactly, HasPhrase, BeginsWith, exact-one, exact-punct, exact-mapped, exact-next, exact-then-some, exact-many, begins-one, begins-mapped, begins-then, begins-within, has-pair, has-map, has-star}
-use Rattle.graphql_reading.proofs.Extra.{exact-opt, has-opt, begins-opt}
+use Rattle.graphql_reading.proofs.ReadsExactly.{ReadsExactly, HasPhrase, BeginsWith, exact-one, exact-punct, exact-mapped, exact-next, exact-then-some, exact-many, begins-one, begins-mapped, begins-then, has-pair, has-map, has-star}
+use Rattle.graphql_reading.proofs.Extra.{exact-opt, has-opt}
 use Rattle.graphql_reading.proofs.IgnoresPlaces.{IgnoresPlaces, ignores-one, ignores-then, ignores-mapped, ignores-star, ignores-opt}
 use Prim.Native.String.{String}
 
@@ -50,9 +50,6 @@ exact-separated word {p = p} led unmarked away has h =
     exact-mapped (exact-then-some (begins-then led) (has-pair has (has-star {p = λ c. after (punct word) (p c)}))
     (exact-opt begins-one unmarked (exact-punct word))
     (exact-next (has-star {p = λ c. after (punct word) (p c)}) h (exact-many begins-after away (exact-after (punct-inner word) has h))))
-
-pub begins-separated : {A : Type 0} {mark g : Test} {p : Limits → Rel A} → IsSubset mark g → BeginsWith p g → BeginsWith (λ c. separated mark (p c)) g
-begins-separated marked led = begins-mapped (begins-opt (begins-within marked begins-one) (begins-then led))
 
 pub has-separated : {A : Type 0} (mark : Test) {p : Limits → Rel A} → HasPhrase p → HasPhrase (λ c. separated mark (p c))
 has-separated mark {p = p} h = has-map (has-pair (has-opt {p = λ c. one mark}) (has-pair h (has-star {p = λ c. after mark (p c)})))

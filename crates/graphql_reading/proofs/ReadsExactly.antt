@@ -6,7 +6,7 @@ use Rattle.graphql_reading.specs.grammar.Limits.{Limits}
 use Rattle.graphql_reading.specs.grammar.Relations.{Rel, one, ◌⨾◌, ◌∪◌, mapped, star, plus}
 use Rattle.graphql_reading.specs.reading.Outcome.{Reader, one_at, then_at, mapped_at, many_at, plus_at, choose_at, deep_at}
 use Rattle.graphql_reading.proofs.Parts.{none, nested, Nesting, left}
-use Rattle.graphql_reading.proofs.Theory.{Extends, Exact, HasPhrases, Leads, IsSubset, outside, anything, IsInner, then-exact, mapped-exact, one-exact, choose-exact, nested-exact, deeper, deep-exact, same-exact, many-exact, plus-exact, star-has, star-starts, Leads-one, Leads-then, Leads-mapped, Leads-within, Leads-either, Leads-nested, leads-starts, starts-anything, has-then, has-one, has-mapped, has-left}
+use Rattle.graphql_reading.proofs.Theory.{Extends, Exact, HasPhrases, Leads, IsSubset, outside, anything, IsInner, then-exact, mapped-exact, one-exact, choose-exact, nested-exact, deeper, deep-exact, same-exact, many-exact, plus-exact, star-has, Leads-one, Leads-then, Leads-mapped, Leads-within, Leads-either, Leads-nested, leads-starts, starts-anything, has-then, has-one, has-mapped, has-left}
 use Rattle.graphql_reading.proofs.TokenTests.{within-anything, punct-inner, keyword-inner, any_name-inner, name_but-inner, HasSample}
 use Prim.Native.String.{String}
 
@@ -49,10 +49,6 @@ exact-next {p = p} {q = q} {b = b} {f = f} {r = r} {s = s} has h k = record { at
 -- a part that looks ahead, and another that isn't empty
 pub exact-then-some : {A B : Type 0} {p : Limits → Rel A} {q : Limits → Rel B} {b : Limits} {f g : Test} {r : Reader A} {s : Reader B} → BeginsWith q g → HasPhrase q → ReadsExactly p b g r → ReadsExactly q b f s → ReadsExactly (λ c. p c ⨾ q c) b f (then_at r s)
 exact-then-some {p = p} {q = q} {b = b} {f = f} {g = g} {r = r} {s = s} leads has h k = record { at = λ ts. then-exact p q b f g r s ts (leads-starts q f g leads.by) has.some (h.at ts) (λ a rest _. k.at rest) }
-
--- a part that looks ahead, and any number
-pub exact-then-star : {A B : Type 0} {p : Limits → Rel A} {q : Limits → Rel B} {b : Limits} {f first g : Test} {r : Reader A} {s : Reader (List B)} → BeginsWith q first → IsSubset first g → IsSubset f g → ReadsExactly p b g r → ReadsExactly (λ c. star (q c)) b f s → ReadsExactly (λ c. p c ⨾ star (q c)) b f (then_at r s)
-exact-then-star {p = p} {q = q} {b = b} {f = f} {first = first} {g = g} {r = r} {s = s} leads in-first in-follow h k = record { at = λ ts. then-exact p (λ c. star (q c)) b f g r s ts (star-starts q f first g leads.by in-first in-follow) (star-has q) (h.at ts) (λ a rest _. k.at rest) }
 
 pub exact-many : {A : Type 0} {p : Limits → Rel A} {b : Limits} {f first : Test} {r : Reader A} → BeginsWith p first → IsSubset f (outside first) → ReadsExactly p b anything r → ReadsExactly (λ c. star (p c)) b f (many_at first r)
 exact-many {p = p} {b = b} {f = f} {first = first} {r = r} leads away h = record { at = many-exact p b f first anything r leads.by within-anything within-anything away h.at }

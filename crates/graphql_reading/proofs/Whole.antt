@@ -124,9 +124,6 @@ proper-drop (suc k) (t ∷ u) h = proper-drop k u h.1
 pub viable-bare : {A : Type 0} {p : Rel A} (front other : List Token) → bares front ≡ bares other → Completes p front → Completes p other
 viable-bare front other e m = record { begun = m.begun; after = m.after; tree = m.tree; alike = m.alike ∙ e; proper = m.proper; holds = m.holds }
 
-completes-viable : {A : Type 0} {p : Rel A} (front : List Token) → Extends p front → Completes p front
-completes-viable front m = record { begun = front; after = m.tail; tree = m.tree; alike = refl; proper = m.proper; holds = m.holds }
-
 -- and back: to a relation that ignores places, a front's own places do
 pub viable-completes : {A : Type 0} {p : Limits → Rel A} {placeless : A → A} → IgnoresPlaces p placeless → (c : Limits) (front : List Token) → Completes (p c) front → Extends (p c) front
 viable-completes {p = p} ignores c front m =

@@ -43,7 +43,8 @@ pub trait Production {
 }
 
 /// Reads one phrase or more: another as long as the token in hand begins one.
-#[inline(always)]
+// Never inlined: the tests before it then are, in each reader of an optional list.
+#[inline(never)]
 pub fn one_or_more<P: Production>(parser: &mut Parser, limits: Limits) -> Reading<Vec<P::Node>>
     requires { Takes (P.reader limits) }
     ensures { Gives (trees_in P.tree) result parser.old parser.new
@@ -131,8 +132,10 @@ pub fn maybe_bracketed<P: Production>(
         (between_at (punct_of opening.now) (plus_at P.first (P.reader limits))
         (punct_of closing.now)))) }
 {
-    if !parser.is_at_punct(opening) {
+    if !parser.take_punct(opening) {
         return Ok(parser.empty_list());
     }
-    bracketed::<P>(parser, opening, closing, limits)
+    let nodes = one_or_more::<P>(parser, limits)?;
+    parser.expect_punct(closing)?;
+    Ok(nodes)
 }

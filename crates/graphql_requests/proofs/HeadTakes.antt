@@ -11,7 +11,7 @@ use Rattle.graphql_requests.specs.grammar.Selections.{fragment_name}
 use Rattle.graphql_reading.specs.grammar.Tests.{Test, punct, keyword, any_name}
 use Rattle.graphql_grammar.specs.reading.Arguments.{maybe_arguments_at, directives_at}
 use Rattle.graphql_requests.specs.reading.SelectionSteps.{Heading, Names, brace_at, maybe_brace_at, name_at, after_colon_at, names_at, given_arguments_at, maybe_condition_at, inline_head_at, after_dots_at, field_head_at, head_at, onto, item_at}
-use Rattle.graphql_reading.specs.reading.Outcome.{Outcome, Read, Refused, Reader, ◌>>=◌, one_at, deep_at}
+use Rattle.graphql_reading.specs.reading.Outcome.{Outcome, Read, Refused, Reader, ◌>>=◌, one_at, then_at, deep_at}
 use Rattle.graphql_requests.specs.reading.Selections.{inline_first, type_condition_at}
 use Rattle.graphql_reading.proofs.Theory.{Exact}
 use Rattle.graphql_reading.proofs.TokenTests.{punct-within}
@@ -129,7 +129,9 @@ below-dots : (values n : ℕ) (nests : Bool) (dots : Pos) (ts : List Token) → 
 below-dots values n nests dots [] lt = tt
 below-dots values n nests dots (t ∷ ts) lt =
     below-cond n (fragment_name t.bare) _ _
-    (below-then n (directives_at true values ts) _ (below-directives values n ts (omega (arith, lt))) (λ d rest h. h))
+    (below-then n _ _
+    (below-then n (one_at any_name (t ∷ ts)) _ (below-one n any_name (t ∷ ts) lt) (λ m rest h. below-then n (directives_at true values rest) _ (below-directives values n rest h) (λ d rest h. h)))
+    (λ x rest h. h))
     (below-cond n nests _ _ (below-inline values n dots (t ∷ ts) lt) (below-deep _ n inline_first (t ∷ ts)))
 
 below-head : (values : ℕ) (nests : Bool) (ts : List Token) → Below (length ts) (head_at values nests ts)
@@ -187,7 +189,7 @@ no-set values (t ∷ ts) = holds-cond last (punct "..." t.bare) _ _ (dots ts) fi
 
     dots : (us : List Token) → Holds (λ (x : Heading). HasNoSet x.1) (after_dots_at values false t.pos us)
     dots [] = tt
-    dots (u ∷ us) = holds-cond last (fragment_name u.bare) _ _ (holds-after last (directives_at true values us) _ (λ d rest. tt)) (holds-deep last inline_first (u ∷ us))
+    dots (u ∷ us) = holds-cond last (fragment_name u.bare) _ _ (holds-after last (then_at (one_at any_name) (directives_at true values) (u ∷ us)) _ (λ x rest. tt)) (holds-deep last inline_first (u ∷ us))
 
     field : Holds (λ (x : Heading). HasNoSet x.1) (field_head_at values false (t ∷ ts))
     field =

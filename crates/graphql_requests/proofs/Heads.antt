@@ -14,6 +14,7 @@ use Rattle.graphql_grammar.specs.reading.Arguments.{maybe_arguments_at, directiv
 use Rattle.graphql_requests.specs.reading.SelectionSteps.{Heading, with_set, may_nest, maybe_brace_at, given_arguments_at, Names, as_names, after_colon_at, names_at, bare_field, bare_spread, bare_inline, maybe_condition_at, inline_head_at, after_dots_at, field_head_at, head_at, deeper_at, rest_at, item_at, closed, close_at, after_rest, more, begun, wanted_rest, headed}
 use Rattle.graphql_reading.specs.reading.Outcome.{Outcome, Read, Refused, Reader, ◌>>=◌, one_at, then_at, mapped_at, choose_at, opt_at, deep_at, many_at, plus_at, with_front}
 use Rattle.graphql_requests.specs.reading.Selections.{as_alias, aliased_at, field_at, Inline, inline_first, AfterDots, a_name, an_inline, dotted, inline_at, selection_first, selection_at, a_set_at, selection_set_at}
+use Rattle.graphql_requests.proofs.SelectionProductions.{fragment-within}
 
 abbrev pair-up : {A B : Type 0} → A → B → List Token → Outcome (A × B)
 pair-up a b rest = Read (a, b) rest
@@ -192,7 +193,7 @@ dots-law : (values s : ℕ) (dots : Token) (ts : List Token) → ((after-dots va
 dots-law values s dots [] = refl
 dots-law values s dots (t ∷ ts) = at (fragment_name t.bare) refl
   where
-    spread : (o : Outcome Directives) → ((((o >>= pair-up t) >>= λ x rest. Read (a_name x) rest) >>= pair-up dots) >>= dotted-read) ≡ ((o >>= λ d rest. Read (bare_spread dots.pos (name_of t) d, None) rest) >>= headed values s)
+    spread : (o : Outcome Directives) → ((((o >>= pair-up t) >>= λ x rest. Read (a_name x) rest) >>= pair-up dots) >>= dotted-read) ≡ (((o >>= pair-up t) >>= λ x rest. Read (bare_spread dots.pos (name_of x.0) x.1, None) rest) >>= headed values s)
     spread (Read d rest) = refl
     spread (Refused v rest) = refl
 
@@ -201,7 +202,7 @@ dots-law values s dots (t ∷ ts) = at (fragment_name t.bare) refl
     inline (Refused v rest) = refl
 
     at : (w : Bool) → fragment_name t.bare ≡ w → ((after-dots values s (t ∷ ts) >>= pair-up dots) >>= dotted-read) ≡ (after_dots_at values (may_nest s) dots.pos (t ∷ ts) >>= headed values s)
-    at true e = rw e (spread (directives_at true values ts))
+    at true e = rw (e, fragment-within.by t.bare e) (spread (directives_at true values ts))
     at false e = rw e (inline (rest_at values s (t ∷ ts)) ∙ rest-law values s dots t ts)
 
 -- ---- a selection

@@ -16,7 +16,7 @@ use Rattle.graphql_reading.specs.reading.Given.{Refuses, GoesOn}
 use Rattle.graphql_requests.specs.reading.SelectionSteps.{Heading, Opened, closed, more, filled_in, fill_last, onto, head_at, may_nest}
 use Rattle.graphql_requests.specs.reading.OpenSets.{part}
 use Rattle.graphql_reading.specs.reading.Outcome.{Outcome, Read, Refused, ◌>>=◌, one_at}
-use Rattle.graphql_requests.specs.reading.Selections.{selection_first, selection_set_at}
+use Rattle.graphql_requests.specs.reading.Selections.{selection_set_at}
 use Rattle.graphql_requests.proofs.OpenSets as sets
 
 abbrev Trees : Type 0
@@ -183,18 +183,18 @@ reads {values} {selections} {start} {now} {next} {n} {own} {xs} {nests} ys may h
       waits = rw p.made (waits-push own n.outer xs p.selection w.within w.waits);
     }
 
-pub again : {values selections most : ℕ} {start now : Ahead} {n : Nest} {own : OpenSet} {xs : Trees} → selection_first now.hand.bare ≡ true → Behind values selections most start now n own xs → Wanted values selections start now n own xs
+pub again : {values selections most : ℕ} {start now : Ahead} {n : Nest} {own : OpenSet} {xs : Trees} → punct "}" now.hand.bare ≡ false → Behind values selections most start now n own xs → Wanted values selections start now n own xs
 again e w = record { kept = sets.again e w.kept; within = omega (arith, w.waits.0); waits = w.waits.1 }
 
-pub ends : {values selections most : ℕ} {start now : Ahead} {n : Nest} {own : OpenSet} {xs : Trees} {set : Set} (next : Ahead) (t : Token) → selection_first now.hand.bare ≡ false → (one_at (punct "}") (tokens now) ≡ Read t (tokens next)) × GoesOn now next → n.outer ≡ [] → set ≡ closed (part own xs) → Behind values selections most start now n own xs → (selection_set_at values selections (tokens start) ≡ Read set (tokens next)) × GoesOn start next
-ends next t e h alone is w = rw is (sets.ends next t e h (rw alone at w.kept))
+pub ends : {values selections most : ℕ} {start now : Ahead} {n : Nest} {own : OpenSet} {xs : Trees} {set : Set} (next : Ahead) → punct "}" now.hand.bare ≡ true → tokens next ≡ now.after → GoesOn now next → n.outer ≡ [] → set ≡ closed (part own xs) → Behind values selections most start now n own xs → (selection_set_at values selections (tokens start) ≡ Read set (tokens next)) × GoesOn start next
+ends next e there on alone is w = rw is (sets.ends next e there on (rw alone at w.kept))
 
-pub leaves : {values selections most : ℕ} {start now next : Ahead} {n around : Nest} {own : OpenSet} {xs ys zs : Trees} {set : Set} (outer : OpenSet) (t : Token) → selection_first now.hand.bare ≡ false → (one_at (punct "}") (tokens now) ≡ Read t (tokens next)) × GoesOn now next → (n.outer ≡ outer ∷ around.outer) × (around.left ≡ suc n.left) → set ≡ closed (part own xs) → ys ≡ take own.first xs → zs ≡ fill_last ys set → Behind values selections most start now n own xs → Behind values selections most start next around outer zs
-leaves {n = n} {around = around} {own = own} {xs = xs} {ys = ys} {set = set} outer t e h popped is cut made w =
+pub leaves : {values selections most : ℕ} {start now : Ahead} {n around : Nest} {own : OpenSet} {xs ys zs : Trees} {set : Set} (outer : OpenSet) (next : Ahead) → punct "}" now.hand.bare ≡ true → tokens next ≡ now.after → GoesOn now next → (n.outer ≡ outer ∷ around.outer) × (around.left ≡ suc n.left) → set ≡ closed (part own xs) → ys ≡ take own.first xs → zs ≡ fill_last ys set → Behind values selections most start now n own xs → Behind values selections most start next around outer zs
+leaves {n = n} {around = around} {own = own} {xs = xs} {ys = ys} {set = set} outer next e there on popped is cut made w =
     let waits : Waits (outer ∷ around.outer) ys = rw cut (rw popped.0 at w.waits.1) in
     let same : take outer.first (fill_last ys set) ≡ take outer.first ys = take-fill_last outer.first ys set waits.0 in
     record {
-      kept = rw (made, popped.1, part-fill outer ys set waits.0, same, is, cut) (sets.leaves t e h (rw popped.0 at w.kept));
+      kept = rw (made, popped.1, part-fill outer ys set waits.0, same, is, cut) (sets.leaves next e there on (rw popped.0 at w.kept));
       waits = rw made (waits-fill outer around.outer ys set waits);
     }
 

@@ -1,5 +1,5 @@
 -- What the loop over open sets keeps, and each way on.
-use Rattle.std.proofs.Common.{◌≡◌, ℕ, suc, pred, ◌≤◌, true, false, Some, None, List, [], ◌∷◌, ◌++◌, length, refl, sym, ap, ◌∙◌, arith}
+use Rattle.std.proofs.Common.{◌≡◌, ℕ, suc, pred, ◌≤◌, Bool, true, false, Some, None, List, [], ◌∷◌, ◌++◌, length, refl, sym, ap, ◌∙◌, arith}
 use Rattle.graphql_tokens.specs.declared.pos.Pos.{Pos}
 use Rattle.graphql_tokens.specs.declared.pos.Positioned.{Positioned}
 use Rattle.graphql_tokens.specs.tokens.Token.{Token}
@@ -9,15 +9,16 @@ use Rattle.graphql_reading.specs.declared.parser.Refusal.{Refusal}
 use Rattle.graphql_reading.specs.declared.parser.Refusal.TheVariants.{Memory, Syntax, Limit}
 use Rattle.graphql_reading.specs.grammar.Fronts.{Verdict, syntax, limit}
 use Rattle.graphql_requests.specs.grammar.Selections.{Set}
-use Rattle.graphql_reading.specs.grammar.Tests.{punct}
+use Rattle.graphql_reading.specs.grammar.Tests.{punct, any_name}
 use Rattle.graphql_reading.specs.reading.Ahead.{Ahead, Stays, tokens}
 use Rattle.graphql_requests.specs.reading.SelectionSteps.{Heading, with_set, may_nest, head_at, item_at, Opened, closed, close_at, after_rest, more, begun, wanted_rest, headed, filled, filled_in, fill_last, resume}
 use Rattle.graphql_reading.specs.reading.Given.{Refuses, GoesOn}
 use Rattle.graphql_reading.specs.reading.Outcome.{Outcome, Read, Refused, Reader, ◌>>=◌, one_at}
 use Rattle.graphql_requests.specs.reading.Selections.{selection_first, selection_set_at}
 use Rattle.graphql_requests.proofs.Heads.{set-law, item-law}
-use Rattle.graphql_requests.proofs.HeadTakes.{item-takes, one-takes}
+use Rattle.graphql_requests.proofs.HeadTakes.{item-takes}
 use Rattle.graphql_reading.proofs.Loop.{rest-more, rest-stops}
+use Rattle.graphql_reading.proofs.TokenTests.{punct-is}
 use Rattle.graphql_reading.proofs.Loops.{go-on, ahead-stays, on-stays}
 
 -- ---- an open set, step by step
@@ -47,15 +48,27 @@ wanted-law values s o ts = ap (λ (k : Outcome (Positioned Selection)). k >>= af
     go (Read (x, Some at) rest) = with x (wanted_rest values (pred s) (begun at) rest)
     go (Refused v rest) = refl
 
--- one more selection follows
-more-after : (values s : ℕ) (o : Opened) (t : Token) (ts : List Token) → selection_first t.bare ≡ true → after_rest values s o (t ∷ ts) ≡ wanted_rest values s o (t ∷ ts)
+-- where the set isn't closed, a selection has to follow
+more-after : (values s : ℕ) (o : Opened) (t : Token) (ts : List Token) → punct "}" t.bare ≡ false → after_rest values s o (t ∷ ts) ≡ wanted_rest values s o (t ∷ ts)
 unfolding after_rest
-more-after values s o t ts e = rest-more selection_first (item_at values s) (close_at o.place) (item-takes values s) o.items t ts e
+more-after values s o t ts e = go (any_name t.bare) (punct "..." t.bare) refl refl
+  where
+    more : selection_first t.bare ≡ true → after_rest values s o (t ∷ ts) ≡ wanted_rest values s o (t ∷ ts)
+    more h = rest-more selection_first (item_at values s) (close_at o.place) (item-takes values s) o.items t ts h
 
--- or the set is closed
-after-closed : (values s : ℕ) (o : Opened) (t : Token) (ts : List Token) → selection_first t.bare ≡ false → after_rest values s o (t ∷ ts) ≡ close_at o.place o.items (t ∷ ts)
+    go : (n d : Bool) → any_name t.bare ≡ n → punct "..." t.bare ≡ d → after_rest values s o (t ∷ ts) ≡ wanted_rest values s o (t ∷ ts)
+    go true d h k = more (rw h refl)
+    go false true h k = more (rw (h, k) refl)
+    go false false h k =
+        let stops : after_rest values s o (t ∷ ts) ≡ close_at o.place o.items (t ∷ ts) = rest-stops selection_first (item_at values s) (close_at o.place) o.items t ts (rw (h, k) refl) in
+        let closes-not : close_at o.place o.items (t ∷ ts) ≡ Refused syntax (t ∷ ts) = rw e refl in
+        let none : (head_at values (may_nest s) (t ∷ ts) >>= head-rest values s o) ≡ Refused syntax (t ∷ ts) = rw (k, h) refl in
+        stops ∙ closes-not ∙ sym (wanted-law values s o (t ∷ ts) ∙ none)
+
+-- or it is closed
+after-closed : (values s : ℕ) (o : Opened) (t : Token) (ts : List Token) → punct "}" t.bare ≡ true → after_rest values s o (t ∷ ts) ≡ Read (closed o) ts
 unfolding after_rest
-after-closed values s o t ts e = rest-stops selection_first (item_at values s) (close_at o.place) o.items t ts e
+after-closed values s o t ts e = rest-stops selection_first (item_at values s) (close_at o.place) o.items t ts (ap selection_first (punct-is "}" t.bare e)) ∙ rw e refl
 
 resume-refused : (values b : ℕ) (os : List Opened) (v : Verdict) (rest : List Token) → resume values b os (Refused v rest) ≡ Refused v rest
 resume-refused values b [] v rest = refl
@@ -114,29 +127,26 @@ reads {start = start} {now = now} {next = next} x h on kept = record {
   less = omega arith;
 }
 
-pub again : {values selections most : ℕ} {start now : Ahead} {left : ℕ} {os : List Opened} {own : Opened} → selection_first now.hand.bare ≡ true → Behind values selections most start now left os own → Wanted values selections start now left os own
+pub again : {values selections most : ℕ} {start now : Ahead} {left : ℕ} {os : List Opened} {own : Opened} → punct "}" now.hand.bare ≡ false → Behind values selections most start now left os own → Wanted values selections start now left os own
 again {values} {now = now} {left = left} {os = os} {own = own} e kept = record {
   told = kept.told ∙ ap (resume values left os) (more-after values left own now.hand now.after e);
   on = kept.on;
 }
 
-close-told : {values selections most : ℕ} {start now : Ahead} {left : ℕ} {os : List Opened} {own : Opened} (read : Outcome Token) → selection_first now.hand.bare ≡ false → one_at (punct "}") (tokens now) ≡ read → Behind values selections most start now left os own → selection_set_at values selections (tokens start) ≡ resume values left os (read >>= λ _ rest. Read (closed own) rest)
-close-told {values} {now = now} {left = left} {os = os} {own = own} read e h kept =
+close-told : {values selections most : ℕ} {start now : Ahead} {left : ℕ} {os : List Opened} {own : Opened} (next : Ahead) → punct "}" now.hand.bare ≡ true → tokens next ≡ now.after → Behind values selections most start now left os own → selection_set_at values selections (tokens start) ≡ resume values left os (Read (closed own) (tokens next))
+close-told {values} {now = now} {left = left} {os = os} {own = own} next e there kept =
     kept.told
     ∙ ap (resume values left os) (after-closed values left own now.hand now.after e
-    ∙ ap (λ (o : Outcome Token). o >>= λ _ rest. Read (closed own) rest) h)
+    ∙ ap (λ (l : List Token). Read (closed own) l) (sym there))
 
-pub ends : {values selections most : ℕ} {start now : Ahead} {left : ℕ} {own : Opened} (next : Ahead) (t : Token) → selection_first now.hand.bare ≡ false → (one_at (punct "}") (tokens now) ≡ Read t (tokens next)) × GoesOn now next → Behind values selections most start now left [] own → (selection_set_at values selections (tokens start) ≡ Read (closed own) (tokens next)) × GoesOn start next
-ends {start = start} {now = now} next t e h kept = (
-  close-told (Read t (tokens next)) e h.0 kept,
-  go-on start now next kept.on h.1,
-)
+pub ends : {values selections most : ℕ} {start now : Ahead} {left : ℕ} {own : Opened} (next : Ahead) → punct "}" now.hand.bare ≡ true → tokens next ≡ now.after → GoesOn now next → Behind values selections most start now left [] own → (selection_set_at values selections (tokens start) ≡ Read (closed own) (tokens next)) × GoesOn start next
+ends {start = start} {now = now} next e there on kept = (close-told next e there kept, go-on start now next kept.on on)
 
-pub leaves : {values selections most : ℕ} {start now next : Ahead} {left : ℕ} {os : List Opened} {own outer : Opened} (t : Token) → selection_first now.hand.bare ≡ false → (one_at (punct "}") (tokens now) ≡ Read t (tokens next)) × GoesOn now next → Behind values selections most start now left (outer ∷ os) own → Behind values selections most start next (suc left) os (filled_in outer (closed own))
-leaves {start = start} {now = now} {next = next} t e h kept = record {
-  told = close-told (Read t (tokens next)) e h.0 kept;
-  on = go-on start now next kept.on h.1;
-  less = let shorter = one-takes (punct "}") (tokens now) t (tokens next) h.0 in omega (arith, kept.less, shorter);
+pub leaves : {values selections most : ℕ} {start now : Ahead} {left : ℕ} {os : List Opened} {own outer : Opened} (next : Ahead) → punct "}" now.hand.bare ≡ true → tokens next ≡ now.after → GoesOn now next → Behind values selections most start now left (outer ∷ os) own → Behind values selections most start next (suc left) os (filled_in outer (closed own))
+leaves {start = start} {now = now} next e there on kept = record {
+  told = close-told next e there kept;
+  on = go-on start now next kept.on on;
+  less = let same : suc (length next.after) ≡ length now.after = ap (λ (l : List Token). length l) there in omega (arith, kept.less, same);
 }
 
 -- ---- refusals
@@ -156,11 +166,5 @@ opens-not values selections start next e h = (
 pub reads-not : {A : Type 0} {values selections : ℕ} {start now : Ahead} {left : ℕ} {os : List Opened} {own : Opened} (next : Ahead) (e : Refusal) (part : Reader A) → ((v : Verdict) → part (tokens now) ≡ Refused v (tokens next) → head_at values (may_nest left) (tokens now) ≡ Refused v (tokens next)) → Refuses e now next part × GoesOn now next → Wanted values selections start now left os own → Refuses e start next (selection_set_at values selections) × GoesOn start next
 reads-not {values = values} {selections = selections} {start = start} {now = now} {left = left} {os = os} next e part not h kept = (
   refuses-by e start now next (selection_set_at values selections) part (λ v k. head-told (Refused v (tokens next)) (not v k) kept ∙ resume-refused values left os v (tokens next)) h.0,
-  go-on start now next kept.on h.1,
-)
-
-pub closes-not : {values selections most : ℕ} {start now : Ahead} {left : ℕ} {os : List Opened} {own : Opened} (next : Ahead) (e : Refusal) → selection_first now.hand.bare ≡ false → Refuses e now next (one_at (punct "}")) × GoesOn now next → Behind values selections most start now left os own → Refuses e start next (selection_set_at values selections) × GoesOn start next
-closes-not {values} {selections} {start = start} {now = now} {left = left} {os = os} next e none h kept = (
-  refuses-by e start now next (selection_set_at values selections) (one_at (punct "}")) (λ v k. close-told (Refused v (tokens next)) none k kept ∙ resume-refused values left os v (tokens next)) h.0,
   go-on start now next kept.on h.1,
 )

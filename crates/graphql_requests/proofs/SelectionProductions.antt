@@ -15,8 +15,8 @@ use Rattle.graphql_reading.specs.reading.Outcome.{Reader, one_at, then_at, mappe
 use Rattle.graphql_grammar.specs.reading.Arguments.{maybe_arguments_at, directives_at}
 use Rattle.graphql_requests.specs.reading.Selections.{as_alias, aliased_at, field_at, type_condition_at, Inline, inline_first, inline_at, AfterDots, a_name, an_inline, dotted, dots_at, selection_first, selection_at, a_set_at, selection_set_at}
 use Rattle.graphql_reading.proofs.Parts.{nested, below, of_selections}
-use Rattle.graphql_reading.proofs.Theory.{Extends, IsSubset, outside, anything}
-use Rattle.graphql_reading.proofs.TokenTests.{punctuator, itself, within-either, punct-within, keyword-within, any_name-within, sample, word_of, HasSample, punct-sample, keyword-sample, name-sample, name-spells}
+use Rattle.graphql_reading.proofs.Theory.{Extends, IsSubset, outside}
+use Rattle.graphql_reading.proofs.TokenTests.{punctuator, itself, within-either, punct-within, keyword-within, any_name-within, name_but-within, sample, word_of, HasSample, punct-sample, keyword-sample, name-sample, name-spells}
 use Rattle.graphql_reading.proofs.ReadsExactly.{ReadsExactly, HasPhrase, BeginsWith, exact-punct, exact-keyword, exact-name, exact-name_but, exact-mapped, exact-next, exact-then-some, exact-choose, exact-nested, exact-deep, exact-same, begins-one, begins-within, begins-same, begins-mapped, begins-then, begins-either, begins-nested, has-token, has-pair, has-map, has-plus, has-first, extends-one}
 use Rattle.graphql_reading.proofs.Extra.{FirstWithin, exact-seq, first-begins, first-opt, first-then, exact-plus-ahead, has-opt, exact-opt, begins-opt, begins-star, either-way, factored, sets-after, then-same, both-ways}
 use Rattle.graphql_reading.proofs.Loop.{Takes, takes-one}
@@ -151,6 +151,10 @@ has-field {set} = has-map (has-pair has-aliased (has-after-names {set = set}))
 
 pub fragment-sample : HasSample fragment_name
 fragment-sample = record { token = sample (word_of "a"); passes = refl; proper = name-spells (codes "a") refl (refl, tt) }
+
+-- such a name is a name
+pub fragment-within : IsSubset fragment_name any_name
+fragment-within = name_but-within ("on" ∷ []) (λ w h. refl)
 
 pub exact-type_condition : {b : Limits} {f : Test} → ReadsExactly (λ c. a_type_condition) b f type_condition_at
 exact-type_condition = exact-mapped (exact-next (has-token name-sample) (exact-keyword "on") exact-name)
@@ -355,6 +359,3 @@ exact-selections n b e =
 
 pub takes-selection : (values n : ℕ) → Takes (selection_at values (inner-set-at values n) (inner-inline-at values n))
 takes-selection values n = takes-one (exact-selections n (record { selections = n; values = values; types = 0 }) refl) (begins-selection {set = inner-sets})
-
-pub takes-set : (values n : ℕ) → Takes (selection_set_at values n)
-takes-set values n = takes-one (exact-sets n (record { selections = n; values = values; types = 0 }) {f = anything} refl) begins-sets

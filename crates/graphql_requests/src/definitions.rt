@@ -1,12 +1,11 @@
 //! Readers of operations, fragments and requests.
 ghost use Rattle.std.specs.Prelude.{◌≡◌, IfOk};
-ghost use Rattle.graphql_tokens.specs.tokens.Seen.{seen};
-ghost use Rattle.graphql_tokens.specs.tokens.Within.{StandsIn};
-ghost use Rattle.graphql_requests.specs.grammar.Request.{Definition as SpecDefinition};
 ghost use Rattle.graphql_requests.specs.grammar.Selections.{fragment_name};
+ghost use Rattle.graphql_reading.specs.grammar.Places.{name_of};
+ghost use Rattle.graphql_reading.specs.reading.Outcome.{one_at};
+ghost use Rattle.graphql_requests.specs.grammar.Request.{Definition as SpecDefinition};
 ghost use Rattle.graphql_requests.specs.reading.Definitions.{definition_tree, maybe_name_at, worded_at};
 ghost use Rattle.graphql_reading.specs.reading.Given.{Gives};
-ghost use Rattle.graphql_reading.specs.reading.Outcome.{one_at};
 ghost use Rattle.graphql_requests.specs.reading.Request.{short_operation_at, fragment_at, definition_first, definition_at};
 
 use crate::selections::{is_at_fragment_name, read_selection_set, read_type_condition};
@@ -14,10 +13,10 @@ use crate::variables::VariablePhrase;
 use graphql_grammar::arguments::read_directives;
 use graphql_grammar::operations::read_operation_type;
 use graphql_reading::limits::Limits;
+use graphql_reading::names::read_name;
 use graphql_reading::parser::{Parser, Reading, Refusal};
 use graphql_reading::production::{Production, maybe_bracketed};
 use graphql_request_trees::{FragmentDefinition, OperationDefinition};
-use graphql_syntax::lexer::Token;
 use graphql_syntax::pos::Positioned;
 use graphql_syntax::types::OperationType;
 use graphql_syntax::value::Name;
@@ -31,25 +30,17 @@ pub enum Definition {
     Fragment(Name, Positioned<FragmentDefinition>),
 }
 
-/// Whether a definition is in hand: a `{`, the keyword of an operation, or `fragment`.
-pub fn is_at_definition(parser: &Parser) -> bool
-    ensures { result ≡ definition_first parser.now.hand.bare }
-{
-    parser.is_at_punct("{")
-        || parser.is_at_keyword("query")
-        || parser.is_at_keyword("mutation")
-        || parser.is_at_keyword("subscription")
-        || parser.is_at_keyword("fragment")
-}
-
-fn expect_fragment_name<'a>(parser: &mut Parser<'a>) -> Reading<Token<'a>>
-    ensures name { Gives seen result parser.old parser.new (one_at fragment_name) }
-    ensures stands { IfOk result (λ token. StandsIn parser.new.text (seen token)) }
+/// Reads the name of a fragment.
+///
+/// `FragmentName : Name but not 'on'` (GraphQL October 2021, section 2.8)
+fn read_fragment_name(parser: &mut Parser) -> Reading<Positioned<Name>>
+    ensures token { Gives (λ _. parser.old.hand) result parser.old parser.new (one_at fragment_name) }
+    ensures name { IfOk result (λ name. name ≡ name_of parser.old.hand) }
 {
     if !is_at_fragment_name(parser) {
         return Err(Refusal::Syntax);
     }
-    Ok(parser.take())
+    read_name(parser)
 }
 
 /// The short form of a query: its set alone.
@@ -104,14 +95,13 @@ fn read_fragment(parser: &mut Parser, limits: Limits) -> Reading<Definition>
     ensures { Gives definition_tree result parser.old parser.new (fragment_at limits) }
 {
     let word = parser.expect_keyword("fragment")?;
-    let name = expect_fragment_name(parser)?;
-    let name = parser.name(name)?;
+    let name = read_fragment_name(parser)?;
     let fragment = FragmentDefinition {
         type_condition: read_type_condition(parser)?,
         directives: read_directives(parser, limits)?,
         selection_set: read_selection_set(parser, limits)?,
     };
-    Ok(Definition::Fragment(name, Positioned::new(fragment, word.pos)))
+    Ok(Definition::Fragment(name.node, Positioned::new(fragment, word.pos)))
 }
 
 impl Production for Definition {
@@ -125,8 +115,13 @@ impl Production for Definition {
 
     ghost reader = { definition_at };
 
+    /// Whether a `{`, the keyword of an operation, or `fragment` is in hand.
     fn is_next(parser: &Parser) -> bool {
-        is_at_definition(parser)
+        parser.is_at_punct("{")
+            || parser.is_at_keyword("query")
+            || parser.is_at_keyword("mutation")
+            || parser.is_at_keyword("subscription")
+            || parser.is_at_keyword("fragment")
     }
 
     /// `ExecutableDefinition : OperationDefinition | FragmentDefinition`

@@ -11,7 +11,7 @@
 //! inner.
 #![tactic(auto)]
 
-ghost use Rattle.std.specs.Prelude.{◌≡◌, ◌≢◌, List, [], Err, IfOk};
+ghost use Rattle.std.specs.Prelude.{◌≡◌, ◌≢◌, [], Err, IfOk};
 ghost use Rattle.graphql_memory.specs.Memory.{Refused};
 ghost use Rattle.graphql_tokens.specs.tokens.Token.{left};
 ghost use Rattle.graphql_grammar.specs.answers.Reads.{ReadsText, ReadsTokens};
@@ -19,59 +19,21 @@ ghost use Rattle.graphql_grammar.specs.declared.error.Error.TheVariants.{OutOfMe
 ghost use Rattle.graphql_reading.specs.grammar.Limits.{default_limits};
 ghost use Rattle.graphql_request_trees.specs.trees.RequestViews.{document_tree};
 ghost use Rattle.graphql_requests.specs.grammar.Laws.{IsLawful};
-ghost use Rattle.graphql_requests.specs.grammar.Request.{Definition as SpecDefinition};
 ghost use Rattle.graphql_requests.specs.grammar.Requests.{requests};
-ghost use Rattle.graphql_requests.specs.reading.Request.{definitions_at};
-ghost use Rattle.graphql_requests.specs.reading.Sorting.{definition_trees};
 
 pub mod definitions;
 mod rules;
 pub mod selections;
 mod variables;
 
-use definitions::Definition;
-use graphql_grammar::document::{Kept, read_document};
+use graphql_grammar::document::read_document;
 use graphql_grammar::error::Result;
 use graphql_memory::Memory;
 use graphql_reading::limits::Limits;
-use graphql_reading::parser::{Parser, Reading};
-use graphql_reading::production::one_or_more;
 use graphql_request_trees::ExecutableDocument;
 use graphql_tokens::lexer::Tokens;
-use rules::document_of;
+use rules::KeptDefinitions;
 use std::alloc::Global;
-
-/// The definitions of a request.
-#[derive(Drop)]
-struct KeptDefinitions {
-    items: Vec<Definition>,
-}
-
-impl<'a> Kept<'a> for KeptDefinitions {
-    type Document = ExecutableDocument;
-
-    ghost Tree = { SpecDefinition };
-
-    ghost Sum = { List SpecDefinition };
-
-    ghost sum = { λ ds. ds };
-
-    ghost kept = { λ kept. definition_trees kept.items.items };
-
-    ghost language = { requests };
-
-    ghost reader = { definitions_at };
-
-    /// `ExecutableDocument : ExecutableDefinition+` (GraphQL October 2021, section 2.2)
-    fn read_all(parser: &mut Parser<'a>, limits: Limits) -> Reading<KeptDefinitions> {
-        let items = one_or_more::<Definition>(parser, limits)?;
-        Ok(KeptDefinitions { items })
-    }
-
-    fn into_document(self, memory: &mut Memory) -> Result<ExecutableDocument> {
-        document_of(memory, self.items)
-    }
-}
 
 /// Reads a request (GraphQL October 2021, section 2): gives its one tree, with the place of each node.
 /// Selection sets, values and types may nest 64 deep each, as [`Limits`] counts them.

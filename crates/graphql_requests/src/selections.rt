@@ -98,8 +98,8 @@ pub fn read_selection_set(parser: &mut Parser, limits: Limits) -> Reading<Positi
             continue;
         }
         // Each set that ends here is given to the selection that waits for it.
-        while !is_at_selection(parser) {
-            parser.expect_punct("}")?;
+        while parser.is_at_punct("}") {
+            parser.advance();
             let set = own.close(parser, &mut items)?;
             match outer.pop() {
                 None => return Ok(set),

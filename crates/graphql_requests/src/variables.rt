@@ -13,7 +13,7 @@ ghost use Rattle.graphql_requests.specs.reading.Variables.{default_and_directive
 use graphql_grammar::arguments::{read_directives, read_maybe_default};
 use graphql_grammar::types::read_type;
 use graphql_reading::limits::Limits;
-use graphql_reading::names::name_in;
+use graphql_reading::names::read_name;
 use graphql_reading::parser::{Parser, Reading};
 use graphql_reading::production::Production;
 use graphql_request_trees::VariableDefinition;
@@ -42,7 +42,8 @@ fn read_default_and_directives(
     Ok((default_value, directives))
 }
 
-/// `VariableDefinition : Variable ':' Type (DefaultValue? Directives? | Directives DefaultValue)`.
+/// `VariableDefinition : Variable ':' Type (DefaultValue? Directives? | Directives DefaultValue)`, of which
+/// `VariableDefinitions : '(' VariableDefinition+ ')'` has one or more.
 pub struct VariablePhrase;
 
 impl Production for VariablePhrase {
@@ -65,8 +66,7 @@ impl Production for VariablePhrase {
 
     fn read(parser: &mut Parser, limits: Limits) -> Reading<Positioned<VariableDefinition>> {
         let dollar = parser.expect_punct("$")?;
-        let token = parser.expect_name()?;
-        let name = name_in(parser, token)?;
+        let name = read_name(parser)?;
         parser.expect_punct(":")?;
         let var_type = read_type(parser, limits)?;
         let (default_value, directives) = read_default_and_directives(parser, limits)?;

@@ -9,7 +9,7 @@ use Rattle.graphql_reading.specs.grammar.Tests.{Test, punct, keyword, any_name}
 use Rattle.graphql_reading.specs.reading.Outcome.{Reader}
 use Rattle.graphql_reading.proofs.Theory.{IsSubset, outside}
 use Rattle.graphql_reading.proofs.TokenTests.{word_of, punct-within, keyword-within, within-either, HasSample, keyword-sample, name-sample}
-use Rattle.graphql_reading.proofs.ReadsExactly.{ReadsExactly, HasPhrase, BeginsWith, exact-keyword, exact-name, exact-mapped, exact-next, exact-choose, begins-one, begins-within, begins-mapped, begins-then, begins-either, has-token, has-pair, has-map, has-plus, has-first}
+use Rattle.graphql_reading.proofs.ReadsExactly.{ReadsExactly, HasPhrase, BeginsWith, exact-keyword, exact-name, exact-mapped, exact-next, exact-choose, begins-one, begins-within, begins-mapped, begins-then, begins-either, has-token, has-pair, has-map, has-plus}
 use Rattle.graphql_reading.proofs.IgnoresPlaces.{IgnoresPlaces, ignores-one, ignores-then, ignores-mapped, ignores-either, ignores-plus}
 use Rattle.graphql_grammar.specs.grammar.Arguments.{a_directive, directives}
 use Rattle.graphql_grammar.specs.grammar.Placeless.{bare_node, placeless_directives}
@@ -96,9 +96,6 @@ exact-bodies {s} {o} {i} {u} {e} {n} extend scalar an-object an-interface a-unio
 
 scalar-sample : HasSample (keyword "scalar")
 scalar-sample = keyword-sample "scalar" refl (refl, (refl, (refl, (refl, (refl, (refl, tt))))))
-
-has-bodies : {s o i u e n : Limits → Rel Rest} → HasPhrase s → HasPhrase (bodies s o i u e n)
-has-bodies {s} {o} {i} {u} {e} {n} has = has-first {p = λ c. a_body "scalar" (s c)} {q = last-five o i u e n} (has-map (has-pair (has-token scalar-sample) (has-pair (has-token name-sample) has)))
 
 ignores-bodies : {s o i u e n : Limits → Rel Rest} → IgnoresPlaces s placeless-rest → IgnoresPlaces o placeless-rest → IgnoresPlaces i placeless-rest → IgnoresPlaces u placeless-rest → IgnoresPlaces e placeless-rest → IgnoresPlaces n placeless-rest → IgnoresPlaces (bodies s o i u e n) placeless-body
 ignores-bodies scalar an-object an-interface a-union an-enum an-input =

@@ -13,7 +13,7 @@ use Rattle.graphql_reading.proofs.Theory.{IsSubset, outside}
 use Rattle.graphql_reading.proofs.TokenTests.{any_name-within, within-either}
 use Rattle.graphql_reading.proofs.ReadsExactly.{ReadsExactly, HasPhrase, BeginsWith, exact-mapped, exact-choose, begins-within, begins-mapped, begins-either}
 use Rattle.graphql_reading.proofs.Meaning.{exact-meaning, begins-meaning, ignores-meaning}
-use Rattle.graphql_reading.proofs.Extra.{FirstWithin, exact-opt, has-opt, first-opt}
+use Rattle.graphql_reading.proofs.Extra.{exact-opt, has-opt}
 use Rattle.graphql_reading.proofs.IgnoresPlaces.{IgnoresPlaces, ignores-mapped, ignores-either, ignores-opt}
 use Rattle.graphql_grammar.proofs.StringMeanings.{string-decides, block-decides}
 use Rattle.graphql_grammar.proofs.ValueTests.{quoted, block, any_string-within, any_block-within, any_string-inner, any_block-inner}
@@ -54,9 +54,6 @@ ignores-description =
 -- what follows is neither a string nor a block string
 pub exact-maybe_description : {b : Limits} {f : Test} → IsSubset f (outside is_text) → ReadsExactly (λ c. opt (a_description Current)) b f maybe_description_at
 exact-maybe_description away = exact-opt begins-description away exact-description
-
-pub first-maybe_description : {f g : Test} → IsSubset is_text g → IsSubset f g → FirstWithin (λ c. opt (a_description Current)) f g
-first-maybe_description text h = first-opt begins-description text h
 
 pub has-maybe_description : HasPhrase (λ c. opt (a_description Current))
 has-maybe_description = has-opt {p = λ c. a_description Current}

@@ -1,13 +1,10 @@
 -- Definitions that break no rule, each as it stands in the document, with one more after them.
-use Rattle.std.proofs.Common.{◌≡◌, None, Option, List, [], ◌∷◌, ◌++◌, map, refl, sym, ap, ap₂, ◌∙◌, subst}
+use Rattle.std.proofs.Common.{◌≡◌, None, List, [], ◌∷◌, ◌++◌, map, refl, sym, ap, ap₂, ◌∙◌, subst}
 use Rattle.std.proofs.lemmas.List.{map-append}
 use Rattle.graphql_schema_trees.specs.declared.service.TypeSystemDefinition.{TypeSystemDefinition}
 use Rattle.graphql_schema_trees.specs.trees.Schema as trees
 use Rattle.graphql_schema_trees.specs.trees.SchemaViews as views
 use Rattle.graphql_grammar.specs.answers.Answers.{AreUnbroken}
-use Rattle.graphql_grammar.specs.declared.error.Error.{Error}
-use Rattle.graphql_grammar.specs.reading.DocumentOf.{TellsOf, TellsBreach}
-use Rattle.graphql_grammar.proofs.Answering.{breaks}
 use Rattle.graphql_grammar.proofs.Unbroken.{unbroken-more}
 use Rattle.graphql_schemas.specs.declared.definitions.Definition.{Definition as CodeDefinition}
 use Rattle.graphql_schemas.specs.grammar.Documents.{tree_of, document_of}
@@ -33,8 +30,3 @@ finished-one-more front d items more item h is e =
     ∙ ap₂ (λ (l : List trees.Definition) (t : trees.Definition). l ++ t ∷ []) h e
     ∙ sym (map-append tree_of (definition_trees front) (definition_tree d ∷ []))
     ∙ sym (ap document_of (map-append definition_tree front (d ∷ [])))
-
-pub breaks-here : (items front others : List CodeDefinition) (d : CodeDefinition) (error : Error) → items ≡ front ++ d ∷ others → AreUnbroken schemas (definition_trees front) → TellsOf (breach_of [] (definition_tree d)) error → TellsBreach schemas (definition_trees items) error
-breaks-here items front others d error split unbroken h =
-    breaks schemas (definition_trees items) (definition_trees front) (definition_tree d) (definition_trees others) error (ap definition_trees split ∙ map-append definition_tree front (d ∷ others)) unbroken
-    (subst (λ (breach : Option Error). TellsOf breach error) (anywhere (definition_trees front) (definition_tree d)) h)

@@ -15,7 +15,7 @@ use Rattle.graphql_reading.proofs.Theory.{IsSubset, outside}
 use Rattle.graphql_reading.proofs.TokenTests.{punctuator, named, itself, punct-within, any_name-within, within-either, name-sample}
 use Rattle.graphql_reading.proofs.PunctSamples.{has-close, has-close_object, has-colon}
 use Rattle.graphql_reading.proofs.ReadsExactly.{ReadsExactly, HasPhrase, BeginsWith, exact-punct, exact-name, exact-mapped, exact-next, exact-then-some, begins-one, begins-within, begins-mapped, begins-then, has-token, has-pair, has-map, has-plus}
-use Rattle.graphql_reading.proofs.Extra.{FirstWithin, exact-seq, first-opt, first-then, exact-plus-ahead, exact-opt, has-opt, begins-opt}
+use Rattle.graphql_reading.proofs.Extra.{exact-seq, first-opt, first-then, exact-plus-ahead, exact-opt, has-opt, begins-opt}
 use Rattle.graphql_reading.proofs.IgnoresPlaces.{IgnoresPlaces, ignores-one, ignores-then, ignores-mapped, ignores-plus, ignores-opt}
 use Rattle.graphql_reading.proofs.Marks.{exact-between, begins-between, ignores-between}
 use Rattle.graphql_reading.proofs.Loop.{Takes, takes-one}
@@ -119,9 +119,6 @@ exact-arguments_definition = exact-between "(" ")" has-close (has-plus has-input
 
 pub exact-maybe_arguments_definition : {b : Limits} {f : Test} → IsSubset f (outside (punct "(")) → ReadsExactly (λ c. opt (arguments_definition Current c)) b f (opt_at (punct "(") (arguments_definition_at b))
 exact-maybe_arguments_definition away = exact-opt (begins-input_values "(" ")") away exact-arguments_definition
-
-pub first-maybe_arguments_definition : {f g : Test} → IsTrue (g (punctuator "(")) → IsSubset f g → FirstWithin (λ c. opt (arguments_definition Current c)) f g
-first-maybe_arguments_definition here h = first-opt (begins-input_values "(" ")") (punct-within "(" here) h
 
 pub has-maybe_arguments_definition : HasPhrase (λ c. opt (arguments_definition Current c))
 has-maybe_arguments_definition = has-opt {p = arguments_definition Current}

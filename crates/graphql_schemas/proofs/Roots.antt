@@ -1,5 +1,5 @@
 -- Roots by their kinds: with one root more they are still so, or it repeats a kind.
-use Rattle.std.proofs.Common.{◌≡◌, Bool, true, false, cond, is_some, Option, Some, None, option_map, Result, Ok, Err, List, [], ◌∷◌, ◌++◌, refl, sym, ap, ◌∙◌, subst, append_assoc, append-nil}
+use Rattle.std.proofs.Common.{◌≡◌, Bool, true, false, cond, is_some, Option, Some, None, option_map, Result, Ok, Err, List, [], ◌∷◌, ◌++◌, refl, sym, ap, ◌∙◌, subst, append_assoc}
 use Rattle.graphql_tokens.specs.declared.pos.Pos.{Pos}
 use Rattle.graphql_tokens.specs.declared.pos.Positioned.{Positioned}
 use Rattle.graphql_syntax.specs.declared.types.OperationType.{OperationType}
@@ -75,9 +75,6 @@ kept-more front root schema old new kept h = record { goes = λ rest. ap (first_
 
 pub kept-stops : (front rest : List Root) (root : Root) (schema : Pos) (old new : code.Roots) (error : Error) → Kept front old → IsAdded front root schema (Err error) new → AreSorted (front ++ root ∷ rest) schema (Err error)
 kept-stops front rest root schema old new error kept h = (root, kept.goes (root ∷ rest) ∙ h.0 rest, h.1)
-
-pub kept-ends : (front : List Root) (schema : Pos) (roots : code.Roots) → Kept front roots → AreSorted front schema (Ok roots)
-kept-ends front schema roots kept = (ap (first_repeated []) (sym (append-nil front)) ∙ kept.goes [], kept.holds)
 
 -- the same of the roots of the code
 abbrev pub AreKept : List CodeRoot → code.Roots → Type 0

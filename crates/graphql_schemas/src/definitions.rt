@@ -3,7 +3,6 @@ ghost use Rattle.std.specs.Prelude.{◌≡◌};
 ghost use Rattle.graphql_reading.specs.reading.Given.{Gives};
 ghost use Rattle.graphql_schemas.specs.grammar.SchemaFile.{Definition as SpecDefinition};
 ghost use Rattle.graphql_schemas.specs.reading.SchemaFile.{described_at, extension_at, definition_first, definition_at};
-ghost use Rattle.graphql_schemas.specs.reading.Types.{body_first};
 ghost use Rattle.graphql_schemas.specs.reading.Views.{definition_tree};
 
 use crate::descriptions::{is_at_description, place_of, read_maybe_description};
@@ -27,17 +26,6 @@ pub enum Definition {
     Directive(Positioned<DirectiveDefinition>),
 }
 
-fn is_at_body(parser: &Parser) -> bool
-    ensures { result ≡ body_first parser.now.hand.bare }
-{
-    parser.is_at_keyword("scalar")
-        || parser.is_at_keyword("type")
-        || parser.is_at_keyword("interface")
-        || parser.is_at_keyword("union")
-        || parser.is_at_keyword("enum")
-        || parser.is_at_keyword("input")
-}
-
 /// Whether a definition or an extension is in hand.
 pub fn is_at_definition(parser: &Parser) -> bool
     ensures { result ≡ definition_first parser.now.hand.bare }
@@ -46,7 +34,12 @@ pub fn is_at_definition(parser: &Parser) -> bool
         || parser.is_at_keyword("extend")
         || parser.is_at_keyword("schema")
         || parser.is_at_keyword("directive")
-        || is_at_body(parser)
+        || parser.is_at_keyword("scalar")
+        || parser.is_at_keyword("type")
+        || parser.is_at_keyword("interface")
+        || parser.is_at_keyword("union")
+        || parser.is_at_keyword("enum")
+        || parser.is_at_keyword("input")
 }
 
 /// `TypeSystemExtension : SchemaExtension | TypeExtension`
@@ -70,7 +63,7 @@ fn read_described(parser: &mut Parser, limits: Limits) -> Reading<Definition>
     let description = read_maybe_description(parser)?;
     if parser.is_at_keyword("schema") {
         let (word, (directives, roots)) = read_schema(parser, limits)?;
-        let pos = place_of(&description, word);
+        let pos = place_of(&description, word.pos);
         let schema = Schema {
             description,
             extend: false,
@@ -84,7 +77,7 @@ fn read_described(parser: &mut Parser, limits: Limits) -> Reading<Definition>
         return Ok(Definition::Directive(directive));
     }
     let body = read_type_body(parser, limits, false)?;
-    let pos = place_of(&description, body.word);
+    let pos = place_of(&description, body.word.pos);
     let definition = type_with(false, description, body);
     Ok(Definition::TypeDef(Positioned::new(definition, pos)))
 }

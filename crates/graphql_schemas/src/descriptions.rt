@@ -1,6 +1,5 @@
 //! The reader of descriptions, by GraphQL October 2021, section 3.2.
 ghost use Rattle.std.specs.Prelude.{◌≡◌, string_bytes};
-ghost use Rattle.graphql_tokens.specs.tokens.Seen.{seen};
 ghost use Rattle.graphql_syntax.specs.trees.Parts.{placed};
 ghost use Rattle.graphql_schema_trees.specs.trees.SchemaViews.{description_tree};
 ghost use Rattle.graphql_reading.specs.reading.Given.{Gives};
@@ -9,7 +8,6 @@ ghost use Rattle.graphql_schemas.specs.reading.Descriptions.{is_text, descriptio
 
 use graphql_grammar::strings::{read_block, read_string};
 use graphql_reading::parser::{Parser, Reading};
-use graphql_syntax::lexer::Token;
 use graphql_syntax::pos::{Pos, Positioned};
 
 /// Whether a description is in hand.
@@ -50,11 +48,11 @@ pub fn read_maybe_description(parser: &mut Parser) -> Reading<Option<Positioned<
 
 /// Where a definition stands: at its description, or else at this first token of its own.
 #[inline(always)]
-pub fn place_of(description: &Option<Positioned<String>>, first: Token) -> Pos
-    ensures { result ≡ grammar.place_of (description_tree description.now) (seen first.entry) }
+pub fn place_of(description: &Option<Positioned<String>>, first: Pos) -> Pos
+    ensures { result ≡ grammar.place_of (description_tree description.now) first }
 {
     match description {
         Some(text) => text.pos,
-        None => first.pos,
+        None => first,
     }
 }

@@ -1,5 +1,5 @@
 //! The reader of definitions of directives, by GraphQL October 2021, section 3.13.
-ghost use Rattle.std.specs.Prelude.{◌≡◌, true, option_map};
+ghost use Rattle.std.specs.Prelude.{◌≡◌};
 ghost use Rattle.graphql_tokens.specs.declared.pos.Positioned.{Positioned};
 ghost use Rattle.graphql_schema_trees.specs.declared.service.DirectiveLocation.{DirectiveLocation};
 ghost use Rattle.graphql_syntax.specs.trees.Parts.{placed};
@@ -12,8 +12,8 @@ ghost use Rattle.graphql_schemas.specs.reading.Directives.{location_named, locat
 
 use crate::descriptions::place_of;
 use crate::input_values::read_maybe_arguments_definition;
-use crate::names::read_named;
 use graphql_reading::limits::Limits;
+use graphql_reading::names::read_name;
 use graphql_reading::parser::{Parser, Reading, Refusal};
 use graphql_reading::production::{Production, separated};
 use graphql_schema_trees::{DirectiveDefinition, DirectiveLocation};
@@ -121,9 +121,9 @@ pub fn read_directive_definition(
         (directive_rest_at limits)) }
 {
     let word = parser.expect_keyword("directive")?;
-    let pos = place_of(&description, word);
+    let pos = place_of(&description, word.pos);
     parser.expect_punct("@")?;
-    let (_, name) = read_named(parser)?;
+    let name = read_name(parser)?;
     let arguments = read_maybe_arguments_definition(parser, limits)?;
     let is_repeatable = read_is_repeatable(parser);
     let locations = read_locations(parser, limits)?;

@@ -8,10 +8,10 @@ ghost use Rattle.graphql_schemas.specs.reading.InputValues.{member_first};
 
 use crate::descriptions::{place_of, read_maybe_description};
 use crate::input_values::{is_at_member, read_maybe_arguments_definition};
-use crate::names::read_named;
 use graphql_grammar::arguments::read_const_directives;
 use graphql_grammar::types::read_type;
 use graphql_reading::limits::Limits;
+use graphql_reading::names::read_name;
 use graphql_reading::parser::{Parser, Reading};
 use graphql_reading::production::Production;
 use graphql_schema_trees::FieldDefinition;
@@ -40,8 +40,8 @@ impl Production for FieldPhrase {
 
     fn read(parser: &mut Parser, limits: Limits) -> Reading<Positioned<FieldDefinition>> {
         let description = read_maybe_description(parser)?;
-        let (token, name) = read_named(parser)?;
-        let pos = place_of(&description, token);
+        let name = read_name(parser)?;
+        let pos = place_of(&description, name.pos);
         let arguments = read_maybe_arguments_definition(parser, limits)?;
         parser.expect_punct(":")?;
         let ty = read_type(parser, limits)?;

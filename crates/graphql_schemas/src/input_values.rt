@@ -12,7 +12,7 @@ use crate::descriptions::{is_at_description, place_of, read_maybe_description};
 use graphql_grammar::arguments::{read_const_directives, read_maybe_default};
 use graphql_grammar::types::read_type;
 use graphql_reading::limits::Limits;
-use graphql_reading::names::name_in;
+use graphql_reading::names::read_name;
 use graphql_reading::parser::{Parser, Reading};
 use graphql_reading::production::{Production, maybe_bracketed};
 use graphql_schema_trees::InputValueDefinition;
@@ -49,9 +49,8 @@ impl Production for InputValuePhrase {
 
     fn read(parser: &mut Parser, limits: Limits) -> Reading<Positioned<InputValueDefinition>> {
         let description = read_maybe_description(parser)?;
-        let token = parser.expect_name()?;
-        let pos = place_of(&description, token);
-        let name = name_in(parser, token)?;
+        let name = read_name(parser)?;
+        let pos = place_of(&description, name.pos);
         parser.expect_punct(":")?;
         let ty = read_type(parser, limits)?;
         let default_value = read_maybe_default(parser, limits)?;

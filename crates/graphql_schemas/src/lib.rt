@@ -30,7 +30,6 @@ pub mod directives;
 mod fields;
 pub mod input_values;
 pub mod members;
-mod names;
 mod rules;
 mod schema;
 pub mod types;
@@ -71,6 +70,7 @@ impl<'a> Kept<'a> for KeptDefinitions {
     /// `TypeSystemExtensionDocument : TypeSystemDefinitionOrExtension+` (GraphQL October 2021, section 3.1)
     fn read_all(parser: &mut Parser<'a>, limits: Limits) -> Reading<KeptDefinitions> {
         let items = one_or_more::<Definition>(parser, limits)?;
+        parser.expect_end()?;
         Ok(KeptDefinitions { items })
     }
 

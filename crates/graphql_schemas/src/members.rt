@@ -1,23 +1,19 @@
 //! Readers of the interfaces of a type, the types of a union and the values of an enum, by GraphQL October 2021,
 //! sections 3.6, 3.8 and 3.9.
-ghost use Rattle.std.specs.Prelude.{◌≡◌, true, false, IfOk};
-ghost use Rattle.graphql_tokens.specs.tokens.Cuts.{is_last};
+ghost use Rattle.std.specs.Prelude.{◌≡◌, IfOk};
 ghost use Rattle.graphql_tokens.specs.declared.pos.Positioned.{Positioned};
 ghost use Rattle.graphql_tokens.specs.tokens.Seen.{seen};
 ghost use Rattle.graphql_tokens.specs.tokens.Within.{StandsIn};
 ghost use Rattle.graphql_syntax.specs.trees.Parts.{placed};
 ghost use Rattle.graphql_schema_trees.specs.trees.Schema as trees;
 ghost use Rattle.graphql_schema_trees.specs.trees.SchemaViews.{enum_value_tree};
-ghost use Rattle.graphql_reading.specs.grammar.Relations.{given};
-ghost use Rattle.graphql_reading.specs.grammar.Tests.{Test};
+ghost use Rattle.graphql_reading.specs.grammar.Places.{name_of};
 ghost use Rattle.graphql_reading.specs.reading.Given.{Gives};
-ghost use Rattle.graphql_reading.specs.reading.Outcome.{one_at, mapped_at, opt_at, after_at, separated_at};
-ghost use Rattle.graphql_reading.specs.reading.Spelled.{punct_of};
+ghost use Rattle.graphql_reading.specs.reading.Outcome.{one_at};
 ghost use Rattle.graphql_schemas.specs.grammar.Members.{enum_name};
-ghost use Rattle.graphql_schemas.specs.reading.Members.{name_at, given_implements_at, given_members_at, enum_value_first, enum_value_at};
+ghost use Rattle.graphql_schemas.specs.reading.Members.{given_implements_at, given_members_at, enum_value_first, enum_value_at};
 
 use crate::descriptions::{is_at_description, place_of, read_maybe_description};
-use crate::names::read_enum_named;
 use graphql_grammar::arguments::read_const_directives;
 use graphql_reading::limits::Limits;
 use graphql_reading::names::NamePhrase;
@@ -28,49 +24,34 @@ use graphql_syntax::lexer::Token;
 use graphql_syntax::pos::Positioned;
 use graphql_syntax::value::Name;
 
-/// Reads names with this mark between each two of them, after the token in hand where that opens them; else there are
-/// none.
-///
-/// `(Opening Mark? Name (Mark Name)*)?`
-#[tactic(auto, unfolding(graphql_reading::specs::reading::Outcome::opt_at))]
-#[inline(always)]
-fn read_maybe_names(
-    parser: &mut Parser,
-    is_there: bool,
-    mark: &str,
-    limits: Limits,
-) -> Reading<Vec<Positioned<Name>>>
-    requires { is_there ≡ true → is_last parser.old.hand.bare.kind ≡ false }
-    ensures { (opening : Test) → is_there ≡ opening parser.old.hand.bare →
-        Gives (λ names. names.items) result parser.old parser.new
-        (mapped_at given (opt_at opening (after_at opening
-        (separated_at (punct_of mark.now) name_at)))) }
-{
-    if !is_there {
-        return Ok(parser.empty_list());
-    }
-    parser.advance();
-    separated::<NamePhrase>(parser, mark, limits)
-}
-
 /// Reads the interfaces that a type implements, where `implements` is in hand; else there are none.
 ///
 /// `ImplementsInterfaces? : ('implements' '&'? Name ('&' Name)*)?` (GraphQL October 2021, section 3.6)
+#[tactic(auto, unfolding(graphql_reading::specs::reading::Outcome::opt_at))]
 pub fn read_maybe_implements(parser: &mut Parser, limits: Limits) -> Reading<Vec<Positioned<Name>>>
     ensures { Gives (λ names. names.items) result parser.old parser.new given_implements_at }
 {
-    let is_there = parser.is_at_keyword("implements");
-    read_maybe_names(parser, is_there, "&", limits)
+    if !parser.is_at_keyword("implements") {
+        return Ok(parser.empty_list());
+    }
+    parser.expect_keyword("implements")?;
+    let names = separated::<NamePhrase>(parser, "&", limits)?;
+    Ok(names)
 }
 
 /// Reads the types of a union, where a `=` is in hand; else there are none.
 ///
 /// `UnionMemberTypes? : ('=' '|'? Name ('|' Name)*)?` (GraphQL October 2021, section 3.8)
+#[tactic(auto, unfolding(graphql_reading::specs::reading::Outcome::opt_at))]
 pub fn read_maybe_members(parser: &mut Parser, limits: Limits) -> Reading<Vec<Positioned<Name>>>
     ensures { Gives (λ names. names.items) result parser.old parser.new given_members_at }
 {
-    let is_there = parser.is_at_punct("=");
-    read_maybe_names(parser, is_there, "|", limits)
+    if !parser.is_at_punct("=") {
+        return Ok(parser.empty_list());
+    }
+    parser.expect_punct("=")?;
+    let names = separated::<NamePhrase>(parser, "|", limits)?;
+    Ok(names)
 }
 
 /// Whether a name is in hand that an enum's value may have.
@@ -92,6 +73,19 @@ pub fn expect_enum_name<'a>(parser: &mut Parser<'a>) -> Reading<Token<'a>>
         return Err(Refusal::Syntax);
     }
     Ok(parser.take())
+}
+
+/// Reads the name of an enum's value (GraphQL October 2021, section 2.9.6).
+///
+/// `EnumValue : a Name other than 'true', 'false', 'null'`
+#[inline(always)]
+fn read_enum_name(parser: &mut Parser) -> Reading<Positioned<Name>>
+    ensures token { Gives (λ _. parser.old.hand) result parser.old parser.new (one_at enum_name) }
+    ensures name { IfOk result (λ name. name ≡ name_of parser.old.hand) }
+{
+    let token = expect_enum_name(parser)?;
+    let name = parser.name(token)?;
+    Ok(Positioned::new(name, token.pos))
 }
 
 /// `EnumValueDefinition : Description? EnumValue Directives[Const]?`
@@ -117,8 +111,8 @@ impl Production for EnumValuePhrase {
 
     fn read(parser: &mut Parser, limits: Limits) -> Reading<Positioned<EnumValueDefinition>> {
         let description = read_maybe_description(parser)?;
-        let (token, value) = read_enum_named(parser)?;
-        let pos = place_of(&description, token);
+        let value = read_enum_name(parser)?;
+        let pos = place_of(&description, value.pos);
         let directives = read_const_directives(parser, limits)?;
         let definition = EnumValueDefinition {
             description,

@@ -6,14 +6,14 @@ ghost use Rattle.graphql_syntax.specs.trees.PartViews.{const_directives_tree};
 ghost use Rattle.graphql_reading.specs.reading.Given.{Gives, trees_in};
 ghost use Rattle.graphql_reading.specs.reading.Outcome.{mapped_at};
 ghost use Rattle.graphql_schemas.specs.grammar.Schema as grammar;
-ghost use Rattle.graphql_schemas.specs.reading.Schema.{root_first, root_at, roots_at, schema_rest_at, extended_schema_at};
+ghost use Rattle.graphql_schemas.specs.reading.Schema.{root_first, root_at, schema_rest_at, extended_schema_at};
 ghost use Rattle.graphql_schemas.specs.reading.Views.{root_tree, schema_tree};
 
 use crate::types::read_braced;
 use graphql_grammar::arguments::read_const_directives;
 use graphql_grammar::operations::read_operation_type;
 use graphql_reading::limits::Limits;
-use graphql_reading::names::name_in;
+use graphql_reading::names::read_name;
 use graphql_reading::parser::{Parser, Reading};
 use graphql_reading::production::{Production, bracketed};
 use graphql_syntax::lexer::Token;
@@ -73,8 +73,7 @@ impl Production for RootPhrase {
     fn read(parser: &mut Parser, _limits: Limits) -> Reading<Root> {
         let (word, kind) = read_operation_type(parser)?;
         parser.expect_punct(":")?;
-        let token = parser.expect_name()?;
-        let name = name_in(parser, token)?;
+        let name = read_name(parser)?;
         Ok(Root {
             kind,
             pos: word.pos,
@@ -83,23 +82,17 @@ impl Production for RootPhrase {
     }
 }
 
-/// `Roots : '{' RootOperationTypeDefinition+ '}'`
-fn read_roots(parser: &mut Parser, limits: Limits) -> Reading<Vec<Root>>
-    ensures { Gives (trees_in root_tree) result parser.old parser.new roots_at }
-{
-    bracketed::<RootPhrase>(parser, "{", "}", limits)
-}
-
 /// Reads the definition of a schema after its description.
 ///
-/// `SchemaDefinition : Description? 'schema' Directives[Const]? Roots` (GraphQL October 2021, section 3.3)
+/// `SchemaDefinition : Description? 'schema' Directives[Const]? '{' RootOperationTypeDefinition+ '}'` (GraphQL October
+/// 2021, section 3.3)
 pub fn read_schema<'a>(parser: &mut Parser<'a>, limits: Limits) -> Reading<Parts<'a>>
     ensures { Gives (λ x. (seen x.0, (const_directives_tree x.1.0.items, trees_in root_tree x.1.1)))
         result parser.old parser.new (schema_rest_at limits) }
 {
     let word = parser.expect_keyword("schema")?;
     let directives = read_const_directives(parser, limits)?;
-    let roots = read_roots(parser, limits)?;
+    let roots = bracketed::<RootPhrase>(parser, "{", "}", limits)?;
     Ok((word, (directives, roots)))
 }
 

@@ -10,14 +10,14 @@ ghost use Rattle.graphql_reading.specs.reading.Given.{Gives, trees_in};
 ghost use Rattle.graphql_reading.specs.reading.Outcome.{Takes, plus_at, between_at};
 ghost use Rattle.graphql_schemas.specs.grammar.Types as grammar;
 ghost use Rattle.graphql_schemas.specs.reading.Bodies.{in_members, in_rest, in_body, word_at, rest_at, body_by_word_at, members_by_part_at};
-ghost use Rattle.graphql_schemas.specs.reading.Types.{some_parts_at, some_field_parts_at, scalar_rest_at, fields_rest_at, union_rest_at, enum_rest_at, input_rest_at, body_at};
+ghost use Rattle.graphql_schemas.specs.reading.Types.{some_parts_at, fields_rest_at, body_at};
 
 use crate::fields::FieldPhrase;
 use crate::input_values::InputValuePhrase;
 use crate::members::{EnumValuePhrase, read_maybe_implements, read_maybe_members};
 use graphql_grammar::arguments::read_const_directives;
 use graphql_reading::limits::Limits;
-use graphql_reading::names::name_in;
+use graphql_reading::names::read_name;
 use graphql_reading::parser::{Parser, Reading, Refusal};
 use graphql_reading::production::{Production, maybe_bracketed};
 use graphql_schema_trees::{
@@ -104,32 +104,7 @@ fn read_members(parser: &mut Parser, limits: Limits) -> Reading<Members>
     Ok((implements, (directives, fields)))
 }
 
-/// The same; an extension has at least one of them.
-fn read_owed_members(parser: &mut Parser, limits: Limits, extend: bool) -> Reading<Members>
-    ensures { Gives in_members result parser.old parser.new (some_field_parts_at extend limits) }
-{
-    let is_there = parser.is_at_keyword("implements")
-        || parser.is_at_punct("@")
-        || parser.is_at_punct("{");
-    expect_part(extend, is_there)?;
-    read_members(parser, limits)
-}
-
-/// What stands after the name of an object type or of an interface.
-fn fields_rest(is_interface: bool, members: Members) -> Rest
-    ensures { in_rest result ≡
-        grammar.fields_rest (cond is_interface interface object) (in_members members) }
-{
-    let (implements, (directives, fields)) = members;
-    let kind = if is_interface {
-        TypeKind::Interface(InterfaceType { implements, fields })
-    } else {
-        TypeKind::Object(ObjectType { implements, fields })
-    };
-    (directives, kind)
-}
-
-/// The rest of an object type or of an interface.
+/// The rest of an object type or of an interface; an extension has at least one of its parts.
 fn read_fields_rest(
     parser: &mut Parser,
     limits: Limits,
@@ -139,29 +114,17 @@ fn read_fields_rest(
     ensures { Gives in_rest result parser.old parser.new
         (fields_rest_at (cond is_interface interface object) extend limits) }
 {
-    let members = read_owed_members(parser, limits, extend)?;
-    Ok(fields_rest(is_interface, members))
-}
-
-/// `Directives[Const]?`; an extension has them.
-fn read_scalar_rest(parser: &mut Parser, limits: Limits, extend: bool) -> Reading<Rest>
-    ensures { Gives in_rest result parser.old parser.new (scalar_rest_at extend limits) }
-{
-    let is_there = parser.is_at_punct("@");
+    let is_there = parser.is_at_keyword("implements")
+        || parser.is_at_punct("@")
+        || parser.is_at_punct("{");
     expect_part(extend, is_there)?;
-    let directives = read_const_directives(parser, limits)?;
-    Ok((directives, TypeKind::Scalar))
-}
-
-/// `Directives[Const]? UnionMemberTypes?`; an extension has at least one of them.
-fn read_union_rest(parser: &mut Parser, limits: Limits, extend: bool) -> Reading<Rest>
-    ensures { Gives in_rest result parser.old parser.new (union_rest_at extend limits) }
-{
-    let is_there = parser.is_at_punct("@") || parser.is_at_punct("=");
-    expect_part(extend, is_there)?;
-    let directives = read_const_directives(parser, limits)?;
-    let members = read_maybe_members(parser, limits)?;
-    Ok((directives, TypeKind::Union(UnionType { members })))
+    let (implements, (directives, fields)) = read_members(parser, limits)?;
+    let kind = if is_interface {
+        TypeKind::Interface(InterfaceType { implements, fields })
+    } else {
+        TypeKind::Object(ObjectType { implements, fields })
+    };
+    Ok((directives, kind))
 }
 
 /// `Directives[Const]? ('{' Phrase+ '}')?`; an extension has at least one of them.
@@ -183,36 +146,37 @@ pub(crate) fn read_braced<P: Production>(
     Ok((directives, items))
 }
 
-/// `Directives[Const]? EnumValuesDefinition?`; an extension has at least one of them.
-fn read_enum_rest(parser: &mut Parser, limits: Limits, extend: bool) -> Reading<Rest>
-    ensures { Gives in_rest result parser.old parser.new (enum_rest_at extend limits) }
-{
-    let (directives, values) = read_braced::<EnumValuePhrase>(parser, limits, extend)?;
-    Ok((directives, TypeKind::Enum(EnumType { values })))
-}
-
-/// `Directives[Const]? InputFieldsDefinition?`; an extension has at least one of them.
-fn read_input_rest(parser: &mut Parser, limits: Limits, extend: bool) -> Reading<Rest>
-    ensures { Gives in_rest result parser.old parser.new (input_rest_at extend limits) }
-{
-    let (directives, fields) = read_braced::<InputValuePhrase>(parser, limits, extend)?;
-    Ok((
-        directives,
-        TypeKind::InputObject(InputObjectType { fields }),
-    ))
-}
-
-/// What stands after the name, by the keyword.
+/// What stands after the name, by the keyword; an extension has at least one of the optional parts.
 fn read_rest(parser: &mut Parser, limits: Limits, word: Word, extend: bool) -> Reading<Rest>
     ensures { Gives in_rest result parser.old parser.new (rest_at extend limits word) }
 {
     match word {
-        Word::Scalar => read_scalar_rest(parser, limits, extend),
+        Word::Scalar => {
+            let is_there = parser.is_at_punct("@");
+            expect_part(extend, is_there)?;
+            let directives = read_const_directives(parser, limits)?;
+            Ok((directives, TypeKind::Scalar))
+        }
         Word::Type => read_fields_rest(parser, limits, false, extend),
         Word::Interface => read_fields_rest(parser, limits, true, extend),
-        Word::Union => read_union_rest(parser, limits, extend),
-        Word::Enum => read_enum_rest(parser, limits, extend),
-        Word::Input => read_input_rest(parser, limits, extend),
+        Word::Union => {
+            let is_there = parser.is_at_punct("@") || parser.is_at_punct("=");
+            expect_part(extend, is_there)?;
+            let directives = read_const_directives(parser, limits)?;
+            let members = read_maybe_members(parser, limits)?;
+            Ok((directives, TypeKind::Union(UnionType { members })))
+        }
+        Word::Enum => {
+            let (directives, values) = read_braced::<EnumValuePhrase>(parser, limits, extend)?;
+            Ok((directives, TypeKind::Enum(EnumType { values })))
+        }
+        Word::Input => {
+            let (directives, fields) = read_braced::<InputValuePhrase>(parser, limits, extend)?;
+            Ok((
+                directives,
+                TypeKind::InputObject(InputObjectType { fields }),
+            ))
+        }
     }
 }
 
@@ -229,8 +193,7 @@ fn read_body<'a>(parser: &mut Parser<'a>, limits: Limits, extend: bool) -> Readi
     ensures { Gives in_body result parser.old parser.new (body_by_word_at extend limits) }
 {
     let (token, word) = read_word(parser)?;
-    let name = parser.expect_name()?;
-    let name = name_in(parser, name)?;
+    let name = read_name(parser)?;
     let (directives, kind) = read_rest(parser, limits, word, extend)?;
     Ok(Body {
         word: token,

@@ -1,5 +1,5 @@
 //! The check of definitions of directives, by GraphQL October 2021, section 3.13.
-ghost use Rattle.std.specs.Prelude.{Ok, true, false};
+ghost use Rattle.std.specs.Prelude.{Ok};
 ghost use Rattle.graphql_tokens.specs.declared.pos.Positioned.{Positioned};
 ghost use Rattle.graphql_schema_trees.specs.declared.service.DirectiveLocation.{DirectiveLocation};
 ghost use Rattle.graphql_check.specs.Checked.{Checks};

@@ -1,14 +1,11 @@
 //! The check of the fields of object types and interfaces, by GraphQL October 2021, section 3.6.
 ghost use Rattle.graphql_tokens.specs.declared.pos.Positioned.{Positioned};
 ghost use Rattle.graphql_schema_trees.specs.trees.Schema as trees;
-ghost use Rattle.graphql_check.specs.Checked.{Checks};
-ghost use Rattle.graphql_reading.specs.grammar.Tests.{punct};
-ghost use Rattle.graphql_reading.specs.reading.Outcome.{opt_at};
-ghost use Rattle.graphql_schemas.specs.reading.Fields.{field_definition_at, fields_at};
+ghost use Rattle.graphql_schemas.specs.reading.Fields.{field_definition_at};
 ghost use Rattle.graphql_schemas.specs.reading.InputValues.{member_first};
 
 use crate::arguments::check_const_directives;
-use crate::production::{Phrase, check_bracketed};
+use crate::production::Phrase;
 use crate::schemas::descriptions::check_maybe_description;
 use crate::schemas::input_values::check_maybe_arguments_definition;
 use crate::types::check_type;
@@ -16,8 +13,8 @@ use graphql_reading::limits::Limits;
 use graphql_reading::parser::{Parser, Reading};
 use graphql_schemas::input_values::is_at_member;
 
-/// `FieldDefinition : Description? Name ArgumentsDefinition? ':' Type Directives[Const]?`
-struct FieldPhrase;
+/// `FieldDefinition : Description? Name ArgumentsDefinition? ':' Type Directives[Const]?` (GraphQL October 2021, section 3.6)
+pub(crate) struct FieldPhrase;
 
 impl Phrase for FieldPhrase {
     ghost Tree = { Positioned trees.FieldDefinition };
@@ -38,15 +35,4 @@ impl Phrase for FieldPhrase {
         check_type(parser, limits)?;
         check_const_directives(parser, limits)
     }
-}
-
-/// `FieldsDefinition? : ('{' FieldDefinition+ '}')?` (GraphQL October 2021, section 3.6)
-#[tactic(auto, unfolding(graphql_reading::specs::reading::Outcome::opt_at))]
-pub fn check_maybe_fields(parser: &mut Parser, limits: Limits) -> Reading<()>
-    ensures { Checks result parser.old parser.new (opt_at (punct "{") (fields_at limits)) }
-{
-    if !parser.is_at_punct("{") {
-        return Ok(());
-    }
-    check_bracketed::<FieldPhrase>(parser, "{", "}", limits)
 }

@@ -4,10 +4,10 @@ ghost use Rattle.graphql_schema_trees.specs.trees.Schema as trees;
 ghost use Rattle.graphql_check.specs.Checked.{Checks};
 ghost use Rattle.graphql_reading.specs.grammar.Tests.{punct};
 ghost use Rattle.graphql_reading.specs.reading.Outcome.{opt_at};
-ghost use Rattle.graphql_schemas.specs.reading.InputValues.{member_first, input_value_at, arguments_definition_at, input_fields_at};
+ghost use Rattle.graphql_schemas.specs.reading.InputValues.{member_first, input_value_at, arguments_definition_at};
 
 use crate::arguments::{check_const_directives, check_maybe_default};
-use crate::production::{Phrase, check_bracketed};
+use crate::production::{Phrase, check_maybe_bracketed};
 use crate::schemas::descriptions::check_maybe_description;
 use crate::types::check_type;
 use graphql_reading::limits::Limits;
@@ -15,7 +15,7 @@ use graphql_reading::parser::{Parser, Reading};
 use graphql_schemas::input_values::is_at_member;
 
 /// `InputValueDefinition : Description? Name ':' Type DefaultValue? Directives[Const]?`
-struct InputValuePhrase;
+pub(crate) struct InputValuePhrase;
 
 impl Phrase for InputValuePhrase {
     ghost Tree = { Positioned trees.InputValueDefinition };
@@ -39,24 +39,9 @@ impl Phrase for InputValuePhrase {
 }
 
 /// `ArgumentsDefinition? : ('(' InputValueDefinition+ ')')?` (GraphQL October 2021, section 3.6.1)
-#[tactic(auto, unfolding(graphql_reading::specs::reading::Outcome::opt_at))]
 pub fn check_maybe_arguments_definition(parser: &mut Parser, limits: Limits) -> Reading<()>
     ensures { Checks result parser.old parser.new
         (opt_at (punct "(") (arguments_definition_at limits)) }
 {
-    if !parser.is_at_punct("(") {
-        return Ok(());
-    }
-    check_bracketed::<InputValuePhrase>(parser, "(", ")", limits)
-}
-
-/// `InputFieldsDefinition? : ('{' InputValueDefinition+ '}')?` (GraphQL October 2021, section 3.10)
-#[tactic(auto, unfolding(graphql_reading::specs::reading::Outcome::opt_at))]
-pub fn check_maybe_input_fields(parser: &mut Parser, limits: Limits) -> Reading<()>
-    ensures { Checks result parser.old parser.new (opt_at (punct "{") (input_fields_at limits)) }
-{
-    if !parser.is_at_punct("{") {
-        return Ok(());
-    }
-    check_bracketed::<InputValuePhrase>(parser, "{", "}", limits)
+    check_maybe_bracketed::<InputValuePhrase>(parser, "(", ")", limits)
 }

@@ -6,10 +6,10 @@ ghost use Rattle.graphql_schema_trees.specs.trees.Schema as trees;
 ghost use Rattle.graphql_check.specs.Checked.{Checks};
 ghost use Rattle.graphql_reading.specs.grammar.Tests.{any_name, keyword, punct};
 ghost use Rattle.graphql_reading.specs.reading.Outcome.{opt_at};
-ghost use Rattle.graphql_schemas.specs.reading.Members.{name_at, implements_at, members_at, enum_value_first, enum_value_at, enum_values_at};
+ghost use Rattle.graphql_schemas.specs.reading.Members.{name_at, implements_at, members_at, enum_value_first, enum_value_at};
 
 use crate::arguments::check_const_directives;
-use crate::production::{Phrase, check_bracketed};
+use crate::production::Phrase;
 use crate::schemas::descriptions::check_maybe_description;
 use crate::separated::check_separated;
 use graphql_reading::limits::Limits;
@@ -75,8 +75,8 @@ pub fn check_maybe_members(parser: &mut Parser, limits: Limits) -> Reading<()>
     check_members(parser, limits)
 }
 
-/// `EnumValueDefinition : Description? EnumValue Directives[Const]?`
-struct EnumValuePhrase;
+/// `EnumValueDefinition : Description? EnumValue Directives[Const]?` (GraphQL October 2021, section 3.9)
+pub(crate) struct EnumValuePhrase;
 
 impl Phrase for EnumValuePhrase {
     ghost Tree = { Positioned trees.EnumValueDefinition };
@@ -94,15 +94,4 @@ impl Phrase for EnumValuePhrase {
         expect_enum_name(parser)?;
         check_const_directives(parser, limits)
     }
-}
-
-/// `EnumValuesDefinition? : ('{' EnumValueDefinition+ '}')?` (GraphQL October 2021, section 3.9)
-#[tactic(auto, unfolding(graphql_reading::specs::reading::Outcome::opt_at))]
-pub fn check_maybe_enum_values(parser: &mut Parser, limits: Limits) -> Reading<()>
-    ensures { Checks result parser.old parser.new (opt_at (punct "{") (enum_values_at limits)) }
-{
-    if !parser.is_at_punct("{") {
-        return Ok(());
-    }
-    check_bracketed::<EnumValuePhrase>(parser, "{", "}", limits)
 }

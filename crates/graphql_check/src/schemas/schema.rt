@@ -1,5 +1,5 @@
 //! The check of definitions and extensions of schemas, by GraphQL October 2021, section 3.3.
-ghost use Rattle.std.specs.Prelude.{◌≡◌, List};
+ghost use Rattle.std.specs.Prelude.{◌≡◌};
 ghost use Rattle.graphql_check.specs.SchemaRules.{head_of, roots_of};
 ghost use Rattle.graphql_reading.specs.grammar.Relations.{given};
 ghost use Rattle.graphql_reading.specs.grammar.Tests.{punct};

@@ -2,19 +2,17 @@
 ghost use Rattle.std.specs.Prelude.{◌≡◌};
 ghost use Rattle.graphql_check.specs.Checked.{Checks};
 ghost use Rattle.graphql_reading.specs.grammar.Tests.{punct};
+ghost use Rattle.graphql_reading.specs.reading.Outcome.{Takes, plus_at, between_at};
 ghost use Rattle.graphql_reading.specs.reading.Spelled.{punct_of};
 ghost use Rattle.graphql_schemas.specs.reading.Bodies.{rest_at, body_by_word_at};
-ghost use Rattle.graphql_schemas.specs.reading.Fields.{fields_at};
-ghost use Rattle.graphql_schemas.specs.reading.InputValues.{input_fields_at};
-ghost use Rattle.graphql_schemas.specs.reading.Members.{members_at, enum_values_at};
+ghost use Rattle.graphql_schemas.specs.reading.Members.{members_at};
 ghost use Rattle.graphql_schemas.specs.reading.Types.{part_first, field_parts_at, some_field_parts_at, some_parts_at, scalar_rest_at};
 
 use crate::arguments::check_const_directives;
-use crate::schemas::fields::check_maybe_fields;
-use crate::schemas::input_values::check_maybe_input_fields;
-use crate::schemas::members::{
-    check_maybe_enum_values, check_maybe_implements, check_maybe_members,
-};
+use crate::production::{Phrase, check_maybe_bracketed};
+use crate::schemas::fields::FieldPhrase;
+use crate::schemas::input_values::InputValuePhrase;
+use crate::schemas::members::{EnumValuePhrase, check_maybe_implements, check_maybe_members};
 use graphql_reading::limits::Limits;
 use graphql_reading::parser::{Parser, Reading};
 use graphql_schemas::types::{Word, expect_part, read_word};
@@ -34,7 +32,7 @@ fn check_field_parts(parser: &mut Parser, limits: Limits) -> Reading<()>
 {
     check_maybe_implements(parser, limits)?;
     check_const_directives(parser, limits)?;
-    check_maybe_fields(parser, limits)
+    check_maybe_bracketed::<FieldPhrase>(parser, "{", "}", limits)
 }
 
 /// The same; an extension has at least one of them.
@@ -65,24 +63,15 @@ fn check_union_rest(parser: &mut Parser, limits: Limits, extend: bool) -> Readin
     check_maybe_members(parser, limits)
 }
 
-/// `Directives[Const]? EnumValuesDefinition?`; an extension has at least one of them.
-fn check_enum_rest(parser: &mut Parser, limits: Limits, extend: bool) -> Reading<()>
-    ensures { Checks result parser.old parser.new
-        (some_parts_at extend limits (punct "{") (enum_values_at limits)) }
+/// `Directives[Const]? ('{' Phrase+ '}')?`; an extension has at least one of them.
+fn check_braced<P: Phrase>(parser: &mut Parser, limits: Limits, extend: bool) -> Reading<()>
+    requires { Takes (P.reader limits) }
+    ensures { Checks result parser.old parser.new (some_parts_at extend limits (punct "{")
+        (between_at (punct "{") (plus_at P.first (P.reader limits)) (punct "}"))) }
 {
     expect_part(extend, is_at_part(parser, "{"))?;
     check_const_directives(parser, limits)?;
-    check_maybe_enum_values(parser, limits)
-}
-
-/// `Directives[Const]? InputFieldsDefinition?`; an extension has at least one of them.
-fn check_input_rest(parser: &mut Parser, limits: Limits, extend: bool) -> Reading<()>
-    ensures { Checks result parser.old parser.new
-        (some_parts_at extend limits (punct "{") (input_fields_at limits)) }
-{
-    expect_part(extend, is_at_part(parser, "{"))?;
-    check_const_directives(parser, limits)?;
-    check_maybe_input_fields(parser, limits)
+    check_maybe_bracketed::<P>(parser, "{", "}", limits)
 }
 
 /// What stands after the name, by the keyword.
@@ -93,8 +82,8 @@ fn check_rest(parser: &mut Parser, limits: Limits, word: Word, extend: bool) -> 
         Word::Scalar => check_scalar_rest(parser, limits, extend),
         Word::Type | Word::Interface => check_object_rest(parser, limits, extend),
         Word::Union => check_union_rest(parser, limits, extend),
-        Word::Enum => check_enum_rest(parser, limits, extend),
-        Word::Input => check_input_rest(parser, limits, extend),
+        Word::Enum => check_braced::<EnumValuePhrase>(parser, limits, extend),
+        Word::Input => check_braced::<InputValuePhrase>(parser, limits, extend),
     }
 }
 

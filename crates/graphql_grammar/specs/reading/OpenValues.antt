@@ -1,5 +1,5 @@
 -- Lists and objects that are open while a value inside them is read.
-use Rattle.std.specs.Prelude.{◌≡◌, ℕ, pred, ◌+◌, ◌<◌, Bool, true, false, cond, nat_lt, codes, Option, Some, None, option_map, Result, Ok, Err, List, [], ◌∷◌, ◌++◌, length, map}
+use Rattle.std.specs.Prelude.{◌≡◌, ℕ, pred, ◌+◌, ◌<◌, Bool, true, false, cond, nat_lt, codes, Option, Some, None, Result, Ok, Err, List, [], ◌∷◌, ◌++◌, length, map}
 use Rattle.std.specs.Str.{bytes_eq}
 use Rattle.graphql_tokens.specs.tokens.Token.{Token}
 use Rattle.graphql_syntax.specs.trees.ValueTree.{Tree, null, boolean, enumeration, list, object, trees_of, fields_of}
@@ -8,8 +8,8 @@ use Rattle.graphql_grammar.specs.declared.value.frames.Open.{Open}
 use Rattle.graphql_grammar.specs.declared.value.frames.Open.TheVariants as opens
 use Rattle.graphql_grammar.specs.declared.value.frames.Frame.{Frame}
 use Rattle.graphql_grammar.specs.declared.value.frames.Frame.TheVariants as frames
-use Rattle.graphql_grammar.specs.declared.value.Stop.{Stop}
-use Rattle.graphql_grammar.specs.declared.value.Stop.TheVariants as stops
+use Rattle.graphql_grammar.specs.declared.value.frames.Stop.{Stop}
+use Rattle.graphql_grammar.specs.declared.value.frames.Stop.TheVariants as stops
 use Rattle.graphql_reading.specs.grammar.Fronts.{limit}
 use Rattle.graphql_grammar.specs.grammar.Merged.{merged}
 use Rattle.graphql_reading.specs.grammar.Tests.{Test, punct, any_name}
@@ -121,20 +121,6 @@ abbrev pub enter_at : ℕ → Reader (Option Opened)
 enter_at left = choose_at (punct "[") (enters_at (punct "[") left (in_list [])) (choose_at (punct "{") (enters_at (punct "{") left (in_object [])) (none_at None))
 
 -- ---- what the code gives that reads up to where it stops
-
-abbrev pub met_in_list : List Tree → Option Opened → Met
-met_in_list front None = closes (list_tree front)
-met_in_list front (Some o) = enters (list_waits front) o
-
-abbrev pub met_in_object : List Field → Option (List ℕ × Opened) → Met
-met_in_object front None = closes (object_tree front)
-met_in_object front (Some x) = enters (object_waits front x.0) x.1
-
-abbrev pub list_stop : {V : Type 0} → (V → Tree) → List V → Option (Open V) → Met
-list_stop tree items inner = met_in_list (map tree items) (option_map (opened tree) inner)
-
-abbrev pub object_stop : {V : Type 0} → (V → Tree) → List (List ℕ × V) → Option (List ℕ × Open V) → Met
-object_stop tree fields inner = met_in_object (map (field_tree tree) fields) (option_map (λ x. (x.0, opened tree x.1)) inner)
 
 -- where a list or an object begins, a level is left for it
 abbrev pub HasRoom : ℕ → Met → Type 0

@@ -1,9 +1,10 @@
 //! What lists and objects contain, read up to their end or to a list or an object inside them.
 ghost use Rattle.std.specs.Prelude.{map, option_map};
-ghost use Rattle.graphql_grammar.specs.reading.OpenValues.{field_tree, opened, list_stop, object_stop, key_at, enter_at, list_rest, object_rest, Meets};
+ghost use Rattle.graphql_grammar.specs.reading.OpenValues.{field_tree, opened, met, enter_at, list_rest, object_rest, Meets};
 ghost use Rattle.graphql_reading.specs.reading.Given.{Gives};
 
-use super::frames::Open;
+use super::fields::merge;
+use super::frames::{Frame, Open, Stop};
 use super::simple::read_simple;
 use graphql_reading::parser::{Parser, Reading, Refusal};
 use graphql_syntax::value::{Literal, Name};
@@ -28,59 +29,47 @@ pub fn enter<V: Literal>(parser: &mut Parser, left: usize) -> Reading<Option<Ope
     Ok(Some(opening))
 }
 
-/// The end of an object, or else the name of its next value.
-///
-/// `'}' | Name ':'`
-fn read_key(parser: &mut Parser) -> Reading<Option<Name>>
-    ensures { Gives (λ key. key) result parser.old parser.new key_at }
-{
-    if parser.take_punct("}") {
-        return Ok(None);
-    }
-    let token = parser.expect_name()?;
-    let name = parser.name(token)?;
-    parser.expect_punct(":")?;
-    Ok(Some(name))
-}
-
-/// Gives what begins inside the list, or None at its end.
+/// Reads on in a list that holds these items.
 ///
 /// `ListValue : '[' Value* ']'` (GraphQL October 2021, section 2.9.7)
 pub fn read_items<V: Literal>(
     parser: &mut Parser,
-    items: &mut Vec<V>,
+    mut items: Vec<V>,
     left: usize,
-) -> Reading<Option<Open<V>>>
-    ensures { Meets V.VARIABLES left (list_stop V.tree items.new.items) result parser.old parser.new
-        (list_rest V.VARIABLES left (map V.tree items.old.items)) }
+) -> Reading<Stop<V>>
+    ensures { Meets V.VARIABLES left (met V.tree) result parser.old parser.new
+        (list_rest V.VARIABLES left (map V.tree items.items)) }
 {
     while !parser.take_punct("]") {
         if let Some(inner) = enter(parser, left)? {
-            return Ok(Some(inner));
+            return Ok(Stop::Entered(Frame::List(items), inner));
         }
         let item = read_simple(parser)?;
-        parser.push(items, item)?;
+        parser.push(&mut items, item)?;
     }
-    Ok(None)
+    Ok(Stop::Closed(V::list(items)))
 }
 
-/// Gives what begins inside the object, with its name, or None at its end.
+/// Reads on in an object that holds these fields.
 ///
-/// `ObjectValue : '{' ObjectField* '}'` (GraphQL October 2021, section 2.9.8)
+/// `ObjectValue : '{' ObjectField* '}'`, where `ObjectField : Name ':' Value` (GraphQL October 2021, section 2.9.8)
 pub fn read_fields<V: Literal>(
     parser: &mut Parser,
-    fields: &mut Vec<(Name, V)>,
+    mut fields: Vec<(Name, V)>,
     left: usize,
-) -> Reading<Option<(Name, Open<V>)>>
-    ensures { Meets V.VARIABLES left (object_stop V.tree fields.new.items) result parser.old
-        parser.new (object_rest V.VARIABLES left (map (field_tree V.tree) fields.old.items)) }
+) -> Reading<Stop<V>>
+    ensures { Meets V.VARIABLES left (met V.tree) result parser.old parser.new
+        (object_rest V.VARIABLES left (map (field_tree V.tree) fields.items)) }
 {
-    while let Some(name) = read_key(parser)? {
+    while !parser.take_punct("}") {
+        let token = parser.expect_name()?;
+        let name = parser.name(token)?;
+        parser.expect_punct(":")?;
         if let Some(inner) = enter(parser, left)? {
-            return Ok(Some((name, inner)));
+            return Ok(Stop::Entered(Frame::Object(fields, name), inner));
         }
         let value = read_simple(parser)?;
-        parser.push(fields, (name, value))?;
+        parser.push(&mut fields, (name, value))?;
     }
-    Ok(None)
+    Ok(Stop::Closed(V::object(merge(parser, fields)?)))
 }

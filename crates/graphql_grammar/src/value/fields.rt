@@ -2,9 +2,7 @@
 ghost use Rattle.std.specs.Prelude.{◌≡◌, IfOk, OnOk, OnErr, []};
 ghost use Rattle.graphql_memory.specs.Memory.{Refused};
 ghost use Rattle.graphql_reading.specs.reading.Ahead.{Stays};
-ghost use Rattle.std.specs.List.{list_any};
 ghost use Rattle.graphql_grammar.specs.grammar.Merged as grammar;
-ghost use Rattle.graphql_grammar.specs.grammar.Merged.{has_name};
 ghost use Rattle.graphql_grammar.specs.reading.Fields.{are_distinct as distinct, place_among, places, put};
 
 use graphql_reading::parser::Parser;
@@ -15,25 +13,16 @@ use std::collections::BTreeMap;
 /// So many fields are compared one by one. The names of more are put in order.
 const COMPARED_ONE_BY_ONE: usize = 16;
 
-fn holds<V>(fields: &[(Name, V)], name: &Name) -> bool
-    ensures { result ≡ list_any (has_name name.now) fields.now }
-{
-    for field in fields {
-        if field.0 == *name {
-            return true;
-        }
-    }
-    false
-}
-
 /// Whether no name comes twice.
 fn are_distinct<V>(fields: &[(Name, V)]) -> bool
     ensures { result ≡ distinct fields.now }
 {
     let mut rest = fields;
     while let [field, others @ ..] = rest {
-        if holds(others, &field.0) {
-            return false;
+        for other in others {
+            if other.0 == field.0 {
+                return false;
+            }
         }
         rest = others;
     }

@@ -1,11 +1,10 @@
 //! Lists and objects that are open while a value inside them is read.
-ghost use Rattle.std.specs.Prelude.{◌≡◌, ◌+◌, ◌<◌, [], ◌∷◌, ◌++◌, length, IfOk, OnOk, OnErr, IfNone, option_to_list};
+ghost use Rattle.std.specs.Prelude.{◌≡◌, IfOk, OnErr};
 ghost use Rattle.graphql_memory.specs.Memory.{Refused};
 ghost use Rattle.graphql_reading.specs.reading.Ahead.{Stays};
 
 use graphql_reading::parser::Parser;
 use graphql_syntax::value::{Literal, Name};
-use smallvec::SmallVec;
 use std::alloc::{AllocError, Global};
 use std::default::MadeWith;
 
@@ -21,6 +20,13 @@ pub enum Open<V> {
 pub enum Frame<V> {
     List(Vec<V>),
     Object(Vec<(Name, V)>, Name),
+}
+
+/// Where the reading of a list or an object stops: at its end, or after the first token of one inside it.
+#[derive(Drop)]
+pub enum Stop<V> {
+    Closed(V),
+    Entered(Frame<V>, Open<V>),
 }
 
 /// A list that holds nothing.
@@ -66,53 +72,5 @@ impl<V: Literal> Frame<V> {
                 Ok(Open::Object(fields))
             }
         }
-    }
-}
-
-/// The lists and objects around the one that is read, which together are at most `limit`. A value that nests
-/// three deep, or less, takes no block for them.
-#[derive(Drop)]
-pub struct Frames<V> {
-    outer: SmallVec<Frame<V>, 2>,
-    limit: usize,
-    ghost bounded: { length outer.items < limit },
-}
-
-impl<V: Literal> Frames<V> {
-    pub fn new(alloc: Global, limit: usize) -> Frames<V>
-        requires { 0 < limit }
-        ensures outer { result.outer.items ≡ [] }
-        ensures limit { result.limit ≡ limit }
-    {
-        Frames {
-            outer: SmallVec::new(alloc),
-            limit,
-        }
-    }
-
-    /// How many levels may open inside the one that is read.
-    pub fn left(&self) -> usize
-        ensures { result + length self.now.outer.items + 1 ≡ self.now.limit }
-    {
-        self.limit - self.outer.len() - 1
-    }
-
-    pub fn push(&mut self, parser: &mut Parser, frame: Frame<V>) -> Result<(), AllocError>
-        requires { length self.old.outer.items + 1 < self.old.limit }
-        ensures outer { IfOk result (λ _. self.new.outer.items ≡ self.old.outer.items ++ frame ∷
-            []) }
-        ensures limit { self.new.limit ≡ self.old.limit }
-        ensures refused { OnErr result (Refused parser.new.memory) }
-        ensures stays { Stays parser.old parser.new }
-    {
-        parser.push_small(&mut self.outer, frame)
-    }
-
-    pub fn pop(&mut self) -> Option<Frame<V>>
-        ensures outer { self.old.outer.items ≡ self.new.outer.items ++ option_to_list result }
-        ensures none { IfNone result (self.old.outer.items ≡ []) }
-        ensures limit { self.new.limit ≡ self.old.limit }
-    {
-        self.outer.pop()
     }
 }

@@ -6,7 +6,7 @@ ghost use Rattle.graphql_tokens.specs.tokens.Seen.{seen};
 ghost use Rattle.graphql_tokens.specs.tokens.Within.{StandsIn};
 ghost use Rattle.graphql_grammar.specs.reading.OpenValues.{node_at, word_tree};
 ghost use Rattle.graphql_reading.specs.reading.Given.{Gives};
-ghost use Rattle.graphql_grammar.specs.reading.Values.{simple_at, word_at, number_at, string_at, block_at, variable_at};
+ghost use Rattle.graphql_grammar.specs.reading.Values.{simple_at, word_at, variable_at};
 
 use crate::strings::{read_block, read_string};
 use graphql_reading::parser::{Parser, Reading, Refusal};
@@ -41,35 +41,6 @@ fn read_word<V: Literal>(parser: &mut Parser) -> Reading<V>
     Ok(word_of(parser, token)?)
 }
 
-/// `IntValue | FloatValue` (GraphQL October 2021, sections 2.9.1 and 2.9.2)
-fn read_number<V: Literal>(parser: &mut Parser) -> Reading<V>
-    ensures { Gives V.tree result parser.old parser.new (node_at number_at) }
-{
-    let token = parser.hand();
-    if !token.kind.is_number() {
-        return Err(Refusal::Syntax);
-    }
-    let number = parser.number(token)?;
-    parser.advance();
-    Ok(V::number(number))
-}
-
-/// `StringValue` between single quotes (GraphQL October 2021, section 2.9.4)
-fn read_string_node<V: Literal>(parser: &mut Parser) -> Reading<V>
-    ensures { Gives V.tree result parser.old parser.new (node_at string_at) }
-{
-    let text = read_string(parser)?;
-    Ok(V::string(text))
-}
-
-/// `StringValue` between triple quotes, a block string (GraphQL October 2021, section 2.9.4)
-fn read_block_node<V: Literal>(parser: &mut Parser) -> Reading<V>
-    ensures { Gives V.tree result parser.old parser.new (node_at block_at) }
-{
-    let text = read_block(parser)?;
-    Ok(V::string(text))
-}
-
 /// `Variable : '$' Name` (GraphQL October 2021, section 2.10)
 fn read_variable<V: Literal>(parser: &mut Parser) -> Reading<V>
     ensures { Gives V.tree result parser.old parser.new (node_at (variable_at V.VARIABLES)) }
@@ -87,15 +58,21 @@ fn read_variable<V: Literal>(parser: &mut Parser) -> Reading<V>
 
 /// A value that is neither a list nor an object.
 ///
-/// `Variable | IntValue | FloatValue | StringValue | BooleanValue | NullValue | EnumValue`
+/// `Variable | IntValue | FloatValue | StringValue | BooleanValue | NullValue | EnumValue`, of which `IntValue` and
+/// `FloatValue` are by GraphQL October 2021, sections 2.9.1 and 2.9.2, and `StringValue` by section 2.9.4
 pub fn read_simple<V: Literal>(parser: &mut Parser) -> Reading<V>
     ensures { Gives V.tree result parser.old parser.new (node_at (simple_at V.VARIABLES)) }
 {
-    match parser.hand().kind {
+    let token = parser.hand();
+    match token.kind {
         TokenKind::Name => read_word(parser),
-        TokenKind::Number => read_number(parser),
-        TokenKind::String => read_string_node(parser),
-        TokenKind::Block => read_block_node(parser),
+        TokenKind::Number => {
+            let number = parser.number(token)?;
+            parser.advance();
+            Ok(V::number(number))
+        }
+        TokenKind::String => Ok(V::string(read_string(parser)?)),
+        TokenKind::Block => Ok(V::string(read_block(parser)?)),
         _ => read_variable(parser),
     }
 }

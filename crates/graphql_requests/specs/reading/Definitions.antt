@@ -1,6 +1,5 @@
 -- The definitions of the code, and how it reads operations.
-use Rattle.std.specs.Prelude.{true, Option, Some, None, List, map, Vec}
-use Rattle.std.specs.declared.alloc.Global.{Global}
+use Rattle.std.specs.Prelude.{true, Option, Some, None, List}
 use Rattle.graphql_tokens.specs.declared.pos.Positioned.{Positioned}
 use Rattle.graphql_syntax.specs.declared.types.OperationType.{OperationType}
 use Rattle.graphql_tokens.specs.tokens.Token.{Token}

@@ -82,9 +82,9 @@ abbrev pub next_at : Reader Token
 next_at [] = Refused syntax []
 next_at (t ∷ ts) = Read t ts
 
--- after the name of a spread
-abbrev pub spread_at : ℕ → Pos → Token → Reader Heading
-spread_at values dots name = mapped_at (λ directives. (bare_spread dots (name_of name) directives, None)) (directives_at true values)
+-- a spread after its dots
+abbrev pub spread_at : ℕ → Pos → Reader Heading
+spread_at values dots = mapped_at (λ x. (bare_spread dots (name_of x.0) x.1, None)) (then_at (one_at any_name) (directives_at true values))
 
 abbrev pub bare_inline : Pos → Option (Positioned TypeCondition) → Directives → Positioned Selection
 bare_inline dots condition directives = record { pos = dots; node = inline_fragment dots condition directives nowhere no_selections }
@@ -99,7 +99,7 @@ inline_head_at values dots =
 
 abbrev pub after_dots_at : ℕ → Bool → Pos → Reader Heading
 after_dots_at values nests dots =
-    choose_at fragment_name (λ ts. next_at ts >>= spread_at values dots) (λ ts. cond nests (inline_head_at values dots ts) (deep_at inline_first ts))
+    choose_at fragment_name (spread_at values dots) (λ ts. cond nests (inline_head_at values dots ts) (deep_at inline_first ts))
 
 abbrev pub dots_head_at : ℕ → Bool → Reader Heading
 dots_head_at values nests ts = next_at ts >>= λ dots rest. after_dots_at values nests dots.pos rest

@@ -2,21 +2,18 @@
 ghost use Rattle.std.specs.Prelude.{◌≡◌, Some, option_map};
 ghost use Rattle.graphql_syntax.specs.trees.Parts.{placed};
 ghost use Rattle.graphql_request_trees.specs.trees.RequestViews.{selection_trees, type_condition_tree};
-ghost use Rattle.graphql_tokens.specs.tokens.Seen.{seen};
-ghost use Rattle.graphql_tokens.specs.tokens.Within.{StandsIn};
 ghost use Rattle.graphql_requests.specs.grammar.Selections.{fragment_name};
-ghost use Rattle.graphql_requests.specs.reading.SelectionSteps.{names_at, maybe_brace_at, onto, field_head_at, spread_at, inline_head_at, maybe_condition_at, head_at};
+ghost use Rattle.graphql_requests.specs.reading.SelectionSteps.{names_at, onto, field_head_at, spread_at, inline_head_at, maybe_condition_at, head_at};
 ghost use Rattle.graphql_reading.specs.reading.Given.{Gives};
 ghost use Rattle.graphql_requests.specs.reading.Selections.{type_condition_at, inline_first, selection_first};
 
-use graphql_grammar::arguments::{read_directives, read_maybe_arguments};
+use graphql_grammar::arguments::{read_arguments, read_directives};
 use graphql_reading::limits::Limits;
-use graphql_reading::names::{name_in, read_name};
+use graphql_reading::names::read_name;
 use graphql_reading::parser::{Parser, Reading, Refusal};
 use graphql_request_trees::{
     Field, FragmentSpread, InlineFragment, Selection, SelectionSet, TypeCondition,
 };
-use graphql_syntax::lexer::Token;
 use graphql_syntax::pos::{Pos, Positioned};
 use graphql_syntax::value::Name;
 
@@ -67,21 +64,6 @@ fn read_names(parser: &mut Parser) -> Reading<Names>
     Ok((Some(first), name))
 }
 
-/// The `{` of a set, if one follows.
-#[inline(always)]
-fn read_maybe_brace(parser: &mut Parser, nests: bool) -> Reading<Option<Pos>>
-    ensures { Gives (λ place. place) result parser.old parser.new (maybe_brace_at nests) }
-{
-    if !parser.is_at_punct("{") {
-        return Ok(None);
-    }
-    if !nests {
-        return Err(Refusal::Limit);
-    }
-    let brace = parser.take();
-    Ok(Some(brace.pos))
-}
-
 /// A field up to its set.
 ///
 /// `Field : Alias? Name Arguments? Directives? SelectionSet?` (GraphQL October 2021, section 2.5)
@@ -94,36 +76,44 @@ fn read_field(
     ensures { Gives (λ place. (selection_trees items.new.items, place)) result parser.old parser.new
         (onto (selection_trees items.old.items) (field_head_at limits.values nests)) }
 {
+    let pos = parser.hand().pos;
     let (alias, name) = read_names(parser)?;
-    let pos = alias.as_ref().unwrap_or(&name).pos;
+    let no_set = SelectionSet {
+        items: parser.empty_list(),
+    };
     let field = Field {
         alias,
         name,
-        arguments: read_maybe_arguments(parser, limits)?,
+        arguments: read_arguments(parser, limits)?,
         directives: read_directives(parser, limits)?,
-        selection_set: Positioned::new(SelectionSet::new(parser.heap()), NOWHERE),
+        selection_set: Positioned::new(no_set, NOWHERE),
     };
-    let place = read_maybe_brace(parser, nests)?;
+    let place = if parser.is_at_punct("{") {
+        if !nests {
+            return Err(Refusal::Limit);
+        }
+        Some(parser.take().pos)
+    } else {
+        None
+    };
     let node = Selection::Field(Positioned::new(field, pos));
     parser.push(items, Positioned::new(node, pos))?;
     Ok(place)
 }
 
-/// The rest of a spread after its name. It has no set.
+/// A spread, after its `...`, where the name of a fragment is in hand. It has no set.
 ///
 /// `FragmentSpread : '...' FragmentName Directives?` (GraphQL October 2021, section 2.8)
 fn read_spread(
     parser: &mut Parser,
     limits: Limits,
     dots: Pos,
-    name: Token,
     items: &mut Selections,
 ) -> Reading<Option<Pos>>
-    requires { StandsIn parser.old.text (seen name) }
     ensures { Gives (λ place. (selection_trees items.new.items, place)) result parser.old parser.new
-        (onto (selection_trees items.old.items) (spread_at limits.values dots (seen name.entry))) }
+        (onto (selection_trees items.old.items) (spread_at limits.values dots)) }
 {
-    let fragment_name = name_in(parser, name)?;
+    let fragment_name = read_name(parser)?;
     let directives = read_directives(parser, limits)?;
     let spread = FragmentSpread {
         fragment_name,
@@ -169,10 +159,13 @@ fn read_inline(
     ensures { Gives (λ place. (selection_trees items.new.items, Some place)) result parser.old
         parser.new (onto (selection_trees items.old.items) (inline_head_at limits.values dots)) }
 {
+    let no_set = SelectionSet {
+        items: parser.empty_list(),
+    };
     let inline = InlineFragment {
         type_condition: read_maybe_condition(parser)?,
         directives: read_directives(parser, limits)?,
-        selection_set: Positioned::new(SelectionSet::new(parser.heap()), NOWHERE),
+        selection_set: Positioned::new(no_set, NOWHERE),
     };
     let brace = parser.expect_punct("{")?;
     let node = Selection::InlineFragment(Positioned::new(inline, dots));
@@ -198,8 +191,7 @@ pub(super) fn read_head(
     }
     let dots = parser.take().pos;
     if is_at_fragment_name(parser) {
-        let name = parser.take();
-        return read_spread(parser, limits, dots, name, items);
+        return read_spread(parser, limits, dots, items);
     }
     if !nests {
         return Err(if is_at_inline(parser) {

@@ -22,9 +22,9 @@ abbrev pub a_description : Edition → Rel Text
 a_description edition = mapped text_of (meaning any_string (StringStands edition)) ∪ mapped text_of (meaning any_block BlockStands)
 
 -- what has a description stands at it, and else at its own first token
-abbrev pub place_of : Description → Token → Pos
-place_of None first = first.pos
+abbrev pub place_of : Description → Pos → Pos
+place_of None first = first
 place_of (Some text) first = text.pos
 
 abbrev pub described : {A : Type 0} → Description → Token → A → Positioned A
-described description first node = record { pos = place_of description first; node = node }
+described description first node = record { pos = place_of description first.pos; node = node }

@@ -1,6 +1,5 @@
 -- The trees that the definitions of the code stand for, before their document is made.
-use Rattle.std.specs.Prelude.{List, map, Vec}
-use Rattle.std.specs.declared.alloc.Global.{Global}
+use Rattle.std.specs.Prelude.{List, map}
 use Rattle.graphql_syntax.specs.trees.Parts.{placed}
 use Rattle.graphql_syntax.specs.trees.PartViews.{const_directives_tree}
 use Rattle.graphql_schema_trees.specs.trees.SchemaViews.{description_tree, type_definition_tree, directive_definition_tree}

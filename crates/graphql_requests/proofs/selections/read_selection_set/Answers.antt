@@ -10,7 +10,7 @@ use Rattle.graphql_reading.specs.reading.Ahead.{tokens}
 use Rattle.graphql_requests.proofs.HeadTakes.{head-nests, onto-takes}
 use Rattle.graphql_reading.proofs.Loops.{given-stays}
 use Rattle.graphql_requests.proofs.OpenParts.{may-enter, entered, left, none-around, opens, enters, reads, again, ends, leaves, reads-not, wanted-stays, after-stays}
-use Rattle.graphql_requests.proofs.OpenSets.{opens-not, closes-not}
+use Rattle.graphql_requests.proofs.OpenSets.{opens-not}
 use Rattle.graphql_requests.proofs.selections.read_selection_set.Goals as goal
 
 pub returns-in_err-brace : goal.returns-in_err-brace
@@ -67,23 +67,18 @@ loop-outer-smaller c =
 pub loop-outer-preserved : goal.loop-outer-preserved
 loop-outer-preserved c = record {
   nested = c.loop-nests.invariant.nested;
-  wanted = again (sym c.is_at_selection.ensures ∙ c.loop-nests-test.false) c.loop-nests.invariant.behind;
+  wanted = again (sym c.is_at_punct.ensures ∙ c.loop-nests-test.false) c.loop-nests.invariant.behind;
 }
-
-pub returns-in_err-expect_punct : goal.returns-in_err-expect_punct
-returns-in_err-expect_punct c =
-    let p = err_from_is_err_and c.from_residual-in_err-expect_punct.result c.from_residual-in_err-expect_punct.ensures.1 in
-    rw (p.1, p.2) (closes-not c.expect_punct-in-loop-nests.new.self _ (sym c.is_at_selection.ensures ∙ c.loop-nests-test.true) c.in_err-expect_punct.ensures c.loop-nests.invariant.behind.kept)
 
 pub returns-in-None : goal.returns-in-None
 returns-in-None c =
-    given-stays (placed selection_set_tree) c.in_ok-set.set c.args.parser.now c.expect_punct-in-loop-nests.new.self c.close.new.parser (selection_set_at c.args.limits.values c.args.limits.selections)
-    (ends c.expect_punct-in-loop-nests.new.self (seen c.in_ok-expect_punct.field-0) (sym c.is_at_selection.ensures ∙ c.loop-nests-test.true) c.in_ok-expect_punct.ensures (none-around c.loop-nests.outer.items c.in-None.ensures.variant.1) c.in_ok-set.ensures.set c.loop-nests.invariant.behind) c.close.ensures.stays
+    given-stays (placed selection_set_tree) c.in_ok-set.set c.args.parser.now c.advance.new.self c.close.new.parser (selection_set_at c.args.limits.values c.args.limits.selections)
+    (ends c.advance.new.self (sym c.is_at_punct.ensures ∙ c.loop-nests-test.true) c.advance.ensures.left (c.advance.ensures.whole, omega (arith, c.advance.ensures.taken)) (none-around c.loop-nests.outer.items c.in-None.ensures.variant.1) c.in_ok-set.ensures.set c.loop-nests.invariant.behind) c.close.ensures.stays
 
 pub loop-nests-preserved : goal.loop-nests-preserved
 loop-nests-preserved c =
     let l = left c.loop-nests.outer.items c.pop.new.self.items c.in-Some-pop.around c.loop-nests.invariant.nested c.in-Some-pop.ensures.items in
     record {
       nested = l.1;
-      behind = after-stays {now = c.expect_punct-in-loop-nests.new.self} c.close.new.parser c.close.ensures.stays (leaves c.in-Some-pop.around (seen c.in_ok-expect_punct.field-0) (sym c.is_at_selection.ensures ∙ c.loop-nests-test.true) c.in_ok-expect_punct.ensures l.0 c.in_ok-set.ensures.set c.in_ok-set.ensures.rest c.fill_last.ensures c.loop-nests.invariant.behind);
+      behind = after-stays {now = c.advance.new.self} c.close.new.parser c.close.ensures.stays (leaves c.in-Some-pop.around c.advance.new.self (sym c.is_at_punct.ensures ∙ c.loop-nests-test.true) c.advance.ensures.left (c.advance.ensures.whole, omega (arith, c.advance.ensures.taken)) l.0 c.in_ok-set.ensures.set c.in_ok-set.ensures.rest c.fill_last.ensures c.loop-nests.invariant.behind);
     }

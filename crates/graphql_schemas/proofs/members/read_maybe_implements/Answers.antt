@@ -1,5 +1,7 @@
-use Rattle.graphql_reading.specs.grammar.Tests.{keyword}
+use Rattle.std.proofs.Common.{rules}
+use Rattle.graphql_reading.specs.reading.Outcome.{opt_at}
 use Rattle.graphql_schemas.proofs.members.read_maybe_implements.Goals as goal
 
-pub returns : goal.returns
-returns c = c.read_maybe_names.ensures (keyword "implements") c.is_at_keyword-is_there.ensures
+pub returns-in_err-names : goal.returns-in_err-names
+unfolding opt_at
+returns-in_err-names c = search rules

@@ -5,6 +5,7 @@ use Rattle.graphql_reading.specs.grammar.Tests.{punct}
 use Rattle.graphql_reading.specs.reading.Outcome.{then_at, opt_at}
 use Rattle.graphql_schemas.specs.grammar.Types.{parts_of}
 use Rattle.graphql_schemas.specs.reading.Fields.{fields_at}
+use Rattle.graphql_schemas.proofs.FieldProductions.{takes-field_definition}
 use Rattle.graphql_check.proofs.Lines.{mapped-goes, then-stops, parts-go, field-parts-go}
 use Rattle.graphql_check.proofs.schemas.types.check_field_parts.Goals as goal
 
@@ -21,5 +22,8 @@ returns-in_err-check_const_directives c =
 
 pub returns : goal.returns
 returns c =
-    field-parts-go c.check_maybe_fields.result c.args.limits c.args.parser.now c.check_maybe_implements.new.parser c.check_maybe_fields.new.parser c.in_ok-check_maybe_implements.ensures
-    (parts-go c.check_maybe_fields.result c.args.limits (punct "{") c.check_maybe_implements.new.parser c.check_const_directives.new.parser c.check_maybe_fields.new.parser (fields_at c.args.limits) c.in_ok-check_const_directives.ensures c.check_maybe_fields.ensures)
+    field-parts-go c.check_maybe_bracketed.result c.args.limits c.args.parser.now c.check_maybe_implements.new.parser c.check_maybe_bracketed.new.parser c.in_ok-check_maybe_implements.ensures
+    (parts-go c.check_maybe_bracketed.result c.args.limits (punct "{") c.check_maybe_implements.new.parser c.check_const_directives.new.parser c.check_maybe_bracketed.new.parser (fields_at c.args.limits) c.in_ok-check_const_directives.ensures c.check_maybe_bracketed.ensures)
+
+pub check_maybe_bracketed-requires : goal.check_maybe_bracketed-requires
+check_maybe_bracketed-requires c = takes-field_definition c.args.limits

@@ -4,8 +4,10 @@ use Rattle.graphql_reading.specs.grammar.Places.{nowhere}
 use Rattle.graphql_reading.specs.reading.Ahead.{tokens}
 use Rattle.graphql_grammar.specs.reading.Arguments.{directives_at}
 use Rattle.graphql_requests.specs.reading.SelectionSteps.{after_dots_at}
+use Rattle.graphql_reading.proofs.Loops.{go-on}
+use Rattle.graphql_check.specs.Checked.{rest_of}
 use Rattle.graphql_check.specs.Heads.{entered_at}
-use Rattle.graphql_check.proofs.Heads.{spread-not}
+use Rattle.graphql_check.proofs.Heads.{spread-is, spread-not}
 use Rattle.graphql_check.proofs.Parts.{stops-as}
 use Rattle.graphql_check.proofs.selections.heads.check_after_dots.Goals as goal
 
@@ -15,5 +17,13 @@ returns-in_err-check_directives c =
     let old = c.args.parser.now in
     let new = c.check_directives.new.parser in
     rw (p.1, p.2) (stops-as _ old c.advance.new.self new (entered_at (after_dots_at c.args.limits.values c.args.nests nowhere)) (directives_at true c.args.limits.values)
-    (λ v k. spread-not c.args.limits.values c.args.nests old.hand old.after (tokens new) v (sym c.is_at_fragment_name.ensures ∙ c.if-is_at_fragment_name.true) (ap (directives_at true c.args.limits.values) (sym c.advance.ensures.left) ∙ k))
+    (λ v k. spread-not c.args.limits.values c.args.nests old.hand old.after (sym c.is_at_fragment_name.ensures ∙ c.if-is_at_fragment_name.true) (tokens new) v (ap (directives_at true c.args.limits.values) (sym c.advance.ensures.left) ∙ k))
     (c.advance.ensures.whole, omega (arith, c.advance.ensures.taken)) c.in_err-check_directives.ensures.0 c.in_err-check_directives.ensures.1)
+
+pub returns-then-is_at_fragment_name : goal.returns-then-is_at_fragment_name
+returns-then-is_at_fragment_name c =
+    let old = c.args.parser.now in
+    let new = c.check_directives.new.parser in (
+      spread-is c.args.limits.values c.args.nests old.hand old.after (sym c.is_at_fragment_name.ensures ∙ c.if-is_at_fragment_name.true) (tokens new) (ap (λ ts. rest_of (directives_at true c.args.limits.values ts)) (sym c.advance.ensures.left) ∙ c.in_ok-check_directives.ensures.0),
+      go-on old c.advance.new.self new (c.advance.ensures.whole, omega (arith, c.advance.ensures.taken)) c.in_ok-check_directives.ensures.1,
+    )

@@ -1,60 +1,69 @@
-use Rattle.std.proofs.Common.{◌≡◌, ℕ, List, rules, map, option_map, ◌∷◌, ◌++◌, [], refl, ap, ◌∙◌}
+use Rattle.std.proofs.Common.{◌≡◌, ℕ, List, rules, map, option_map, ◌∷◌, ◌++◌, [], refl, sym, ap, ◌∙◌}
 use Rattle.std.proofs.lemmas.List.{map_push}
 use Rattle.std.proofs.lemmas.Result.{err_from_is_err_and}
-use Rattle.graphql_grammar.specs.reading.OpenValues.{node_at, field_tree, opened}
+use Rattle.graphql_tokens.specs.tokens.Seen.{seen}
+use Rattle.graphql_syntax.specs.trees.ValueTree.{object, fields_of}
+use Rattle.graphql_grammar.specs.reading.OpenValues.{Field, node_at, field_tree, opened, object_tree}
 use Rattle.graphql_grammar.specs.reading.Values.{simple_at}
-use Rattle.graphql_reading.proofs.Loops.{given-stays}
-use Rattle.graphql_grammar.proofs.ValueContents.{wants-field, ends-object, stops-field, meets-inside, stops-inside, stops-alone, falls, adds}
+use Rattle.graphql_reading.proofs.Loops.{given-stays, on-stays}
+use Rattle.graphql_grammar.proofs.ValueContents.{wants-field, ends-object, stops-name, stops-colon, meets-inside, stops-inside, stops-alone, falls, adds, meets-made, meets-stays}
+use Rattle.graphql_grammar.proofs.Fields.{merged-map}
 use Rattle.graphql_grammar.proofs.value.contents.read_fields.Goals as goal
 
-pub returns-in_err-name : goal.returns-in_err-name
-returns-in_err-name g c =
+pub returns-in_err-token : goal.returns-in_err-token
+returns-in_err-token g c =
     let p = err_from_is_err_and c.from_residual.result c.from_residual.ensures.1 in
-    rw (p.1, p.2) (stops-field g.V.Literal.VARIABLES c.args.left c.args.parser.now c.loop-name.parser c.read_key.new.parser (map (field_tree g.V.Literal.tree) c.args.fields.now.items) (map (field_tree g.V.Literal.tree) c.loop-name.fields.items) (λ key. key) _ c.loop-name.invariant c.in_err-name.ensures)
+    rw (p.1, p.2) (stops-name seen g.V.Literal.VARIABLES c.args.left c.args.parser.now c.loop-parser.parser c.take_punct.new.self (map (field_tree g.V.Literal.tree) c.args.fields.items) (map (field_tree g.V.Literal.tree) c.loop-parser.fields.items) c.loop-parser.invariant c.loop-parser-test.ensures _ c.expect_name.new.self c.in_err-token.ensures.name)
+
+pub returns-in_err-expect_punct : goal.returns-in_err-expect_punct
+returns-in_err-expect_punct g c =
+    let p = err_from_is_err_and c.from_residual-in_err-expect_punct.result c.from_residual-in_err-expect_punct.ensures.1 in
+    rw (p.1, p.2) (stops-colon seen g.V.Literal.VARIABLES c.args.left c.args.parser.now c.loop-parser.parser c.take_punct.new.self (map (field_tree g.V.Literal.tree) c.args.fields.items) (map (field_tree g.V.Literal.tree) c.loop-parser.fields.items) c.loop-parser.invariant c.loop-parser-test.ensures _ c.expect_name.new.self c.name.new.self c.expect_punct.new.self (seen c.in_ok-token.token) c.in_ok-token.ensures.name c.name.ensures.stays c.in_err-expect_punct.ensures)
 
 pub returns-in_err-inner : goal.returns-in_err-inner
 returns-in_err-inner g c =
     let p = err_from_is_err_and c.from_residual-in_err-inner.result c.from_residual-in_err-inner.ensures.1 in
-    let key = rw c.in-Some.is at c.in_ok-name.ensures in
-    let wants = wants-field g.V.Literal.VARIABLES c.args.left (map (field_tree g.V.Literal.tree) c.loop-name.fields.items) c.loop-name.parser c.read_key.new.parser c.in-Some.name key in
-    rw (p.1, p.2) (stops-inside c.loop-name.invariant wants (option_map (opened g.V.Literal.tree)) _ c.enter.new.parser c.in_err-inner.ensures)
+    let wants = wants-field g.V.Literal.VARIABLES c.args.left (map (field_tree g.V.Literal.tree) c.loop-parser.fields.items) c.loop-parser.parser c.take_punct.new.self c.expect_name.new.self c.name.new.self c.expect_punct.new.self (seen c.in_ok-token.token) (seen c.in_ok-expect_punct.field-0) c.in_ok-name.name c.loop-parser-test.ensures c.in_ok-token.ensures.name c.in_ok-name.ensures.name c.name.ensures.stays c.in_ok-expect_punct.ensures in
+    rw (p.1, p.2) (stops-inside c.loop-parser.invariant wants (option_map (opened g.V.Literal.tree)) _ c.enter.new.parser c.in_err-inner.ensures)
 
-pub returns-in-Some-2 : goal.returns-in-Some-2
-returns-in-Some-2 g c =
-    let key = rw c.in-Some.is at c.in_ok-name.ensures in
-    let wants = wants-field g.V.Literal.VARIABLES c.args.left (map (field_tree g.V.Literal.tree) c.loop-name.fields.items) c.loop-name.parser c.read_key.new.parser c.in-Some.name key in
-    let found = rw c.in-Some-2.is at c.in_ok-inner.ensures in
-    meets-inside c.loop-name.invariant wants (opened g.V.Literal.tree c.in-Some-2.inner) c.enter.new.parser found.0 found.1
+pub returns-in-Some : goal.returns-in-Some
+returns-in-Some g c =
+    let wants = wants-field g.V.Literal.VARIABLES c.args.left (map (field_tree g.V.Literal.tree) c.loop-parser.fields.items) c.loop-parser.parser c.take_punct.new.self c.expect_name.new.self c.name.new.self c.expect_punct.new.self (seen c.in_ok-token.token) (seen c.in_ok-expect_punct.field-0) c.in_ok-name.name c.loop-parser-test.ensures c.in_ok-token.ensures.name c.in_ok-name.ensures.name c.name.ensures.stays c.in_ok-expect_punct.ensures in
+    let found = rw c.in-Some.is at c.in_ok-inner.ensures in
+    meets-inside c.loop-parser.invariant wants (opened g.V.Literal.tree c.in-Some.inner) c.enter.new.parser found.0 found.1
 
 pub returns-in_err-value : goal.returns-in_err-value
 returns-in_err-value g c =
     let p = err_from_is_err_and c.from_residual-in_err-value.result c.from_residual-in_err-value.ensures.1 in
-    let key = rw c.in-Some.is at c.in_ok-name.ensures in
-    let wants = wants-field g.V.Literal.VARIABLES c.args.left (map (field_tree g.V.Literal.tree) c.loop-name.fields.items) c.loop-name.parser c.read_key.new.parser c.in-Some.name key in
-    let none = rw c.in_default-2.is at c.in_ok-inner.ensures in
-    rw (p.1, p.2) (stops-alone c.loop-name.invariant wants record { none = none.0; on = none.1 } g.V.Literal.tree _ c.read_simple.new.parser c.in_err-value.ensures)
+    let wants = wants-field g.V.Literal.VARIABLES c.args.left (map (field_tree g.V.Literal.tree) c.loop-parser.fields.items) c.loop-parser.parser c.take_punct.new.self c.expect_name.new.self c.name.new.self c.expect_punct.new.self (seen c.in_ok-token.token) (seen c.in_ok-expect_punct.field-0) c.in_ok-name.name c.loop-parser-test.ensures c.in_ok-token.ensures.name c.in_ok-name.ensures.name c.name.ensures.stays c.in_ok-expect_punct.ensures in
+    let none = rw c.in_default.is at c.in_ok-inner.ensures in
+    rw (p.1, p.2) (stops-alone c.loop-parser.invariant wants record { none = none.0; on = none.1 } g.V.Literal.tree _ c.read_simple.new.parser c.in_err-value.ensures)
 
-pub loop-name-preserved : goal.loop-name-preserved
-loop-name-preserved g c =
+pub loop-parser-preserved : goal.loop-parser-preserved
+loop-parser-preserved g c =
     let tree = g.V.Literal.tree in
-    let held = c.loop-name.fields.items in
-    let key = rw c.in-Some.is at c.in_ok-name.ensures in
-    let wants = wants-field g.V.Literal.VARIABLES c.args.left (map (field_tree tree) held) c.loop-name.parser c.read_key.new.parser c.in-Some.name key in
-    let none = rw c.in_default-2.is at c.in_ok-inner.ensures in
+    let held = c.loop-parser.fields.items in
+    let wants = wants-field g.V.Literal.VARIABLES c.args.left (map (field_tree g.V.Literal.tree) c.loop-parser.fields.items) c.loop-parser.parser c.take_punct.new.self c.expect_name.new.self c.name.new.self c.expect_punct.new.self (seen c.in_ok-token.token) (seen c.in_ok-expect_punct.field-0) c.in_ok-name.name c.loop-parser-test.ensures c.in_ok-token.ensures.name c.in_ok-name.ensures.name c.name.ensures.stays c.in_ok-expect_punct.ensures in
+    let none = rw c.in_default.is at c.in_ok-inner.ensures in
     let moved = given-stays tree _ c.enter.new.parser c.read_simple.new.parser c.push.new.self (node_at (simple_at g.V.Literal.VARIABLES)) c.in_ok-value.ensures c.push.ensures.stays in
-    let pair : List ℕ × g.row.V.Denot = (c.in-Some.name, c.in_ok-value.value) in
+    let pair : List ℕ × g.row.V.Denot = (c.in_ok-name.name, c.in_ok-value.value) in
     let items : c.push.new.list.items ≡ held ++ pair ∷ [] = search rules in
-    adds c.loop-name.invariant wants {alone = c.enter.new.parser} record { none = none.0; on = none.1 } (tree c.in_ok-value.value) (field_tree tree pair) c.push.new.self (map (field_tree tree) c.push.new.list.items) moved.0 moved.1 refl (ap (map (field_tree tree)) items ∙ map_push (field_tree tree) held pair)
+    adds c.loop-parser.invariant wants {alone = c.enter.new.parser} record { none = none.0; on = none.1 } (tree c.in_ok-value.value) (field_tree tree pair) c.push.new.self (map (field_tree tree) c.push.new.list.items) moved.0 moved.1 refl (ap (map (field_tree tree)) items ∙ map_push (field_tree tree) held pair)
 
-pub loop-name-smaller : goal.loop-name-smaller
-loop-name-smaller g c =
-    let key = rw c.in-Some.is at c.in_ok-name.ensures in
-    let wants = wants-field g.V.Literal.VARIABLES c.args.left (map (field_tree g.V.Literal.tree) c.loop-name.fields.items) c.loop-name.parser c.read_key.new.parser c.in-Some.name key in
-    let none = rw c.in_default-2.is at c.in_ok-inner.ensures in
+pub loop-parser-smaller : goal.loop-parser-smaller
+loop-parser-smaller g c =
+    let wants = wants-field g.V.Literal.VARIABLES c.args.left (map (field_tree g.V.Literal.tree) c.loop-parser.fields.items) c.loop-parser.parser c.take_punct.new.self c.expect_name.new.self c.name.new.self c.expect_punct.new.self (seen c.in_ok-token.token) (seen c.in_ok-expect_punct.field-0) c.in_ok-name.name c.loop-parser-test.ensures c.in_ok-token.ensures.name c.in_ok-name.ensures.name c.name.ensures.stays c.in_ok-expect_punct.ensures in
+    let none = rw c.in_default.is at c.in_ok-inner.ensures in
     let moved = given-stays g.V.Literal.tree _ c.enter.new.parser c.read_simple.new.parser c.push.new.self (node_at (simple_at g.V.Literal.VARIABLES)) c.in_ok-value.ensures c.push.ensures.stays in
-    falls c.loop-name.invariant wants {alone = c.enter.new.parser} record { none = none.0; on = none.1 } (g.V.Literal.tree c.in_ok-value.value) c.push.new.self moved.0
+    falls c.loop-parser.invariant wants {alone = c.enter.new.parser} record { none = none.0; on = none.1 } (g.V.Literal.tree c.in_ok-value.value) c.push.new.self moved.0
 
 pub returns : goal.returns
 returns g c =
-    let key = rw c.in_default.is at c.in_ok-name.ensures in
-    ends-object g.V.Literal.VARIABLES c.args.left c.args.parser.now c.loop-name.parser c.read_key.new.parser (map (field_tree g.V.Literal.tree) c.args.fields.now.items) (map (field_tree g.V.Literal.tree) c.loop-name.fields.items) c.loop-name.invariant key
+    let tree = g.V.Literal.tree in
+    let held = c.loop-parser.fields.items in
+    let made : tree c.object.result ≡ object_tree (map (field_tree tree) held) =
+    c.object.ensures
+    ∙ ap (λ (l : List (List ℕ × g.row.V.Denot)). object (fields_of (map (field_tree tree) l))) c.in_ok-merge.ensures.merged
+    ∙ ap (λ (l : List Field). object (fields_of l)) (sym (merged-map tree held)) in
+    let ends = ends-object g.V.Literal.VARIABLES c.args.left c.args.parser.now c.loop-parser.parser c.take_punct.new.self (map (field_tree tree) c.args.fields.items) (map (field_tree tree) held) c.loop-parser.invariant c.loop-parser-test.ensures in
+    meets-made made (meets-stays g.V.Literal.VARIABLES c.args.left _ c.args.parser.now c.take_punct.new.self c.merge.new.parser _ ends.0 c.merge.ensures.stays, on-stays c.args.parser.now c.take_punct.new.self c.merge.new.parser ends.1 c.merge.ensures.stays)

@@ -4,8 +4,8 @@ use Rattle.graphql_grammar.specs.reading.OpenValues.{field_tree, object_rest}
 use Rattle.graphql_grammar.proofs.ValueContents.{HeldSoFar}
 use Rattle.graphql_grammar.proofs.value.contents.read_fields.Given as goal
 
-abbrev pub invariant-loop-name : goal.invariant-loop-name
-invariant-loop-name g l = HeldSoFar (object_rest g.V.Literal.VARIABLES l.left) l.fn.parser l.parser (map (field_tree g.V.Literal.tree) l.fn.fields.items) (map (field_tree g.V.Literal.tree) l.fields.items)
+abbrev pub invariant-loop-parser : goal.invariant-loop-parser
+invariant-loop-parser g l = HeldSoFar (object_rest g.V.Literal.VARIABLES l.left) l.fn.parser l.parser (map (field_tree g.V.Literal.tree) l.fn.fields.items) (map (field_tree g.V.Literal.tree) l.fields.items)
 
-abbrev pub decreases-loop-name : goal.decreases-loop-name
-decreases-loop-name g l = length (tokens l.parser)
+abbrev pub decreases-loop-parser : goal.decreases-loop-parser
+decreases-loop-parser g l = length (tokens l.parser)

@@ -5,7 +5,7 @@ use Rattle.graphql_syntax.specs.trees.ValueTree.{Tree}
 use Rattle.graphql_grammar.specs.reading.OpenValues.{node_at, opened}
 use Rattle.graphql_grammar.specs.reading.Values.{simple_at}
 use Rattle.graphql_reading.proofs.Loops.{given-stays}
-use Rattle.graphql_grammar.proofs.ValueContents.{wants-item, ends-list, meets-inside, stops-inside, stops-alone, falls, adds}
+use Rattle.graphql_grammar.proofs.ValueContents.{wants-item, ends-list, meets-inside, stops-inside, stops-alone, falls, adds, meets-made}
 use Rattle.graphql_grammar.proofs.value.contents.read_items.Goals as goal
 
 pub returns-in_err-inner : goal.returns-in_err-inner
@@ -45,4 +45,4 @@ loop-parser-smaller g c =
     falls c.loop-parser.invariant wants {alone = c.enter.new.parser} record { none = none.0; on = none.1 } (g.V.Literal.tree c.in_ok-item.item) c.push.new.self moved.0
 
 pub returns : goal.returns
-returns g c = ends-list g.V.Literal.VARIABLES c.args.left c.args.parser.now c.loop-parser.parser c.take_punct.new.self (map g.V.Literal.tree c.args.items.now.items) (map g.V.Literal.tree c.loop-parser.items.items) c.loop-parser.invariant c.loop-parser-test.ensures
+returns g c = meets-made c.list.ensures (ends-list g.V.Literal.VARIABLES c.args.left c.args.parser.now c.loop-parser.parser c.take_punct.new.self (map g.V.Literal.tree c.args.items.items) (map g.V.Literal.tree c.loop-parser.items.items) c.loop-parser.invariant c.loop-parser-test.ensures)

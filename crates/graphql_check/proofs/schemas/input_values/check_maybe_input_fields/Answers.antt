@@ -1,5 +1,0 @@
-use Rattle.graphql_schemas.proofs.InputValueProductions.{takes-input_value}
-use Rattle.graphql_check.proofs.schemas.input_values.check_maybe_input_fields.Goals as goal
-
-pub check_bracketed-requires : goal.check_bracketed-requires
-check_bracketed-requires c = takes-input_value c.args.limits
