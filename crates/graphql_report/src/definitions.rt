@@ -15,21 +15,18 @@ pub struct Offsets {
 pub fn offsets_of(alloc: Global, text: &str, error: &Error) -> Result<Offsets, AllocError> {
     match error {
         Error::OperationDuplicated {
-            operation,
+            operation: name,
             first,
             second,
-        } => {
-            let definitions = definitions_of(alloc, text)?;
-            let pair = namesakes(definitions.as_slice(), false, operation.as_str());
-            Ok(offsets_at(text, pair, *second, *first))
         }
-        Error::FragmentDuplicated {
-            fragment,
+        | Error::FragmentDuplicated {
+            fragment: name,
             first,
             second,
         } => {
             let definitions = definitions_of(alloc, text)?;
-            let pair = namesakes(definitions.as_slice(), true, fragment.as_str());
+            let is_fragment = matches!(error, Error::FragmentDuplicated { .. });
+            let pair = namesakes(definitions.as_slice(), is_fragment, name.as_str());
             Ok(offsets_at(text, pair, *second, *first))
         }
         Error::MultipleOperations {

@@ -11,7 +11,7 @@ use graphql_parser::{
     parse_query_limited, parse_schema, parse_schema_from, parse_schema_limited,
 };
 use rows::Shown;
-use rows::trees::{Written, write_file, write_request};
+use rows::trees::Written;
 use std::alloc::{AllocError, Global};
 use std::fmt;
 
@@ -118,10 +118,10 @@ impl Call {
                 Call::Operations => free::show_operations(shown, document),
                 Call::DirectivesMut => free::show_changed(shown, document),
                 Call::Compare => free::show_compared(shown, document),
-                _ => show_copied_request(document, shown)?,
+                _ => show_copy(document, shown)?,
             },
             Input::Error(error) => free::show_error_places(shown, error),
-            Input::File(document) => show_copied_file(document, shown)?,
+            Input::File(document) => show_copy(document, shown)?,
         }
         Ok(())
     }
@@ -157,13 +157,11 @@ impl Call {
     // The same, where the text is that of a document.
     fn of_document(self, alloc: Global, text: &str, shown: &mut Shown) -> Answered {
         match self {
-            Call::Query => show_request(shown, parse_query(alloc, text)),
+            Call::Query => show_tree(shown, parse_query(alloc, text)),
             Call::QueryDepth => show_depth(shown, parse_query(alloc, text)),
-            Call::QueryLimited => {
-                show_request(shown, parse_query_limited(alloc, text, narrow()))
-            }
-            Call::Schema => show_file(shown, parse_schema(alloc, text)),
-            Call::SchemaLimited => { show_file(shown, parse_schema_limited(alloc, text, narrow())) }
+            Call::QueryLimited => { show_tree(shown, parse_query_limited(alloc, text, narrow())) }
+            Call::Schema => show_tree(shown, parse_schema(alloc, text)),
+            Call::SchemaLimited => { show_tree(shown, parse_schema_limited(alloc, text, narrow())) }
             Call::CheckQuery => show_checked(shown, check_query(alloc, text)),
             Call::CheckQueryLimited => {
                 show_checked(shown, check_query_limited(alloc, text, narrow()))
@@ -200,10 +198,10 @@ impl Call {
             return Ok(());
         }
         let answered = match self {
-            Call::SchemaFrom => show_file(shown, parse_schema_from(alloc, &mut tokens)),
+            Call::SchemaFrom => show_tree(shown, parse_schema_from(alloc, &mut tokens)),
             Call::CheckQueryFrom => show_checked(shown, check_query_from(alloc, &mut tokens)),
             Call::CheckSchemaFrom => show_checked(shown, check_schema_from(alloc, &mut tokens)),
-            _ => show_request(shown, parse_query_from(alloc, &mut tokens)),
+            _ => show_tree(shown, parse_query_from(alloc, &mut tokens)),
         };
         let taken = tokens.taken();
         if answered.is_ok() {
@@ -229,9 +227,9 @@ fn narrow() -> Limits {
     Limits::new(1, 1, 1).unwrap_or(Limits::default())
 }
 
-fn show_request(shown: &mut Shown, answer: Answer<ExecutableDocument>) -> Answered {
+fn show_tree<D: Written + Drop>(shown: &mut Shown, answer: Answer<D>) -> Answered {
     match answer {
-        Ok(document) => write_request(shown, &document),
+        Ok(document) => document.write(shown),
         Err(error) => show_error(shown, &error)?,
     }
     Ok(())
@@ -260,14 +258,6 @@ fn show_innermost(shown: &mut Shown, field: &Field, depth: usize) {
             show_innermost(shown, &inner.node, depth.wrapping_add(1));
         }
     }
-}
-
-fn show_file(shown: &mut Shown, answer: Answer<ServiceDocument>) -> Answered {
-    match answer {
-        Ok(document) => write_file(shown, &document),
-        Err(error) => show_error(shown, &error)?,
-    }
-    Ok(())
 }
 
 fn show_checked(shown: &mut Shown, answer: Answer<()>) -> Answered {
@@ -323,29 +313,15 @@ fn show_constant<T: Written + Drop>(shown: &mut Shown, answer: Option<T>) {
     }
 }
 
-// The tree of a copy, or, where there is no memory for one, that of the request that was copied.
-fn show_copied_request(document: &ExecutableDocument, shown: &mut Shown) -> Answered {
+// The tree of a copy, or, where there is no memory for one, that of the document that was copied.
+fn show_copy<D: Written + Clone + Drop>(document: &D, shown: &mut Shown) -> Answered {
     match document.clone() {
         Ok(copy) => {
-            write_request(shown, &copy);
+            copy.write(shown);
             Ok(())
         }
         Err(refused) => {
-            write_request(shown, document);
-            Err(refused)
-        }
-    }
-}
-
-// The same of a schema file.
-fn show_copied_file(document: &ServiceDocument, shown: &mut Shown) -> Answered {
-    match document.clone() {
-        Ok(copy) => {
-            write_file(shown, &copy);
-            Ok(())
-        }
-        Err(refused) => {
-            write_file(shown, document);
+            document.write(shown);
             Err(refused)
         }
     }

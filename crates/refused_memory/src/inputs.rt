@@ -73,16 +73,19 @@ pub fn first_field(document: &ExecutableDocument) -> Option<&Field> {
     }
 }
 
+fn copies<T: Clone + Drop>(alloc: Global, item: &T, times: usize) -> Result<Vec<T>, AllocError> {
+    let mut copies = Vec::new(alloc);
+    for _ in 0..times {
+        copies.push(item.clone()?)?;
+    }
+    Ok(copies)
+}
+
 // Copies of the first argument of the first field.
 fn values(alloc: Global, text: &str, times: usize) -> Result<Vec<Value>, AllocError> {
     let document = request(alloc, text)?;
-    let mut values = Vec::new(alloc);
-    let field = first_field(&document).ok_or(AllocError)?;
-    let argument = field.arguments.first().ok_or(AllocError)?;
-    for _ in 0..times {
-        values.push(argument.1.node.clone()?)?;
-    }
-    Ok(values)
+    let argument = first_field(&document).and_then(|field| field.arguments.first());
+    copies(alloc, &argument.ok_or(AllocError)?.1.node, times)
 }
 
 fn constants(alloc: Global, text: &str, times: usize) -> Result<Vec<ConstValue>, AllocError> {
@@ -96,13 +99,8 @@ fn constants(alloc: Global, text: &str, times: usize) -> Result<Vec<ConstValue>,
 // Copies of the first directive of the first field.
 fn directives(alloc: Global, text: &str, times: usize) -> Result<Vec<Directive>, AllocError> {
     let document = request(alloc, text)?;
-    let mut directives = Vec::new(alloc);
-    let field = first_field(&document).ok_or(AllocError)?;
-    let directive = field.directives.first().ok_or(AllocError)?;
-    for _ in 0..times {
-        directives.push(directive.node.clone()?)?;
-    }
-    Ok(directives)
+    let directive = first_field(&document).and_then(|field| field.directives.first());
+    copies(alloc, &directive.ok_or(AllocError)?.node, times)
 }
 
 fn const_directives(

@@ -9,7 +9,7 @@ use graphql_parser::{
     parse_query_limited, parse_schema, parse_schema_from, parse_schema_limited,
 };
 use rows::Shown;
-use rows::trees::{write_file, write_request};
+use rows::trees::Written;
 use std::alloc::{AllocError, Global};
 
 /// A form of a call, of a parser and of its check.
@@ -148,28 +148,17 @@ fn schema_file(alloc: Global, form: Form, text: &str) -> Answer<ServiceDocument>
 }
 
 // A tree that a parser answers.
-trait Tree: Drop {
-    // Writes it with its places, where the text has places.
-    fn write(&self, shown: &mut Shown);
-
+trait Tree: Written + Drop {
     fn print(&self, alloc: Global) -> Result<String, AllocError>;
 }
 
 impl Tree for ExecutableDocument {
-    fn write(&self, shown: &mut Shown) {
-        write_request(shown, self);
-    }
-
     fn print(&self, alloc: Global) -> Result<String, AllocError> {
         print_request(alloc, self)
     }
 }
 
 impl Tree for ServiceDocument {
-    fn write(&self, shown: &mut Shown) {
-        write_file(shown, self);
-    }
-
     fn print(&self, alloc: Global) -> Result<String, AllocError> {
         print_schema(alloc, self)
     }

@@ -12,6 +12,6 @@ mod schema;
 mod values;
 
 pub use parts::{write_directives, write_value};
-pub use request::{write_default_value, write_request};
-pub use schema::{keyword, write_file};
+pub use request::write_default_value;
+pub use schema::keyword;
 pub use values::Written;

@@ -4,7 +4,7 @@ use super::written::WRITTEN;
 use graphql_parser::types::{ServiceDocument, TypeSystemDefinition};
 use graphql_parser::{check_schema, parse_schema};
 use rows::Shown;
-use rows::trees::{keyword, write_file};
+use rows::trees::{Written, keyword};
 use std::alloc::{AllocError, Global};
 use std::test::Fail;
 
@@ -47,7 +47,7 @@ fn extend(is_extension: bool) -> &'static str {
 
 fn tree(alloc: Global, document: &ServiceDocument) -> Result<String, AllocError> {
     let mut shown = Shown::new(alloc, true);
-    write_file(&mut shown, document);
+    document.write(&mut shown);
     shown.finish()
 }
 

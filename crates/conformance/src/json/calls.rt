@@ -45,8 +45,8 @@ impl Part {
 
 // The JSON of a document, or of its error.
 fn json_of<D: Document>(alloc: Global, text: &str, places: Places) -> Result<String, Fail> {
-    let answer = D::parse(alloc, text);
-    if !are_alike(&answer, &D::check(alloc, text)) {
+    let (answer, checked) = D::answers(alloc, text);
+    if !are_alike(&answer, &checked) {
         return Ok(String::from_str(alloc, OTHERWISE)?);
     }
     text_of(match &answer {

@@ -10,8 +10,9 @@ use std::test::Fail;
 
 // The texts that stand at these paths of the JSON of an accepted text: the same with places as without.
 fn found<D: Document>(alloc: Global, text: &str, paths: &[&str]) -> Result<String, Fail> {
-    D::check(alloc, text).ok().ok_or("refused by the check")?;
-    let document = D::parse(alloc, text).ok().ok_or("refused")?;
+    let (answer, checked) = D::answers(alloc, text);
+    checked.ok().ok_or("refused by the check")?;
+    let document = answer.ok().ok_or("refused")?;
     let plain = found_in(alloc, document.json(alloc, Places::LeftOut)?, paths)?;
     let placed = found_in(alloc, document.json(alloc, Places::Written)?, paths)?;
     if placed == plain {

@@ -7,11 +7,8 @@ use std::alloc::{AllocError, Global};
 
 /// What the parser of a language gives.
 pub trait Document: Sized + Drop {
-    /// What the parser answers.
-    fn parse(alloc: Global, text: &str) -> Answer<Self>;
-
-    /// What its check answers.
-    fn check(alloc: Global, text: &str) -> Answer<()>;
+    /// What the parser answers, and what its check does.
+    fn answers(alloc: Global, text: &str) -> (Answer<Self>, Answer<()>);
 
     /// What is seen of it; `asked` is the name that is looked up in a request.
     fn seen(&self, alloc: Global, view: View, asked: &str) -> Result<String, AllocError>;
@@ -21,12 +18,8 @@ pub trait Document: Sized + Drop {
 }
 
 impl Document for ExecutableDocument {
-    fn parse(alloc: Global, text: &str) -> Answer<ExecutableDocument> {
-        parse_query(alloc, text)
-    }
-
-    fn check(alloc: Global, text: &str) -> Answer<()> {
-        check_query(alloc, text)
+    fn answers(alloc: Global, text: &str) -> (Answer<ExecutableDocument>, Answer<()>) {
+        (parse_query(alloc, text), check_query(alloc, text))
     }
 
     fn seen(&self, alloc: Global, view: View, asked: &str) -> Result<String, AllocError> {
@@ -39,12 +32,8 @@ impl Document for ExecutableDocument {
 }
 
 impl Document for ServiceDocument {
-    fn parse(alloc: Global, text: &str) -> Answer<ServiceDocument> {
-        parse_schema(alloc, text)
-    }
-
-    fn check(alloc: Global, text: &str) -> Answer<()> {
-        check_schema(alloc, text)
+    fn answers(alloc: Global, text: &str) -> (Answer<ServiceDocument>, Answer<()>) {
+        (parse_schema(alloc, text), check_schema(alloc, text))
     }
 
     fn seen(&self, alloc: Global, view: View, _: &str) -> Result<String, AllocError> {

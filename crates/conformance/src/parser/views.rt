@@ -7,9 +7,7 @@ use graphql_parser::types::{
 };
 use graphql_parser::value::{ConstValue, Name, Value, ValueView};
 use rows::Shown;
-use rows::trees::{
-    Written, write_default_value, write_directives, write_file, write_request, write_value,
-};
+use rows::trees::{Written, write_default_value, write_directives, write_value};
 use std::alloc::{AllocError, Global};
 
 /// What is looked at in a tree. The first four are for schema files too.
@@ -61,7 +59,7 @@ impl View {
     pub fn of_file(self, alloc: Global, document: &ServiceDocument) -> Result<String, AllocError> {
         let mut shown = Shown::new(alloc, !matches!(self, View::Placeless));
         match self {
-            View::Whole | View::Placeless => write_file(&mut shown, document),
+            View::Whole | View::Placeless => document.write(&mut shown),
             View::Sizes => write_file_sizes(&mut shown, document),
             _ => shown.word("accepted"),
         }
@@ -88,7 +86,7 @@ impl View {
         document: &ExecutableDocument,
     ) -> Outcome {
         match self {
-            View::Whole | View::Placeless => write_request(shown, document),
+            View::Whole | View::Placeless => document.write(shown),
             View::Acceptance => shown.word("accepted"),
             View::Sizes => write_request_sizes(shown, document),
             View::Operations => return write_operations(shown, document.operations.iter()),

@@ -13,23 +13,25 @@ use graphql_syntax::types::Directive;
 use std::borrow::Cow;
 
 /// The tree of a request: its operations, and then its fragments, each after its name.
-pub fn write_request(shown: &mut Shown, document: &ExecutableDocument) {
-    shown.word(match &document.operations {
-        DocumentOperations::Single(_) => "single",
-        DocumentOperations::Multiple(_) => "multiple",
-    });
-    for (name, operation) in document.operations.iter() {
-        if let Some(name) = name {
-            shown.item(" ", name);
+impl Written for ExecutableDocument {
+    fn write(&self, shown: &mut Shown) {
+        shown.word(match &self.operations {
+            DocumentOperations::Single(_) => "single",
+            DocumentOperations::Multiple(_) => "multiple",
+        });
+        for (name, operation) in self.operations.iter() {
+            if let Some(name) = name {
+                shown.item(" ", name);
+            }
+            write_operation(shown, operation);
         }
-        write_operation(shown, operation);
-    }
-    for (name, fragment) in document.fragments.iter() {
-        shown.item(" ", name);
-        shown.place(" (fragment ", &fragment.pos);
-        let fragment = &fragment.node;
-        write_condition(shown, &fragment.type_condition);
-        write_rest(shown, &fragment.directives, &fragment.selection_set);
+        for (name, fragment) in self.fragments.iter() {
+            shown.item(" ", name);
+            shown.place(" (fragment ", &fragment.pos);
+            let fragment = &fragment.node;
+            write_condition(shown, &fragment.type_condition);
+            write_rest(shown, &fragment.directives, &fragment.selection_set);
+        }
     }
 }
 

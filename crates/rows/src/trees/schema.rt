@@ -1,6 +1,7 @@
 //! The tree of a schema file, as text.
 use crate::Shown;
 use crate::trees::parts::{write_default, write_directives, write_node};
+use crate::trees::values::Written;
 use graphql_schema_trees::{
     DirectiveDefinition, FieldDefinition, InputValueDefinition, SchemaDefinition, ServiceDocument,
     TypeDefinition, TypeKind, TypeSystemDefinition,
@@ -9,17 +10,19 @@ use graphql_syntax::pos::Positioned;
 use graphql_syntax::value::Name;
 
 /// The tree of a schema file: its definitions in order, after the word `file`.
-pub fn write_file(shown: &mut Shown, document: &ServiceDocument) {
-    shown.word("file");
-    for definition in &document.definitions {
-        match definition {
-            TypeSystemDefinition::Schema(schema) => write_schema(shown, schema),
-            TypeSystemDefinition::TypeDef(ty) => write_type_definition(shown, ty),
-            TypeSystemDefinition::Directive(directive) => {
-                write_directive_definition(shown, directive)
+impl Written for ServiceDocument {
+    fn write(&self, shown: &mut Shown) {
+        shown.word("file");
+        for definition in &self.definitions {
+            match definition {
+                TypeSystemDefinition::Schema(schema) => write_schema(shown, schema),
+                TypeSystemDefinition::TypeDef(ty) => write_type_definition(shown, ty),
+                TypeSystemDefinition::Directive(directive) => {
+                    write_directive_definition(shown, directive)
+                }
             }
+            shown.word(")");
         }
-        shown.word(")");
     }
 }
 

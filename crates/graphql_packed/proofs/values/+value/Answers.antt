@@ -11,12 +11,10 @@ pub pack_items-returns : goal.pack_items-returns
 pack_items-returns t c =
     let items = list_items c.args.items.now in
     let number = as_bytes (ap (λ n. number_bytes n) (c.len.ensures ∙ sym (items_counted items))) c.in_ok-number.ensures in
-    let none = ap (λ left. items_bytes (trees_of left)) c.in-None.ensures.steps.0 in
-    whole_list (items_bytes (trees_of items)) (items_bytes (trees_of (items_left c.loop-item.item-iterator))) (next c.in_ok-choice.ensures number) c.loop-item.invariant.2.1 none
+    whole_list (items_bytes (trees_of items)) (items_bytes (trees_of (items_left c.loop-item.item-iterator))) (next c.in_ok-choice.ensures number) c.loop-item.invariant.2.1 (ap (λ left. items_bytes (trees_of left)) c.in-None.ensures.steps.0)
 
 pub pack_fields-returns : goal.pack_fields-returns
 pack_fields-returns t c =
     let fields = object_fields c.args.fields.now in
     let number = as_bytes (ap (λ n. number_bytes n) (c.len.ensures ∙ sym (fields_counted fields))) c.in_ok-number.ensures in
-    let none = ap (λ left. fields_bytes (fields_of left)) c.in-None.ensures.steps.0 in
-    whole_list (fields_bytes (fields_of fields)) (fields_bytes (fields_of (fields_left c.loop-name.name-iterator))) (next c.in_ok-choice.ensures number) c.loop-name.invariant.2.1 none
+    whole_list (fields_bytes (fields_of fields)) (fields_bytes (fields_of (fields_left c.loop-name.name-iterator))) (next c.in_ok-choice.ensures number) c.loop-name.invariant.2.1 (ap (λ left. fields_bytes (fields_of left)) c.in-None.ensures.steps.0)
