@@ -74,8 +74,8 @@ impl<'a> Kept<'a> for KeptHeads<'a> {
     }
 }
 
-/// Checks a request (GraphQL October 2021, section 2): whether `parse_query` reads it, and else the error that it gives.
-/// No tree is made. Selection sets, values and types may nest 64 deep each, as [`Limits`] counts them.
+/// Checks a request (GraphQL October 2021, section 2): whether `parse_query` reads it, and else the error that it
+/// gives. No tree is made. Selection sets, values and types may nest 64 deep each, as [`Limits`] counts them.
 ///
 /// Memory is taken for places by name where there are two definitions or more, for a name of more than 22 bytes that is
 /// given twice, and for the message of a `Syntax`.
@@ -101,8 +101,8 @@ pub fn check_query_limited(alloc: Global, text: &str, limits: Limits) -> Result<
     check_query_within(&mut Memory::new(alloc), text, limits)
 }
 
-/// As [`check_query_limited`], with who takes memory, as a budget bounds it. `OutOfMemory` is answered only where memory was
-/// refused: where more was wanted than was left, or the heap had no more.
+/// As [`check_query_limited`], with who takes memory, as a budget bounds it. `OutOfMemory` is answered only where
+/// memory was refused: where more was wanted than was left, or the heap had no more.
 pub fn check_query_within(memory: &mut Memory, text: &str, limits: Limits) -> Result<()>
     ensures reads { ReadsText (checked requests) limits text.now result }
     ensures refused { result ≡ Err OutOfMemory → Refused memory.new }

@@ -66,8 +66,8 @@ impl<'a> Kept<'a> for FirstBreach {
     }
 }
 
-/// Tells of a schema file what [`parse_schema`](graphql_schemas::parse_schema) tells, and makes no tree: Ok where it has
-/// one that breaks no rule, and else the same error. Memory is taken for the message of a `Syntax` alone.
+/// Tells of a schema file what [`parse_schema`](graphql_schemas::parse_schema) tells, and makes no tree: Ok where it
+/// has one that breaks no rule, and else the same error. Memory is taken for the message of a `Syntax` alone.
 ///
 /// Errors: as `parse_schema`'s.
 pub fn check_schema(alloc: Global, text: &str) -> Result<()>
@@ -87,8 +87,8 @@ pub fn check_schema_limited(alloc: Global, text: &str, limits: Limits) -> Result
     check_schema_within(&mut Memory::new(alloc), text, limits)
 }
 
-/// As [`check_schema_limited`], with who takes memory, as a budget bounds it. `OutOfMemory` is answered only where memory was
-/// refused: where more was wanted than was left, or the heap had no more.
+/// As [`check_schema_limited`], with who takes memory, as a budget bounds it. `OutOfMemory` is answered only where
+/// memory was refused: where more was wanted than was left, or the heap had no more.
 pub fn check_schema_within(memory: &mut Memory, text: &str, limits: Limits) -> Result<()>
     ensures reads { ReadsText (checked schemas) limits text.now result }
     ensures former_schemas { FormerDescribesNoSchema limits }

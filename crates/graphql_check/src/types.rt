@@ -2,8 +2,9 @@
 ghost use Rattle.graphql_check.specs.Checked.{Checks};
 ghost use Rattle.graphql_grammar.specs.reading.Types.{type_at};
 
+use graphql_grammar::types::open_lists;
 use graphql_reading::limits::Limits;
-use graphql_reading::parser::{Parser, Reading, Refusal};
+use graphql_reading::parser::{Parser, Reading};
 
 /// Reads a type reference (GraphQL October 2021, section 2.11). A list of it opens at each `[`, and as many close after
 /// the name.
@@ -12,15 +13,7 @@ use graphql_reading::parser::{Parser, Reading, Refusal};
 pub fn check_type(parser: &mut Parser, limits: Limits) -> Reading<()>
     ensures { Checks result parser.old parser.new (type_at limits.types) }
 {
-    let limit = limits.types();
-    let mut opened = 0;
-    while parser.is_at_punct("[") {
-        if opened == limit {
-            return Err(Refusal::Limit);
-        }
-        opened += 1;
-        parser.advance();
-    }
+    let opened = open_lists(parser, limits)?;
     parser.expect_name()?;
     parser.take_punct("!");
     for _ in 0..opened {

@@ -1,5 +1,5 @@
 -- Reading a type reference step by step gives what reading it level by level gives; and what the loops keep.
-use Rattle.std.proofs.Common.{◌≡◌, ℕ, zero, suc, ◌≤◌, ◌+◌, ◌-◌, Bool, true, false, cond, Option, List, [], ◌∷◌, refl, sym, ap, ◌∙◌, Err, arith}
+use Rattle.std.proofs.Common.{◌≡◌, ℕ, zero, suc, ◌≤◌, ◌+◌, ◌-◌, Bool, true, false, cond, Option, List, [], ◌∷◌, refl, sym, ap, ◌∙◌, Ok, Err, arith}
 use Rattle.graphql_tokens.specs.declared.pos.Positioned.{Positioned}
 use Rattle.graphql_tokens.specs.tokens.Token.{Bare, Token}
 use Rattle.graphql_syntax.specs.trees.TypeTree.{TypeTree, named, list}
@@ -217,17 +217,15 @@ by-opens : (n : ℕ) (initial : Ahead) → type_at n (tokens initial) ≡ (opens
 by-opens n initial = sym (steps n (tokens initial))
 
 -- no more lists may open
-pub type-full : (n opened : ℕ) (initial now : Ahead) → Becomes (opens_at 0 n) initial (opens_at opened (n - opened)) now → opened ≡ n → punct "[" now.hand.bare ≡ true → (type_at n (tokens initial) ≡ Refused limit (tokens now)) × GoesOn initial now
-type-full n opened initial now kept full at =
-    let stops = opens-stops n opened initial now kept full at in
-    (by-opens n initial ∙ ap (λ (o : Outcome ℕ). o >>= after-opens initial.hand) stops.0, stops.1)
+pub type-full : {X : Type 0} (view : X → Positioned TypeTree) (n : ℕ) (initial now : Ahead) (e : Refusal) → Gives (λ (k : ℕ). k) (Err e) initial now (opens_at 0 n) → Gives view (Err e) initial now (type_at n)
+type-full view n initial now Memory h = h
+type-full view n initial now Syntax h = (by-opens n initial ∙ ap (λ (o : Outcome ℕ). o >>= after-opens initial.hand) h.0, h.1)
+type-full view n initial now Limit h = (by-opens n initial ∙ ap (λ (o : Outcome ℕ). o >>= after-opens initial.hand) h.0, h.1)
 
-module _ (n opened : ℕ) (initial mid : Ahead) (opens : Becomes (opens_at 0 n) initial (opens_at opened (n - opened)) mid) (at : punct "[" mid.hand.bare ≡ false) where
+module _ (n opened : ℕ) (initial mid : Ahead) (opens : Gives (λ (k : ℕ). k) (Ok opened) initial mid (opens_at 0 n)) where
   -- all are open
   inmost : (type_at n (tokens initial) ≡ after-opens initial.hand opened (tokens mid)) × GoesOn initial mid
-  inmost =
-      let ends = opens-ends n opened initial mid opens at in
-      (by-opens n initial ∙ ap (λ (o : Outcome ℕ). o >>= after-opens initial.hand) ends.0, ends.1)
+  inmost = (by-opens n initial ∙ ap (λ (o : Outcome ℕ). o >>= after-opens initial.hand) opens.0, opens.1)
 
   -- a name follows,
   pub type-named : (left : ℕ) (item : TypeTree) (now : Ahead) → left ≡ opened → (named_at (tokens mid) ≡ Read item (tokens now)) × GoesOn mid now → Becomes (type_at n) initial (closing_at initial.hand left item) now

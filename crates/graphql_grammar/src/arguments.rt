@@ -87,11 +87,16 @@ impl<V: Literal> Production for ArgumentPhrase<V> {
 /// Reads arguments with their brackets, in source order, where a `(` is in hand; else there are none.
 ///
 /// `Arguments? : ('(' Argument+ ')')?` (GraphQL October 2021, section 2.6)
+// Most fields have none: so the bracket is tested before the call.
+#[tactic(auto, unfolding(graphql_reading::specs::reading::Outcome::opt_at))]
 #[inline(always)]
 pub fn read_arguments<V: Literal>(parser: &mut Parser, limits: Limits) -> Reading<Arguments<V>>
     ensures { Gives (trees_in (in_argument V.tree)) result parser.old parser.new
         (mapped_at given (maybe_arguments_at V.VARIABLES limits.values)) }
 {
+    if !parser.is_at_punct("(") {
+        return Ok(parser.empty_list());
+    }
     maybe_bracketed::<ArgumentPhrase<V>>(parser, "(", ")", limits)
 }
 

@@ -2,6 +2,7 @@
 ghost use Rattle.graphql_syntax.specs.trees.Parts.{placed};
 ghost use Rattle.graphql_syntax.specs.trees.TypeTree.{type_tree};
 ghost use Rattle.graphql_reading.specs.reading.Given.{Gives};
+ghost use Rattle.graphql_grammar.specs.reading.TypeSteps.{opens_at};
 ghost use Rattle.graphql_grammar.specs.reading.Types.{type_at};
 
 use graphql_reading::limits::Limits;
@@ -9,14 +10,13 @@ use graphql_reading::parser::{Parser, Reading, Refusal};
 use graphql_syntax::pos::Positioned;
 use graphql_syntax::types::{BaseType, Type};
 
-/// Reads a type reference (GraphQL October 2021, section 2.11). It stands at its first token, and may be null where
-/// no `!` follows. A list of it opens at each `[`, and as many close after the name, the inmost first.
+/// Reads the brackets that open lists, and gives how many they are.
 ///
-/// `Type : Name '!'? | '[' Type ']' '!'?`
-pub fn read_type(parser: &mut Parser, limits: Limits) -> Reading<Positioned<Type>>
-    ensures { Gives (placed type_tree) result parser.old parser.new (type_at limits.types) }
+/// `'['*`, as many as the limit allows
+#[inline(always)]
+pub fn open_lists(parser: &mut Parser, limits: Limits) -> Reading<usize>
+    ensures { Gives (λ opened. opened) result parser.old parser.new (opens_at 0 limits.types) }
 {
-    let pos = parser.hand().pos;
     let limit = limits.types();
     let mut opened = 0;
     while parser.is_at_punct("[") {
@@ -26,6 +26,18 @@ pub fn read_type(parser: &mut Parser, limits: Limits) -> Reading<Positioned<Type
         opened += 1;
         parser.advance();
     }
+    Ok(opened)
+}
+
+/// Reads a type reference (GraphQL October 2021, section 2.11). It stands at its first token, and may be null where
+/// no `!` follows. A list of it opens at each `[`, and as many close after the name, the inmost first.
+///
+/// `Type : Name '!'? | '[' Type ']' '!'?`
+pub fn read_type(parser: &mut Parser, limits: Limits) -> Reading<Positioned<Type>>
+    ensures { Gives (placed type_tree) result parser.old parser.new (type_at limits.types) }
+{
+    let pos = parser.hand().pos;
+    let opened = open_lists(parser, limits)?;
     let token = parser.expect_name()?;
     let name = parser.name(token)?;
     let nullable = !parser.take_punct("!");

@@ -43,8 +43,7 @@ pub trait Production {
 }
 
 /// Reads one phrase or more: another as long as the token in hand begins one.
-// Never inlined: the tests before it then are, in each reader of an optional list.
-#[inline(never)]
+#[inline(always)]
 pub fn one_or_more<P: Production>(parser: &mut Parser, limits: Limits) -> Reading<Vec<P::Node>>
     requires { Takes (P.reader limits) }
     ensures { Gives (trees_in P.tree) result parser.old parser.new
@@ -97,28 +96,10 @@ pub fn any_number<P: Production>(parser: &mut Parser, limits: Limits) -> Reading
     one_or_more::<P>(parser, limits)
 }
 
-/// Reads one phrase or more between two brackets.
-#[inline(always)]
-pub fn bracketed<P: Production>(
-    parser: &mut Parser,
-    opening: &str,
-    closing: &str,
-    limits: Limits,
-) -> Reading<Vec<P::Node>>
-    requires { Takes (P.reader limits) }
-    ensures { Gives (trees_in P.tree) result parser.old parser.new
-        (between_at (punct_of opening.now) (plus_at P.first (P.reader limits))
-        (punct_of closing.now)) }
-{
-    parser.expect_punct(opening)?;
-    let nodes = one_or_more::<P>(parser, limits)?;
-    parser.expect_punct(closing)?;
-    Ok(nodes)
-}
-
 /// Reads one phrase or more between two brackets, where the first bracket is in hand; else there are none.
+// Never inlined, with its loop: a caller whose lists are mostly left out tests the bracket itself.
 #[tactic(auto, unfolding(crate::specs::reading::Outcome::opt_at))]
-#[inline(always)]
+#[inline(never)]
 pub fn maybe_bracketed<P: Production>(
     parser: &mut Parser,
     opening: &str,

@@ -48,9 +48,6 @@ below-first : (test : Test) (ts : List Token) → Below (length ts) (one_at test
 below-first test [] = tt
 below-first test (t ∷ ts) = below-cond (length (t ∷ ts)) (test t.bare) (Read t ts) _ (omega arith) tt
 
-pub one-takes : (test : Test) → Takes (one_at test)
-one-takes test ts t rest e = subst (Below (length ts)) e (below-first test ts)
-
 below-deep : (A : Type 0) (n : ℕ) (test : Test) (ts : List Token) → Below {A = A} n (deep_at test ts)
 below-deep A n test [] = tt
 below-deep A n test (t ∷ ts) = below-cond n (test t.bare) _ _ tt tt

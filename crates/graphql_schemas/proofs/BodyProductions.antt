@@ -8,7 +8,7 @@ use Rattle.graphql_reading.specs.grammar.Relations.{Rel, ◌∪◌, mapped, plus
 use Rattle.graphql_reading.specs.grammar.Tests.{Test, punct, keyword, any_name}
 use Rattle.graphql_reading.specs.reading.Outcome.{Reader}
 use Rattle.graphql_reading.proofs.Theory.{IsSubset, outside}
-use Rattle.graphql_reading.proofs.TokenTests.{word_of, punct-within, keyword-within, within-either, HasSample, keyword-sample, name-sample}
+use Rattle.graphql_reading.proofs.TokenTests.{word_of, punct-within, keyword-within, within-either, name-sample}
 use Rattle.graphql_reading.proofs.ReadsExactly.{ReadsExactly, HasPhrase, BeginsWith, exact-keyword, exact-name, exact-mapped, exact-next, exact-choose, begins-one, begins-within, begins-mapped, begins-then, begins-either, has-token, has-pair, has-map, has-plus}
 use Rattle.graphql_reading.proofs.IgnoresPlaces.{IgnoresPlaces, ignores-one, ignores-then, ignores-mapped, ignores-either, ignores-plus}
 use Rattle.graphql_grammar.specs.grammar.Arguments.{a_directive, directives}
@@ -93,9 +93,6 @@ exact-bodies {s} {o} {i} {u} {e} {n} extend scalar an-object an-interface a-unio
     (exact-choose (begins-a_body "union" {rest = u}) (begins-two {e = e} {n = n} refl refl) (exact-a_body "union" a-union.has a-union.exact)
     (exact-choose (begins-a_body "enum" {rest = e}) (begins-word "input" {rest = n} refl) (exact-a_body "enum" an-enum.has an-enum.exact)
     (exact-a_body "input" an-input.has an-input.exact)))))
-
-scalar-sample : HasSample (keyword "scalar")
-scalar-sample = keyword-sample "scalar" refl (refl, (refl, (refl, (refl, (refl, (refl, tt))))))
 
 ignores-bodies : {s o i u e n : Limits → Rel Rest} → IgnoresPlaces s placeless-rest → IgnoresPlaces o placeless-rest → IgnoresPlaces i placeless-rest → IgnoresPlaces u placeless-rest → IgnoresPlaces e placeless-rest → IgnoresPlaces n placeless-rest → IgnoresPlaces (bodies s o i u e n) placeless-body
 ignores-bodies scalar an-object an-interface a-union an-enum an-input =

@@ -8,7 +8,7 @@ ghost use Rattle.graphql_schemas.specs.reading.Views.{definition_tree};
 use crate::descriptions::{is_at_description, place_of, read_maybe_description};
 use crate::directives::read_directive_definition;
 use crate::schema::{Schema, read_schema, read_schema_extension};
-use crate::types::{read_type_body, type_with};
+use crate::types::{read_type_body, type_with, word_in_hand};
 use graphql_reading::limits::Limits;
 use graphql_reading::parser::{Parser, Reading};
 use graphql_reading::production::Production;
@@ -34,12 +34,7 @@ pub fn is_at_definition(parser: &Parser) -> bool
         || parser.is_at_keyword("extend")
         || parser.is_at_keyword("schema")
         || parser.is_at_keyword("directive")
-        || parser.is_at_keyword("scalar")
-        || parser.is_at_keyword("type")
-        || parser.is_at_keyword("interface")
-        || parser.is_at_keyword("union")
-        || parser.is_at_keyword("enum")
-        || parser.is_at_keyword("input")
+        || word_in_hand(parser).is_some()
 }
 
 /// `TypeSystemExtension : SchemaExtension | TypeExtension`

@@ -69,6 +69,8 @@ impl Production for InputValuePhrase {
 /// Reads the definitions of arguments with their brackets, where a `(` is in hand; else there are none.
 ///
 /// `ArgumentsDefinition? : ('(' InputValueDefinition+ ')')?` (GraphQL October 2021, section 3.6.1)
+// Most fields have none: so the bracket is tested before the call.
+#[tactic(auto, unfolding(graphql_reading::specs::reading::Outcome::opt_at))]
 pub fn read_maybe_arguments_definition(
     parser: &mut Parser,
     limits: Limits,
@@ -76,5 +78,8 @@ pub fn read_maybe_arguments_definition(
     ensures { Gives (trees_in (placed input_value_tree)) result parser.old parser.new
         (given_arguments_at limits) }
 {
+    if !parser.is_at_punct("(") {
+        return Ok(parser.empty_list());
+    }
     maybe_bracketed::<InputValuePhrase>(parser, "(", ")", limits)
 }

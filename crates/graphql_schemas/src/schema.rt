@@ -15,7 +15,7 @@ use graphql_grammar::operations::read_operation_type;
 use graphql_reading::limits::Limits;
 use graphql_reading::names::read_name;
 use graphql_reading::parser::{Parser, Reading};
-use graphql_reading::production::{Production, bracketed};
+use graphql_reading::production::{Production, one_or_more};
 use graphql_syntax::lexer::Token;
 use graphql_syntax::pos::{Pos, Positioned};
 use graphql_syntax::types::{ConstDirective, OperationType};
@@ -92,7 +92,9 @@ pub fn read_schema<'a>(parser: &mut Parser<'a>, limits: Limits) -> Reading<Parts
 {
     let word = parser.expect_keyword("schema")?;
     let directives = read_const_directives(parser, limits)?;
-    let roots = bracketed::<RootPhrase>(parser, "{", "}", limits)?;
+    parser.expect_punct("{")?;
+    let roots = one_or_more::<RootPhrase>(parser, limits)?;
+    parser.expect_punct("}")?;
     Ok((word, (directives, roots)))
 }
 

@@ -9,7 +9,7 @@ ghost use Rattle.graphql_reading.specs.grammar.Tests.{punct};
 ghost use Rattle.graphql_reading.specs.reading.Given.{Gives, trees_in};
 ghost use Rattle.graphql_reading.specs.reading.Outcome.{Takes, plus_at, between_at};
 ghost use Rattle.graphql_schemas.specs.grammar.Types as grammar;
-ghost use Rattle.graphql_schemas.specs.reading.Bodies.{in_members, in_rest, in_body, word_at, rest_at, body_by_word_at, members_by_part_at};
+ghost use Rattle.graphql_schemas.specs.reading.Bodies.{in_members, in_rest, in_body, word_of, word_at, rest_at, body_by_word_at, members_by_part_at};
 ghost use Rattle.graphql_schemas.specs.reading.Types.{some_parts_at, fields_rest_at, body_at};
 
 use crate::fields::FieldPhrase;
@@ -59,23 +59,32 @@ pub(crate) struct Body<'a> {
     kind: TypeKind,
 }
 
+/// The kind of type whose keyword is in hand, if one is.
+pub(crate) fn word_in_hand(parser: &Parser) -> Option<Word>
+    ensures { result ≡ word_of parser.now.hand.bare }
+{
+    if parser.is_at_keyword("scalar") {
+        Some(Word::Scalar)
+    } else if parser.is_at_keyword("type") {
+        Some(Word::Type)
+    } else if parser.is_at_keyword("interface") {
+        Some(Word::Interface)
+    } else if parser.is_at_keyword("union") {
+        Some(Word::Union)
+    } else if parser.is_at_keyword("enum") {
+        Some(Word::Enum)
+    } else if parser.is_at_keyword("input") {
+        Some(Word::Input)
+    } else {
+        None
+    }
+}
+
 /// `'scalar' | 'type' | 'interface' | 'union' | 'enum' | 'input'`
 pub fn read_word<'a>(parser: &mut Parser<'a>) -> Reading<(Token<'a>, Word)>
     ensures { Gives (λ x. (seen x.0, x.1)) result parser.old parser.new word_at }
 {
-    let word = if parser.is_at_keyword("scalar") {
-        Word::Scalar
-    } else if parser.is_at_keyword("type") {
-        Word::Type
-    } else if parser.is_at_keyword("interface") {
-        Word::Interface
-    } else if parser.is_at_keyword("union") {
-        Word::Union
-    } else if parser.is_at_keyword("enum") {
-        Word::Enum
-    } else if parser.is_at_keyword("input") {
-        Word::Input
-    } else {
+    let Some(word) = word_in_hand(parser) else {
         return Err(Refusal::Syntax);
     };
     Ok((parser.take(), word))

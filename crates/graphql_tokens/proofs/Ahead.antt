@@ -1,5 +1,5 @@
 -- What the first byte and the first character of what is ahead say of the token there.
-use Rattle.std.proofs.Common.{◌≡◌, ◌≢◌, ℕ, ◌≤◌, ◌<◌, ◌⊎◌, List, [], ◌∷◌, Bool, true, false, cond, ◌||◌, eqb, length, refl, sym, ap, ◌∙◌, arith, inl, inr, subst}
+use Rattle.std.proofs.Common.{◌≡◌, ◌≢◌, ℕ, ◌≤◌, ◌<◌, List, [], ◌∷◌, Bool, true, false, cond, ◌||◌, eqb, length, refl, sym, ap, ◌∙◌, arith, inl, inr, subst}
 use Rattle.std.proofs.lemmas.Bool.Decides.{nat_tests}
 use Rattle.std.specs.Char.{is_ascii_digit}
 use Rattle.graphql_tokens.specs.tokens.Place.{is_line_end, is_in_line}
@@ -32,10 +32,6 @@ first_wide b c text rest f is h = by (subst (IsFirstByte b) is f)
     by : IsFirstByte b (c ∷ rest) → 128 ≤ c
     by (inl x) = absurd (omega (arith, x.0))
     by (inr x) = x.2
-
-pub first_some : (b : ℕ) (text : List ℕ) → IsFirstByte b text → (c : ℕ) × (rest : List ℕ) × (text ≡ c ∷ rest)
-first_some b [] f = absurd f
-first_some b (c ∷ rest) f = (c, rest, refl)
 
 -- another byte than an ASCII one
 pub first_not : (b c d : ℕ) (text rest : List ℕ) → IsFirstByte b text → text ≡ c ∷ rest → d < 128 → b ≢ d → eqb c d ≡ false
@@ -70,16 +66,6 @@ line_shorter (c ∷ cs) = by (is_line_end c) (line_shorter cs)
     by : (t : Bool) → length (past_line cs) ≤ length cs → length (cond t cs (past_line cs)) ≤ length (c ∷ cs)
     by true h = omega arith
     by false h = omega arith
-
-pub line_goes_on : (c : ℕ) (text rest : List ℕ) → text ≡ c ∷ rest → c ≢ 10 → c ≢ 13 → past_line rest ≡ past_line text
-line_goes_on c text rest is n m = let e : is_line_end c ≡ false = grind (arith, nat_tests) in sym (ap past_line is ∙ ap (λ b. cond b rest (past_line rest)) e)
-
-pub line_ends : (c : ℕ) (text rest : List ℕ) → text ≡ c ∷ rest → (c ≡ 10) ⊎ (c ≡ 13) → rest ≡ past_line text
-line_ends c text rest is e = sym (ap past_line is ∙ ap (λ b. cond b rest (past_line rest)) (by e))
-  where
-    by : (c ≡ 10) ⊎ (c ≡ 13) → is_line_end c ≡ true
-    by (inl x) = ap is_line_end x
-    by (inr x) = ap is_line_end x
 
 pub hash_shorter : (b : ℕ) (text : List ℕ) → IsFirstByte b text → b ≡ 35 → length (past_line text) < length text
 hash_shorter b [] f e = absurd f

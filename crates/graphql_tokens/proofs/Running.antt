@@ -5,7 +5,7 @@ use Rattle.std.specs.Str.{chars, IsUtf8, IsCharBoundary}
 use Rattle.std.proofs.Math.Seq.{drop-cons}
 use Rattle.std.proofs.lemmas.Bool.{cases_lt}
 use Rattle.std.proofs.lemmas.List.{length_push, drop_all}
-use Rattle.std.proofs.lemmas.Str.{IsUtf8-take, IsUtf8-drop, chars-nil, chars_past_char, IsCharBoundary-start, len_utf8_bounds, len_utf8_ascii, encode_ascii, drop_past_char}
+use Rattle.std.proofs.lemmas.Str.{IsUtf8-take, IsUtf8-drop, chars-nil, chars_past_char, IsCharBoundary-start, len_utf8_ascii, encode_ascii, drop_past_char}
 use Rattle.graphql_tokens.specs.tokens.Place.{place, place_after, is_line_feed, is_in_line}
 use Rattle.graphql_tokens.specs.inner.TextWalk.{IsWalking, Passes}
 use Rattle.graphql_tokens.specs.inner.Running.{ahead, IsRunning}
@@ -75,9 +75,6 @@ ahead_past old new c k same p =
 
 pub one_past : (old new : TextWalk) (c : ℕ) → IsWalking old → Passes c old new → (at : ℕ) → IsCharBoundary old.text.now at → old.offset < at → new.offset ≤ at
 one_past old new c k p at b l = ends_before old.text.now old.offset new.offset at c k.utf8 k.boundary b l p.here p.after
-
-pub forward_past : (old new : TextWalk) (c : ℕ) → Passes c old new → old.offset < new.offset
-forward_past old new c p = omega (arith, p.after, len_utf8_bounds c)
 
 -- ---- running places
 

@@ -1,5 +1,5 @@
 -- Bytes of a text that are read one at a time, and its characters.
-use Rattle.std.proofs.Common.{◌≡◌, ℕ, zero, suc, ◌+◌, ◌≤◌, ◌<◌, Bool, true, false, cond, ◌&&◌, subst, ◌⊎◌, List, [], ◌∷◌, ◌++◌, length, drop, get_or, refl, sym, ap, ◌∙◌, arith, inl, inr, length-drop, one-add, add-one, add-zero}
+use Rattle.std.proofs.Common.{◌≡◌, ℕ, zero, suc, ◌+◌, ◌≤◌, ◌<◌, Bool, true, false, cond, ◌&&◌, subst, ◌⊎◌, List, [], ◌∷◌, ◌++◌, length, drop, get_or, refl, sym, ap, ◌∙◌, arith, inl, inr, one-add, add-one, add-zero}
 use Rattle.std.proofs.Math.Seq.{drop-append-add}
 use Rattle.std.proofs.lemmas.Bool.{cases_lt}
 use Rattle.std.proofs.lemmas.List.Sums.{prefix_len_is}
@@ -80,12 +80,6 @@ span_chars p alike bs u =
     let s : drop (prefix_len p bs) bs ≡ encode_utf8_all (drop (prefix_len p cs) cs) = subst (λ (x : List ℕ). drop (prefix_len p x) x ≡ encode_utf8_all (drop (prefix_len p cs) cs)) u.1.1 (span p alike cs) in
     ap chars s ∙ chars-encodes (drop (prefix_len p cs) cs) (scalars_drop cs (prefix_len p cs) u.1.0) ∙ ap (λ x. drop (prefix_len p x) x) (sym e)
 
-pub span_utf8 : (p : ℕ → Bool) → IsAlike p → (bs : List ℕ) → IsUtf8 bs → IsUtf8 (drop (prefix_len p bs) bs)
-span_utf8 p alike bs u =
-    let cs = u.0 in
-    let s : drop (prefix_len p bs) bs ≡ encode_utf8_all (drop (prefix_len p cs) cs) = subst (λ (x : List ℕ). drop (prefix_len p x) x ≡ encode_utf8_all (drop (prefix_len p cs) cs)) u.1.1 (span p alike cs) in
-    (drop (prefix_len p cs) cs, (scalars_drop cs (prefix_len p cs) u.1.0, sym s))
-
 -- ---- one character, at a place where the text may be cut
 
 -- a character at the front, in bytes and in characters
@@ -124,6 +118,3 @@ ascii_char bs i u b l h =
     let x = get_or bs i 0 in
     let e : drop i bs ≡ encode_utf8 x ++ drop (i + 1) bs = rw (encode_ascii x h, add-one i) (drop-cons bs i 0 l) in
     chars_past_char (drop i bs) (drop (i + 1) bs) x (IsUtf8-drop bs i u b) e
-
-pub at_front : (bs : List ℕ) (i : ℕ) → IsUtf8 bs → IsCharBoundary bs i → i < length bs → Front (drop i bs)
-at_front bs i u b l = front (drop i bs) (IsUtf8-drop bs i u b) (omega (arith, length-drop i bs))

@@ -13,7 +13,8 @@ use graphql_reading::limits::Limits;
 use graphql_reading::parser::{Parser, Reading};
 use graphql_schemas::input_values::is_at_member;
 
-/// `FieldDefinition : Description? Name ArgumentsDefinition? ':' Type Directives[Const]?` (GraphQL October 2021, section 3.6)
+/// `FieldDefinition : Description? Name ArgumentsDefinition? ':' Type Directives[Const]?` (GraphQL October 2021,
+/// section 3.6)
 pub(crate) struct FieldPhrase;
 
 impl Phrase for FieldPhrase {

@@ -37,15 +37,7 @@ impl Phrase for NamePhrase {
     }
 }
 
-/// `ImplementsInterfaces : 'implements' '&'? Name ('&' Name)*`
-fn check_implements(parser: &mut Parser, limits: Limits) -> Reading<()>
-    ensures { Checks result parser.old parser.new implements_at }
-{
-    parser.expect_keyword("implements")?;
-    check_separated::<NamePhrase>(parser, "&", limits)
-}
-
-/// `ImplementsInterfaces?` (GraphQL October 2021, section 3.6)
+/// `ImplementsInterfaces? : ('implements' '&'? Name ('&' Name)*)?` (GraphQL October 2021, section 3.6)
 #[tactic(auto, unfolding(graphql_reading::specs::reading::Outcome::opt_at))]
 pub fn check_maybe_implements(parser: &mut Parser, limits: Limits) -> Reading<()>
     ensures { Checks result parser.old parser.new (opt_at (keyword "implements") implements_at) }
@@ -53,18 +45,12 @@ pub fn check_maybe_implements(parser: &mut Parser, limits: Limits) -> Reading<()
     if !parser.is_at_keyword("implements") {
         return Ok(());
     }
-    check_implements(parser, limits)
+    parser.expect_keyword("implements")?;
+    check_separated::<NamePhrase>(parser, "&", limits)?;
+    Ok(())
 }
 
-/// `UnionMemberTypes : '=' '|'? Name ('|' Name)*`
-fn check_members(parser: &mut Parser, limits: Limits) -> Reading<()>
-    ensures { Checks result parser.old parser.new members_at }
-{
-    parser.expect_punct("=")?;
-    check_separated::<NamePhrase>(parser, "|", limits)
-}
-
-/// `UnionMemberTypes?` (GraphQL October 2021, section 3.8)
+/// `UnionMemberTypes? : ('=' '|'? Name ('|' Name)*)?` (GraphQL October 2021, section 3.8)
 #[tactic(auto, unfolding(graphql_reading::specs::reading::Outcome::opt_at))]
 pub fn check_maybe_members(parser: &mut Parser, limits: Limits) -> Reading<()>
     ensures { Checks result parser.old parser.new (opt_at (punct "=") members_at) }
@@ -72,7 +58,9 @@ pub fn check_maybe_members(parser: &mut Parser, limits: Limits) -> Reading<()>
     if !parser.is_at_punct("=") {
         return Ok(());
     }
-    check_members(parser, limits)
+    parser.expect_punct("=")?;
+    check_separated::<NamePhrase>(parser, "|", limits)?;
+    Ok(())
 }
 
 /// `EnumValueDefinition : Description? EnumValue Directives[Const]?` (GraphQL October 2021, section 3.9)

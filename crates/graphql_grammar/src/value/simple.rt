@@ -6,7 +6,7 @@ ghost use Rattle.graphql_tokens.specs.tokens.Seen.{seen};
 ghost use Rattle.graphql_tokens.specs.tokens.Within.{StandsIn};
 ghost use Rattle.graphql_grammar.specs.reading.OpenValues.{node_at, word_tree};
 ghost use Rattle.graphql_reading.specs.reading.Given.{Gives};
-ghost use Rattle.graphql_grammar.specs.reading.Values.{simple_at, word_at, variable_at};
+ghost use Rattle.graphql_grammar.specs.reading.Values.{simple_at, word_at};
 
 use crate::strings::{read_block, read_string};
 use graphql_reading::parser::{Parser, Reading, Refusal};
@@ -14,6 +14,7 @@ use graphql_syntax::lexer::{Token, TokenKind};
 use graphql_syntax::value::Literal;
 use std::alloc::AllocError;
 
+#[inline(always)]
 fn word_of<V: Literal>(parser: &mut Parser, token: Token) -> Result<V, AllocError>
     requires { StandsIn parser.old.text (seen token) }
     ensures word { IfOk result (λ v. V.tree v ≡ word_tree token.entry.text.now) }
@@ -34,6 +35,7 @@ fn word_of<V: Literal>(parser: &mut Parser, token: Token) -> Result<V, AllocErro
 }
 
 /// `'true' | 'false' | 'null' | EnumValue` (GraphQL October 2021, sections 2.9.3, 2.9.5 and 2.9.6)
+#[inline(always)]
 fn read_word<V: Literal>(parser: &mut Parser) -> Reading<V>
     ensures { Gives V.tree result parser.old parser.new (node_at word_at) }
 {
@@ -41,25 +43,11 @@ fn read_word<V: Literal>(parser: &mut Parser) -> Reading<V>
     Ok(word_of(parser, token)?)
 }
 
-/// `Variable : '$' Name` (GraphQL October 2021, section 2.10)
-fn read_variable<V: Literal>(parser: &mut Parser) -> Reading<V>
-    ensures { Gives V.tree result parser.old parser.new (node_at (variable_at V.VARIABLES)) }
-{
-    if !(parser.is_at_punct("$") && V::VARIABLES) {
-        return Err(Refusal::Syntax);
-    }
-    parser.advance();
-    let token = parser.expect_name()?;
-    match V::variable(parser.name(token)?) {
-        Some(variable) => Ok(variable),
-        None => unreachable!(),
-    }
-}
-
 /// A value that is neither a list nor an object.
 ///
-/// `Variable | IntValue | FloatValue | StringValue | BooleanValue | NullValue | EnumValue`, of which `IntValue` and
-/// `FloatValue` are by GraphQL October 2021, sections 2.9.1 and 2.9.2, and `StringValue` by section 2.9.4
+/// `Variable | IntValue | FloatValue | StringValue | BooleanValue | NullValue | EnumValue`, of which `Variable : '$' Name`
+/// is by GraphQL October 2021, section 2.10, and the others by sections 2.9.1 to 2.9.6
+#[inline(always)]
 pub fn read_simple<V: Literal>(parser: &mut Parser) -> Reading<V>
     ensures { Gives V.tree result parser.old parser.new (node_at (simple_at V.VARIABLES)) }
 {
@@ -73,6 +61,16 @@ pub fn read_simple<V: Literal>(parser: &mut Parser) -> Reading<V>
         }
         TokenKind::String => Ok(V::string(read_string(parser)?)),
         TokenKind::Block => Ok(V::string(read_block(parser)?)),
-        _ => read_variable(parser),
+        _ => {
+            if !(parser.is_at_punct("$") && V::VARIABLES) {
+                return Err(Refusal::Syntax);
+            }
+            parser.advance();
+            let name = parser.expect_name()?;
+            match V::variable(parser.name(name)?) {
+                Some(variable) => Ok(variable),
+                None => unreachable!(),
+            }
+        }
     }
 }

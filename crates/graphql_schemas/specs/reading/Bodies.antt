@@ -1,9 +1,9 @@
 -- Reading the bodies of types as the code does: the keyword, the name, and the rest by the keyword.
-use Rattle.std.specs.Prelude.{Bool, false, map, Vec}
+use Rattle.std.specs.Prelude.{Bool, false, cond, Option, Some, None, map, Vec}
 use Rattle.std.specs.declared.alloc.Global.{Global}
 use Rattle.graphql_tokens.specs.declared.pos.Positioned.{Positioned}
 use Rattle.graphql_tokens.specs.tokens.Seen.{seen}
-use Rattle.graphql_tokens.specs.tokens.Token.{Token}
+use Rattle.graphql_tokens.specs.tokens.Token.{Bare, Token}
 use Rattle.graphql_syntax.specs.declared.types.ConstDirective.{ConstDirective}
 use Rattle.graphql_syntax.specs.trees.PartViews.{const_directives_tree}
 use Rattle.graphql_syntax.specs.trees.Parts.{Name, placed}
@@ -36,6 +36,16 @@ abbrev pub in_body : code_body.Body → Body
 in_body b = (seen b.word, (b.name, (const_directives_tree b.directives.items, kind_tree b.kind)))
 
 -- ---- by the keyword
+
+-- the kind of type whose keyword a token is
+abbrev pub word_of : Bare → Option Word
+word_of t =
+    cond (keyword "scalar" t) (Some words.Scalar)
+    (cond (keyword "type" t) (Some words.Type)
+    (cond (keyword "interface" t) (Some words.Interface)
+    (cond (keyword "union" t) (Some words.Union)
+    (cond (keyword "enum" t) (Some words.Enum)
+    (cond (keyword "input" t) (Some words.Input) None)))))
 
 abbrev pub worded : Word → Token → Token × Word
 worded word t = (t, word)

@@ -1,4 +1,4 @@
-use Rattle.std.proofs.Common.{rules, ◌≤◌, ap, ◌∙◌, ◌-◌, ◌+◌, sym, not, arith}
+use Rattle.std.proofs.Common.{rules, ap, ◌∙◌, ◌-◌, ◌+◌, sym, not, arith}
 use Rattle.std.proofs.lemmas.Result.{err_from_is_err_and}
 use Rattle.graphql_tokens.specs.declared.pos.Pos.{Pos}
 use Rattle.graphql_tokens.specs.declared.pos.Positioned.{Positioned}
@@ -8,38 +8,33 @@ use Rattle.graphql_syntax.specs.trees.Parts.{placed}
 use Rattle.graphql_syntax.specs.trees.TypeTree.{named, list, type_tree}
 use Rattle.graphql_reading.specs.reading.Ahead.{tokens}
 use Rattle.graphql_reading.specs.reading.Outcome.{Read}
-use Rattle.graphql_grammar.proofs.TypeSteps.{opens-goes, type-full, type-named, type-nameless, type-ends, type-closes, type-unclosed}
+use Rattle.graphql_grammar.proofs.TypeSteps.{type-full, type-named, type-nameless, type-ends, type-closes, type-unclosed}
 use Rattle.graphql_grammar.proofs.types.read_type.Goals as goal
 
-pub returns-then-opened-limit : goal.returns-then-opened-limit
-returns-then-opened-limit c = type-full c.args.limits.types c.loop-pos.opened c.args.parser.now c.loop-pos.parser c.loop-pos.invariant.0 (omega (arith, c.if-opened-limit.true, c.types-limit.ensures)) (sym c.is_at_punct.ensures ∙ c.loop-pos-test.true)
-
-pub loop-pos-preserved : goal.loop-pos-preserved
-loop-pos-preserved c =
-    let within : c.loop-pos.opened + 1 ≤ c.args.limits.types = omega (arith, c.if-opened-limit.false, c.types-limit.ensures, c.loop-pos.invariant.1) in (
-      opens-goes c.args.limits.types c.loop-pos.opened (c.loop-pos.opened + 1) c.args.parser.now c.loop-pos.parser c.advance.new.self c.loop-pos.invariant.0 within (omega arith) (sym c.is_at_punct.ensures ∙ c.loop-pos-test.true) c.advance.ensures.left (c.advance.ensures.whole, omega (arith, c.advance.ensures.taken)),
-      within,
-    )
+pub returns-in_err-opened : goal.returns-in_err-opened
+returns-in_err-opened c =
+    let p = err_from_is_err_and c.from_residual.result c.from_residual.ensures.1 in
+    rw (p.1, p.2) (type-full (placed type_tree) c.args.limits.types c.args.parser.now c.open_lists.new.parser _ c.in_err-opened.ensures)
 
 pub returns-in_err-token : goal.returns-in_err-token
 returns-in_err-token c =
-    let p = err_from_is_err_and c.from_residual.result c.from_residual.ensures.1 in
-    rw (p.1, p.2) (type-nameless c.args.limits.types c.loop-pos.opened c.args.parser.now c.loop-pos.parser c.loop-pos.invariant.0 (sym c.is_at_punct.ensures ∙ c.loop-pos-test.false) seen (placed type_tree) _ c.expect_name.new.self c.in_err-token.ensures.name)
+    let p = err_from_is_err_and c.from_residual-in_err-token.result c.from_residual-in_err-token.ensures.1 in
+    rw (p.1, p.2) (type-nameless c.args.limits.types c.in_ok-opened.opened c.args.parser.now c.open_lists.new.parser c.in_ok-opened.ensures seen (placed type_tree) _ c.expect_name.new.self c.in_err-token.ensures.name)
 
 pub loop-init : goal.loop-init
-loop-init c = type-named c.args.limits.types c.loop-pos.opened c.args.parser.now c.loop-pos.parser c.loop-pos.invariant.0 (sym c.is_at_punct.ensures ∙ c.loop-pos-test.false) (c.loop-pos.opened - 0) (named c.in_ok-name.name (not c.take_punct-nullable.result)) c.take_punct-nullable.new.self (omega arith) (search rules)
+loop-init c = type-named c.args.limits.types c.in_ok-opened.opened c.args.parser.now c.open_lists.new.parser c.in_ok-opened.ensures (c.in_ok-opened.opened - 0) (named c.in_ok-name.name (not c.take_punct-nullable.result)) c.take_punct-nullable.new.self (omega arith) (search rules)
 
 pub returns-in_err-expect_punct : goal.returns-in_err-expect_punct
 returns-in_err-expect_punct c =
     let p = err_from_is_err_and c.from_residual-in_err-expect_punct.result c.from_residual-in_err-expect_punct.ensures.1 in
-    rw (p.1, p.2) (type-unclosed c.args.limits.types (c.loop-pos.opened - c.loop.counter) (type_tree c.loop.ty) c.args.parser.now c.loop.parser c.loop.invariant (c.loop-pos.opened - (c.loop.counter + 1)) (omega arith) seen (placed type_tree) _ c.expect_punct.new.self c.in_err-expect_punct.ensures)
+    rw (p.1, p.2) (type-unclosed c.args.limits.types (c.in_ok-opened.opened - c.loop.counter) (type_tree c.loop.ty) c.args.parser.now c.loop.parser c.loop.invariant (c.in_ok-opened.opened - (c.loop.counter + 1)) (omega arith) seen (placed type_tree) _ c.expect_punct.new.self c.in_err-expect_punct.ensures)
 
 pub loop-preserved : goal.loop-preserved
-loop-preserved c = type-closes c.args.limits.types (c.loop-pos.opened - c.loop.counter) (type_tree c.loop.ty) c.args.parser.now c.loop.parser c.loop.invariant (c.loop-pos.opened - (c.loop.counter + 1)) (omega arith) (list (type_tree c.in_ok-item.item.value) (not c.take_punct-nullable-in-loop.result)) c.boxed.new.self (search rules)
+loop-preserved c = type-closes c.args.limits.types (c.in_ok-opened.opened - c.loop.counter) (type_tree c.loop.ty) c.args.parser.now c.loop.parser c.loop.invariant (c.in_ok-opened.opened - (c.loop.counter + 1)) (omega arith) (list (type_tree c.in_ok-item.item.value) (not c.take_punct-nullable-in-loop.result)) c.boxed.new.self (search rules)
 
 pub returns : goal.returns
 returns c =
-    let ends = type-ends c.args.limits.types (c.loop-pos.opened - c.loop.counter) (type_tree c.loop.ty) c.args.parser.now c.loop.parser c.loop.invariant (omega arith) in
+    let ends = type-ends c.args.limits.types (c.in_ok-opened.opened - c.loop.counter) (type_tree c.loop.ty) c.args.parser.now c.loop.parser c.loop.invariant (omega arith) in
     let place = ap (λ (t : Token). t.pos) c.hand.ensures.token in
     let made = c.new.ensures ∙ ap (λ (p : Pos). record { pos = p; node = c.loop.ty }) place in
     (ends.0 ∙ ap (λ (p : Positioned _). Read (placed type_tree p) (tokens c.loop.parser)) (sym made), ends.1)

@@ -3,12 +3,18 @@ use Rattle.std.proofs.lemmas.List.{map_push}
 use Rattle.std.proofs.lemmas.Result.{err_from_is_err_and}
 use Rattle.graphql_tokens.specs.tokens.Seen.{seen}
 use Rattle.graphql_syntax.specs.trees.ValueTree.{object, fields_of}
-use Rattle.graphql_grammar.specs.reading.OpenValues.{Field, node_at, field_tree, opened, object_tree}
+use Rattle.graphql_grammar.specs.reading.OpenValues.{object_waits, object_rest, Field, node_at, field_tree, opened, object_tree}
 use Rattle.graphql_grammar.specs.reading.Values.{simple_at}
 use Rattle.graphql_reading.proofs.Loops.{given-stays, on-stays}
-use Rattle.graphql_grammar.proofs.ValueContents.{wants-field, ends-object, stops-name, stops-colon, meets-inside, stops-inside, stops-alone, falls, adds, meets-made, meets-stays}
+use Rattle.graphql_grammar.proofs.ValueContents.{Wants, wants-field, ends-object, stops-name, stops-colon, meets-inside, stops-inside, stops-alone, falls, adds, meets-made, meets-stays}
 use Rattle.graphql_grammar.proofs.Fields.{merged-map}
+use Rattle.graphql_grammar.proofs.value.contents.read_fields.Given.{Over}
 use Rattle.graphql_grammar.proofs.value.contents.read_fields.Goals as goal
+use Rattle.graphql_grammar.proofs.value.contents.read_fields.Goals.{After-enter}
+
+-- where no brace closes, a name and a colon stand before the value that is wanted
+wanted : (g : Over) (c : goal.After-enter g) → Wants (object_rest g.V.Literal.VARIABLES c.args.left) g.V.Literal.VARIABLES c.args.left (object_waits (map (field_tree g.V.Literal.tree) c.loop-parser.fields.items) c.in_ok-name.name) c.loop-parser.parser c.expect_punct.new.self (map (field_tree g.V.Literal.tree) c.loop-parser.fields.items)
+wanted g c = wants-field g.V.Literal.VARIABLES c.args.left (map (field_tree g.V.Literal.tree) c.loop-parser.fields.items) c.loop-parser.parser c.take_punct.new.self c.expect_name.new.self c.name.new.self c.expect_punct.new.self (seen c.in_ok-token.token) (seen c.in_ok-expect_punct.field-0) c.in_ok-name.name c.loop-parser-test.ensures c.in_ok-token.ensures.name c.in_ok-name.ensures.name c.name.ensures.stays c.in_ok-expect_punct.ensures
 
 pub returns-in_err-token : goal.returns-in_err-token
 returns-in_err-token g c =
@@ -23,39 +29,34 @@ returns-in_err-expect_punct g c =
 pub returns-in_err-inner : goal.returns-in_err-inner
 returns-in_err-inner g c =
     let p = err_from_is_err_and c.from_residual-in_err-inner.result c.from_residual-in_err-inner.ensures.1 in
-    let wants = wants-field g.V.Literal.VARIABLES c.args.left (map (field_tree g.V.Literal.tree) c.loop-parser.fields.items) c.loop-parser.parser c.take_punct.new.self c.expect_name.new.self c.name.new.self c.expect_punct.new.self (seen c.in_ok-token.token) (seen c.in_ok-expect_punct.field-0) c.in_ok-name.name c.loop-parser-test.ensures c.in_ok-token.ensures.name c.in_ok-name.ensures.name c.name.ensures.stays c.in_ok-expect_punct.ensures in
-    rw (p.1, p.2) (stops-inside c.loop-parser.invariant wants (option_map (opened g.V.Literal.tree)) _ c.enter.new.parser c.in_err-inner.ensures)
+    rw (p.1, p.2) (stops-inside c.loop-parser.invariant (wanted g (goal.at.returns-in_err-inner g c).After-enter) (option_map (opened g.V.Literal.tree)) _ c.enter.new.parser c.in_err-inner.ensures)
 
 pub returns-in-Some : goal.returns-in-Some
 returns-in-Some g c =
-    let wants = wants-field g.V.Literal.VARIABLES c.args.left (map (field_tree g.V.Literal.tree) c.loop-parser.fields.items) c.loop-parser.parser c.take_punct.new.self c.expect_name.new.self c.name.new.self c.expect_punct.new.self (seen c.in_ok-token.token) (seen c.in_ok-expect_punct.field-0) c.in_ok-name.name c.loop-parser-test.ensures c.in_ok-token.ensures.name c.in_ok-name.ensures.name c.name.ensures.stays c.in_ok-expect_punct.ensures in
     let found = rw c.in-Some.is at c.in_ok-inner.ensures in
-    meets-inside c.loop-parser.invariant wants (opened g.V.Literal.tree c.in-Some.inner) c.enter.new.parser found.0 found.1
+    meets-inside c.loop-parser.invariant (wanted g (goal.at.returns-in-Some g c).After-enter) (opened g.V.Literal.tree c.in-Some.inner) c.enter.new.parser found.0 found.1
 
 pub returns-in_err-value : goal.returns-in_err-value
 returns-in_err-value g c =
     let p = err_from_is_err_and c.from_residual-in_err-value.result c.from_residual-in_err-value.ensures.1 in
-    let wants = wants-field g.V.Literal.VARIABLES c.args.left (map (field_tree g.V.Literal.tree) c.loop-parser.fields.items) c.loop-parser.parser c.take_punct.new.self c.expect_name.new.self c.name.new.self c.expect_punct.new.self (seen c.in_ok-token.token) (seen c.in_ok-expect_punct.field-0) c.in_ok-name.name c.loop-parser-test.ensures c.in_ok-token.ensures.name c.in_ok-name.ensures.name c.name.ensures.stays c.in_ok-expect_punct.ensures in
     let none = rw c.in_default.is at c.in_ok-inner.ensures in
-    rw (p.1, p.2) (stops-alone c.loop-parser.invariant wants record { none = none.0; on = none.1 } g.V.Literal.tree _ c.read_simple.new.parser c.in_err-value.ensures)
+    rw (p.1, p.2) (stops-alone c.loop-parser.invariant (wanted g (goal.at.returns-in_err-value g c).After-enter) record { none = none.0; on = none.1 } g.V.Literal.tree _ c.read_simple.new.parser c.in_err-value.ensures)
 
 pub loop-parser-preserved : goal.loop-parser-preserved
 loop-parser-preserved g c =
     let tree = g.V.Literal.tree in
     let held = c.loop-parser.fields.items in
-    let wants = wants-field g.V.Literal.VARIABLES c.args.left (map (field_tree g.V.Literal.tree) c.loop-parser.fields.items) c.loop-parser.parser c.take_punct.new.self c.expect_name.new.self c.name.new.self c.expect_punct.new.self (seen c.in_ok-token.token) (seen c.in_ok-expect_punct.field-0) c.in_ok-name.name c.loop-parser-test.ensures c.in_ok-token.ensures.name c.in_ok-name.ensures.name c.name.ensures.stays c.in_ok-expect_punct.ensures in
     let none = rw c.in_default.is at c.in_ok-inner.ensures in
     let moved = given-stays tree _ c.enter.new.parser c.read_simple.new.parser c.push.new.self (node_at (simple_at g.V.Literal.VARIABLES)) c.in_ok-value.ensures c.push.ensures.stays in
     let pair : List ℕ × g.row.V.Denot = (c.in_ok-name.name, c.in_ok-value.value) in
     let items : c.push.new.list.items ≡ held ++ pair ∷ [] = search rules in
-    adds c.loop-parser.invariant wants {alone = c.enter.new.parser} record { none = none.0; on = none.1 } (tree c.in_ok-value.value) (field_tree tree pair) c.push.new.self (map (field_tree tree) c.push.new.list.items) moved.0 moved.1 refl (ap (map (field_tree tree)) items ∙ map_push (field_tree tree) held pair)
+    adds c.loop-parser.invariant (wanted g (goal.at.loop-parser-preserved g c).After-enter) {alone = c.enter.new.parser} record { none = none.0; on = none.1 } (tree c.in_ok-value.value) (field_tree tree pair) c.push.new.self (map (field_tree tree) c.push.new.list.items) moved.0 moved.1 refl (ap (map (field_tree tree)) items ∙ map_push (field_tree tree) held pair)
 
 pub loop-parser-smaller : goal.loop-parser-smaller
 loop-parser-smaller g c =
-    let wants = wants-field g.V.Literal.VARIABLES c.args.left (map (field_tree g.V.Literal.tree) c.loop-parser.fields.items) c.loop-parser.parser c.take_punct.new.self c.expect_name.new.self c.name.new.self c.expect_punct.new.self (seen c.in_ok-token.token) (seen c.in_ok-expect_punct.field-0) c.in_ok-name.name c.loop-parser-test.ensures c.in_ok-token.ensures.name c.in_ok-name.ensures.name c.name.ensures.stays c.in_ok-expect_punct.ensures in
     let none = rw c.in_default.is at c.in_ok-inner.ensures in
     let moved = given-stays g.V.Literal.tree _ c.enter.new.parser c.read_simple.new.parser c.push.new.self (node_at (simple_at g.V.Literal.VARIABLES)) c.in_ok-value.ensures c.push.ensures.stays in
-    falls c.loop-parser.invariant wants {alone = c.enter.new.parser} record { none = none.0; on = none.1 } (g.V.Literal.tree c.in_ok-value.value) c.push.new.self moved.0
+    falls c.loop-parser.invariant (wanted g (goal.at.loop-parser-smaller g c).After-enter) {alone = c.enter.new.parser} record { none = none.0; on = none.1 } (g.V.Literal.tree c.in_ok-value.value) c.push.new.self moved.0
 
 pub returns : goal.returns
 returns g c =

@@ -2,47 +2,48 @@ use Rattle.std.proofs.Common.{map, option_map, refl, ap, ◌∙◌}
 use Rattle.std.proofs.lemmas.List.{map_push}
 use Rattle.std.proofs.lemmas.Result.{err_from_is_err_and}
 use Rattle.graphql_syntax.specs.trees.ValueTree.{Tree}
-use Rattle.graphql_grammar.specs.reading.OpenValues.{node_at, opened}
+use Rattle.graphql_grammar.specs.reading.OpenValues.{list_waits, list_rest, node_at, opened}
 use Rattle.graphql_grammar.specs.reading.Values.{simple_at}
 use Rattle.graphql_reading.proofs.Loops.{given-stays}
-use Rattle.graphql_grammar.proofs.ValueContents.{wants-item, ends-list, meets-inside, stops-inside, stops-alone, falls, adds, meets-made}
+use Rattle.graphql_grammar.proofs.ValueContents.{Wants, wants-item, ends-list, meets-inside, stops-inside, stops-alone, falls, adds, meets-made}
+use Rattle.graphql_grammar.proofs.value.contents.read_items.Given.{Over}
 use Rattle.graphql_grammar.proofs.value.contents.read_items.Goals as goal
+use Rattle.graphql_grammar.proofs.value.contents.read_items.Goals.{After-enter}
+
+-- where no bracket closes, an item is wanted
+wanted : (g : Over) (c : goal.After-enter g) → Wants (list_rest g.V.Literal.VARIABLES c.args.left) g.V.Literal.VARIABLES c.args.left (list_waits (map g.V.Literal.tree c.loop-parser.items.items)) c.loop-parser.parser c.take_punct.new.self (map g.V.Literal.tree c.loop-parser.items.items)
+wanted g c = wants-item g.V.Literal.VARIABLES c.args.left (map g.V.Literal.tree c.loop-parser.items.items) c.loop-parser.parser c.take_punct.new.self c.loop-parser-test.ensures
 
 pub returns-in_err-inner : goal.returns-in_err-inner
 returns-in_err-inner g c =
     let p = err_from_is_err_and c.from_residual.result c.from_residual.ensures.1 in
-    let wants = wants-item g.V.Literal.VARIABLES c.args.left (map g.V.Literal.tree c.loop-parser.items.items) c.loop-parser.parser c.take_punct.new.self c.loop-parser-test.ensures in
-    rw (p.1, p.2) (stops-inside c.loop-parser.invariant wants (option_map (opened g.V.Literal.tree)) _ c.enter.new.parser c.in_err-inner.ensures)
+    rw (p.1, p.2) (stops-inside c.loop-parser.invariant (wanted g (goal.at.returns-in_err-inner g c).After-enter) (option_map (opened g.V.Literal.tree)) _ c.enter.new.parser c.in_err-inner.ensures)
 
 pub returns-in-Some : goal.returns-in-Some
 returns-in-Some g c =
-    let wants = wants-item g.V.Literal.VARIABLES c.args.left (map g.V.Literal.tree c.loop-parser.items.items) c.loop-parser.parser c.take_punct.new.self c.loop-parser-test.ensures in
     let found = rw c.in-Some.is at c.in_ok-inner.ensures in
-    meets-inside c.loop-parser.invariant wants (opened g.V.Literal.tree c.in-Some.inner) c.enter.new.parser found.0 found.1
+    meets-inside c.loop-parser.invariant (wanted g (goal.at.returns-in-Some g c).After-enter) (opened g.V.Literal.tree c.in-Some.inner) c.enter.new.parser found.0 found.1
 
 pub returns-in_err-item : goal.returns-in_err-item
 returns-in_err-item g c =
     let p = err_from_is_err_and c.from_residual-in_err-item.result c.from_residual-in_err-item.ensures.1 in
-    let wants = wants-item g.V.Literal.VARIABLES c.args.left (map g.V.Literal.tree c.loop-parser.items.items) c.loop-parser.parser c.take_punct.new.self c.loop-parser-test.ensures in
     let none = rw c.in_default.is at c.in_ok-inner.ensures in
-    rw (p.1, p.2) (stops-alone c.loop-parser.invariant wants record { none = none.0; on = none.1 } g.V.Literal.tree _ c.read_simple.new.parser c.in_err-item.ensures)
+    rw (p.1, p.2) (stops-alone c.loop-parser.invariant (wanted g (goal.at.returns-in_err-item g c).After-enter) record { none = none.0; on = none.1 } g.V.Literal.tree _ c.read_simple.new.parser c.in_err-item.ensures)
 
 pub loop-parser-preserved : goal.loop-parser-preserved
 loop-parser-preserved g c =
     let tree = g.V.Literal.tree in
     let held = c.loop-parser.items.items in
-    let wants = wants-item g.V.Literal.VARIABLES c.args.left (map tree held) c.loop-parser.parser c.take_punct.new.self c.loop-parser-test.ensures in
     let none = rw c.in_default.is at c.in_ok-inner.ensures in
     let moved = given-stays tree _ c.enter.new.parser c.read_simple.new.parser c.push.new.self (node_at (simple_at g.V.Literal.VARIABLES)) c.in_ok-item.ensures c.push.ensures.stays in
     let t : Tree = tree c.in_ok-item.item in
-    adds c.loop-parser.invariant wants {alone = c.enter.new.parser} record { none = none.0; on = none.1 } t t c.push.new.self (map tree c.push.new.list.items) moved.0 moved.1 refl (ap (map tree) c.in_ok-push.ensures.items ∙ map_push tree held c.in_ok-item.item)
+    adds c.loop-parser.invariant (wanted g (goal.at.loop-parser-preserved g c).After-enter) {alone = c.enter.new.parser} record { none = none.0; on = none.1 } t t c.push.new.self (map tree c.push.new.list.items) moved.0 moved.1 refl (ap (map tree) c.in_ok-push.ensures.items ∙ map_push tree held c.in_ok-item.item)
 
 pub loop-parser-smaller : goal.loop-parser-smaller
 loop-parser-smaller g c =
-    let wants = wants-item g.V.Literal.VARIABLES c.args.left (map g.V.Literal.tree c.loop-parser.items.items) c.loop-parser.parser c.take_punct.new.self c.loop-parser-test.ensures in
     let none = rw c.in_default.is at c.in_ok-inner.ensures in
     let moved = given-stays g.V.Literal.tree _ c.enter.new.parser c.read_simple.new.parser c.push.new.self (node_at (simple_at g.V.Literal.VARIABLES)) c.in_ok-item.ensures c.push.ensures.stays in
-    falls c.loop-parser.invariant wants {alone = c.enter.new.parser} record { none = none.0; on = none.1 } (g.V.Literal.tree c.in_ok-item.item) c.push.new.self moved.0
+    falls c.loop-parser.invariant (wanted g (goal.at.loop-parser-smaller g c).After-enter) {alone = c.enter.new.parser} record { none = none.0; on = none.1 } (g.V.Literal.tree c.in_ok-item.item) c.push.new.self moved.0
 
 pub returns : goal.returns
 returns g c = meets-made c.list.ensures (ends-list g.V.Literal.VARIABLES c.args.left c.args.parser.now c.loop-parser.parser c.take_punct.new.self (map g.V.Literal.tree c.args.items.items) (map g.V.Literal.tree c.loop-parser.items.items) c.loop-parser.invariant c.loop-parser-test.ensures)
