@@ -1,0 +1,165 @@
+//! The jobs.
+use crate::awkward::{awkward_texts, read_awkward};
+use crate::digest::Digest;
+use crate::random::Random;
+use crate::request_texts::{long_request_of, request_of};
+use crate::schema_texts::schema_of;
+use crate::stamped::{Stamped, Texts, keep, no_texts};
+use crate::walks::{add_request, add_schema};
+use graphql_json::{Places, request_json, schema_json};
+use graphql_packed::{packed_request, packed_schema};
+use graphql_parser::{check_query, check_schema, parse_query, parse_schema};
+use std::alloc::{AllocError, Global};
+
+/// What is done with texts.
+#[derive(Clone, Copy, PartialEq, Eq)]
+pub enum Job {
+    Requests,
+    Schemas,
+    Checks,
+    Trees,
+    Awkward,
+}
+
+/// What a text is.
+#[derive(Clone, Copy)]
+pub enum Kind {
+    Request,
+    Schema,
+}
+
+const REQUESTS: u64 = 400;
+
+/// Does a job in so many rounds, and gives the digest of all answers.
+pub fn digest_of(alloc: Global, job: Job, seed: u64, rounds: u32) -> Result<u64, AllocError> {
+    let mut random = Random::new(seed);
+    let mut digest = Digest::new();
+    if job == Job::Awkward {
+        let mut texts = awkward_texts(alloc, &mut random)?;
+        for _ in 0..rounds {
+            for text in &mut texts {
+                text.stamped.change(&mut random);
+                read_awkward(alloc, text, &mut digest)?;
+            }
+        }
+        return Ok(digest.number());
+    }
+    let mut requests = requests_of(alloc, job, &mut random)?;
+    let mut schemas = schemas_of(alloc, job, &mut random)?;
+    for _ in 0..rounds {
+        for request in &mut requests {
+            request.change(&mut random);
+            read(alloc, job, Kind::Request, request, &mut digest)?;
+        }
+        for schema in &mut schemas {
+            schema.change(&mut random);
+            read(alloc, job, Kind::Schema, schema, &mut digest)?;
+        }
+    }
+    Ok(digest.number())
+}
+
+fn requests_of(alloc: Global, job: Job, random: &mut Random) -> Result<Texts, AllocError> {
+    let mut texts = no_texts(alloc);
+    if job == Job::Schemas {
+        return Ok(texts);
+    }
+    for _ in 0..REQUESTS {
+        keep(&mut texts, request_of(alloc, random.bits())?)?;
+    }
+    if job == Job::Checks {
+        keep(&mut texts, long_request_of(alloc, random.bits(), 500_000)?)?;
+    }
+    Ok(texts)
+}
+
+fn schemas_of(alloc: Global, job: Job, random: &mut Random) -> Result<Texts, AllocError> {
+    let mut texts = no_texts(alloc);
+    let sizes: &[usize] = match job {
+        Job::Requests | Job::Awkward => &[],
+        Job::Schemas => &[50_000, 80_000, 120_000, 200_000, 300_000, 1_200_000],
+        Job::Checks => &[50_000, 120_000, 300_000],
+        Job::Trees => &[50_000, 150_000],
+    };
+    for size in sizes {
+        keep(&mut texts, schema_of(alloc, random.bits(), *size)?)?;
+    }
+    Ok(texts)
+}
+
+fn read(
+    alloc: Global,
+    job: Job,
+    kind: Kind,
+    stamped: &Stamped,
+    digest: &mut Digest,
+) -> Result<(), AllocError> {
+    let text = stamped.text();
+    match (job, kind) {
+        (Job::Checks, Kind::Request) => check_request(alloc, text, digest),
+        (Job::Checks, Kind::Schema) => check_file(alloc, text, digest),
+        (Job::Trees, Kind::Request) => return give_request(alloc, text, digest),
+        (Job::Trees, Kind::Schema) => return give_schema(alloc, text, digest),
+        (_, Kind::Request) => walk_request(alloc, text, digest),
+        (_, Kind::Schema) => walk_schema(alloc, text, digest),
+    }
+    Ok(())
+}
+
+/// Parses a request and walks its tree.
+pub fn walk_request(alloc: Global, text: &str, digest: &mut Digest) {
+    match parse_query(alloc, text) {
+        Ok(document) => add_request(digest, &document),
+        Err(error) => digest.add_error(&error),
+    }
+}
+
+/// Parses a schema file and walks its tree.
+pub fn walk_schema(alloc: Global, text: &str, digest: &mut Digest) {
+    match parse_schema(alloc, text) {
+        Ok(document) => add_schema(digest, &document),
+        Err(error) => digest.add_error(&error),
+    }
+}
+
+/// Checks a request.
+pub fn check_request(alloc: Global, text: &str, digest: &mut Digest) {
+    match check_query(alloc, text) {
+        Ok(_) => digest.add(1),
+        Err(error) => digest.add_error(&error),
+    }
+}
+
+/// Checks a schema file.
+pub fn check_file(alloc: Global, text: &str, digest: &mut Digest) {
+    match check_schema(alloc, text) {
+        Ok(_) => digest.add(1),
+        Err(error) => digest.add_error(&error),
+    }
+}
+
+fn give_request(alloc: Global, text: &str, digest: &mut Digest) -> Result<(), AllocError> {
+    match parse_query(alloc, text) {
+        Ok(document) => {
+            let json = request_json(alloc, &document, Places::Written)?;
+            digest.add_bytes(json.as_slice());
+            let packed = packed_request(alloc, &document)?;
+            digest.add_bytes(packed.as_slice());
+        }
+        Err(error) => digest.add_error(&error),
+    }
+    Ok(())
+}
+
+fn give_schema(alloc: Global, text: &str, digest: &mut Digest) -> Result<(), AllocError> {
+    match parse_schema(alloc, text) {
+        Ok(document) => {
+            let json = schema_json(alloc, &document, Places::LeftOut)?;
+            digest.add_bytes(json.as_slice());
+            let packed = packed_schema(alloc, &document)?;
+            digest.add_bytes(packed.as_slice());
+        }
+        Err(error) => digest.add_error(&error),
+    }
+    Ok(())
+}
