@@ -19,11 +19,11 @@ quiet-front : (x y : List Token) → Quiet (x ++ y) → Quiet x
 quiet-front [] y q = tt
 quiet-front (t ∷ x) y q = (q.0, quiet-front x y q.1)
 
-abbrev tail-of : List Token → List Token
+abbrev pub tail-of : List Token → List Token
 tail-of [] = []
 tail-of (t ∷ ts) = ts
 
-peek-tail : (u rest : List Token) → u ++ rest ≡ (u ++ peek rest) ++ tail-of rest
+pub peek-tail : (u rest : List Token) → u ++ rest ≡ (u ++ peek rest) ++ tail-of rest
 peek-tail u [] = sym (append-nil (u ++ []))
 peek-tail u (t ∷ rest) = sym (append_assoc u (t ∷ []) rest)
 
@@ -46,7 +46,7 @@ same-token [] (r ∷ v) s t x y e n = absurd (omega (arith, n))
 same-token (r ∷ u) [] s t x y e n = absurd (omega (arith, n))
 same-token (r ∷ u) (q ∷ v) s t x y e n = same-token u v s t x y (cc) (omega (arith, n))
 
-quiet-last : (u : List Token) (t : Token) → Quiet (u ++ t ∷ []) → is_last t.bare.kind ≡ false
+pub quiet-last : (u : List Token) (t : Token) → Quiet (u ++ t ∷ []) → is_last t.bare.kind ≡ false
 quiet-last [] t q = q.0
 quiet-last (s ∷ u) t q = quiet-last u t q.1
 

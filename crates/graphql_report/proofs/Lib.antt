@@ -1,6 +1,9 @@
 pub mod Buffers
 mod Lines
+mod Joins
 mod Depths
+mod Listed
+mod Parted
 mod ToldFronts
 mod TakenSamples
 mod ExpectedNames

@@ -13,10 +13,10 @@ use Rattle.graphql_tokens.proofs.Lists.{Stands}
 use Rattle.graphql_tokens.proofs.Nexts.{begins_goes_on, begins_some}
 use Rattle.graphql_report.specs.fronts.Front.{LastIsLineFeed}
 
-abbrev line_feeds : List ℕ → ℕ
+abbrev pub line_feeds : List ℕ → ℕ
 line_feeds text = count_by is_line_feed text
 
-line_feeds-append : (xs ys : List ℕ) → line_feeds (xs ++ ys) ≡ line_feeds xs + line_feeds ys
+pub line_feeds-append : (xs ys : List ℕ) → line_feeds (xs ++ ys) ≡ line_feeds xs + line_feeds ys
 line_feeds-append xs ys = sum_by-append (λ x. cond (is_line_feed x) 1 0) xs ys
 
 -- each end of the text that is not empty has a line feed
@@ -36,7 +36,7 @@ last-lined (c ∷ x) y (b ∷ before) e h = last-lined x y before (cc) h
 pub is-lined : (text : List ℕ) → LastIsLineFeed text → IsLined text
 is-lined text last = record { by = λ x y e h. last-lined x y last.before (sym last.is ∙ e) h }
 
-lined-after : (x y : List ℕ) → IsLined (x ++ y) → IsLined y
+pub lined-after : (x y : List ℕ) → IsLined (x ++ y) → IsLined y
 lined-after x y l = record { by = λ u v e h. l.by (x ++ u) v (ap (λ (w : List ℕ). x ++ w) e ∙ sym (append_assoc x u v)) h }
 
 -- a token of a text: its end, at the place after all characters, or another token, on a line before that one

@@ -83,8 +83,8 @@ fn offset_of(text: &str, place: Pos) -> usize {
     text.len()
 }
 
-// How many braces and parentheses are open after a token, if so many were before it.
-fn depth_after(depth: usize, token: &Token<'_>) -> usize {
+/// How many braces and parentheses are open after a token, if so many were before it.
+pub fn depth_after(depth: usize, token: &Token<'_>) -> usize {
     match token.text {
         "{" | "(" => depth.saturating_add(1),
         "}" | ")" => depth.saturating_sub(1),
@@ -184,8 +184,8 @@ struct Root<'a> {
     keyword: Token<'a>,
 }
 
-// After one of these a name may stand that is called as a keyword.
-const BEFORE_NAMES: [&str; 11] = [
+/// After one of these a name may stand that is called as a keyword.
+pub const BEFORE_NAMES: [&str; 11] = [
     "type",
     "interface",
     "union",
@@ -199,8 +199,8 @@ const BEFORE_NAMES: [&str; 11] = [
     "@",
 ];
 
-// The first token of the definition whose keyword this is: `extend`, or a description, or the keyword itself.
-fn first_of<'a>(before: Option<Token<'a>>, keyword: Token<'a>) -> Token<'a> {
+/// The first token of the definition whose keyword this is: `extend`, or a description, or the keyword itself.
+pub fn first_of<'a>(before: Option<Token<'a>>, keyword: Token<'a>) -> Token<'a> {
     match before {
         Some(token) if token.text == "extend" || token.kind.is_string() || token.kind.is_block() =>
             { token }

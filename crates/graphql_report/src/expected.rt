@@ -2,6 +2,7 @@
 ghost use Rattle.std.specs.Prelude.{◌≡◌, [], ◌∷◌, ◌++◌, IfOk, OnOk, string_bytes};
 ghost use Rattle.graphql_report.specs.inner.Expected.{AreExpected, AreTaken, samples_of, texts, value_names};
 
+use crate::apart::{is_apart, last_definition};
 use crate::fronts::{Language, is_whole};
 use crate::probes::{line_of, takes};
 use crate::samples::{END, KEYWORDS, LITERALS, NAME, NAME_TEXT, PUNCTUATORS, Sample, VALUE};
@@ -33,7 +34,41 @@ fn taken(
 
 /// What is expected after a front: each sample such that some document within the limits begins with the front and the
 /// sample, and the end of the text where the front is a whole document. Keywords are left out where a plain name is expected.
+///
+/// Where the last definition that has begun stands on a line of its own, the samples are tried after that definition
+/// alone, and one check sees that those before it are whole.
 pub fn expected_after(
+    alloc: Global,
+    language: Language,
+    front: &str,
+    limits: Limits,
+) -> Result<Vec<&'static str>, AllocError>
+    ensures { IfOk result (λ names. AreExpected language limits front.now (texts names.items)) }
+{
+    let (whole, part) = last_definition(language, front);
+    expected_after_parts(alloc, language, front, whole, part, limits)
+}
+
+// The same of a front in two parts.
+fn expected_after_parts(
+    alloc: Global,
+    language: Language,
+    front: &str,
+    whole: &str,
+    part: &str,
+    limits: Limits,
+) -> Result<Vec<&'static str>, AllocError>
+    requires { front.now ≡ whole.now ++ part.now }
+    ensures { IfOk result (λ names. AreExpected language limits front.now (texts names.items)) }
+{
+    if is_apart(alloc, language, limits, whole, part)? {
+        return expected_in(alloc, language, part, limits);
+    }
+    expected_in(alloc, language, front, limits)
+}
+
+// What is expected after a front: each sample is tried after all of it.
+fn expected_in(
     alloc: Global,
     language: Language,
     front: &str,

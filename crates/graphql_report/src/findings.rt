@@ -4,8 +4,9 @@ ghost use Rattle.graphql_grammar.specs.errors.Errors.{error_places};
 ghost use Rattle.graphql_report.specs.reports.Findings.{StandsAt, first_of};
 ghost use Rattle.graphql_report.specs.reports.Reports.{IsToldAt, IsPlaceIn};
 
+use crate::excerpt::is_line_end;
 use crate::fronts::{Language, end_of};
-use crate::refused::{before, reached_limit, refused_token, split};
+use crate::refused::{ReadFrom, before, reached_limit, refused_token_from, split};
 use crate::report::{TOO_DEEP, details_of, place_told, remark_of};
 use graphql_parser::lexer::Token;
 use graphql_parser::{Error, Limits, Pos};
@@ -36,9 +37,26 @@ pub fn finding_of(
 ) -> Result<Finding, AllocError>
     ensures { IfOk result (λ finding. StandsAt text.now error.now finding.place) }
 {
+    finding_from(alloc, language, text, ReadFrom::TOP, limits, error)
+}
+
+/// What [`finding_of`] gives, of a text that was read from there on: what stands before is not looked at, but to count the
+/// places of a token that nests too deep. The places of `error` are those in the whole text. (This project's own call.)
+pub fn finding_from(
+    alloc: Global,
+    language: Language,
+    text: &str,
+    from: ReadFrom,
+    limits: Limits,
+    error: &Error,
+) -> Result<Finding, AllocError>
+    ensures { IfOk result (λ finding. StandsAt text.now error.now finding.place) }
+{
     match error {
-        Error::Syntax { start, .. } => syntax_finding(alloc, language, text, limits, error, *start),
-        Error::RecursionLimitExceeded => limit_finding(alloc, language, text, limits, error),
+        Error::Syntax { start, .. } => {
+            syntax_finding(alloc, language, text, from, limits, error, *start)
+        }
+        Error::RecursionLimitExceeded => limit_finding(alloc, language, text, from, limits, error),
         Error::MultipleRoots { .. }
         | Error::MissingQueryRoot { .. }
         | Error::MultipleOperations { .. }
@@ -54,6 +72,7 @@ fn syntax_finding(
     alloc: Global,
     language: Language,
     text: &str,
+    from: ReadFrom,
     limits: Limits,
     error: &Error,
     start: Pos,
@@ -61,15 +80,15 @@ fn syntax_finding(
     ensures { IfOk result (λ finding. (place : Pos) × (finding.place ≡ Some place) ×
         IsToldAt text.now start place) }
 {
-    let token = refused_token(alloc, language, text, limits, error)?;
-    let details = details_of(alloc, language, text, limits, token)?;
+    let token = refused_token_from(alloc, language, text, from, limits, error)?;
+    let details = details_of(alloc, language, text, from, limits, token)?;
     let (front, back) = split(text, details.offset);
     let place = place_told(front, back, start, details.is_inside);
     let mut message = String::from_str(alloc, "syntax error: ")?;
     message.push_str(details.message.as_str())?;
     Ok(Finding {
         place: Some(place),
-        end: token.and_then(|token| end_of_token(text, &token)),
+        end: token.and_then(|token| end_of_token(&token)),
         status: status_of(error),
         message,
     })
@@ -80,6 +99,7 @@ fn limit_finding(
     alloc: Global,
     language: Language,
     text: &str,
+    from: ReadFrom,
     limits: Limits,
     error: &Error,
 ) -> Result<Finding, AllocError>
@@ -87,7 +107,7 @@ fn limit_finding(
         IsPlaceIn text.now place) }
 {
     let status = status_of(error);
-    let Some(token) = refused_token(alloc, language, text, limits, error)? else {
+    let Some(token) = refused_token_from(alloc, language, text, from, limits, error)? else {
         return Ok(Finding {
             place: Some(place_of(text, text.len())),
             end: None,
@@ -95,11 +115,11 @@ fn limit_finding(
             message: format!(in alloc; "{TOO_DEEP} at the end of the text")?,
         });
     };
-    let depth = reached_limit(alloc, language, text, limits, &token)?;
+    let depth = reached_limit(alloc, language, text, from, limits, &token)?;
     let (what, most) = (depth.what, depth.most);
     Ok(Finding {
         place: Some(place_of(text, token.start)),
-        end: end_of_token(text, &token),
+        end: end_of_token(&token),
         status,
         message: format!(in alloc; "{TOO_DEEP}: {what} may nest {most} deep")?,
     })
@@ -127,13 +147,24 @@ fn place_of(text: &str, offset: usize) -> Pos
     end_of(before(text, offset))
 }
 
-// Where a token ends, if it has any characters.
-fn end_of_token(text: &str, token: &Token<'_>) -> Option<Pos> {
+// Where a token ends, if it has any characters. A line may end in a block string.
+fn end_of_token(token: &Token<'_>) -> Option<Pos> {
     if token.text.is_empty() {
         return None;
     }
-    let end = token.start.saturating_add(token.text.len());
-    Some(end_of(before(text, end)))
+    let end = end_of(token.text);
+    let column = if token.text.contains(is_line_end) {
+        end.column
+    } else {
+        token
+            .pos
+            .column
+            .saturating_add(end.column.saturating_sub(1))
+    };
+    Some(Pos {
+        line: token.pos.line.saturating_add(end.line.saturating_sub(1)),
+        column,
+    })
 }
 
 // The name of the status that the error has in C.

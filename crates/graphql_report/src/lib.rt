@@ -10,9 +10,12 @@
 //!
 //! The checks give all of this themselves. A sample is expected where the text before the refused token, with the sample
 //! after it, is a viable front, and one check of these tells that ([`is_front`]). So a report of a refused text costs some
-//! twenty checks of the text before the refused token, or some forty where no name can stand there; each is linear, and one
-//! copy of the text is kept at a time. Of an error that names a place the refused token is found by that; at a limit it
-//! takes one check more, or some twenty where the limits aren't the default ones.
+//! twenty checks, or some forty where no name can stand there; each is linear, and one copy of the text is kept at a time.
+//! They are checks of the text before the refused token from the line on with which the last definition before it begins, if
+//! one begins with a line and after others, which one check more finds whole; else of all of that text. Of an error that
+//! names a place the refused token is found by that; at a limit it takes one check more, or some twenty where the limits
+//! aren't the default ones. A caller that read a text from a later line on says so, and what stands before isn't read again
+//! ([`explain_from`], [`finding_from`], [`refused_token_from`]).
 //!
 //! Proved of it, unless memory runs out: `is_front` answers true exactly where the tokens of a text are a viable front, in
 //! both languages and at all limits; what is expected is exactly those of the samples, in their order, that can stand
@@ -21,6 +24,7 @@
 //! every call is safe and ends. What a report says in words besides is tested, in `conformance`.
 #![tactic(auto)]
 
+mod apart;
 mod definitions;
 mod excerpt;
 mod expected;
@@ -34,8 +38,8 @@ mod report;
 mod samples;
 mod style;
 
-pub use findings::{Finding, finding_of};
+pub use findings::{Finding, finding_from, finding_of};
 pub use fronts::{Language, is_front};
-pub use refused::refused_token;
-pub use report::{explain, explain_in};
+pub use refused::{ReadFrom, refused_token, refused_token_from};
+pub use report::{explain, explain_from, explain_in};
 pub use style::Style;

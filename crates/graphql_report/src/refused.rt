@@ -8,6 +8,47 @@ use graphql_parser::lexer::{Token, Tokens};
 use graphql_parser::{Error, Limits, Pos, check_query_from, check_schema_from};
 use std::alloc::{AllocError, Global};
 
+/// Where the reading of a text began: at this byte offset, with which this line begins, counted from 1. (This project's
+/// own type.)
+#[derive(Clone, Copy, Debug, PartialEq, Eq)]
+pub struct ReadFrom {
+    /// The byte offset.
+    pub offset: usize,
+    /// The line that begins there.
+    pub line: usize,
+}
+
+impl ReadFrom {
+    /// The beginning of the text.
+    pub const TOP: ReadFrom = ReadFrom { offset: 0, line: 1 };
+
+    // The place in the rest of the text that is this place in the whole text.
+    fn place_in_rest(self, place: Pos) -> Pos {
+        Pos {
+            line: place.line.saturating_sub(self.line.saturating_sub(1)),
+            column: place.column,
+        }
+    }
+
+    // A token of the rest of the text, with its offset and its place in the whole text.
+    fn moved(self, token: Token<'_>) -> Token<'_> {
+        Token {
+            kind: token.kind,
+            text: token.text,
+            start: token.start.saturating_add(self.offset),
+            pos: Pos {
+                line: token.pos.line.saturating_add(self.line.saturating_sub(1)),
+                column: token.pos.column,
+            },
+        }
+    }
+}
+
+/// What was read of a text that was read from there on, up to this offset in the whole text.
+pub fn read_before(text: &str, from: ReadFrom, offset: usize) -> &str {
+    before(after(text, from.offset), offset.saturating_sub(from.offset))
+}
+
 /// The parts of `text` before this offset and from it on; the whole text and nothing where the offset is none of its.
 pub fn split(text: &str, offset: usize) -> (&str, &str)
     ensures { text.now ≡ result.0.now ++ result.1.now }
@@ -42,20 +83,50 @@ pub fn refused_token<'a>(
     limits: Limits,
     error: &Error,
 ) -> Result<Option<Token<'a>>, AllocError> {
+    refused_token_from(alloc, language, text, ReadFrom::TOP, limits, error)
+}
+
+/// As [`refused_token`], of a text that was read from there on: what stands before is not looked at. The places of the
+/// error and of the token are those in the whole text. (This project's own call.)
+pub fn refused_token_from<'a>(
+    alloc: Global,
+    language: Language,
+    text: &'a str,
+    from: ReadFrom,
+    limits: Limits,
+    error: &Error,
+) -> Result<Option<Token<'a>>, AllocError> {
+    let rest = after(text, from.offset);
+    let token = refused_in(alloc, language, rest, from, limits, error)?;
+    Ok(match token {
+        Some(token) => Some(from.moved(token)),
+        None => None,
+    })
+}
+
+// The refused token of the text that begins there.
+fn refused_in<'a>(
+    alloc: Global,
+    language: Language,
+    rest: &'a str,
+    from: ReadFrom,
+    limits: Limits,
+    error: &Error,
+) -> Result<Option<Token<'a>>, AllocError> {
     if let Error::Syntax { start, .. } = error
-        && let Some(token) = only_token_at(text, *start)
+        && let Some(token) = only_token_at(rest, from.place_in_rest(*start))
     {
         return Ok(Some(token));
     }
     if limits == Limits::default() {
-        let taken = tokens_taken(alloc, language, text)?;
-        return Ok(Tokens::new(text).nth(taken.saturating_sub(1)));
+        let taken = tokens_taken(alloc, language, rest)?;
+        return Ok(Tokens::new(rest).nth(taken.saturating_sub(1)));
     }
-    refused_by_halving(alloc, language, text, limits)
+    refused_by_halving(alloc, language, rest, limits)
 }
 
 // The token at this place, where it is the only one there: after a lone carriage return a second one may have the place of
-// the first.
+// the first. No token after one on a later line stands at the place.
 fn only_token_at(text: &str, place: Pos) -> Option<Token<'_>> {
     let mut found = None;
     for token in Tokens::new(text) {
@@ -64,6 +135,8 @@ fn only_token_at(text: &str, place: Pos) -> Option<Token<'_>> {
                 return None;
             }
             found = Some(token);
+        } else if token.pos.line > place.line {
+            break;
         }
     }
     found
@@ -139,10 +212,11 @@ pub fn reached_limit(
     alloc: Global,
     language: Language,
     text: &str,
+    from: ReadFrom,
     limits: Limits,
     token: &Token<'_>,
 ) -> Result<Depth, AllocError> {
-    let mut line = line_of(alloc, before(text, token.start))?;
+    let mut line = line_of(alloc, read_before(text, from, token.start))?;
     let (what, most) = if takes(alloc, language, limits, &mut line, NUMBER_TEXT)? {
         ("lists and objects", limits.values())
     } else if token.text == "[" {

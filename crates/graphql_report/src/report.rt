@@ -10,7 +10,9 @@ use crate::expected::expected_after;
 use crate::faults::fault_of;
 use crate::fronts::{Language, end_of};
 use crate::hints::{is_no_enum_value, push_hint};
-use crate::refused::{after, before, reached_limit, refused_token, split};
+use crate::refused::{
+    ReadFrom, after, before, reached_limit, read_before, refused_token_from, split,
+};
 use crate::samples::{END, NAME, NUMBER, VALUE};
 use crate::style::{Part, Style};
 use graphql_parser::lexer::{Token, TokenKind};
@@ -47,7 +49,8 @@ const OF_NAMESAKES: Remarks = Remarks {
 /// `FILE: ` and the message. Where `file_name` is empty, `FILE:` is left out everywhere. (This project's own call.)
 ///
 /// `limits` are those that the parser was given, `Limits::default()` for the calls without limits. What was expected is
-/// found by some twenty to forty parses of the text before the refused token, and the place of `RecursionLimitExceeded` by
+/// found by some twenty to forty checks of the text before the refused token, or of the definition in which it stands if that
+/// begins with a line after others, and the place of `RecursionLimitExceeded` by
 /// one of the text, or by some twenty where the limits aren't the default ones. An error says that memory was refused.
 pub fn explain(
     alloc: Global,
@@ -84,10 +87,31 @@ pub fn explain_in(
     ensures { IfOk result (λ report.
         IsReport style file_name.now text.now error.now (string_bytes report)) }
 {
+    let from = ReadFrom::TOP;
+    explain_from(style, alloc, language, file_name, text, from, limits, error)
+}
+
+/// What [`explain_in`] gives, of a text that was read from there on: what stands before is not looked at, but for the line
+/// of the place. The places of `error` are those in the whole text. An error about definitions is looked for in the whole
+/// text. (This project's own call.)
+pub fn explain_from(
+    style: Style,
+    alloc: Global,
+    language: Language,
+    file_name: &str,
+    text: &str,
+    from: ReadFrom,
+    limits: Limits,
+    error: &Error,
+) -> Result<String, AllocError>
+    ensures { IfOk result (λ report.
+        IsReport style file_name.now text.now error.now (string_bytes report)) }
+{
     let source = &Source {
         style,
         file_name,
         text,
+        from,
     };
     match error {
         Error::Syntax { start, .. } => {
@@ -110,12 +134,13 @@ pub fn explain_in(
     }
 }
 
-// A text, and how a report of it is written.
+// A text, where its reading began, and how a report of it is written.
 #[derive(Clone, Copy)]
 struct Source<'a> {
     style: Style,
     file_name: &'a str,
     text: &'a str,
+    from: ReadFrom,
 }
 
 // A message with its place, which goes on so, and the line of the place.
@@ -182,9 +207,9 @@ fn explain_syntax(
         TellsSyntax source.now.style source.now.file_name.now source.now.text.now start
         (string_bytes report)) }
 {
-    let text = source.text;
-    let token = refused_token(alloc, language, text, limits, error)?;
-    let details = details_of(alloc, language, text, limits, token)?;
+    let (text, from) = (source.text, source.from);
+    let token = refused_token_from(alloc, language, text, from, limits, error)?;
+    let details = details_of(alloc, language, text, from, limits, token)?;
     let (front, back) = split(text, details.offset);
     let place = place_told(front, back, start, details.is_inside);
     let mut message = String::from_str(alloc, "syntax ")?;
@@ -224,11 +249,12 @@ pub fn place_told(front: &str, back: &str, start: Pos, is_inside: bool) -> Pos
     start
 }
 
-/// What is told of the refused token of a text.
+/// What is told of the refused token of a text that was read from there on.
 pub fn details_of(
     alloc: Global,
     language: Language,
     text: &str,
+    from: ReadFrom,
     limits: Limits,
     token: Option<Token<'_>>,
 ) -> Result<Details, AllocError> {
@@ -239,7 +265,8 @@ pub fn details_of(
             is_inside: false,
         });
     };
-    let expected = expected_after(alloc, language, before(text, token.start), limits)?;
+    let front = read_before(text, from, token.start);
+    let expected = expected_after(alloc, language, front, limits)?;
     let expected = expected.as_slice();
     let mut message = String::new(alloc);
     let mut offset = 0usize;
@@ -273,12 +300,12 @@ fn explain_limit(
         TellsLimit source.now.style source.now.file_name.now source.now.text.now
         (string_bytes report)) }
 {
-    let text = source.text;
-    let Some(token) = refused_token(alloc, language, text, limits, error)? else {
+    let (text, from) = (source.text, source.from);
+    let Some(token) = refused_token_from(alloc, language, text, from, limits, error)? else {
         let more = " at the end of the text";
         return told_at(alloc, source, end_of(text), text.len(), TOO_DEEP, more);
     };
-    let depth = reached_limit(alloc, language, text, limits, &token)?;
+    let depth = reached_limit(alloc, language, text, from, limits, &token)?;
     let (what, most) = (depth.what, depth.most);
     let more = format!(in alloc; ": {what} may nest {most} deep")?;
     let place = end_of(before(text, token.start));

@@ -4,8 +4,8 @@ use Rattle.std.specs.String.{string_bytes}
 use Rattle.graphql_report.specs.declared.samples.TheConstants.{NAME_TEXT, END}
 use Rattle.graphql_report.specs.inner.Expected.{TellsFrontOf, with_sample, literals, punctuators, keywords, AreTaken, texts, value_names}
 use Rattle.graphql_report.proofs.ExpectedNames.{joined}
-use Rattle.graphql_report.proofs.expected.expected_after.Goals as goal
-use Rattle.graphql_report.proofs.expected.expected_after.Goals.{then-has_name, else-has_name+in_ok-keywords, then-branch+in_ok-push, else-branch}
+use Rattle.graphql_report.proofs.expected.expected_in.Goals as goal
+use Rattle.graphql_report.proofs.expected.expected_in.Goals.{then-has_name, else-has_name+in_ok-keywords, then-branch+in_ok-push, else-branch}
 
 pub returns : goal.returns
 returns c =
