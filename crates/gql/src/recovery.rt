@@ -4,15 +4,57 @@ use graphql_parser::lexer::{Token, TokenKind, Tokens};
 use graphql_report::Language;
 use std::alloc::{AllocError, Global};
 
+/// Whether an odd number of three quotes is left of a text: what was found out last, and from which offset on.
+#[derive(Clone, Copy)]
+pub struct Quotes {
+    known: Option<(usize, bool)>,
+}
+
+impl Quotes {
+    /// Nothing was found out.
+    pub const UNKNOWN: Quotes = Quotes { known: None };
+
+    // Whether an odd number is left from this offset on. What is known of an offset before it is used, if no run of quotes
+    // goes over this one: then the text after it isn't looked at again.
+    fn are_odd_from(&mut self, text: &str, offset: usize) -> bool {
+        let is_odd = match self.odd_between(text, offset) {
+            Some(is_odd) => is_odd,
+            None => match text.split_at_checked(offset) {
+                Some((_, rest)) => has_odd_quotes(rest),
+                None => false,
+            },
+        };
+        self.known = Some((offset, is_odd));
+        is_odd
+    }
+
+    // The same by what is known, if that tells it.
+    fn odd_between(&self, text: &str, offset: usize) -> Option<bool> {
+        let (from, is_odd) = self.known?;
+        let (front, rest) = text.split_at_checked(offset)?;
+        let (_, passed) = front.split_at_checked(from)?;
+        if front.ends_with('"') && rest.starts_with('"') {
+            return None;
+        }
+        Some(is_odd != has_odd_quotes(passed))
+    }
+}
+
 /// Where the next definition begins, at this offset or after it: at the first token that stands at the beginning of a line
 /// and begins a definition of this language. What is inside of a block string is no token, so it begins none.
 ///
 /// Where a block string isn't closed, or isn't opened, the insides and outsides of all that follow are taken for each other.
-/// So no definition is looked for where an odd number of three quotes is left.
-pub fn next_definition(language: Language, text: &str, from: usize) -> Option<usize> {
-    let (_, rest) = text.split_at_checked(from)?;
+/// So no definition is looked for where an odd number of three quotes is left. `quotes` is what was found out of these in
+/// the same text.
+pub fn next_definition(
+    language: Language,
+    text: &str,
+    from: usize,
+    quotes: &mut Quotes,
+) -> Option<usize> {
+    text.split_at_checked(from)?;
     let mut start = from;
-    let mut is_odd = has_odd_quotes(rest);
+    let mut is_odd = quotes.are_odd_from(text, from);
     // Where no token begins, the search goes on with the next line, so each turn passes one.
     for _ in 0..text.len() {
         match look_from(language, text, start, is_odd) {
@@ -42,18 +84,27 @@ pub fn rest_at(alloc: Global, text: &str, offset: usize) -> Result<Option<String
     Ok(Some(rest))
 }
 
-// What is found among the tokens of a text.
+/// How many lines end in this part of a text.
+pub fn lines_between(text: &str, from: usize, to: usize) -> usize {
+    match text.get(from..to) {
+        Some(part) => part.matches('\n').count(),
+        None => 0,
+    }
+}
+
+/// What is found among the tokens of a text.
 #[derive(Clone, Copy)]
-enum Search {
-    // A definition begins at this offset.
+pub enum Search {
+    /// A definition begins at this offset.
     Found(usize),
-    // At this offset no token begins.
+    /// At this offset no token begins.
     Fault(usize),
+    /// Neither is there.
     Ended,
 }
 
-// Looks at the tokens from this offset on, for a fault alone where an odd number of three quotes is left.
-fn look_from(language: Language, text: &str, from: usize, is_odd: bool) -> Search {
+/// Looks at the tokens from this offset on, for a fault alone where an odd number of three quotes is left.
+pub fn look_from(language: Language, text: &str, from: usize, is_odd: bool) -> Search {
     let Some((front, rest)) = text.split_at_checked(from) else {
         return Search::Ended;
     };
@@ -102,13 +153,13 @@ fn is_keyword(language: Language, token: &Token<'_>) -> bool {
     token.kind.is_name() && language_of_keyword(token.text) == Some(language)
 }
 
-// Whether the text has an odd number of three quotes.
-fn has_odd_quotes(text: &str) -> bool {
+/// Whether the text has an odd number of three quotes.
+pub fn has_odd_quotes(text: &str) -> bool {
     text.matches("\"\"\"").count() % 2 == 1
 }
 
-// The rest of the line from this offset on, and where the next line begins.
-fn line_from(text: &str, offset: usize) -> Option<(&str, usize)> {
+/// The rest of the line from this offset on, and where the next line begins.
+pub fn line_from(text: &str, offset: usize) -> Option<(&str, usize)> {
     let (_, rest) = text.split_at_checked(offset)?;
     let (line, after) = rest.split_once('\n')?;
     Some((line, text.len().saturating_sub(after.len())))

@@ -2,10 +2,12 @@
 use crate::check::error_of;
 use crate::command::Format;
 use crate::output::complain;
-use crate::recovery::{next_definition, rest_at};
+use crate::recovery::{Quotes, lines_between, next_definition, rest_at};
 use crate::texts::Unread;
 use graphql_parser::{Error, Limits, Memory, Pos};
-use graphql_report::{Finding, Language, Style, explain_in, finding_of, refused_token};
+use graphql_report::{
+    Finding, Language, ReadFrom, Style, explain_from, finding_from, refused_token_from,
+};
 use serde::Serialize;
 use std::alloc::{AllocError, Global};
 use std::io::Write;
@@ -70,42 +72,52 @@ impl Teller {
         if self.is_quiet {
             return Ok(());
         }
-        self.tell(source, error, err)?;
-        match source.rest_after(self.alloc, error)? {
-            None => Ok(()),
-            Some(rest) => self.tell_rest(source, rest, err),
-        }
-    }
-
-    // Tells the first error of each definition in the rest of a text.
-    fn tell_rest<E: Write>(
-        &mut self,
-        whole: &Source<'_>,
-        rest: String,
-        err: &mut E,
-    ) -> Result<(), AllocError> {
-        let mut rest = rest;
+        let mut quotes = Quotes::UNKNOWN;
+        self.tell(source, ReadFrom::TOP, error, err)?;
+        let mut next = source.next_after(self.alloc, ReadFrom::TOP, error, &mut quotes)?;
         for _ in 1..MOST_FINDINGS {
-            let source = Source {
-                text: rest.as_str(),
-                ..*whole
-            };
-            let Some(error) = source.next_error(self.alloc)? else {
+            let Some(from) = next else {
                 break;
             };
-            self.tell(&source, &error, err)?;
-            let Some(next) = source.rest_after(self.alloc, &error)? else {
-                break;
-            };
-            rest = next;
+            next = self.tell_rest(source, from, &mut quotes, err)?;
         }
         Ok(())
     }
 
-    /// Tells the error of a text: a report goes to `err`, and a line for programs is added to the lines.
+    // Tells the first error of the text from there on, and gives where it is read next.
+    fn tell_rest<E: Write>(
+        &mut self,
+        source: &Source<'_>,
+        from: ReadFrom,
+        quotes: &mut Quotes,
+        err: &mut E,
+    ) -> Result<Option<ReadFrom>, AllocError> {
+        let Some(error) = source.error_from(self.alloc, from)? else {
+            return Ok(None);
+        };
+        if is_refusal(&error) {
+            self.tell(source, from, &error, err)?;
+            return source.next_after(self.alloc, from, &error, quotes);
+        }
+        // The places of other errors are those of a text with as many lines.
+        if let Some(text) = rest_at(self.alloc, source.text, from.offset)? {
+            let rest = Source {
+                text: text.as_str(),
+                ..*source
+            };
+            if let Some(error) = rest.error_from(self.alloc, ReadFrom::TOP)? {
+                self.tell(&rest, ReadFrom::TOP, &error, err)?;
+            }
+        }
+        Ok(None)
+    }
+
+    /// Tells the error of a text that was read from there on: a report goes to `err`, and a line for programs is added to the
+    /// lines.
     pub fn tell<E: Write>(
         &mut self,
         source: &Source<'_>,
+        from: ReadFrom,
         error: &Error,
         err: &mut E,
     ) -> Result<(), AllocError> {
@@ -115,15 +127,14 @@ impl Teller {
             limits,
             text,
         } = *source;
-        let alloc = self.alloc;
+        let (alloc, style, shown) = (self.alloc, self.style, names.shown);
         self.findings = self.findings.saturating_add(1);
         if self.format == Format::Text {
-            let shown = names.shown;
-            let report = explain_in(self.style, alloc, language, shown, text, limits, error)?;
+            let report = explain_from(style, alloc, language, shown, text, from, limits, error)?;
             complain(err, report.as_str());
             return Ok(());
         }
-        let finding = finding_of(alloc, language, text, limits, error)?;
+        let finding = finding_from(alloc, language, text, from, limits, error)?;
         self.push_finding(names, &finding)
     }
 
@@ -163,18 +174,44 @@ impl Teller {
     }
 }
 
+// Whether a token is refused.
+fn is_refusal(error: &Error) -> bool {
+    matches!(error, Error::Syntax { .. } | Error::RecursionLimitExceeded)
+}
+
 impl Source<'_> {
-    // The error of the rest of a text, if it is one to be told.
-    fn next_error(&self, alloc: Global) -> Result<Option<Error>, AllocError> {
-        match error_of(&mut Memory::new(alloc), self, true)? {
+    // The error of the text from there on, if it is one to be told. That of a refused token has its place in the whole text.
+    fn error_from(&self, alloc: Global, from: ReadFrom) -> Result<Option<Error>, AllocError> {
+        let Some((_, rest)) = self.text.split_at_checked(from.offset) else {
+            return Ok(None);
+        };
+        let source = Source {
+            text: rest,
+            ..*self
+        };
+        match error_of(&mut Memory::new(alloc), &source, true)? {
             Some(Error::MultipleOperations { .. }) => Ok(None),
+            Some(Error::Syntax { start, .. }) => Ok(Some(Error::Syntax {
+                message: String::new(alloc),
+                start: Pos {
+                    line: start.line.saturating_add(from.line.saturating_sub(1)),
+                    column: start.column,
+                },
+                end: None,
+            })),
             other => Ok(other),
         }
     }
 
-    // What is read next of a text that has this error.
-    fn rest_after(&self, alloc: Global, error: &Error) -> Result<Option<String>, AllocError> {
-        if !matches!(error, Error::Syntax { .. } | Error::RecursionLimitExceeded) {
+    // Where a text is read next that was read from there on and has this error.
+    fn next_after(
+        &self,
+        alloc: Global,
+        from: ReadFrom,
+        error: &Error,
+        quotes: &mut Quotes,
+    ) -> Result<Option<ReadFrom>, AllocError> {
+        if !is_refusal(error) {
             return Ok(None);
         }
         let Source {
@@ -183,13 +220,18 @@ impl Source<'_> {
             text,
             ..
         } = *self;
-        let Some(token) = refused_token(alloc, language, text, limits, error)? else {
+        let Some(token) = refused_token_from(alloc, language, text, from, limits, error)? else {
             return Ok(None);
         };
-        match next_definition(language, text, token.start) {
-            Some(offset) => rest_at(alloc, text, offset),
-            None => Ok(None),
-        }
+        let Some(offset) = next_definition(language, text, token.start, quotes) else {
+            return Ok(None);
+        };
+        Ok(Some(ReadFrom {
+            offset,
+            line: from
+                .line
+                .saturating_add(lines_between(text, from.offset, offset)),
+        }))
     }
 }
 

@@ -1,5 +1,6 @@
 //! Runs of the program: what each prints, and the status that it ends with.
 mod fakes;
+mod findings;
 mod rows;
 
 use crate::language::read_as;

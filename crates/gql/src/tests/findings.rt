@@ -1,0 +1,295 @@
+//! What is told of texts with many mistakes, beside what was told when each rest of a text was copied and read with as many
+//! lines before it, the tokens were looked for in all of it, and its quotes were counted anew. That form stands here as it
+//! was.
+use crate::check::error_of;
+use crate::command::Format;
+use crate::recovery::{Search, has_odd_quotes, line_from, look_from, rest_at};
+use crate::telling::{MOST_FINDINGS, Names, Source, Teller};
+use crate::tests::fakes::Sheet;
+use graphql_parser::lexer::{Token, Tokens};
+use graphql_parser::pos::PositionCalculator;
+use graphql_parser::{Error, Limits, Memory, Pos};
+use graphql_report::{Language, ReadFrom, Style, finding_of, refused_token};
+use std::alloc::{AllocError, Global};
+use std::io::ErrorKind;
+use std::str;
+use std::test::Fail;
+
+// Texts of each language that are made.
+const TEXTS: usize = 150;
+
+const OF_SCHEMAS: [&str; 30] = [
+    "type A {\n",
+    "type B implements C & D {\n",
+    "  a: Int\n",
+    "  \"d\" b(c: Int = 1): [D!]\n",
+    "  e: [[F]]\n",
+    "}\n",
+    "}",
+    "enum G { H I }\n",
+    "input J { k: L = {m: 1} }\n",
+    "\"\"\"\n",
+    "\"\"\"told\"\"\"\n",
+    "\"\"\"\"",
+    "\"\"",
+    "\"a\\q\"",
+    "\"a",
+    "extend type N\n",
+    "scalar O @p(q: \"\"\"r\ns\"\"\")\n",
+    "union T = U | V\n",
+    "directive @w(x: Y) on FIELD | OBJECT\n",
+    "schema { query: Q }\n",
+    "schema { query: Q query: R }\n",
+    "interface Z\n",
+    "  f g\n",
+    ") ",
+    "\r",
+    "\r\n",
+    "# c\n",
+    "é\n",
+    "<<<<<<< HEAD\n",
+    "\n",
+];
+
+const OF_REQUESTS: [&str; 24] = [
+    "query A($b: Int = 1) {\n",
+    "query C @d {\n",
+    "mutation {\n",
+    "{\n",
+    "  e(f: [1, {g: $h}]) { i j: k }\n",
+    "  ...L\n",
+    "  ... on M { n }\n",
+    "  o(p: [[[[1]]]]) { q { r { s } } }\n",
+    "}\n",
+    "}",
+    "fragment T on U { v }\n",
+    "fragment T on W { x }\n",
+    "{ y(z:) }\n",
+    "\"\"\"\n",
+    "\"\"\"told\"\"\"\n",
+    "\"a\\u12\"",
+    "  a(b: \"c\" d: \"\"\"e\nf\"\"\")\n",
+    "$ ",
+    "1.\n",
+    "\r",
+    "# c\n",
+    "é\n",
+    "query type\n",
+    "\n",
+];
+
+// The next number of a run that looks random.
+fn next_number(state: &mut u64) -> usize {
+    let mut next = *state;
+    next ^= next << 13;
+    next ^= next >> 7;
+    next ^= next << 17;
+    *state = next;
+    (next >> 11) as usize
+}
+
+// A text of some of these pieces.
+fn made(alloc: Global, pieces: &[&'static str], state: &mut u64) -> Result<String, AllocError> {
+    let mut text = String::new(alloc);
+    for _ in 0..next_number(state) % 40 {
+        let at = next_number(state).checked_rem(pieces.len()).unwrap_or(0);
+        text.push_str(pieces.get(at).copied().unwrap_or(""))?;
+    }
+    Ok(text)
+}
+
+// ---- as it was
+
+fn only_token_at(text: &str, place: Pos) -> Option<Token<'_>> {
+    let mut found = None;
+    for token in Tokens::new(text) {
+        if token.pos == place {
+            if found.is_some() {
+                return None;
+            }
+            found = Some(token);
+        }
+    }
+    found
+}
+
+fn token_before<'a>(
+    alloc: Global,
+    source: &Source<'a>,
+    error: &Error,
+) -> Result<Option<Token<'a>>, AllocError> {
+    if let Error::Syntax { start, .. } = error
+        && let Some(token) = only_token_at(source.text, *start)
+    {
+        return Ok(Some(token));
+    }
+    refused_token(alloc, source.language, source.text, source.limits, error)
+}
+
+fn definition_before(language: Language, text: &str, from: usize) -> Option<usize> {
+    let (_, rest) = text.split_at_checked(from)?;
+    let mut start = from;
+    let mut is_odd = has_odd_quotes(rest);
+    for _ in 0..text.len() {
+        match look_from(language, text, start, is_odd) {
+            Search::Found(offset) => return Some(offset),
+            Search::Fault(offset) => {
+                let (line, next) = line_from(text, offset)?;
+                is_odd = is_odd != has_odd_quotes(line);
+                start = next;
+            }
+            Search::Ended => return None,
+        }
+    }
+    None
+}
+
+fn error_before(alloc: Global, source: &Source<'_>) -> Result<Option<Error>, AllocError> {
+    match error_of(&mut Memory::new(alloc), source, true)? {
+        Some(Error::MultipleOperations { .. }) => Ok(None),
+        other => Ok(other),
+    }
+}
+
+fn rest_before(
+    alloc: Global,
+    source: &Source<'_>,
+    error: &Error,
+) -> Result<Option<String>, AllocError> {
+    if !matches!(error, Error::Syntax { .. } | Error::RecursionLimitExceeded) {
+        return Ok(None);
+    }
+    let Some(token) = token_before(alloc, source, error)? else {
+        return Ok(None);
+    };
+    match definition_before(source.language, source.text, token.start) {
+        Some(offset) => rest_at(alloc, source.text, offset),
+        None => Ok(None),
+    }
+}
+
+fn tell_all_before(
+    teller: &mut Teller,
+    whole: &Source<'_>,
+    error: &Error,
+    err: &mut Sheet,
+) -> Result<(), AllocError> {
+    let alloc = teller.alloc;
+    teller.tell(whole, ReadFrom::TOP, error, err)?;
+    let Some(mut rest) = rest_before(alloc, whole, error)? else {
+        return Ok(());
+    };
+    for _ in 1..MOST_FINDINGS {
+        let source = Source {
+            text: rest.as_str(),
+            ..*whole
+        };
+        let Some(error) = error_before(alloc, &source)? else {
+            break;
+        };
+        teller.tell(&source, ReadFrom::TOP, &error, err)?;
+        let Some(next) = rest_before(alloc, &source, &error)? else {
+            break;
+        };
+        rest = next;
+    }
+    Ok(())
+}
+
+// ---- both forms
+
+// All that is told of a text, in one form or the other.
+fn told(
+    alloc: Global,
+    source: &Source<'_>,
+    format: Format,
+    error: &Error,
+    is_before: bool,
+) -> Result<String, Fail> {
+    let mut teller = Teller::new(alloc, format, Style::Plain, false);
+    let mut err = Sheet::new(alloc, 1_000_000, ErrorKind::Other);
+    if is_before {
+        tell_all_before(&mut teller, source, error, &mut err)?;
+    } else {
+        teller.tell_all(source, error, &mut err)?;
+    }
+    let mut told = String::from_str(alloc, str::from_utf8(err.held.as_slice())?)?;
+    told.push_str(teller.lines.as_str())?;
+    Ok(told)
+}
+
+// Where the refused token ends, counted from the beginning of the text.
+fn end_before(
+    alloc: Global,
+    source: &Source<'_>,
+    error: &Error,
+) -> Result<Option<Pos>, AllocError> {
+    if !matches!(error, Error::Syntax { .. } | Error::RecursionLimitExceeded) {
+        return Ok(None);
+    }
+    let Some(token) = token_before(alloc, source, error)? else {
+        return Ok(None);
+    };
+    if token.text.is_empty() {
+        return Ok(None);
+    }
+    let end = token.start.saturating_add(token.text.len());
+    let Some((front, _)) = source.text.split_at_checked(end) else {
+        return Ok(None);
+    };
+    Ok(Some(PositionCalculator::new(front).step(front.len())))
+}
+
+fn are_alike(
+    rt: &impl std::process::Abort,
+    alloc: Global,
+    source: &Source<'_>,
+    error: &Error,
+) -> Result<(), Fail> {
+    let text = source.text;
+    for format in [Format::Text, Format::Json] {
+        let before = told(alloc, source, format, error, true)?;
+        let now = told(alloc, source, format, error, false)?;
+        assert_eq!(rt; now.as_str(), before.as_str(), "{text}");
+    }
+    let finding = finding_of(alloc, source.language, text, source.limits, error)?;
+    let end = end_before(alloc, source, error)?;
+    assert!(rt; finding.end == end, "{text}");
+    Ok(())
+}
+
+#[test]
+fn findings_are_those_of_copied_rests(rt: HostRuntime) -> Result<(), Fail> {
+    let alloc = rt.alloc();
+    let mut state = 20_261_126;
+    let mut refused = 0usize;
+    for turn in 0..TEXTS {
+        let limits = if turn % 3 == 0 {
+            Limits::new(1, 2, 1).unwrap_or_default()
+        } else {
+            Limits::default()
+        };
+        for language in [Language::Requests, Language::Schemas] {
+            let pieces: &[&'static str] = match language {
+                Language::Requests => &OF_REQUESTS,
+                Language::Schemas => &OF_SCHEMAS,
+            };
+            let text = made(alloc, pieces, &mut state)?;
+            let source = Source {
+                names: Names {
+                    shown: "a",
+                    name: "a",
+                },
+                language,
+                limits,
+                text: text.as_str(),
+            };
+            if let Some(error) = error_of(&mut Memory::new(alloc), &source, true)? {
+                refused = refused.saturating_add(1);
+                are_alike(&rt, alloc, &source, &error)?;
+            }
+        }
+    }
+    assert!(rt; refused > TEXTS, "{refused}");
+    Ok(())
+}
