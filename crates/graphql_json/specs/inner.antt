@@ -2,3 +2,6 @@
 pub mod Forms
 pub mod Written
 pub mod Roots
+pub mod Buffers
+pub mod Words
+pub mod Sheets

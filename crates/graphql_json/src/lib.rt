@@ -25,8 +25,11 @@ ghost use Rattle.graphql_json.specs.nodes.Nodes.{json_text, no_place};
 ghost use Rattle.graphql_json.specs.nodes.Requests.{request_value};
 ghost use Rattle.graphql_json.specs.nodes.Schemas.{schema_value};
 
+mod buffer;
 mod error;
+mod escapes;
 mod place;
+mod plain;
 mod request;
 mod schema;
 mod sheet;

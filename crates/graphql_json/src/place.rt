@@ -1,5 +1,6 @@
 //! Where nodes stand, and whether that is written.
-ghost use Rattle.std.specs.Prelude.{◌≡◌};
+ghost use Rattle.std.specs.Prelude.{◌≡◌, ◌<◌, ◌^◌, IfSome};
+ghost use Rattle.graphql_json.specs.inner.Written.{place_tokens, shown_tokens};
 ghost use Rattle.graphql_json.specs.nodes.Nodes.{at, nowhere, stands_before as stands_before_at};
 
 use graphql_parser::Pos;
@@ -39,6 +40,17 @@ impl Place {
         Place {
             places: self.places,
             pos: None,
+        }
+    }
+
+    /// The place that is written, if one is.
+    pub fn shown(self) -> Option<Pos>
+        ensures place { shown_tokens result ≡ place_tokens self.places self.pos }
+        ensures fits { IfSome result (λ pos. (pos.line < 2 ^ 64) × (pos.column < 2 ^ 64)) }
+    {
+        match self.pos {
+            Some(pos) if self.places == Places::Written && pos != Pos::default() => Some(pos),
+            _ => None,
         }
     }
 }

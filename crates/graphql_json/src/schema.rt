@@ -3,6 +3,7 @@ ghost use Rattle.std.specs.Prelude.{◌≡◌, [], codes};
 ghost use Rattle.graphql_parser.specs.trees.SchemaViews.{definition_tree, directive_definition_tree, enum_value_tree, field_definition_tree, input_value_tree, kind_tree, schema_definition_tree, schema_document_tree, type_definition_tree};
 ghost use Rattle.graphql_json.specs.inner.Forms.{form};
 ghost use Rattle.graphql_json.specs.inner.Roots.{and_then, goes_before as goes_before_of, root_tokens};
+ghost use Rattle.graphql_json.specs.inner.Words.{IsWord};
 ghost use Rattle.graphql_json.specs.inner.Written.{Adds, member_tokens, optional_tokens};
 ghost use Rattle.graphql_json.specs.nodes.Nodes.{items_of};
 ghost use Rattle.graphql_json.specs.nodes.Schemas.{named_types_json, input_value_json, field_definition_json, enum_value_json, kind_word as kind_word_of, schema_word as schema_word_of, interfaces, contents, type_definition_json, root_json, with_root, roots_of, schema_definition_json, location_json, directive_definition_json, definition_json, document_json};
@@ -61,7 +62,8 @@ impl Node for SchemaDefinition {
 }
 
 fn schema_word(is_extension: bool) -> &'static str
-    ensures { result.now ≡ schema_word_of is_extension }
+    ensures kind { result.now ≡ schema_word_of is_extension }
+    ensures word { IsWord result.now }
 {
     if is_extension {
         "SchemaExtension"
@@ -169,7 +171,8 @@ impl Node for TypeDefinition {
 }
 
 fn kind_word(kind: &TypeKind, is_extension: bool) -> &'static str
-    ensures { result.now ≡ kind_word_of (kind_tree kind.now) is_extension }
+    ensures kind { result.now ≡ kind_word_of (kind_tree kind.now) is_extension }
+    ensures word { IsWord result.now }
 {
     match (kind, is_extension) {
         (TypeKind::Scalar, false) => "ScalarTypeDefinition",
@@ -236,6 +239,7 @@ fn write_named_types(
     names: &Vec<Positioned<Name>>,
     place: Place,
 ) -> Outcome
+    requires { IsWord key.now }
     ensures { Adds result sheet.old sheet.new
         (member_tokens key.now (named_types_json place names.now.items)) }
 {

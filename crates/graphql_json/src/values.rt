@@ -9,6 +9,7 @@ ghost use Rattle.graphql_parser.specs.trees.TypeTree.{base_tree, type_tree};
 ghost use Rattle.graphql_parser.specs.trees.ValueTree.{variable, null, boolean, trees_of, fields_of};
 ghost use Rattle.graphql_parser.specs.trees.ValueViews.{value_tree, const_tree};
 ghost use Rattle.graphql_json.specs.inner.Forms.{form};
+ghost use Rattle.graphql_json.specs.inner.Words.{IsWord};
 ghost use Rattle.graphql_json.specs.inner.Written.{Adds, member_tokens};
 ghost use Rattle.graphql_json.specs.nodes.Nodes.{items_of};
 ghost use Rattle.graphql_json.specs.nodes.Values.{text_json, name_json, string_json, value_json, items_json, fields_json, field_node, argument_tree, marks_float, number_kind as number_kind_of, argument_with, directive_node, directive_json, named_type_json, type_json};
@@ -55,12 +56,13 @@ impl Node for ConstValue {
 }
 
 // A node whose `value` is a text.
+#[inline(always)]
 pub fn write_text(sheet: &mut Sheet, kind: &str, place: Place, text: &str) -> Outcome
+    requires { IsWord kind.now }
     ensures { Adds result sheet.old sheet.new (json_tokens (text_json kind.now place text.now)) }
 {
     sheet.begin(kind, place)?;
-    sheet.text("value", text)?;
-    sheet.close()
+    sheet.last_text(text)
 }
 
 /// A member that is a name.
@@ -74,7 +76,8 @@ pub fn write_name(sheet: &mut Sheet, name: &Name, place: Place) -> Outcome
 
 // A number with a fraction or an exponent is a float (section 2.9.2).
 fn number_kind(literal: &str) -> &'static str
-    ensures { result.now ≡ number_kind_of literal.now }
+    ensures kind { result.now ≡ number_kind_of literal.now }
+    ensures word { IsWord result.now }
 {
     for byte in literal.as_bytes() {
         if matches!(byte, b'.' | b'e' | b'E') {
@@ -185,6 +188,9 @@ pub fn write_arguments<V: Node>(
         (array (items_of (argument_with V.form.json place)
         (map (argument_tree V.form.tree) arguments.now.items)))) }
 {
+    if arguments.is_empty() {
+        return sheet.empty_list("arguments");
+    }
     sheet.open_list("arguments")?;
     for argument in arguments {
         write_argument(sheet, &argument.0, &argument.1, place)?;

@@ -24,6 +24,11 @@ place_tokens LeftOut pos = []
 place_tokens Written None = []
 place_tokens Written (Some pos) = if (pos.line == 0) && (pos.column == 0) then [] else pos_tokens pos
 
+-- the tokens of a place that is shown, where there is one
+abbrev pub shown_tokens : Option Pos → List Token
+shown_tokens None = []
+shown_tokens (Some pos) = pos_tokens pos
+
 -- what opens a node
 abbrev pub opening : List ℕ → Place → List Token
 opening kind place = begin_object ∷ key (codes "kind") ∷ string kind ∷ place_tokens place.places place.pos

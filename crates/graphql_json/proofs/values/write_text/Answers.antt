@@ -1,5 +1,5 @@
-use Rattle.graphql_json.proofs.Steps.{next, whole_node}
+use Rattle.graphql_json.proofs.Steps.{whole_node}
 use Rattle.graphql_json.proofs.values.write_text.Goals as goal
 
 pub returns : goal.returns
-returns c = whole_node _ _ _ c.in_ok-begin.ensures (next c.in_ok-text.ensures c.close.ensures)
+returns c = whole_node _ _ _ c.in_ok-begin.ensures c.last_text.ensures
