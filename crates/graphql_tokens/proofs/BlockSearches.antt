@@ -1,37 +1,11 @@
 -- What searches for bytes find in the raw text of a block string.
 use Rattle.std.proofs.Common.{◌≡◌, ℕ, ◌+◌, ◌-◌, ◌≤◌, ◌<◌, Bool, true, false, eqb, ◌&&◌, ◌⊎◌, List, length, take, drop, get_or, refl, sym, ap, ◌∙◌, inl, inr, arith, length-drop}
 use Rattle.std.proofs.lemmas.Bool.{cases_lt}
-use Rattle.std.proofs.lemmas.Bool.Decides.{nat_tests}
 use Rattle.std.proofs.lemmas.List.{get_or-drop, take_rest}
-use Rattle.std.proofs.lemmas.List.Sums.{prefix_len_is}
-use Rattle.std.specs.List.{prefix_len}
-use Rattle.memchr.specs.Find.{Passes, Nowhere, NoneBefore, is_byte, is_byte2}
-use Rattle.graphql_tokens.specs.tokens.Place.{is_in_line}
+use Rattle.memchr.specs.Find.{Passes, Nowhere, is_byte}
 use Rattle.graphql_tokens.specs.tokens.BlockText.{begins_quotes}
 use Rattle.graphql_tokens.specs.inner.Blocks.{IsUnquotedBetween}
 use Rattle.graphql_tokens.proofs.Scan.{get_or-drop_0}
-
--- ---- the end of a line
-
-in_line : (c : ℕ) → (is_byte2 10 13 c ≡ true → ⊥) → is_in_line c ≡ true
-in_line c n = by (is_byte2 10 13 c) refl
-  where
-    by : (b : Bool) → is_byte2 10 13 c ≡ b → is_in_line c ≡ true
-    by true e = absurd (n e)
-    by false e = grind (arith, nat_tests)
-
-line_end : (c : ℕ) → is_byte2 10 13 c ≡ true → is_in_line c ≡ false
-line_end c e = grind (arith, nat_tests)
-
-pub line_some : (text : List ℕ) (len : ℕ) → NoneBefore (Passes (is_byte2 10 13) text) 0 (length text) len → Passes (is_byte2 10 13) text len → len ≡ prefix_len is_in_line text
-line_some text len n p =
-    sym (prefix_len_is is_in_line text len 0 (omega (arith, n.high)) (λ k l. in_line (get_or text k 0) (n.before k (omega arith) l)) (λ l. line_end (get_or text len 0) p))
-
-pub line_none : (text : List ℕ) → Nowhere (Passes (is_byte2 10 13) text) 0 (length text) → length text ≡ prefix_len is_in_line text
-line_none text n =
-    sym (prefix_len_is is_in_line text (length text) 0 (omega arith) (λ k l. in_line (get_or text k 0) (n k (omega arith) l)) (λ l. absurd (omega arith)))
-
--- ---- backslashes
 
 no_slash : (bs : List ℕ) (k : ℕ) → (eqb (get_or bs k 0) 92 ≡ true → ⊥) → begins_quotes (drop k bs) ≡ false
 no_slash bs k n =

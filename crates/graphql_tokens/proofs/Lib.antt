@@ -3,6 +3,7 @@ pub mod BlockAnswers
 pub mod BlockChars
 pub mod BlockEnds
 pub mod BlockIndents
+mod BlockOneLine
 pub mod BlockLines
 pub mod BlockQuotes
 pub mod BlockSearches

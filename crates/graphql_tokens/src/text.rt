@@ -13,7 +13,9 @@ mod block;
 pub(crate) mod escape;
 pub(crate) mod runs;
 
-use block::{common_indent, first_text, is_plain as is_plain_text, last_text, push_lines};
+use block::{
+    common_indent, first_text, is_plain as is_plain_text, last_text, one_line, push_lines,
+};
 use escape::escape_at;
 use graphql_memory::Memory;
 use runs::{Plain, past_run};
@@ -157,6 +159,11 @@ pub fn block_string_value_in(memory: &mut Memory, raw: &str) -> Result<String, A
     let text = &raw[first..];
     let text = &text[..last_text(text.as_bytes())];
     let is_later = first > 0;
+    if let Some(line) = one_line(text, is_later) {
+        let mut value = memory.text_with_room(text)?;
+        memory.push_text(&mut value, line)?;
+        return Ok(value);
+    }
     let indent = common_indent(text.as_bytes(), is_later);
     if indent == 0 && is_plain_text(text.as_bytes()) {
         return memory.text_of(text);

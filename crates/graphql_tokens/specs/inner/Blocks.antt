@@ -2,7 +2,7 @@
 use Rattle.std.specs.Prelude.{◌≡◌, ◌≢◌, ◌≤◌, ◌<◌, ℕ, Bool, true, false, if◌then◌else◌, ◌||◌, ◌==◌, nat_lt, min, List, [], ◌∷◌, length, take, drop, map, slice_index, not, Option, Some, None}
 use Rattle.std.specs.Str.{IsCharBoundary, byte}
 use Rattle.graphql_tokens.specs.tokens.Place.{is_line_end}
-use Rattle.graphql_tokens.specs.tokens.BlockText.{begins_quotes, unquoted, lines_of, is_blank_char, is_blank, indent, from_text, to_text, joined}
+use Rattle.graphql_tokens.specs.tokens.BlockText.{begins_quotes, unquoted, lines_of, is_blank_char, is_blank, indent, common_indent, from_text, to_text, joined}
 
 -- tab, space, line feed and carriage return
 abbrev pub is_space : ℕ → Bool
@@ -59,3 +59,7 @@ IsPlainBetween text start end = (k : ℕ) → start ≤ k → k < end → (slice
 
 abbrev pub IsUnquotedBetween : List ℕ → ℕ → ℕ → Type 0
 IsUnquotedBetween text start end = (k : ℕ) → start ≤ k → k < end → begins_quotes (drop k text) ≡ false
+
+-- The line is what is written of the text, which has no other: without its indent, if that goes.
+abbrev pub IsOneLine : Bool → List ℕ → List ℕ → Type 0
+IsOneLine loses text line = let n = common_indent (counted loses (lines_of text)) in line ≡ written (if loses then n else 0) n (lines_of text)

@@ -1,13 +1,14 @@
 //! The lines of a block string.
 
-ghost use Rattle.std.specs.Prelude.{◌≡◌, ◌≤◌, ◌<◌, ◌+◌, ◌++◌, [], false, true, drop, length, MatchOption, OnOk, OnErr, string_bytes};
+ghost use Rattle.std.specs.Prelude.{◌≡◌, ◌≤◌, ◌<◌, ◌+◌, ◌++◌, [], false, true, drop, length, IfSome, MatchOption, OnOk, OnErr, string_bytes};
 ghost use Rattle.graphql_memory.specs.Memory.{Refused};
 ghost use Rattle.std.specs.List.{prefix_len};
 ghost use Rattle.std.specs.Str.{IsUtf8};
 ghost use Rattle.graphql_tokens.specs.tokens.Place as place;
 ghost use Rattle.graphql_tokens.specs.tokens.BlockText as spec;
-ghost use Rattle.graphql_tokens.specs.inner.Blocks.{is_space as is_space_char, end_len, counted, indent_with, trimmed, written, first_line, StartsText, EndsText, IsPlainBetween, IsUnquotedBetween};
+ghost use Rattle.graphql_tokens.specs.inner.Blocks.{is_space as is_space_char, end_len, counted, indent_with, trimmed, written, first_line, StartsText, EndsText, IsPlainBetween, IsUnquotedBetween, IsOneLine};
 
+use super::runs::{LineBytes, UnquotedBytes, past_run};
 use super::{byte, past_while};
 use graphql_memory::Memory;
 use memchr::{memchr, memchr2};
@@ -46,24 +47,13 @@ fn begins_quotes(bytes: &[u8], at: usize) -> bool
         && byte(bytes, at + 3) == b'"'
 }
 
-// How long the line is at the front.
-#[inline(always)]
-fn line_len(text: &[u8]) -> usize
-    ensures { result ≡ prefix_len place.is_in_line text.now }
-{
-    match memchr2(b'\n', b'\r', text) {
-        Some(len) => len,
-        None => text.len(),
-    }
-}
-
 // Where the line ends.
 fn past_line(bytes: &[u8], start: usize) -> usize
     requires { start ≤ length bytes.now }
     ensures value { result ≡ start + prefix_len place.is_in_line (drop start bytes.now) }
     ensures within { result ≤ length bytes.now }
 {
-    start + line_len(&bytes[start..])
+    past_run::<LineBytes>(bytes, start)
 }
 
 // Where the tabs and spaces end.
@@ -204,6 +194,20 @@ fn dedented(line: &str, indent: usize) -> &str
         return line;
     }
     &line[past_blanks(line.as_bytes(), 0).min(indent)..]
+}
+
+// The value of the text, if it is one line in which no backslash stands, and not blank. Its indent goes where
+// `loses_indent` says so.
+pub fn one_line(text: &str, loses_indent: bool) -> Option<&str>
+    ensures { IfSome result (λ line.
+        IsOneLine loses_indent text.now line.now) }
+{
+    let bytes = text.as_bytes();
+    let blanks = past_blanks(bytes, 0);
+    if blanks == bytes.len() || past_run::<UnquotedBytes>(bytes, 0) < bytes.len() {
+        return None;
+    }
+    Some(dedented(text, if loses_indent { blanks } else { 0 }))
 }
 
 // Adds the lines of the text, joined by line feeds and without their indent, which is `first_indent` for

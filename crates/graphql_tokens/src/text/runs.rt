@@ -1,7 +1,7 @@
 //! Where a run of bytes of one class ends. Sixteen bytes are looked at at once, so that the length of a short run decides
 //! no branch.
 
-ghost use Rattle.std.specs.Prelude.{◌≡◌, ℕ, ◌≤◌, ◌<◌, ◌+◌, ◌&&◌, ◌==◌, Bool, nat_lt, drop, length, map};
+ghost use Rattle.std.specs.Prelude.{◌≡◌, ℕ, ◌≤◌, ◌<◌, ◌+◌, ◌&&◌, ◌==◌, Bool, not, nat_lt, drop, length, map};
 ghost use Rattle.std.specs.Char.{is_ascii_digit};
 ghost use Rattle.std.specs.List.{prefix_len};
 ghost use Rattle.std.specs.Simd.Lanes.{mask_l};
@@ -159,6 +159,44 @@ impl ByteClass for InLine {
         let outside = bytes.simd_eq(u8x16::splat(b'\n'))
             | bytes.simd_eq(u8x16::splat(b'\r'))
             | bytes.simd_ge(u8x16::splat(0x80));
+        outside.to_bitmask()
+    }
+}
+
+// The bytes of a line.
+pub(crate) struct LineBytes;
+
+impl ByteClass for LineBytes {
+    ghost has = { is_in_line };
+
+    #[inline(always)]
+    fn has(b: u8) -> bool {
+        b != b'\n' && b != b'\r'
+    }
+
+    #[inline(always)]
+    fn outsiders(bytes: u8x16) -> u64 {
+        let outside = bytes.simd_eq(u8x16::splat(b'\n')) | bytes.simd_eq(u8x16::splat(b'\r'));
+        outside.to_bitmask()
+    }
+}
+
+// The bytes of a line but for backslashes.
+pub(crate) struct UnquotedBytes;
+
+impl ByteClass for UnquotedBytes {
+    ghost has = { λ b. is_in_line b && not (b == byte "\\") };
+
+    #[inline(always)]
+    fn has(b: u8) -> bool {
+        b != b'\n' && b != b'\r' && b != b'\\'
+    }
+
+    #[inline(always)]
+    fn outsiders(bytes: u8x16) -> u64 {
+        let outside = bytes.simd_eq(u8x16::splat(b'\n'))
+            | bytes.simd_eq(u8x16::splat(b'\r'))
+            | bytes.simd_eq(u8x16::splat(b'\\'));
         outside.to_bitmask()
     }
 }
