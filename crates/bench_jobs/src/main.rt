@@ -2,7 +2,7 @@
 //! repository, and prints a digest of all that these answered, and no times.
 //!
 //! `bench_jobs JOB SEED ROUNDS`, where a job is one of `requests` and `schemas`, which parse, walk and drop; `checks`, which
-//! make no tree; `trees`, which give trees as JSON and as bytes, and clone and compare them; and `awkward`, texts that
+//! make no tree; `trees`, which give trees as JSON and as bytes; and `awkward`, texts that
 //! strangers send, and reports of what is wrong. A job makes its texts once; each round changes the names in all of them
 //! before it reads them, so no text is read twice. Nothing is claimed of it but that it is safe and ends.
 #![tactic(auto)]
