@@ -4,6 +4,7 @@ use crate::command::Format;
 use crate::output::complain;
 use crate::recovery::{Quotes, lines_between, next_definition, rest_at};
 use crate::texts::Unread;
+use graphql_parser::lexer::{Token, TokenKind};
 use graphql_parser::{Error, Limits, Memory, Pos};
 use graphql_report::{
     Finding, Language, ReadFrom, Style, explain_from, finding_from, refused_token_from,
@@ -74,7 +75,8 @@ impl Teller {
         }
         let mut quotes = Quotes::UNKNOWN;
         self.tell(source, ReadFrom::TOP, error, err)?;
-        let mut next = source.next_after(self.alloc, ReadFrom::TOP, error, &mut quotes)?;
+        let token = source.refused_from(self.alloc, ReadFrom::TOP, error)?;
+        let mut next = source.next_after(ReadFrom::TOP, token, &mut quotes);
         for _ in 1..MOST_FINDINGS {
             let Some(from) = next else {
                 break;
@@ -95,21 +97,34 @@ impl Teller {
         let Some(error) = source.error_from(self.alloc, from)? else {
             return Ok(None);
         };
-        if is_refusal(&error) {
+        let token = source.refused_from(self.alloc, from, &error)?;
+        if source.is_told_in_place(&error, token) {
             self.tell(source, from, &error, err)?;
-            return source.next_after(self.alloc, from, &error, quotes);
+        } else {
+            self.tell_copied(source, from, err)?;
         }
-        // The places of other errors are those of a text with as many lines.
-        if let Some(text) = rest_at(self.alloc, source.text, from.offset)? {
-            let rest = Source {
-                text: text.as_str(),
-                ..*source
-            };
-            if let Some(error) = rest.error_from(self.alloc, ReadFrom::TOP)? {
-                self.tell(&rest, ReadFrom::TOP, &error, err)?;
-            }
+        Ok(source.next_after(from, token, quotes))
+    }
+
+    // Tells the first error of a copy of the text from there on, before which as many lines stand: places that are counted
+    // from its beginning are those in the text, and no more is counted than that.
+    fn tell_copied<E: Write>(
+        &mut self,
+        source: &Source<'_>,
+        from: ReadFrom,
+        err: &mut E,
+    ) -> Result<(), AllocError> {
+        let Some(text) = rest_at(self.alloc, source.text, from.offset)? else {
+            return Ok(());
+        };
+        let rest = Source {
+            text: text.as_str(),
+            ..*source
+        };
+        match rest.error_from(self.alloc, ReadFrom::TOP)? {
+            Some(error) => self.tell(&rest, ReadFrom::TOP, &error, err),
+            None => Ok(()),
         }
-        Ok(None)
     }
 
     /// Tells the error of a text that was read from there on: a report goes to `err`, and a line for programs is added to the
@@ -174,12 +189,7 @@ impl Teller {
     }
 }
 
-// Whether a token is refused.
-fn is_refusal(error: &Error) -> bool {
-    matches!(error, Error::Syntax { .. } | Error::RecursionLimitExceeded)
-}
-
-impl Source<'_> {
+impl<'a> Source<'a> {
     // The error of the text from there on, if it is one to be told. That of a refused token has its place in the whole text.
     fn error_from(&self, alloc: Global, from: ReadFrom) -> Result<Option<Error>, AllocError> {
         let Some((_, rest)) = self.text.split_at_checked(from.offset) else {
@@ -203,35 +213,46 @@ impl Source<'_> {
         }
     }
 
-    // Where a text is read next that was read from there on and has this error.
-    fn next_after(
+    // The refused token of a text that was read from there on, if one is refused.
+    fn refused_from(
         &self,
         alloc: Global,
         from: ReadFrom,
         error: &Error,
-        quotes: &mut Quotes,
-    ) -> Result<Option<ReadFrom>, AllocError> {
-        if !is_refusal(error) {
+    ) -> Result<Option<Token<'a>>, AllocError> {
+        if !matches!(error, Error::Syntax { .. } | Error::RecursionLimitExceeded) {
             return Ok(None);
         }
-        let Source {
-            language,
-            limits,
-            text,
-            ..
-        } = *self;
-        let Some(token) = refused_token_from(alloc, language, text, from, limits, error)? else {
-            return Ok(None);
+        refused_token_from(alloc, self.language, self.text, from, self.limits, error)
+    }
+
+    // Whether a report of the error counts no place from the beginning of the text: it does for all but the place of a refused
+    // token, and for an escape in a string.
+    fn is_told_in_place(&self, error: &Error, token: Option<Token<'_>>) -> bool {
+        let Some(token) = token else {
+            return false;
         };
-        let Some(offset) = next_definition(language, text, token.start, quotes) else {
-            return Ok(None);
+        let is_string = match self.text.split_at_checked(token.start) {
+            Some((_, rest)) => rest.starts_with('"'),
+            None => false,
         };
-        Ok(Some(ReadFrom {
+        let may_have_escape = is_string && matches!(token.kind, TokenKind::Fault);
+        matches!(error, Error::Syntax { .. }) && !may_have_escape
+    }
+
+    // Where a text is read next that was read from there on up to this token.
+    fn next_after(
+        &self,
+        from: ReadFrom,
+        token: Option<Token<'_>>,
+        quotes: &mut Quotes,
+    ) -> Option<ReadFrom> {
+        let offset = next_definition(self.language, self.text, token?.start, quotes)?;
+        let lines = lines_between(self.text, from.offset, offset);
+        Some(ReadFrom {
             offset,
-            line: from
-                .line
-                .saturating_add(lines_between(text, from.offset, offset)),
-        }))
+            line: from.line.saturating_add(lines),
+        })
     }
 }
 

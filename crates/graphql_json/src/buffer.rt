@@ -1,9 +1,7 @@
 //! Bytes that are written one after another, with room made ahead of them.
 ghost use Rattle.std.specs.Prelude.{◌≡◌, ◌+◌, ◌<◌, ◌≤◌, [], ◌∷◌, ◌++◌, cond, length, take, OnOk};
-ghost use Rattle.std.specs.Bool.{OnTrue, OnFalse};
 ghost use Rattle.graphql_json.specs.inner.Buffers.{Appends, PutsPlain, opening_text, pos_text};
 ghost use Rattle.json.specs.Filled.{Placed};
-ghost use Rattle.json.specs.Print.{escape};
 
 use crate::plain::{copy, copy_number, copy_plain};
 use graphql_parser::Pos;

@@ -17,7 +17,7 @@ use graphql_requests::definitions::Definition;
 use graphql_schemas::definitions::is_at_definition;
 use std::alloc::{AllocError, Global};
 
-// What the last definition of a schema file begins with: a keyword, or one of these and a keyword.
+// What a definition of a schema file begins with, but for its description.
 const KEYWORDS: [&str; 9] = [
     "directive",
     "enum",

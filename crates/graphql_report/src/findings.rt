@@ -40,8 +40,9 @@ pub fn finding_of(
     finding_from(alloc, language, text, ReadFrom::TOP, limits, error)
 }
 
-/// What [`finding_of`] gives, of a text that was read from there on: what stands before is not looked at, but to count the
-/// places of a token that nests too deep. The places of `error` are those in the whole text. (This project's own call.)
+/// What [`finding_of`] gives, of a text that was read from there on. What stands before isn't read, but where a place is
+/// counted: that of an escape in a string, and of a token that nests too deep. The places of `error` are those in the whole
+/// text. (This project's own call.)
 pub fn finding_from(
     alloc: Global,
     language: Language,

@@ -14,7 +14,7 @@
 //! They are checks of the text before the refused token from the line on with which the last definition before it begins, if
 //! one begins with a line and after others, which one check more finds whole; else of all of that text. Of an error that
 //! names a place the refused token is found by that; at a limit it takes one check more, or some twenty where the limits
-//! aren't the default ones. A caller that read a text from a later line on says so, and what stands before isn't read again
+//! aren't the default ones. A caller that read a text from a later line on says so, and what stands before isn't checked again
 //! ([`explain_from`], [`finding_from`], [`refused_token_from`]).
 //!
 //! Proved of it, unless memory runs out: `is_front` answers true exactly where the tokens of a text are a viable front, in

@@ -8,13 +8,13 @@ use graphql_parser::lexer::{Token, Tokens};
 use graphql_parser::{Error, Limits, Pos, check_query_from, check_schema_from};
 use std::alloc::{AllocError, Global};
 
-/// Where the reading of a text began: at this byte offset, with which this line begins, counted from 1. (This project's
-/// own type.)
+/// Where the reading of a text began. The caller sees to it that the line begins at the offset: else places aren't those of the
+/// text, and of an offset at which no character begins, or past the end, nothing is read. (This project's own type.)
 #[derive(Clone, Copy, Debug, PartialEq, Eq)]
 pub struct ReadFrom {
     /// The byte offset.
     pub offset: usize,
-    /// The line that begins there.
+    /// The line that begins there, counted from 1.
     pub line: usize,
 }
 

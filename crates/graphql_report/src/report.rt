@@ -50,8 +50,8 @@ const OF_NAMESAKES: Remarks = Remarks {
 ///
 /// `limits` are those that the parser was given, `Limits::default()` for the calls without limits. What was expected is
 /// found by some twenty to forty checks of the text before the refused token, or of the definition in which it stands if that
-/// begins with a line after others, and the place of `RecursionLimitExceeded` by
-/// one of the text, or by some twenty where the limits aren't the default ones. An error says that memory was refused.
+/// begins with a line after others, and the place of `RecursionLimitExceeded` by one of the text, or by some twenty where the
+/// limits aren't the default ones. An error says that memory was refused.
 pub fn explain(
     alloc: Global,
     language: Language,
@@ -91,9 +91,10 @@ pub fn explain_in(
     explain_from(style, alloc, language, file_name, text, from, limits, error)
 }
 
-/// What [`explain_in`] gives, of a text that was read from there on: what stands before is not looked at, but for the line
-/// of the place. The places of `error` are those in the whole text. An error about definitions is looked for in the whole
-/// text. (This project's own call.)
+/// What [`explain_in`] gives, of a text that was read from there on. What stands before isn't read, but for the line of the
+/// place, and where a place is counted: that of an escape in a string, and of a token that nests too deep. The places of
+/// `error` are those in the whole text. An error about definitions is looked for in the whole text. (This project's own
+/// call.)
 pub fn explain_from(
     style: Style,
     alloc: Global,

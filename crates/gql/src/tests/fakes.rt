@@ -15,6 +15,7 @@ const FILES: &[(&str, &[u8])] = &[
     ("short.graphql", b"{a{b}}"),
     ("bytes.graphql", b"{\xff}"),
     ("tokens.graphql", b"{a(b:\"\"\"c\nd\"\"\")}"),
+    ("returns.graphql", b"{a(b:\"\"\"c\rd\"\"\")}"),
     ("fault.graphql", b"{?"),
     ("none.graphql", b"# none"),
     ("fragment.graphql", b"fragment F on T{a}"),

@@ -1,6 +1,6 @@
 //! What is told of texts with many mistakes, beside what was told when each rest of a text was copied and read with as many
-//! lines before it, the tokens were looked for in all of it, and its quotes were counted anew. That form stands here as it
-//! was.
+//! lines before it, the tokens were looked for in all of it, and its quotes were counted anew. How the text was gone through
+//! stands here as it was; the reports of both forms are those of `graphql_report`.
 use crate::check::error_of;
 use crate::command::Format;
 use crate::recovery::{Search, has_odd_quotes, line_from, look_from, rest_at};
@@ -8,10 +8,11 @@ use crate::telling::{MOST_FINDINGS, Names, Source, Teller};
 use crate::tests::fakes::Sheet;
 use graphql_parser::lexer::{Token, Tokens};
 use graphql_parser::pos::PositionCalculator;
-use graphql_parser::{Error, Limits, Memory, Pos};
+use graphql_parser::{Error, Limits, Memory, Pos, check_query_from, check_schema_from};
 use graphql_report::{Language, ReadFrom, Style, finding_of, refused_token};
 use std::alloc::{AllocError, Global};
 use std::io::ErrorKind;
+use std::process::Abort;
 use std::str;
 use std::test::Fail;
 
@@ -78,6 +79,64 @@ const OF_REQUESTS: [&str; 24] = [
     "\n",
 ];
 
+// Texts in which one thing is sure: two tokens at one place after a carriage return; a run of quotes that goes over the token
+// that is refused, in a later definition; a rule that is broken in a rest, and an operation without a name there; an
+// escape, an open string and a block string with a carriage return that are refused in a rest; the end of the text.
+const FIXED: [(Language, &str); 11] = [
+    (
+        Language::Schemas,
+        "type A {\n  b c\n}\ntype D {\n  e\r)\r}\n}\n",
+    ),
+    (
+        Language::Schemas,
+        "type A {\n  b c\n}\ntype D {\n  e(f: G = \"a\"\"\" b\n}\ntype H {\n  i\n}\n\"\"\"\n",
+    ),
+    (
+        Language::Schemas,
+        "type A {\n  b c\n}\ntype D {\n  e(f: G = \"a\"\"\"\"\"\" b\n}\ntype H {\n  i\n}\n",
+    ),
+    (
+        Language::Schemas,
+        "scalar\nschema { query: A query: B }\nschema { mutation: C }\n",
+    ),
+    (
+        Language::Requests,
+        "{a(}\nfragment B on C { d }\nfragment B on E { f }\n",
+    ),
+    (Language::Requests, "{a(}\n{ b }\nquery C { d }\n"),
+    (
+        Language::Requests,
+        "{a(}\nquery B { c(d: \"é\\q\") }\nquery E { f(g: \"h) }\nquery I { j(k: ) }\n",
+    ),
+    (
+        Language::Schemas,
+        "type A\ntype { }\ntype B { c: D \"\"\"e\rf\ng\"\"\" }\ntype H {\n",
+    ),
+    (Language::Requests, "{a(}\nquery B {\n"),
+    (
+        Language::Requests,
+        "{a(}\nquery B { ? }\n\nquery C { d }\nquery E {}\n",
+    ),
+    (
+        Language::Requests,
+        ")\nquery B { c } query D { e(f:) }\n{ g }\nquery H {}\n",
+    ),
+];
+
+// A request with a mistake in so many definitions, and one that nests too deep last.
+fn many_mistakes(alloc: Global, count: usize) -> Result<String, AllocError> {
+    let mut text = String::new(alloc);
+    for _ in 0..count {
+        text.push_str("query A {\n  b(c:)\n}\n")?;
+    }
+    text.push_str("query D ")?;
+    for _ in 0..70 {
+        text.push_str("{e")?;
+    }
+    text.push_str("\nquery F {}\n")?;
+    Ok(text)
+}
+
 // The next number of a run that looks random.
 fn next_number(state: &mut u64) -> usize {
     let mut next = *state;
@@ -123,7 +182,16 @@ fn token_before<'a>(
     {
         return Ok(Some(token));
     }
-    refused_token(alloc, source.language, source.text, source.limits, error)
+    if source.limits != Limits::default() {
+        return refused_token(alloc, source.language, source.text, source.limits, error);
+    }
+    let mut tokens = Tokens::new(source.text);
+    let _ = match source.language {
+        Language::Requests => check_query_from(alloc, &mut tokens),
+        Language::Schemas => check_schema_from(alloc, &mut tokens),
+    };
+    let taken = tokens.taken();
+    Ok(Tokens::new(source.text).nth(taken.saturating_sub(1)))
 }
 
 fn definition_before(language: Language, text: &str, from: usize) -> Option<usize> {
@@ -240,22 +308,49 @@ fn end_before(
     Ok(Some(PositionCalculator::new(front).step(front.len())))
 }
 
+// A text is told alike in both forms. Gives how many findings it has.
 fn are_alike(
-    rt: &impl std::process::Abort,
+    rt: &impl Abort,
     alloc: Global,
     source: &Source<'_>,
     error: &Error,
-) -> Result<(), Fail> {
+) -> Result<usize, Fail> {
     let text = source.text;
+    let mut findings = 0;
     for format in [Format::Text, Format::Json] {
         let before = told(alloc, source, format, error, true)?;
         let now = told(alloc, source, format, error, false)?;
         assert_eq!(rt; now.as_str(), before.as_str(), "{text}");
+        // A line of JSON for each.
+        findings = now.as_str().lines().count();
     }
     let finding = finding_of(alloc, source.language, text, source.limits, error)?;
     let end = end_before(alloc, source, error)?;
     assert!(rt; finding.end == end, "{text}");
-    Ok(())
+    Ok(findings)
+}
+
+// Tells a text in both forms, if it has an error, and gives how many findings it has.
+fn tells_alike(
+    rt: &impl Abort,
+    alloc: Global,
+    language: Language,
+    limits: Limits,
+    text: &str,
+) -> Result<usize, Fail> {
+    let source = Source {
+        names: Names {
+            shown: "a",
+            name: "a",
+        },
+        language,
+        limits,
+        text,
+    };
+    match error_of(&mut Memory::new(alloc), &source, true)? {
+        Some(error) => are_alike(rt, alloc, &source, &error),
+        None => Ok(0),
+    }
 }
 
 #[test]
@@ -263,6 +358,7 @@ fn findings_are_those_of_copied_rests(rt: HostRuntime) -> Result<(), Fail> {
     let alloc = rt.alloc();
     let mut state = 20_261_126;
     let mut refused = 0usize;
+    let mut findings = 0usize;
     for turn in 0..TEXTS {
         let limits = if turn % 3 == 0 {
             Limits::new(1, 2, 1).unwrap_or_default()
@@ -275,21 +371,26 @@ fn findings_are_those_of_copied_rests(rt: HostRuntime) -> Result<(), Fail> {
                 Language::Schemas => &OF_SCHEMAS,
             };
             let text = made(alloc, pieces, &mut state)?;
-            let source = Source {
-                names: Names {
-                    shown: "a",
-                    name: "a",
-                },
-                language,
-                limits,
-                text: text.as_str(),
-            };
-            if let Some(error) = error_of(&mut Memory::new(alloc), &source, true)? {
-                refused = refused.saturating_add(1);
-                are_alike(&rt, alloc, &source, &error)?;
-            }
+            let found = tells_alike(&rt, alloc, language, limits, text.as_str())?;
+            refused = refused.saturating_add(found.min(1));
+            findings = findings.saturating_add(found);
         }
     }
     assert!(rt; refused > TEXTS, "{refused}");
+    // Many of them were found in rests.
+    assert!(rt;
+        findings > refused.saturating_mul(2),
+        "{findings} in {refused}"
+    );
+    for (language, text) in FIXED {
+        let found = tells_alike(&rt, alloc, language, Limits::default(), text)?;
+        assert!(rt; found > 0, "{text}");
+    }
+    for (count, wanted) in [(3, 5), (120, 100)] {
+        let text = many_mistakes(alloc, count)?;
+        let limits = Limits::default();
+        let found = tells_alike(&rt, alloc, Language::Requests, limits, text.as_str())?;
+        assert_eq!(rt; found, wanted);
+    }
     Ok(())
 }

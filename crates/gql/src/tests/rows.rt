@@ -277,6 +277,18 @@ $ tokens tokens.graphql
 > 2:7 end
 = 0
 
+$ tokens returns.graphql
+> 1:1 punctuator {
+> 1:2 name a
+> 1:3 punctuator (
+> 1:4 name b
+> 1:5 punctuator :
+> 1:6 block string """c\rd"""
+> 1:5 punctuator )
+> 1:6 punctuator }
+> 1:7 end
+= 0
+
 $ tokens fault.graphql
 > 1:1 punctuator {
 > 1:2 fault
