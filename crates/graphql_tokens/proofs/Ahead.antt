@@ -91,6 +91,19 @@ skip_other b (c ∷ rest) f l t n =
     let is = first_low b c (c ∷ rest) rest f refl l in
     sym (skip_rest (c ∷ rest) (ap is_ignored is ∙ t, λ e. n (sym is ∙ e)))
 
+name_kept : (b : ℕ) → is_name_start b ≡ true → (b < 128) × (is_ignored b ≡ false) × (b ≢ 35)
+name_kept b t = (grind (arith, nat_tests), grind (arith, nat_tests), λ e. grind (arith, nat_tests))
+
+punct_kept : (b : ℕ) → is_punct b ≡ true → (b < 128) × (is_ignored b ≡ false) × (b ≢ 35)
+punct_kept b t = (grind (arith, nat_tests), grind (arith, nat_tests), λ e. grind (arith, nat_tests))
+
+-- what begins a token isn't ignored
+pub skip_name : (b : ℕ) (text : List ℕ) → IsFirstByte b text → is_name_start b ≡ true → text ≡ skip text
+skip_name b text f t = let k = name_kept b t in skip_other b text f k.0 k.1 k.2
+
+pub skip_punct : (b : ℕ) (text : List ℕ) → IsFirstByte b text → is_punct b ≡ true → text ≡ skip text
+skip_punct b text f t = let k = punct_kept b t in skip_other b text f k.0 k.1 k.2
+
 pub skip_nothing : (text : List ℕ) → text ≡ [] → text ≡ skip text
 skip_nothing text e = e ∙ sym (ap skip e ∙ skip_rest [] tt)
 

@@ -42,17 +42,29 @@ peek_some bytes a i r is l fits =
 pub peek_none : (bytes : List ℕ) (a : RunningPlace) (i : ℕ) → RunsOver bytes a → i ≡ a.walk.offset → length bytes ≤ i → ahead a ≡ []
 peek_none bytes a i r is h = nothing_ahead a (omega (arith, is, ap length r.same))
 
+-- an ASCII character is its byte
+byte_of : (a : RunningPlace) (c : ℕ) (cs : List ℕ) → IsRunning a → ahead a ≡ c ∷ cs → c < 128 → get_or a.walk.text.now a.walk.offset 0 ≡ c
+byte_of a c cs r e l =
+    let bs = a.walk.text.now in
+    let i = a.walk.offset in
+    let is : drop i bs ≡ encode_utf8_all (c ∷ cs) = sym (encodes-chars (drop i bs) (IsUtf8-drop bs i r.reading.utf8 r.reading.boundary)) ∙ ap encode_utf8_all e in
+    ap (λ n. get_or bs n 0) (sym (add-zero i)) ∙ sym (get_or-drop i bs 0 0) ∙ byte_from_char (drop i bs) (encode_utf8_all cs) c is l
+
 pub ascii_ahead : (a : RunningPlace) → IsRunning a → BeginsInAscii (ahead a) → get_or a.walk.text.now a.walk.offset 0 < 128
 ascii_ahead a r h = by (ahead a) refl h
   where
     by : (cs : List ℕ) → ahead a ≡ cs → BeginsInAscii cs → get_or a.walk.text.now a.walk.offset 0 < 128
     by [] e k = absurd k
-    by (c ∷ cs) e k =
-        let bs = a.walk.text.now in
-        let i = a.walk.offset in
-        let is : drop i bs ≡ encode_utf8_all (c ∷ cs) = sym (encodes-chars (drop i bs) (IsUtf8-drop bs i r.reading.utf8 r.reading.boundary)) ∙ ap encode_utf8_all e in
-        let at : get_or bs i 0 ≡ c = ap (λ n. get_or bs n 0) (sym (add-zero i)) ∙ sym (get_or-drop i bs 0 0) ∙ byte_from_char (drop i bs) (encode_utf8_all cs) c is k.0 in
-        omega (arith, at, k.0)
+    by (c ∷ cs) e k = omega (arith, byte_of a c cs r e k.0, k.0)
+
+-- a first byte of an ASCII character, which is that character
+pub first_ahead : (b : ℕ) (a : RunningPlace) → IsRunning a → IsFirstByte b (ahead a) → b < 128 → (ahead a ≢ []) × (get_or a.walk.text.now a.walk.offset 0 ≡ b)
+first_ahead b a r f l = by (ahead a) refl f
+  where
+    by : (cs : List ℕ) → ahead a ≡ cs → IsFirstByte b cs → (ahead a ≢ []) × (get_or a.walk.text.now a.walk.offset 0 ≡ b)
+    by [] e k = absurd k
+    by (c ∷ cs) e (inl k) = ((λ n. absurd (cc)), byte_of a c cs r e (omega (arith, k.1)) ∙ k.1)
+    by (c ∷ cs) e (inr k) = absurd (omega (arith, k.0))
 
 pub some_ascii : (text : List ℕ) → BeginsInAscii text → text ≢ []
 some_ascii [] h e = h

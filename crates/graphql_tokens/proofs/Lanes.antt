@@ -1,9 +1,10 @@
 -- Bytes that are tested sixteen at once: a bit for each that is outside a class.
-use Rattle.std.proofs.Common.{◌≡◌, ℕ, suc, ◌+◌, ◌-◌, ◌*◌, ◌%◌, ◌^◌, ◌<◌, ◌≤◌, Bool, true, false, not, cond, eqb, leb, List, [], ◌∷◌, map, length, drop, Fits, w8, refl, sym, ap, ap₂, ◌∙◌, arith}
+use Rattle.std.proofs.Common.{◌≡◌, ℕ, zero, suc, add-zero, get_or, ◌+◌, ◌-◌, ◌*◌, ◌%◌, ◌^◌, ◌<◌, ◌≤◌, Bool, true, false, not, cond, eqb, leb, List, [], ◌∷◌, map, length, drop, Fits, w8, refl, sym, ap, ap₂, ◌∙◌, arith}
 use Rattle.std.proofs.lemmas.Bool.{agree_below, agree_below_at, eq-eqb, ne_eqb}
 use Rattle.std.proofs.lemmas.List.{length-map}
 use Rattle.std.proofs.lemmas.List.Folds.{prefix_len-append}
-use Rattle.std.proofs.lemmas.List.Sums.{prefix_len-le-length}
+use Rattle.std.proofs.lemmas.List.Sums.{prefix_len-le-length, prefix_len_passes, prefix_len-drop_yes}
+use Rattle.graphql_tokens.proofs.Scan.{get_or-drop_0}
 use Rattle.std.proofs.lemmas.Simd.{map-map, mask_l-mod, chunk-drop, length-chunk, leading_from_mask_l, trailing_mask_l}
 use Rattle.std.specs.List.{prefix_len}
 use lib.Count.{count_trailing_zeros}
@@ -66,3 +67,16 @@ module _ (p : ℕ → Bool) where
         let c = chunk i n bs in
         split ∙ ap (λ b. cond b (length c + prefix_len p (drop (i + n) bs)) (prefix_len p c)) (ne_eqb _ _ (λ (e : prefix_len p c ≡ length c). omega (arith, no_bit c e)))
         ∙ sym (twice c) ∙ sym (trailing_mask_l (is_outside p) 64 c (omega (arith, length-chunk i n bs room)) some)
+
+-- ---- runs that are looked at from a later byte on
+
+  -- from a byte within the run, it ends where it ended
+  pub run_within : (bs : List ℕ) (n start at : ℕ) → start + n ≤ at → at ≤ length bs → start + prefix_len p (drop start bs) ≡ at + prefix_len p (drop at bs)
+      → start + n + prefix_len p (drop (start + n) bs) ≡ start + prefix_len p (drop start bs)
+  run_within bs zero start at le w e = rw (add-zero start) refl
+  run_within bs (suc n) start at le w e =
+      let passes : p (get_or bs start 0) ≡ true = ap p (sym (get_or-drop_0 bs start)) ∙ prefix_len_passes p (drop start bs) 0 0 (omega arith) in
+      let one : prefix_len p (drop start bs) ≡ 1 + prefix_len p (drop (start + 1) bs) = prefix_len-drop_yes p bs start 0 (omega arith) passes in
+      let rest = run_within bs n (start + 1) at (omega arith) w (omega (arith, one, e)) in
+      let same : start + suc n ≡ start + 1 + n = omega arith in
+      rw same (omega (arith, rest, one))

@@ -5,6 +5,7 @@ pub mod BlockEnds
 pub mod BlockIndents
 mod BlockOneLine
 pub mod BlockLines
+mod BlockPlain
 pub mod BlockQuotes
 pub mod BlockSearches
 pub mod BlockTokens

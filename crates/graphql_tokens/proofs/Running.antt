@@ -16,43 +16,45 @@ use Rattle.graphql_tokens.proofs.Places.{line_push, column_push, line_bound}
 
 -- ---- walks
 
-pub walks_at_start : (a : TextWalk) → a.offset ≡ 0 → a.count ≡ 0 → IsUtf8 a.text.now → length a.text.now < 2 ^ 63 → IsWalking a
-walks_at_start a o n u b =
-    let none : chars (take a.offset a.text.now) ≡ [] = ap (λ k. chars (take k a.text.now)) o ∙ chars-nil in
-    record { counted = n ∙ sym (ap length none); boundary = rw o (IsCharBoundary-start a.text.now u); utf8 = u; bound = b }
+pub walks_at_start : (a : TextWalk) → a.offset ≡ 0 → IsUtf8 a.text.now → length a.text.now < 2 ^ 63 → IsWalking a
+walks_at_start a o u b = record { boundary = rw o (IsCharBoundary-start a.text.now u); utf8 = u; bound = b }
 
 pub walks_past : (old new : TextWalk) (c : ℕ) → IsWalking old → new.text.now ≡ old.text.now → Passes c old new → IsWalking new
-walks_past old new c r same p =
-    let bs = old.text.now in
-    let more : chars (take new.offset bs) ≡ chars (take old.offset bs) ++ c ∷ [] = chars_past bs old.offset new.offset c r.utf8 r.boundary p.here p.after in
-    let more_here : chars (take new.offset new.text.now) ≡ chars (take old.offset bs) ++ c ∷ [] = ap (λ t. chars (take new.offset t)) same ∙ more in
-    record {
-      counted = p.counted ∙ ap (λ n. n + 1) r.counted ∙ sym (ap length more_here ∙ length_push (chars (take old.offset bs)) c);
-      boundary = rw same (boundary_past bs old.offset new.offset c r.utf8 r.boundary p.here p.after);
-      utf8 = rw same r.utf8;
-      bound = rw same r.bound;
-    }
+walks_past old new c r same p = record {
+  boundary = rw same (boundary_past old.text.now old.offset new.offset c r.utf8 r.boundary p.here p.after);
+  utf8 = rw same r.utf8;
+  bound = rw same r.bound;
+}
 
 -- no more characters than bytes were passed
-pub count_bound : (a : TextWalk) → IsWalking a → a.count ≤ a.offset
+pub count_bound : (a : TextWalk) → IsWalking a → length (chars (take a.offset a.text.now)) ≤ a.offset
 count_bound a r =
-    omega (arith, r.counted, length-chars (take a.offset a.text.now) (IsUtf8-take a.text.now a.offset r.utf8 r.boundary), length-take a.offset a.text.now)
+    omega (arith, length-chars (take a.offset a.text.now) (IsUtf8-take a.text.now a.offset r.utf8 r.boundary), length-take a.offset a.text.now)
+
+-- one character more was passed
+pub count_past : (old new : TextWalk) (c : ℕ) → IsWalking old → new.text.now ≡ old.text.now → Passes c old new
+    → length (chars (take new.offset new.text.now)) ≡ length (chars (take old.offset old.text.now)) + 1
+count_past old new c r same p =
+    let bs = old.text.now in
+    ap (λ t. length (chars (take new.offset t))) same
+    ∙ ap length (chars_past bs old.offset new.offset c r.utf8 r.boundary p.here p.after)
+    ∙ length_push (chars (take old.offset bs)) c
 
 -- an ASCII character
-pub passes_ascii : (old new : TextWalk) → old.offset < length old.text.now → get_or old.text.now old.offset 0 < 128 → new.offset ≡ old.offset + 1 → new.count ≡ old.count + 1
+pub passes_ascii : (old new : TextWalk) → old.offset < length old.text.now → get_or old.text.now old.offset 0 < 128 → new.offset ≡ old.offset + 1
     → Passes (get_or old.text.now old.offset 0) old new
-passes_ascii old new l h o n =
+passes_ascii old new l h o =
     let bs = old.text.now in
     let i = old.offset in
     let x = get_or bs i 0 in
     let e : drop i bs ≡ encode_utf8 x ++ drop (i + 1) bs = rw (encode_ascii x h, add-one i) (drop-cons bs i 0 l) in
-    record { here = e ∙ ap (λ k. encode_utf8 x ++ drop k bs) (sym o); after = o ∙ ap (λ k. i + k) (sym (len_utf8_ascii x h)); counted = n }
+    record { here = e ∙ ap (λ k. encode_utf8 x ++ drop k bs) (sym o); after = o ∙ ap (λ k. i + k) (sym (len_utf8_ascii x h)) }
 
 -- any character, by its encoding
-pub passes_wide : (old new : TextWalk) (c : ℕ) (rest : List ℕ) → drop old.offset old.text.now ≡ encode_utf8 c ++ rest → new.offset ≡ old.offset + len_utf8 c → new.count ≡ old.count + 1 → Passes c old new
-passes_wide old new c rest e o n =
+pub passes_wide : (old new : TextWalk) (c : ℕ) (rest : List ℕ) → drop old.offset old.text.now ≡ encode_utf8 c ++ rest → new.offset ≡ old.offset + len_utf8 c → Passes c old new
+passes_wide old new c rest e o =
     let rest_is : drop new.offset old.text.now ≡ rest = ap (λ k. drop k old.text.now) o ∙ drop_past_char old.text.now rest old.offset c e in
-    record { here = e ∙ ap (λ x. encode_utf8 c ++ x) (sym rest_is); after = o; counted = n }
+    record { here = e ∙ ap (λ x. encode_utf8 c ++ x) (sym rest_is); after = o }
 
 -- ---- what is ahead
 
@@ -78,13 +80,13 @@ one_past old new c k p at b l = ends_before old.text.now old.offset new.offset a
 
 -- ---- running places
 
-pub runs_at_start : (a : RunningPlace) → IsWalking a.walk → a.walk.offset ≡ 0 → a.line ≡ 1 → a.before ≡ 0 → IsRunning a
+pub runs_at_start : (a : RunningPlace) → IsWalking a.walk → a.walk.offset ≡ 0 → a.line ≡ 1 → a.origin ≡ 0 → IsRunning a
 runs_at_start a r o l b =
     let none : chars (take a.walk.offset a.walk.text.now) ≡ [] = ap (λ k. chars (take k a.walk.text.now)) o ∙ chars-nil in
     record {
       reading = r;
       line = l ∙ sym (ap (λ x. (place_after x).line) none);
-      column = omega (arith, b, ap (λ x. (place_after x).column) none, r.counted, ap length none);
+      column = omega (arith, b, o, ap (λ x. (place_after x).column) none);
     }
 
 -- the line and the column after one character more
@@ -106,9 +108,9 @@ column_past old new c r same p =
     ap (λ t. chars (take new.walk.offset t)) same ∙ chars_past bs old.walk.offset new.walk.offset c k.utf8 k.boundary p.here p.after in
     ap (λ x. (place_after x).column) more ∙ column_push (chars (take old.walk.offset bs)) c
 
--- a character within a line
+-- a character within a line: the origin moves on by the bytes that it takes beside the first
 pub runs_in_line : (old new : RunningPlace) (c : ℕ) → IsRunning old → IsWalking new.walk → new.walk.text.now ≡ old.walk.text.now → Passes c old.walk new.walk
-    → is_in_line c ≡ true → is_line_feed c ≡ false → new.line ≡ old.line → new.before ≡ old.before → IsRunning new
+    → is_in_line c ≡ true → is_line_feed c ≡ false → new.line ≡ old.line → new.origin + (old.walk.offset + 1) ≡ old.origin + new.walk.offset → IsRunning new
 runs_in_line old new c r k same p i f l b =
     let x = line_past old new c r same p in
     let y = column_past old new c r same p in
@@ -116,12 +118,12 @@ runs_in_line old new c r k same p i f l b =
     record {
       reading = k;
       line = l ∙ omega (arith, x, line_stays);
-      column = omega (arith, y, ap (λ v. cond v ((place old.walk.text.now old.walk.offset).column + 1) 1) i, b, r.column, p.counted);
+      column = omega (arith, y, ap (λ v. cond v ((place old.walk.text.now old.walk.offset).column + 1) 1) i, b, r.column);
     }
 
 -- a character that ends a line, or begins its columns anew
 pub runs_anew : (old new : RunningPlace) (c : ℕ) → IsRunning old → IsWalking new.walk → new.walk.text.now ≡ old.walk.text.now → Passes c old.walk new.walk
-    → is_in_line c ≡ false → new.line ≡ old.line + cond (is_line_feed c) 1 0 → new.before ≡ new.walk.count → IsRunning new
+    → is_in_line c ≡ false → new.line ≡ old.line + cond (is_line_feed c) 1 0 → new.origin ≡ new.walk.offset → IsRunning new
 runs_anew old new c r k same p i l b =
     let x = line_past old new c r same p in
     let y = column_past old new c r same p in
@@ -130,6 +132,10 @@ runs_anew old new c r k same p i l b =
       line = l ∙ sym x;
       column = omega (arith, y, ap (λ v. cond v ((place old.walk.text.now old.walk.offset).column + 1) 1) i, b);
     }
+
+-- the origin isn't past the offset
+pub origin_bound : (a : RunningPlace) → IsRunning a → a.origin ≤ a.walk.offset
+origin_bound a r = omega (arith, r.column)
 
 pub running_bound : (a : RunningPlace) → IsRunning a → a.line < 2 ^ 63 + 1
 running_bound a r =

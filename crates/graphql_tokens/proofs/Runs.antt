@@ -24,9 +24,8 @@ use Rattle.graphql_tokens.proofs.Running.{walks_past, passes_ascii, runs_in_line
 use Rattle.graphql_tokens.proofs.Skips.{skip_goes}
 use Rattle.graphql_tokens.proofs.Scan.{IsAlike, span_chars}
 
-same_walk : (a b : TextWalk) → b.text.now ≡ a.text.now → b.offset ≡ a.offset → b.count ≡ a.count → IsWalking a → IsWalking b
-same_walk a b t o c k = record {
-  counted = c ∙ k.counted ∙ ap (λ x. length (chars (take x a.text.now))) (sym o) ∙ ap (λ x. length (chars (take b.offset x))) (sym t);
+same_walk : (a b : TextWalk) → b.text.now ≡ a.text.now → b.offset ≡ a.offset → IsWalking a → IsWalking b
+same_walk a b t o k = record {
   boundary = rw (t, o) k.boundary;
   utf8 = rw t k.utf8;
   bound = rw t k.bound;
@@ -36,28 +35,27 @@ no_feed : (c : ℕ) → is_in_line c ≡ true → is_line_feed c ≡ false
 no_feed c h = grind (arith, nat_tests)
 
 -- one character after another
-pub runs_on : (n : ℕ) (old new : RunningPlace) → IsRunning old → new.walk.text.now ≡ old.walk.text.now → new.walk.offset ≡ old.walk.offset + n → new.walk.count ≡ old.walk.count + n
-    → new.line ≡ old.line → new.before ≡ old.before → old.walk.offset + n ≤ length old.walk.text.now → IsRunOfAscii old.walk.text.now old.walk.offset n → IsRunning new
-runs_on zero old new r t o c l b w a =
+pub runs_on : (n : ℕ) (old new : RunningPlace) → IsRunning old → new.walk.text.now ≡ old.walk.text.now → new.walk.offset ≡ old.walk.offset + n
+    → new.line ≡ old.line → new.origin ≡ old.origin → old.walk.offset + n ≤ length old.walk.text.now → IsRunOfAscii old.walk.text.now old.walk.offset n → IsRunning new
+runs_on zero old new r t o l b w a =
     let same_offset : new.walk.offset ≡ old.walk.offset = omega arith in
-    let same_count : new.walk.count ≡ old.walk.count = omega arith in
     record {
-      reading = same_walk old.walk new.walk t same_offset same_count r.reading;
+      reading = same_walk old.walk new.walk t same_offset r.reading;
       line = l ∙ rw (t, same_offset) r.line;
-      column = rw (t, same_offset, b, same_count) r.column;
+      column = rw (t, same_offset, b) r.column;
     }
-runs_on (suc n) old new r t o c l b w a =
+runs_on (suc n) old new r t o l b w a =
     let bs = old.walk.text.now in
     let i = old.walk.offset in
     let first = a 0 (omega arith) in
     let here : get_or bs (i + 0) 0 ≡ get_or bs i 0 = ap (λ k. get_or bs k 0) (add-zero i) in
-    let mid : RunningPlace = record { walk = record { text = old.walk.text; offset = i + 1; count = old.walk.count + 1 }; line = old.line; before = old.before } in
+    let mid : RunningPlace = record { walk = record { text = old.walk.text; offset = i + 1 }; line = old.line; origin = old.origin } in
     let low : get_or bs i 0 < 128 = omega (arith, here, first.0) in
     let inside : is_in_line (get_or bs i 0) ≡ true = ap is_in_line (sym here) ∙ first.1 in
-    let passes : Passes (get_or bs i 0) old.walk mid.walk = passes_ascii old.walk mid.walk (omega arith) low refl refl in
+    let passes : Passes (get_or bs i 0) old.walk mid.walk = passes_ascii old.walk mid.walk (omega arith) low refl in
     let walks : IsWalking mid.walk = walks_past old.walk mid.walk (get_or bs i 0) r.reading refl passes in
-    let running : IsRunning mid = runs_in_line old mid (get_or bs i 0) r walks refl passes inside (no_feed (get_or bs i 0) inside) refl refl in
-    runs_on n mid new running t (omega arith) (omega arith) l b (omega arith) (λ k h. let e : i + suc k ≡ i + 1 + k = omega arith in rw (← e) (a (suc k) (omega arith)))
+    let running : IsRunning mid = runs_in_line old mid (get_or bs i 0) r walks refl passes inside (no_feed (get_or bs i 0) inside) refl (omega arith) in
+    runs_on n mid new running t (omega arith) l b (omega arith) (λ k h. let e : i + suc k ≡ i + 1 + k = omega arith in rw (← e) (a (suc k) (omega arith)))
 
 -- ---- bytes that pass a test
 

@@ -1,6 +1,7 @@
 -- Inner: what the code keeps and finds, on the way to the public definitions.
 pub mod Blocks
 pub mod ByteClasses
+pub mod Counting
 pub mod Lexer
 pub mod Lexing
 pub mod Numbers

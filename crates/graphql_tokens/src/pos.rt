@@ -192,7 +192,7 @@ impl<'a> Model for PositionCalculator<'a> {
 
     ghost Value = { Calculator };
 
-    ghost use Rattle.graphql_tokens.specs.inner.Running.{IsRunning};
+    ghost use Rattle.graphql_tokens.specs.inner.Counting.{IsCounting};
 
     ghost view = { λ a. record {
       text = a.counted.place.walk.text.now;
@@ -200,7 +200,7 @@ impl<'a> Model for PositionCalculator<'a> {
       walk = a.counted.number;
     } };
 
-    ghost invariant = { λ a. IsRunning a.counted.place };
+    ghost invariant = { λ a. IsCounting a.counted };
 }
 
 impl<'a> PositionCalculator<'a> {

@@ -165,11 +165,12 @@ pub fn block_string_value_in(memory: &mut Memory, raw: &str) -> Result<String, A
         return Ok(value);
     }
     let indent = common_indent(text.as_bytes(), is_later);
-    if indent == 0 && is_plain_text(text.as_bytes()) {
+    let is_plain = is_plain_text(text.as_bytes());
+    if indent == 0 && is_plain {
         return memory.text_of(text);
     }
     let first_indent = if is_later { indent } else { 0 };
     let mut value = memory.text_with_room(text)?;
-    push_lines(memory, &mut value, text, first_indent, indent)?;
+    push_lines(memory, &mut value, text, first_indent, indent, is_plain)?;
     Ok(value)
 }

@@ -9,11 +9,11 @@ use Rattle.graphql_tokens.specs.declared.pos.running.RunningPlace.{RunningPlace}
 abbrev pub ahead : RunningPlace → List ℕ
 ahead a = chars (drop a.walk.offset a.walk.text.now)
 
--- the line is that of the offset, and its column counts from the characters before the line
+-- the line is that of the offset, and its column counts bytes from the origin
 pub record IsRunning (a : RunningPlace) : Type 0 where
   pub reading : IsWalking a.walk
   pub line : a.line ≡ (place a.walk.text.now a.walk.offset).line
-  pub column : a.before + (place a.walk.text.now a.walk.offset).column ≡ a.walk.count + 1
+  pub column : a.origin + (place a.walk.text.now a.walk.offset).column ≡ a.walk.offset + 1
 
 -- the first character is there, is an ASCII one, and ends no line
 abbrev pub BeginsInAscii : List ℕ → Type 0

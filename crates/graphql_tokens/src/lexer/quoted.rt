@@ -84,6 +84,8 @@ pub fn pass_block(bytes: &[u8], places: &mut RunningPlace) -> bool
             if pass_quotes(bytes, places) == 3 {
                 return true;
             }
+        } else if b == b'\n' {
+            places.pass_line_feed();
         } else {
             places.pass_first(b);
             if b == b'\\' {

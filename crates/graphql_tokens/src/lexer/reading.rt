@@ -78,11 +78,13 @@ pub fn pass_ignored(bytes: &[u8], places: &mut RunningPlace)
     while let Some(b) = peek(bytes, places) {
         if b == b' ' {
             places.pass_ascii();
+        } else if CharClass::NameStart.has(b) || CharClass::Punct.has(b) {
+            break;
+        } else if b == b'\n' {
+            places.pass_line_feed();
+            pass_class::<Spaces>(bytes, places);
         } else if CharClass::Ignored.has(b) {
-            let c = places.pass_first(b);
-            if c < ' ' {
-                pass_class::<Spaces>(bytes, places);
-            }
+            places.pass_first(b);
         } else if b == b'#' {
             pass_line(bytes, places);
         } else if b < 0x80 {

@@ -3,7 +3,8 @@
 ghost use Rattle.std.specs.Prelude.{◌≡◌, ◌≢◌, ◌<◌, ◌≤◌, ◌+◌, ℕ, ◌∷◌, [], length, take};
 ghost use Rattle.std.specs.Str.{IsCharBoundary, chars};
 ghost use Rattle.graphql_tokens.specs.tokens.Place.{place};
-ghost use Rattle.graphql_tokens.specs.inner.Running.{ahead, IsRunning};
+ghost use Rattle.graphql_tokens.specs.inner.Running.{ahead};
+ghost use Rattle.graphql_tokens.specs.inner.Counting.{IsCounting};
 
 use super::Pos;
 use super::running::RunningPlace;
@@ -29,6 +30,8 @@ impl Model for WalkNumber {
 #[derive(Debug, Drop)]
 pub struct CountedPlace<'a> {
     place: RunningPlace<'a>,
+    // How many characters were passed.
+    passed: usize,
     number: WalkNumber,
 }
 
@@ -37,10 +40,11 @@ impl<'a> CountedPlace<'a> {
     pub fn new(text: &'a str) -> CountedPlace<'a>
         ensures text { result.place.walk.text.now ≡ text.entry.now }
         ensures start { result.place.walk.offset ≡ 0 }
-        ensures running { IsRunning result.place }
+        ensures counting { IsCounting result }
     {
         CountedPlace {
             place: RunningPlace::new(text),
+            passed: 0,
             number: WalkNumber,
         }
     }
@@ -48,18 +52,19 @@ impl<'a> CountedPlace<'a> {
     // The next character, which is passed and counted.
     #[inline(always)]
     pub fn pass(&mut self) -> char
-        requires running { IsRunning self.old.place }
+        requires counting { IsCounting self.old }
         requires more { ahead self.old.place ≢ [] }
-        ensures running { IsRunning self.new.place }
+        ensures counting { IsCounting self.new }
         ensures same { self.new.place.walk.text.now ≡ self.old.place.walk.text.now }
         ensures walk { self.new.number ≡ self.old.number }
         ensures passed { ahead self.old.place ≡ result ∷ ahead self.new.place }
-        ensures counted { self.new.place.walk.count ≡ self.old.place.walk.count + 1 }
+        ensures counted { self.new.passed ≡ self.old.passed + 1 }
         // No place where a character begins is gone over.
         ensures one { (at : ℕ) → IsCharBoundary self.old.place.walk.text.now at →
             self.old.place.walk.offset < at → self.new.place.walk.offset ≤ at }
         ensures forward { self.old.place.walk.offset < self.new.place.walk.offset }
     {
+        self.passed += 1;
         self.place.pass()
     }
 
@@ -73,17 +78,17 @@ impl<'a> CountedPlace<'a> {
     // How many characters were passed: those before the offset, each once.
     #[inline(always)]
     pub fn count(&self) -> usize
-        requires { IsRunning self.now.place }
-        ensures count { result ≡ self.now.place.walk.count }
+        requires { IsCounting self.now }
+        ensures count { result ≡ self.now.passed }
         ensures once { result ≡ length
             (chars (take self.now.place.walk.offset self.now.place.walk.text.now)) }
     {
-        self.place.count()
+        self.passed
     }
 
     #[inline(always)]
     pub fn pos(&self) -> Pos
-        requires { IsRunning self.now.place }
+        requires { IsCounting self.now }
         ensures { result ≡ place self.now.place.walk.text.now self.now.place.walk.offset }
     {
         self.place.pos()

@@ -5,17 +5,19 @@ ghost use Rattle.std.specs.Str.{IsCharBoundary};
 ghost use Rattle.graphql_tokens.specs.tokens.Place.{place};
 ghost use Rattle.graphql_tokens.specs.inner.Running.{ahead, IsRunning, BeginsInAscii, IsRunOfAscii};
 ghost use Rattle.graphql_tokens.specs.inner.Lexing.{IsFirstByte};
+ghost use Rattle.graphql_tokens.specs.inner.TextWalk.{Passes};
 
 use super::Pos;
 use super::text_walk::TextWalk;
 
-// A walk over a text, with its line and the number of characters before that line: the column needs no
-// number of its own, so passing a character within a line costs no more than passing it.
+// A walk over a text, with its line, and with the offset at which that line would begin if each of its characters up to
+// here took one byte: the column needs no number of its own, so passing an ASCII character within a line costs no more
+// than passing it.
 #[derive(Clone, Copy, Debug)]
 pub struct RunningPlace<'a> {
     walk: TextWalk<'a>,
     line: usize,
-    before: usize,
+    origin: usize,
 }
 
 impl<'a> RunningPlace<'a> {
@@ -27,7 +29,7 @@ impl<'a> RunningPlace<'a> {
         RunningPlace {
             walk: TextWalk::new(text),
             line: 1,
-            before: 0,
+            origin: 0,
         }
     }
 
@@ -42,7 +44,7 @@ impl<'a> RunningPlace<'a> {
     {
         self.walk.go_to(&other.walk);
         self.line = other.line;
-        self.before = other.before;
+        self.origin = other.origin;
     }
 
     #[inline(always)]
@@ -53,20 +55,13 @@ impl<'a> RunningPlace<'a> {
     }
 
     #[inline(always)]
-    pub fn count(&self) -> usize
-        ensures { result ≡ self.now.walk.count }
-    {
-        self.walk.count()
-    }
-
-    #[inline(always)]
     pub fn pos(&self) -> Pos
         requires { IsRunning self.now }
         ensures { result ≡ place self.now.walk.text.now self.now.walk.offset }
     {
         Pos {
             line: self.line,
-            column: self.walk.count() - self.before + 1,
+            column: self.walk.offset() - self.origin + 1,
         }
     }
 
@@ -78,20 +73,22 @@ impl<'a> RunningPlace<'a> {
         ensures running { IsRunning self.new }
         ensures same { self.new.walk.text.now ≡ self.old.walk.text.now }
         ensures passed { ahead self.old ≡ result ∷ ahead self.new }
-        ensures counted { self.new.walk.count ≡ self.old.walk.count + 1 }
+        ensures passes { Passes result self.old.walk self.new.walk }
         // No place where a character begins is gone over.
         ensures one { (at : ℕ) → IsCharBoundary self.old.walk.text.now at →
             self.old.walk.offset < at → self.new.walk.offset ≤ at }
         ensures forward { self.old.walk.offset < self.new.walk.offset }
     {
+        let start = self.walk.offset();
         let c = self.walk.pass();
-        if c <= '\r' {
-            if c == '\n' {
-                self.line += 1;
-                self.before = self.walk.count();
-            } else if c == '\r' {
-                self.before = self.walk.count();
-            }
+        let end = self.walk.offset();
+        if c == '\n' {
+            self.line += 1;
+            self.origin = end;
+        } else if c == '\r' {
+            self.origin = end;
+        } else {
+            self.origin += end - start - 1;
         }
         c
     }
@@ -107,6 +104,21 @@ impl<'a> RunningPlace<'a> {
         ensures forward { self.old.walk.offset < self.new.walk.offset }
     {
         self.walk.pass_ascii();
+    }
+
+    // Passes a line feed, which is next.
+    #[inline(always)]
+    pub fn pass_line_feed(&mut self)
+        requires running { IsRunning self.old }
+        requires feed { IsFirstByte 10 (ahead self.old) }
+        ensures running { IsRunning self.new }
+        ensures same { self.new.walk.text.now ≡ self.old.walk.text.now }
+        ensures passed { ahead self.old ≡ 10 ∷ ahead self.new }
+        ensures forward { self.old.walk.offset < self.new.walk.offset }
+    {
+        self.walk.pass_ascii();
+        self.line += 1;
+        self.origin = self.walk.offset();
     }
 
     // Passes so many ASCII characters that end no line, without a look at them.

@@ -5,13 +5,11 @@ ghost use Rattle.std.specs.Char.{encode_utf8};
 ghost use Rattle.std.specs.Str.{IsCharBoundary};
 ghost use Rattle.graphql_tokens.specs.inner.TextWalk.{IsWalking, Passes};
 
-// The text, how many of its bytes were passed, and how many characters. It hands the text out nowhere. A copy
-// of it goes on by itself, and what a copy passes is counted by that copy alone, unless the walk goes to where it is.
+// The text, and how many of its bytes were passed. It hands the text out nowhere. A copy of it goes on by itself.
 #[derive(Clone, Copy, Debug)]
 pub struct TextWalk<'a> {
     text: &'a str,
     offset: usize,
-    count: usize,
 }
 
 impl<'a> TextWalk<'a> {
@@ -20,11 +18,7 @@ impl<'a> TextWalk<'a> {
         ensures start { result.offset ≡ 0 }
         ensures walking { IsWalking result }
     {
-        TextWalk {
-            text,
-            offset: 0,
-            count: 0,
-        }
+        TextWalk { text, offset: 0 }
     }
 
     // The character at the offset, which is passed.
@@ -39,12 +33,10 @@ impl<'a> TextWalk<'a> {
         let first = self.text.as_bytes()[self.offset];
         if first < 0x80 {
             self.offset += 1;
-            self.count += 1;
             return first as char;
         }
         let c = char_at(self.text, self.offset);
         self.offset += c.len_utf8();
-        self.count += 1;
         c
     }
 
@@ -59,7 +51,6 @@ impl<'a> TextWalk<'a> {
         ensures passes { Passes (get_or self.old.text.now self.old.offset 0) self.old self.new }
     {
         self.offset += 1;
-        self.count += 1;
     }
 
     // Passes so many ASCII characters, without a look at them.
@@ -69,10 +60,8 @@ impl<'a> TextWalk<'a> {
         requires within { self.old.offset + len ≤ length self.old.text.now }
         ensures same { self.new.text.now ≡ self.old.text.now }
         ensures passed { self.new.offset ≡ self.old.offset + len }
-        ensures counted { self.new.count ≡ self.old.count + len }
     {
         self.offset += len;
-        self.count += len;
     }
 
     // Goes to where another walk over the same text is, which isn't written again.
@@ -83,10 +72,8 @@ impl<'a> TextWalk<'a> {
         ensures same { self.new.text.now ≡ self.old.text.now }
         ensures walking { IsWalking self.new }
         ensures offset { self.new.offset ≡ other.now.offset }
-        ensures count { self.new.count ≡ other.now.count }
     {
         self.offset = other.offset;
-        self.count = other.count;
     }
 
     #[inline(always)]
@@ -94,14 +81,6 @@ impl<'a> TextWalk<'a> {
         ensures { result ≡ self.now.offset }
     {
         self.offset
-    }
-
-    // How many characters were passed.
-    #[inline(always)]
-    pub fn count(&self) -> usize
-        ensures { result ≡ self.now.count }
-    {
-        self.count
     }
 }
 

@@ -1,6 +1,6 @@
 //! The lines of a block string.
 
-ghost use Rattle.std.specs.Prelude.{◌≡◌, ◌≤◌, ◌<◌, ◌+◌, ◌++◌, [], false, true, drop, length, IfSome, MatchOption, OnOk, OnErr, string_bytes};
+ghost use Rattle.std.specs.Prelude.{◌≡◌, ◌≤◌, ◌<◌, ◌+◌, ◌-◌, ◌++◌, [], false, true, nat_lt, min, if◌then◌else◌, drop, length, IfSome, MatchOption, OnOk, OnErr, string_bytes};
 ghost use Rattle.graphql_memory.specs.Memory.{Refused};
 ghost use Rattle.std.specs.List.{prefix_len};
 ghost use Rattle.std.specs.Str.{IsUtf8};
@@ -211,8 +211,28 @@ pub fn one_line(text: &str, loses_indent: bool) -> Option<&str>
 }
 
 // Adds the lines of the text, joined by line feeds and without their indent, which is `first_indent` for
-// the first of them.
+// the first of them. In a text that `is_plain` neither a carriage return nor `\"""` stands.
 pub fn push_lines(
+    memory: &mut Memory,
+    value: &mut String,
+    text: &str,
+    first_indent: usize,
+    indent: usize,
+    is_plain: bool,
+) -> Result<(), AllocError>
+    requires { is_plain ≡ true → IsPlainBetween text.now 0 (length text.now) }
+    ensures value { OnOk result (string_bytes value.new ≡ string_bytes value.old ++
+        written first_indent indent (spec.lines_of text.now)) }
+    ensures refused { OnErr result (Refused memory.new) }
+{
+    if is_plain {
+        return push_plain_lines(memory, value, text, first_indent, indent);
+    }
+    push_any_lines(memory, value, text, first_indent, indent)
+}
+
+// The same for any text.
+fn push_any_lines(
     memory: &mut Memory,
     value: &mut String,
     text: &str,
@@ -234,6 +254,49 @@ pub fn push_lines(
         }
         memory.push_char(value, '\n')?;
         at = next_line(bytes, end);
+        here = indent;
+    }
+}
+
+// Where the line from `at` to `end` goes on after its indent, if it has tabs and spaces up to `blanks`. A shorter line keeps
+// them.
+#[inline(always)]
+fn past_indent(at: usize, blanks: usize, end: usize, indent: usize) -> usize
+    requires { at ≤ end }
+    ensures { result ≡ (if nat_lt (end - at) indent then at else min blanks (at + indent)) }
+{
+    if end - at < indent {
+        return at;
+    }
+    blanks.min(at + indent)
+}
+
+// The same for a plain text: each line goes with its line feed.
+fn push_plain_lines(
+    memory: &mut Memory,
+    value: &mut String,
+    text: &str,
+    first_indent: usize,
+    indent: usize,
+) -> Result<(), AllocError>
+    requires { IsPlainBetween text.now 0 (length text.now) }
+    ensures value { OnOk result (string_bytes value.new ≡ string_bytes value.old ++
+        written first_indent indent (spec.lines_of text.now)) }
+    ensures refused { OnErr result (Refused memory.new) }
+{
+    let bytes = text.as_bytes();
+    let mut at = 0;
+    let mut here = first_indent;
+    'lines: loop {
+        let blanks = past_blanks(bytes, at);
+        let end = past_line(bytes, blanks);
+        let from = past_indent(at, blanks, end, here);
+        if end == bytes.len() {
+            memory.push_text(value, &text[from..end])?;
+            return Ok(());
+        }
+        memory.push_text(value, &text[from..end + 1])?;
+        at = end + 1;
         here = indent;
     }
 }

@@ -45,15 +45,28 @@ pub(crate) fn past_run<C: ByteClass>(bytes: &[u8], start: usize) -> usize
         }
         at += LANES;
     }
-    past_last::<C>(bytes, at)
+    past_last::<C>(bytes, start, at)
 }
 
-// The same where fewer bytes are left than are looked at at once.
-fn past_last<C: ByteClass>(bytes: &[u8], start: usize) -> usize
-    requires { start ≤ length bytes.now }
+// The same where the bytes from `start` up to `from` are of the class, and fewer are left than are looked at at once.
+// Where there are enough before them, the last sixteen are looked at, some of them once more.
+fn past_last<C: ByteClass>(bytes: &[u8], start: usize, from: usize) -> usize
+    requires forward { start ≤ from }
+    requires few { length bytes.now < from + 16 }
+    requires within { from ≤ length bytes.now }
+    requires run { start + prefix_len C.has (drop start bytes.now) ≡
+        from + prefix_len C.has (drop from bytes.now) }
     ensures { result ≡ start + prefix_len C.has (drop start bytes.now) }
 {
-    let mut at = start;
+    if from < bytes.len() && from - start >= LANES {
+        let last = bytes.len() - LANES;
+        let outsiders = C::outsiders(u8x16::from_slice(&bytes[last..]));
+        if outsiders == 0 {
+            return bytes.len();
+        }
+        return last + outsiders.trailing_zeros() as usize;
+    }
+    let mut at = from;
     while at < bytes.len() && C::has(bytes[at]) {
         at += 1;
     }

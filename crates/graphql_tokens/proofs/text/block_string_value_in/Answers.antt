@@ -24,8 +24,8 @@ returns-then-is_plain-clause-value c =
     let n = c.common_indent-indent.result in
     let v = code_value _ _ _ _ _ _ _ _ _ c.as_bytes.ensures.value c.in-Some.ensures c.range_from-text.ensures.value c.as_bytes-2.ensures.value c.last_text.ensures
     (c.range-text.ensures.value ∙ whole c.last_text.result c.range_from-text.result.now) c.as_bytes-3.ensures.value c.common_indent-indent.ensures in
-    let k : c.as_bytes-then-indent-eq0.result.now ≡ text = c.as_bytes-then-indent-eq0.ensures.value in
-    let plain : IsPlainBetween text 0 (length text) = subst (λ (x : List ℕ). IsPlainBetween x 0 (length x)) k (c.is_plain.ensures c.if-is_plain.true) in
+    let k : c.as_bytes-4.result.now ≡ text = c.as_bytes-4.ensures.value in
+    let plain : IsPlainBetween text 0 (length text) = subst (λ (x : List ℕ). IsPlainBetween x 0 (length x)) k (c.is_plain-is_plain.ensures c.if-is_plain.true) in
     let is = plain_value raw text c.in-Some.first n c.if-indent-eq0.true plain v in
     IfOk-weaker c.text_of.result (λ s. string_bytes s ≡ text) (λ s. chars (string_bytes s) ≡ block_value (chars raw))
     (λ s e. value_chars raw (string_bytes s) c.utf8.raw (IsUtf8-string_bytes s) (e ∙ sym is)) c.text_of.ensures.text
@@ -72,3 +72,6 @@ returns-in_err-value-clause-empty c = λ empty.
 pub returns-in_err-push_text-clause-empty : goal.returns-in_err-push_text-clause-empty
 returns-in_err-push_text-clause-empty c = λ empty.
     absurd (some_value c.args.raw.now c.as_bytes.result.now c.in-Some.first c.as_bytes.ensures.value c.in-Some.ensures (no_bytes c.args.raw.now c.utf8.raw empty))
+
+pub push_lines-requires : goal.push_lines-requires
+push_lines-requires c = λ is. subst (λ (x : List ℕ). IsPlainBetween x 0 (length x)) c.as_bytes-4.ensures.value (c.is_plain-is_plain.ensures is)

@@ -1,4 +1,4 @@
-use Rattle.std.proofs.Common.{◌≡◌, ◌∷◌, ◌<◌, sym, ap, ◌∙◌, arith}
+use Rattle.std.proofs.Common.{◌≡◌, ◌∷◌, ◌<◌, refl, sym, ap, ◌∙◌, arith}
 use Rattle.graphql_tokens.specs.inner.Quoted.{past_block}
 use Rattle.graphql_tokens.specs.inner.Running.{ahead}
 use Rattle.graphql_tokens.proofs.Ahead.{first_low, first_not}
@@ -24,6 +24,15 @@ loop-b-preserved-else-pass_quotes-eq3 c =
     let q = c.pass_quotes.ensures in
     let few : c.pass_quotes.result < 3 = (let most = q.quotes.most in let other = c.if-pass_quotes-eq3.false in omega arith) in
     record { runs = q.runs; same = sym (block_few c.pass_quotes.result _ _ q.quotes few) ∙ same; forward = omega arith }
+
+pub loop-b-preserved-then-b-eq10 : goal.loop-b-preserved-then-b-eq10
+loop-b-preserved-then-b-eq10 c =
+    let e = c.pass_line_feed.ensures in
+    record {
+      runs = record { running = e.running; same = e.same ∙ c.loop-b.invariant.runs.same };
+      same = sym (ap past_block e.passed ∙ block_other 10 (ahead c.pass_line_feed.new.self) refl refl) ∙ c.loop-b.invariant.same;
+      forward = omega arith;
+    }
 
 pub loop-b-preserved-then-b-eq92 : goal.loop-b-preserved-then-b-eq92
 loop-b-preserved-then-b-eq92 c =

@@ -1,10 +1,11 @@
-use Rattle.std.proofs.Common.{length, sym, ap, ◌∙◌, arith}
+use Rattle.std.proofs.Common.{◌≡◌, length, sym, ap, ◌∙◌, arith}
 use Rattle.graphql_tokens.specs.tokens.Classes.{is_ignored}
 use Rattle.graphql_tokens.specs.inner.Reading.{skip}
 use Rattle.graphql_tokens.specs.inner.Running.{ahead}
-use Rattle.graphql_tokens.proofs.Ahead.{skip_blank, skip_hash, hash_shorter, skip_mark, skip_wide, skip_other, skip_nothing}
+use Rattle.graphql_tokens.proofs.Ahead.{skip_blank, skip_hash, hash_shorter, skip_mark, skip_wide, skip_name, skip_punct, skip_other, skip_nothing}
 use Rattle.graphql_tokens.proofs.Runs.{space_run}
 use Rattle.graphql_tokens.proofs.lexer.reading.pass_ignored.Goals as goal
+use Rattle.graphql_tokens.proofs.lexer.reading.pass_ignored.Goals.{then-has, else-has}
 
 pub loop-b-preserved-then-b-eq32 : goal.loop-b-preserved-then-b-eq32
 loop-b-preserved-then-b-eq32 c =
@@ -16,24 +17,24 @@ loop-b-preserved-then-b-eq32 c =
       forward = omega arith;
     }
 
-pub loop-b-preserved-then-c-lt32 : goal.loop-b-preserved-then-c-lt32
-loop-b-preserved-then-c-lt32 c =
+pub loop-b-preserved-then-b-eq10 : goal.loop-b-preserved-then-b-eq10
+loop-b-preserved-then-b-eq10 c =
     let v = c.loop-b.invariant in
-    let first = c.pass_first-c.ensures in
+    let feed = c.pass_line_feed.ensures in
     let spaces = c.pass_class.ensures in
     record {
       runs = spaces.runs;
-      same = ap skip spaces.rest ∙ space_run _ ∙ skip_blank c.in-Some.b c.pass_first-c.result _ _ c.in-Some.ensures first.passed (sym c.has.ensures ∙ c.if-has.true) ∙ v.same;
+      same = ap skip spaces.rest ∙ space_run _ ∙ skip_blank c.in-Some.b 10 _ _ c.in-Some.ensures feed.passed (ap is_ignored c.if-b-eq10.true) ∙ v.same;
       forward = omega arith;
     }
 
-pub loop-b-preserved-else-c-lt32 : goal.loop-b-preserved-else-c-lt32
-loop-b-preserved-else-c-lt32 c =
+pub loop-b-preserved-then-has-3 : goal.loop-b-preserved-then-has-3
+loop-b-preserved-then-has-3 c =
     let v = c.loop-b.invariant in
-    let e = c.pass_first-c.ensures in
+    let e = c.pass_first.ensures in
     record {
       runs = record { running = e.running; same = e.same ∙ v.runs.same };
-      same = skip_blank c.in-Some.b c.pass_first-c.result _ _ c.in-Some.ensures e.passed (sym c.has.ensures ∙ c.if-has.true) ∙ v.same;
+      same = skip_blank c.in-Some.b c.pass_first.result _ _ c.in-Some.ensures e.passed (sym c.has-else-b-eq10.ensures ∙ c.if-has-3.true) ∙ v.same;
       forward = omega arith;
     }
 
@@ -62,7 +63,7 @@ loop-b-preserved c =
 
 pub returns-then-b-lt128-clause-rest : goal.returns-then-b-lt128-clause-rest
 returns-then-b-lt128-clause-rest c =
-    skip_other c.in-Some.b _ c.in-Some.ensures c.if-b-lt128.true (sym c.has.ensures ∙ c.if-has.false) c.if-b-eq35.false ∙ c.loop-b.invariant.same
+    skip_other c.in-Some.b _ c.in-Some.ensures c.if-b-lt128.true (sym c.has-else-b-eq10.ensures ∙ c.if-has-3.false) c.if-b-eq35.false ∙ c.loop-b.invariant.same
 
 pub returns-then-pass-ne65279-clause-rest : goal.returns-then-pass-ne65279-clause-rest
 returns-then-pass-ne65279-clause-rest c =
@@ -70,3 +71,12 @@ returns-then-pass-ne65279-clause-rest c =
 
 pub returns-in_default-clause-rest : goal.returns-in_default-clause-rest
 returns-in_default-clause-rest c = skip_nothing _ c.in_default.ensures ∙ c.loop-b.invariant.same
+
+pub returns-then-has-2-clause-rest : goal.returns-then-has-2-clause-rest
+returns-then-has-2-clause-rest c = kept ∙ c.loop-b.invariant.same
+  where
+    kept : ahead c.loop-b.places ≡ skip (ahead c.loop-b.places)
+    kept = elim c.if-has.branch [
+      | then-has w ↦ skip_name c.in-Some.b _ c.in-Some.ensures (sym c.has.ensures ∙ w.if-has.true)
+      | else-has w ↦ skip_punct c.in-Some.b _ c.in-Some.ensures (sym w.has-else-has.ensures ∙ sym w.value-is ∙ c.if-has-2.true)
+    ]

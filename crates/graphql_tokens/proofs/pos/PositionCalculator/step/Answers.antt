@@ -7,4 +7,4 @@ pass-requires-clause-more c =
     let v = c.loop-self.invariant in
     let a = c.loop-self.self-inside.counted.place in
     let l : a.walk.offset < length a.walk.text.now = omega (arith, ap length v.same, c.requires.boundary.0) in
-    ahead_some a v.running l
+    ahead_some a v.counting.running l

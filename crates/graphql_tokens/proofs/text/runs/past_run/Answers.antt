@@ -22,9 +22,12 @@ returns-then-outsiders-ne0-clause-within g c =
 pub loop-at-preserved : goal.loop-at-preserved
 loop-at-preserved g c =
     let on = run_goes_on g.C.ByteClass.has c.args.bytes.now c.loop-at.at 16 (omega arith) (omega (arith, c.outsiders-outsiders.ensures)) in
-    (omega (arith, on, c.loop-at.invariant.0), omega arith)
+    (omega (arith, on, c.loop-at.invariant.0), omega arith, omega (arith, c.loop-at.invariant.2))
 
 pub returns-clause-within : goal.returns-clause-within
 returns-clause-within g c =
     let has = g.C.ByteClass.has in
-    omega (arith, c.past_last.ensures, prefix_len-le-length has (drop c.loop-at.at c.args.bytes.now), length-drop c.loop-at.at c.args.bytes.now)
+    omega (arith, c.past_last.ensures, c.loop-at.invariant.0, prefix_len-le-length has (drop c.loop-at.at c.args.bytes.now), length-drop c.loop-at.at c.args.bytes.now)
+
+pub past_last-requires-clause-forward : goal.past_last-requires-clause-forward
+past_last-requires-clause-forward g c = c.loop-at.invariant.2

@@ -5,7 +5,7 @@ use Rattle.graphql_tokens.specs.tokens.BlockText.{lines_of, unquoted}
 use Rattle.graphql_tokens.specs.inner.Blocks.{cleaned, trimmed, written}
 use Rattle.graphql_tokens.proofs.BlockLines.{line_boundary, line_end_of, end_boundary}
 use Rattle.graphql_tokens.proofs.BlockWritten.{written_end, written_step}
-use Rattle.graphql_tokens.proofs.text.block.push_lines.Goals as goal
+use Rattle.graphql_tokens.proofs.text.block.push_any_lines.Goals as goal
 
 pub lines-init : goal.lines-init
 lines-init c = record { within = omega arith; boundary = IsCharBoundary-start c.as_bytes-bytes.result.now c.as_bytes-bytes.ensures.utf8; rest = refl }
