@@ -7,6 +7,7 @@ ghost use Rattle.std.proofs.Common.{rules};
 
 mod counted;
 pub(crate) mod running;
+mod shown;
 mod text_walk;
 
 use counted::CountedPlace;

@@ -8,6 +8,8 @@ ghost use Rattle.graphql_tokens.specs.inner.Counting.{IsCounting};
 
 use super::Pos;
 use super::running::RunningPlace;
+use super::shown;
+use std::fmt;
 use std::marker::Model;
 
 // Which walk over a text it is: a number for clauses alone, which takes no memory. `CountedPlace::new` says
@@ -27,7 +29,7 @@ impl Model for WalkNumber {
 // A running place that is neither `Copy` nor `Clone`. It holds the only text that a calculator has, and hands it
 // out nowhere. Its one changing call passes one character and counts it. So whoever holds a counted place can't
 // pass a character without a count, and can't go back in the text.
-#[derive(Debug, Drop)]
+#[derive(Drop)]
 pub struct CountedPlace<'a> {
     place: RunningPlace<'a>,
     // How many characters were passed.
@@ -92,5 +94,15 @@ impl<'a> CountedPlace<'a> {
         ensures { result ≡ place self.now.place.walk.text.now self.now.place.walk.offset }
     {
         self.place.pos()
+    }
+}
+
+impl fmt::Debug for CountedPlace<'_> {
+    fn fmt<W: fmt::Write>(&self, f: &mut fmt::Formatter<W>) -> fmt::Result {
+        let shown = shown::CountedPlace {
+            place: &self.place,
+            number: &self.number,
+        };
+        shown.fmt(f)
     }
 }

@@ -8,12 +8,14 @@ ghost use Rattle.graphql_tokens.specs.inner.Lexing.{IsFirstByte};
 ghost use Rattle.graphql_tokens.specs.inner.TextWalk.{Passes};
 
 use super::Pos;
+use super::shown;
 use super::text_walk::TextWalk;
+use std::fmt;
 
 // A walk over a text, with its line, and with the offset at which that line would begin if each of its characters up to
 // here took one byte: the column needs no number of its own, so passing an ASCII character within a line costs no more
 // than passing it.
-#[derive(Clone, Copy, Debug)]
+#[derive(Clone, Copy)]
 pub struct RunningPlace<'a> {
     walk: TextWalk<'a>,
     line: usize,
@@ -150,5 +152,19 @@ impl<'a> RunningPlace<'a> {
             return b as char;
         }
         self.pass()
+    }
+}
+
+impl fmt::Debug for RunningPlace<'_> {
+    fn fmt<W: fmt::Write>(&self, f: &mut fmt::Formatter<W>) -> fmt::Result {
+        let walk = self.walk.shown();
+        let in_line = self.walk.offset().wrapping_sub(self.origin);
+        let before = walk.count.wrapping_sub(in_line);
+        let shown = shown::RunningPlace {
+            walk,
+            line: self.line,
+            before,
+        };
+        shown.fmt(f)
     }
 }

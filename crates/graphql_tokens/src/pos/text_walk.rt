@@ -5,8 +5,10 @@ ghost use Rattle.std.specs.Char.{encode_utf8};
 ghost use Rattle.std.specs.Str.{IsCharBoundary};
 ghost use Rattle.graphql_tokens.specs.inner.TextWalk.{IsWalking, Passes};
 
+use super::shown::{self, chars_before};
+
 // The text, and how many of its bytes were passed. It hands the text out nowhere. A copy of it goes on by itself.
-#[derive(Clone, Copy, Debug)]
+#[derive(Clone, Copy)]
 pub struct TextWalk<'a> {
     text: &'a str,
     offset: usize,
@@ -62,6 +64,15 @@ impl<'a> TextWalk<'a> {
         ensures passed { self.new.offset ≡ self.old.offset + len }
     {
         self.offset += len;
+    }
+
+    // The walk as it is shown.
+    pub fn shown(&self) -> shown::TextWalk<'a> {
+        shown::TextWalk {
+            text: self.text,
+            offset: self.offset,
+            count: chars_before(self.text, self.offset),
+        }
     }
 
     // Goes to where another walk over the same text is, which isn't written again.
