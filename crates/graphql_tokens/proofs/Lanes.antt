@@ -68,7 +68,7 @@ module _ (p : ℕ → Bool) where
         split ∙ ap (λ b. cond b (length c + prefix_len p (drop (i + n) bs)) (prefix_len p c)) (ne_eqb _ _ (λ (e : prefix_len p c ≡ length c). omega (arith, no_bit c e)))
         ∙ sym (twice c) ∙ sym (trailing_mask_l (is_outside p) 64 c (omega (arith, length-chunk i n bs room)) some)
 
--- ---- runs that are looked at from a later byte on
+  -- ---- runs that are looked at from a later byte on
 
   -- from a byte within the run, it ends where it ended
   pub run_within : (bs : List ℕ) (n start at : ℕ) → start + n ≤ at → at ≤ length bs → start + prefix_len p (drop start bs) ≡ at + prefix_len p (drop at bs)

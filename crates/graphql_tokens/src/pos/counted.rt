@@ -6,9 +6,8 @@ ghost use Rattle.graphql_tokens.specs.tokens.Place.{place};
 ghost use Rattle.graphql_tokens.specs.inner.Running.{ahead};
 ghost use Rattle.graphql_tokens.specs.inner.Counting.{IsCounting};
 
-use super::Pos;
 use super::running::RunningPlace;
-use super::shown;
+use super::{Pos, shown};
 use std::fmt;
 use std::marker::Model;
 

@@ -7,9 +7,8 @@ ghost use Rattle.graphql_tokens.specs.inner.Running.{ahead, IsRunning, BeginsInA
 ghost use Rattle.graphql_tokens.specs.inner.Lexing.{IsFirstByte};
 ghost use Rattle.graphql_tokens.specs.inner.TextWalk.{Passes};
 
-use super::Pos;
-use super::shown;
 use super::text_walk::TextWalk;
+use super::{Pos, shown};
 use std::fmt;
 
 // A walk over a text, with its line, and with the offset at which that line would begin if each of its characters up to

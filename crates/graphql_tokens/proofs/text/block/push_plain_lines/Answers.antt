@@ -6,7 +6,7 @@ use Rattle.std.proofs.lemmas.Str.{IsCharBoundary-start, IsCharBoundary-after_asc
 use Rattle.graphql_tokens.specs.tokens.Place.{is_in_line}
 use Rattle.graphql_tokens.specs.tokens.BlockText.{is_blank_char, lines_of}
 use Rattle.graphql_tokens.specs.inner.Blocks.{end_len, cleaned, written, IsPlainBetween}
-use Rattle.graphql_tokens.proofs.BlockLines.{blank_boundary, line_boundary, line_from_blanks}
+use Rattle.graphql_tokens.proofs.BlockLines.{blank_boundary, line_from_blanks}
 use Rattle.graphql_tokens.proofs.BlockPlain.{Cut, cut, plain_line, plain_end, with_feed}
 use Rattle.graphql_tokens.proofs.BlockWritten.{written_end, written_step}
 use Rattle.graphql_tokens.proofs.text.block.push_plain_lines.Goals as goal

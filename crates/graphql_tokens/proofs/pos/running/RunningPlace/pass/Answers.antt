@@ -2,7 +2,7 @@ use Rattle.std.proofs.Common.{◌≡◌, ◌+◌, true, false, cond, refl, arith
 use Rattle.std.proofs.lemmas.Bool.Decides.{nat_tests}
 use Rattle.std.proofs.lemmas.Str.{len_utf8_bounds}
 use Rattle.graphql_tokens.specs.tokens.Place.{is_line_feed, is_in_line}
-use Rattle.graphql_tokens.proofs.Running.{some_ahead, ahead_past, one_past, runs_in_line, runs_anew, running_bound, origin_bound}
+use Rattle.graphql_tokens.proofs.Running.{some_ahead, ahead_past, one_past, runs_in_line, runs_anew, running_bound}
 use Rattle.graphql_tokens.proofs.pos.running.RunningPlace.pass.Goals as goal
 
 pub pass-c-requires-clause-more : goal.pass-c-requires-clause-more

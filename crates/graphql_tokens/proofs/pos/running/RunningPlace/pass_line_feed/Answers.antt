@@ -1,7 +1,5 @@
-use Rattle.std.proofs.Common.{◌≡◌, ◌∷◌, refl, subst, ap, ◌∙◌, arith}
-use Rattle.graphql_tokens.specs.tokens.Place.{is_line_feed, is_in_line}
+use Rattle.std.proofs.Common.{refl, arith}
 use Rattle.graphql_tokens.specs.inner.TextWalk.{Passes}
-use Rattle.graphql_tokens.specs.inner.Running.{ahead}
 use Rattle.graphql_tokens.proofs.FirstBytes.{first_ahead}
 use Rattle.graphql_tokens.proofs.Running.{some_ahead, ahead_past, runs_anew, running_bound}
 use Rattle.graphql_tokens.proofs.pos.running.RunningPlace.pass_line_feed.Goals as goal
