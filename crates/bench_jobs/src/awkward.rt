@@ -267,7 +267,8 @@ pub fn read_awkward(
     Ok(())
 }
 
-fn tell(
+/// Adds the report of an error.
+pub fn tell(
     alloc: Global,
     language: Language,
     text: &str,

@@ -1,6 +1,7 @@
 //! The jobs.
 use crate::awkward::{awkward_texts, read_awkward};
 use crate::digest::Digest;
+use crate::mistaken::{mistaken_texts, report};
 use crate::random::Random;
 use crate::request_texts::{long_request_of, request_of};
 use crate::schema_texts::schema_of;
@@ -19,6 +20,7 @@ pub enum Job {
     Checks,
     Trees,
     Awkward,
+    Reports,
 }
 
 /// What a text is.
@@ -40,6 +42,16 @@ pub fn digest_of(alloc: Global, job: Job, seed: u64, rounds: u32) -> Result<u64,
             for text in &mut texts {
                 text.stamped.change(&mut random);
                 read_awkward(alloc, text, &mut digest)?;
+            }
+        }
+        return Ok(digest.number());
+    }
+    if job == Job::Reports {
+        let mut texts = mistaken_texts(alloc, &mut random)?;
+        for _ in 0..rounds {
+            for text in &mut texts {
+                text.stamped.change(&mut random);
+                report(alloc, text, &mut digest)?;
             }
         }
         return Ok(digest.number());
@@ -76,7 +88,7 @@ fn requests_of(alloc: Global, job: Job, random: &mut Random) -> Result<Texts, Al
 fn schemas_of(alloc: Global, job: Job, random: &mut Random) -> Result<Texts, AllocError> {
     let mut texts = no_texts(alloc);
     let sizes: &[usize] = match job {
-        Job::Requests | Job::Awkward => &[],
+        Job::Requests | Job::Awkward | Job::Reports => &[],
         Job::Schemas => &[50_000, 80_000, 120_000, 200_000, 300_000, 1_200_000],
         Job::Checks => &[50_000, 120_000, 300_000],
         Job::Trees => &[50_000, 150_000],
