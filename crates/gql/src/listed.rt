@@ -35,7 +35,7 @@ fn kind_name(kind: TokenKind) -> &'static str {
 }
 
 fn push_in_one_line(out: &mut String, text: &str) -> Result<(), AllocError> {
-    if !text.contains(|c: char| c == '\n' || c == '\r') {
+    if !text.contains(['\n', '\r']) {
         return out.push_str(text);
     }
     for c in text.chars() {

@@ -203,10 +203,7 @@ impl<'a> Source<'a> {
             Some(Error::MultipleOperations { .. }) => Ok(None),
             Some(Error::Syntax { start, .. }) => Ok(Some(Error::Syntax {
                 message: String::new(alloc),
-                start: Pos {
-                    line: start.line.saturating_add(from.line.saturating_sub(1)),
-                    column: start.column,
-                },
+                start: from.place_in_text(start),
                 end: None,
             })),
             other => Ok(other),

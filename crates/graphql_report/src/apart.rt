@@ -7,6 +7,7 @@ ghost use Rattle.graphql_report.specs.inner.Parted.{BeginsDefinition, IsApart};
 
 use crate::definitions::{BEFORE_NAMES, depth_after, first_of};
 use crate::fronts::{Language, is_whole};
+use crate::hints::begins_in_schemas;
 use crate::probes::line_of;
 use crate::refused::split;
 use graphql_parser::lexer::{Token, Tokens};
@@ -16,19 +17,6 @@ use graphql_reading::production::Production;
 use graphql_requests::definitions::Definition;
 use graphql_schemas::definitions::is_at_definition;
 use std::alloc::{AllocError, Global};
-
-// What a definition of a schema file begins with, but for its description.
-const KEYWORDS: [&str; 9] = [
-    "directive",
-    "enum",
-    "extend",
-    "input",
-    "interface",
-    "scalar",
-    "schema",
-    "type",
-    "union",
-];
 
 /// A front in two parts, of which the second begins with the line on which the last definition begins, where the tokens tell
 /// that; else the first part may be empty. Nothing hangs on what the tokens tell: `is_apart` judges the parts.
@@ -66,7 +54,7 @@ fn is_start(language: Language, before: Option<Token<'_>>, token: &Token<'_>) ->
         Language::Requests => text_before == "}",
         Language::Schemas => {
             token.kind.is_name()
-                && KEYWORDS.contains(&token.text)
+                && begins_in_schemas(token.text)
                 && !BEFORE_NAMES.contains(&text_before)
         }
     }

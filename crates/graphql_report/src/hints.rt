@@ -43,6 +43,11 @@ const EXTENDED: [&str; 7] = [
     "union",
 ];
 
+/// Whether a definition of a schema file may begin with the word, but for its description.
+pub fn begins_in_schemas(word: &str) -> bool {
+    EXTENDED.contains(&word) || word == "extend" || word == "directive"
+}
+
 // What a definition of a request begins with.
 const OF_REQUESTS: [&str; 5] = ["{", "fragment", "mutation", "query", "subscription"];
 
@@ -105,8 +110,7 @@ fn is_of_other_language(language: Language, token: &Token<'_>, expected: &[&'sta
     match language {
         Language::Requests => {
             let is_description = matches!(token.kind, TokenKind::String | TokenKind::Block);
-            let is_keyword = EXTENDED.contains(&word) || word == "extend" || word == "directive";
-            expects(expected, "\"fragment\"") && (is_description || is_keyword)
+            expects(expected, "\"fragment\"") && (is_description || begins_in_schemas(word))
         }
         // A brace may be meant for the definition before it, where there is one.
         Language::Schemas => {

@@ -30,16 +30,21 @@ impl ReadFrom {
         }
     }
 
+    /// The place in the whole text that is this place in the rest of the text.
+    pub fn place_in_text(self, place: Pos) -> Pos {
+        Pos {
+            line: place.line.saturating_add(self.line.saturating_sub(1)),
+            column: place.column,
+        }
+    }
+
     // A token of the rest of the text, with its offset and its place in the whole text.
     fn moved(self, token: Token<'_>) -> Token<'_> {
         Token {
             kind: token.kind,
             text: token.text,
             start: token.start.saturating_add(self.offset),
-            pos: Pos {
-                line: token.pos.line.saturating_add(self.line.saturating_sub(1)),
-                column: token.pos.column,
-            },
+            pos: self.place_in_text(token.pos),
         }
     }
 }
