@@ -1,4 +1,5 @@
 //! Places: what a calculator gives for offsets that never fall.
+use graphql_tokens::lexer::Tokens;
 use graphql_tokens::pos::PositionCalculator;
 use rows::{Shown, pair};
 use std::alloc::Global;
@@ -30,6 +31,25 @@ fn shown(alloc: Global, offsets: &str, text: &str) -> Result<String, Fail> {
 #[test]
 fn nothing_is_gone_over_at_first(rt: HostRuntime) {
     assert_eq!(rt; PositionCalculator::new("a").stepped(), 0);
+}
+
+#[test]
+fn a_place_is_shown_with_the_characters_passed(rt: HostRuntime) -> Result<(), Fail> {
+    let mut tokens = Tokens::new("# é\nab c");
+    let _name = tokens.next();
+    let shown = format!(in rt.alloc(); "{tokens:?}")?;
+    assert_eq!(rt;
+        shown.as_str(),
+        "Tokens { text: \"# é\\nab c\", places: RunningPlace { walk: TextWalk { text: \"# é\\nab c\", offset: 7, count: 6 }, line: 2, before: 4 }, taken: 1, last: Name }"
+    );
+    let mut calculator = PositionCalculator::new("a\ré\nb");
+    let _place = calculator.step(5);
+    let shown = format!(in rt.alloc(); "{calculator:?}")?;
+    assert_eq!(rt;
+        shown.as_str(),
+        "PositionCalculator { counted: CountedPlace { place: RunningPlace { walk: TextWalk { text: \"a\\ré\\nb\", offset: 5, count: 4 }, line: 2, before: 4 }, number: WalkNumber } }"
+    );
+    Ok(())
 }
 
 /// Offsets in a text, and their places.
