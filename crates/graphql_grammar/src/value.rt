@@ -35,7 +35,7 @@ pub fn read_value<V: Literal>(parser: &mut Parser, limits: Limits) -> Reading<Po
     Ok(Positioned::new(read_simple(parser)?, pos))
 }
 
-// The same for any value.
+// Reads any value, as `read_value` does.
 #[inline(never)]
 fn read_nested<V: Literal>(parser: &mut Parser, limits: Limits) -> Reading<Positioned<V>>
     ensures { Gives (placed V.tree) result parser.old parser.new

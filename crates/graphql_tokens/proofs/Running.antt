@@ -133,10 +133,6 @@ runs_anew old new c r k same p i l b =
       column = omega (arith, y, ap (λ v. cond v ((place old.walk.text.now old.walk.offset).column + 1) 1) i, b);
     }
 
--- the origin isn't past the offset
-pub origin_bound : (a : RunningPlace) → IsRunning a → a.origin ≤ a.walk.offset
-origin_bound a r = omega (arith, r.column)
-
 pub running_bound : (a : RunningPlace) → IsRunning a → a.line < 2 ^ 63 + 1
 running_bound a r =
     let bs = a.walk.text.now in

@@ -86,7 +86,7 @@ fn read_rest(
     Ok(place)
 }
 
-// The same for a field with arguments or directives, which is mostly not so.
+// What `read_rest` reads of a field without an alias that has arguments or directives: few have any.
 #[inline(never)]
 fn read_given(
     parser: &mut Parser,

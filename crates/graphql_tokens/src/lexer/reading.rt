@@ -84,7 +84,10 @@ pub fn pass_ignored(bytes: &[u8], places: &mut RunningPlace)
             places.pass_line_feed();
             pass_class::<Spaces>(bytes, places);
         } else if CharClass::Ignored.has(b) {
-            places.pass_first(b);
+            let c = places.pass_first(b);
+            if c < ' ' {
+                pass_class::<Spaces>(bytes, places);
+            }
         } else if b == b'#' {
             pass_line(bytes, places);
         } else if b < 0x80 {

@@ -11,9 +11,9 @@ use super::text_walk::TextWalk;
 use super::{Pos, shown};
 use std::fmt;
 
-// A walk over a text, with its line, and with the offset at which that line would begin if each of its characters up to
-// here took one byte: the column needs no number of its own, so passing an ASCII character within a line costs no more
-// than passing it.
+// A walk over a text, with its line, and with the offset at which the columns would begin if each character since then
+// took one byte: the column needs no number of its own, so passing an ASCII character within a line costs no more than
+// passing it.
 #[derive(Clone, Copy)]
 pub struct RunningPlace<'a> {
     walk: TextWalk<'a>,
@@ -156,13 +156,11 @@ impl<'a> RunningPlace<'a> {
 
 impl fmt::Debug for RunningPlace<'_> {
     fn fmt<W: fmt::Write>(&self, f: &mut fmt::Formatter<W>) -> fmt::Result {
-        let walk = self.walk.shown();
         let in_line = self.walk.offset().wrapping_sub(self.origin);
-        let before = walk.count.wrapping_sub(in_line);
         let shown = shown::RunningPlace {
-            walk,
+            walk: &self.walk,
             line: self.line,
-            before,
+            before: self.walk.shown_count().wrapping_sub(in_line),
         };
         shown.fmt(f)
     }

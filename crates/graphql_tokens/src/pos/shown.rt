@@ -8,10 +8,10 @@ pub struct TextWalk<'a> {
     pub count: usize,
 }
 
-// A place, and how many of the characters passed stand before its line.
+// A place, and how many of the characters passed stand before its columns begin.
 #[derive(Debug, Drop)]
-pub struct RunningPlace<'a> {
-    pub walk: TextWalk<'a>,
+pub struct RunningPlace<'a, W> {
+    pub walk: &'a W,
     pub line: usize,
     pub before: usize,
 }
@@ -21,15 +21,4 @@ pub struct RunningPlace<'a> {
 pub struct CountedPlace<'a, P, N> {
     pub place: &'a P,
     pub number: &'a N,
-}
-
-// How many characters begin before the offset.
-pub fn chars_before(text: &str, offset: usize) -> usize {
-    let mut count = 0usize;
-    for byte in text.as_bytes().iter().take(offset) {
-        if byte & 0xC0 != 0x80 {
-            count = count.saturating_add(1);
-        }
-    }
-    count
 }

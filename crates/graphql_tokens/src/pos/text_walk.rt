@@ -5,7 +5,8 @@ ghost use Rattle.std.specs.Char.{encode_utf8};
 ghost use Rattle.std.specs.Str.{IsCharBoundary};
 ghost use Rattle.graphql_tokens.specs.inner.TextWalk.{IsWalking, Passes};
 
-use super::shown::{self, chars_before};
+use super::shown;
+use std::fmt;
 
 // The text, and how many of its bytes were passed. It hands the text out nowhere. A copy of it goes on by itself.
 #[derive(Clone, Copy)]
@@ -66,13 +67,15 @@ impl<'a> TextWalk<'a> {
         self.offset += len;
     }
 
-    // The walk as it is shown.
-    pub fn shown(&self) -> shown::TextWalk<'a> {
-        shown::TextWalk {
-            text: self.text,
-            offset: self.offset,
-            count: chars_before(self.text, self.offset),
+    // How many characters begin before the offset: for `Debug`, which alone counts them.
+    pub fn shown_count(&self) -> usize {
+        let mut count = 0usize;
+        for byte in self.text.as_bytes().iter().take(self.offset) {
+            if byte & 0xC0 != 0x80 {
+                count = count.saturating_add(1);
+            }
         }
+        count
     }
 
     // Goes to where another walk over the same text is, which isn't written again.
@@ -92,6 +95,17 @@ impl<'a> TextWalk<'a> {
         ensures { result ≡ self.now.offset }
     {
         self.offset
+    }
+}
+
+impl fmt::Debug for TextWalk<'_> {
+    fn fmt<W: fmt::Write>(&self, f: &mut fmt::Formatter<W>) -> fmt::Result {
+        let shown = shown::TextWalk {
+            text: self.text,
+            offset: self.offset,
+            count: self.shown_count(),
+        };
+        shown.fmt(f)
     }
 }
 

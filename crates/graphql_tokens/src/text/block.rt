@@ -231,7 +231,7 @@ pub fn push_lines(
     push_any_lines(memory, value, text, first_indent, indent)
 }
 
-// The same for any text.
+// Adds the lines of any text, as `push_lines` does.
 fn push_any_lines(
     memory: &mut Memory,
     value: &mut String,
@@ -271,7 +271,7 @@ fn past_indent(at: usize, blanks: usize, end: usize, indent: usize) -> usize
     blanks.min(at + indent)
 }
 
-// The same for a plain text: each line goes with its line feed.
+// Adds the lines of a plain text, as `push_lines` does: each goes with its line feed.
 fn push_plain_lines(
     memory: &mut Memory,
     value: &mut String,

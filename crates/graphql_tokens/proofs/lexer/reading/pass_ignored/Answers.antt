@@ -28,13 +28,24 @@ loop-b-preserved-then-b-eq10 c =
       forward = omega arith;
     }
 
-pub loop-b-preserved-then-has-3 : goal.loop-b-preserved-then-has-3
-loop-b-preserved-then-has-3 c =
+pub loop-b-preserved-then-c-lt32 : goal.loop-b-preserved-then-c-lt32
+loop-b-preserved-then-c-lt32 c =
     let v = c.loop-b.invariant in
-    let e = c.pass_first.ensures in
+    let first = c.pass_first-c.ensures in
+    let spaces = c.pass_class-then-c-lt32.ensures in
+    record {
+      runs = spaces.runs;
+      same = ap skip spaces.rest ∙ space_run _ ∙ skip_blank c.in-Some.b c.pass_first-c.result _ _ c.in-Some.ensures first.passed (sym c.has-else-b-eq10.ensures ∙ c.if-has-3.true) ∙ v.same;
+      forward = omega arith;
+    }
+
+pub loop-b-preserved-else-c-lt32 : goal.loop-b-preserved-else-c-lt32
+loop-b-preserved-else-c-lt32 c =
+    let v = c.loop-b.invariant in
+    let e = c.pass_first-c.ensures in
     record {
       runs = record { running = e.running; same = e.same ∙ v.runs.same };
-      same = skip_blank c.in-Some.b c.pass_first.result _ _ c.in-Some.ensures e.passed (sym c.has-else-b-eq10.ensures ∙ c.if-has-3.true) ∙ v.same;
+      same = skip_blank c.in-Some.b c.pass_first-c.result _ _ c.in-Some.ensures e.passed (sym c.has-else-b-eq10.ensures ∙ c.if-has-3.true) ∙ v.same;
       forward = omega arith;
     }
 
