@@ -2,6 +2,7 @@ pub mod Buffers
 mod Lines
 mod Joins
 mod Depths
+mod Ends
 mod Listed
 mod Parted
 mod ToldFronts

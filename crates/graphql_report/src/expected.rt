@@ -1,22 +1,26 @@
 //! What could have stood in place of the refused token.
 ghost use Rattle.std.specs.Prelude.{◌≡◌, [], ◌∷◌, ◌++◌, IfOk, OnOk, string_bytes};
+ghost use Rattle.std.specs.Str.{chars};
+ghost use Rattle.graphql_tokens.specs.tokens.Place.{place_after};
 ghost use Rattle.graphql_report.specs.inner.Expected.{AreExpected, AreTaken, samples_of, texts, value_names};
 
 use crate::apart::{is_apart, last_definition};
-use crate::fronts::{Language, is_whole};
+use crate::fronts::{Language, end_of, is_whole};
 use crate::probes::{line_of, takes};
 use crate::samples::{END, KEYWORDS, LITERALS, NAME, NAME_TEXT, PUNCTUATORS, Sample, VALUE};
-use graphql_parser::Limits;
+use graphql_parser::{Limits, Pos};
 use std::alloc::{AllocError, Global};
 
-// The names of those of the samples that `takes` takes.
+// The names of those of the samples that `takes` takes after what the buffer holds, which ends at this place.
 fn taken(
     alloc: Global,
     language: Language,
     limits: Limits,
     buffer: &mut String,
+    end: Pos,
     samples: &[Sample],
 ) -> Result<Vec<&'static str>, AllocError>
+    requires { end ≡ place_after (chars (string_bytes buffer.old)) }
     ensures names { IfOk result (λ names.
         AreTaken language limits (string_bytes buffer.old) (samples_of samples.now)
         (texts names.items)) }
@@ -25,7 +29,7 @@ fn taken(
     let mut taken = Vec::new(alloc);
     for sample in samples {
         let (text, name) = *sample;
-        if takes(alloc, language, limits, buffer, text)? {
+        if takes(alloc, language, limits, buffer, end, text)? {
             taken.push(name)?;
         }
     }
@@ -77,13 +81,14 @@ fn expected_in(
     ensures { IfOk result (λ names. AreExpected language limits front.now (texts names.items)) }
 {
     let mut buffer = line_of(alloc, front)?;
-    let has_name = takes(alloc, language, limits, &mut buffer, NAME_TEXT)?;
-    let literals = taken(alloc, language, limits, &mut buffer, &LITERALS)?;
-    let punctuators = taken(alloc, language, limits, &mut buffer, &PUNCTUATORS)?;
+    let end = end_of(buffer.as_str());
+    let has_name = takes(alloc, language, limits, &mut buffer, end, NAME_TEXT)?;
+    let literals = taken(alloc, language, limits, &mut buffer, end, &LITERALS)?;
+    let punctuators = taken(alloc, language, limits, &mut buffer, end, &PUNCTUATORS)?;
     let keywords = if has_name {
         Vec::new(alloc)
     } else {
-        taken(alloc, language, limits, &mut buffer, &KEYWORDS)?
+        taken(alloc, language, limits, &mut buffer, end, &KEYWORDS)?
     };
     let mut names = names_of_values(alloc, has_name, literals.as_slice())?;
     names.extend_from_slice(punctuators.as_slice())?;

@@ -43,13 +43,13 @@ const EXTENDED: [&str; 7] = [
     "union",
 ];
 
+// What a definition of a request begins with.
+const OF_REQUESTS: [&str; 5] = ["{", "fragment", "mutation", "query", "subscription"];
+
 /// Whether a definition of a schema file may begin with the word, but for its description.
 pub fn begins_in_schemas(word: &str) -> bool {
     EXTENDED.contains(&word) || word == "extend" || word == "directive"
 }
-
-// What a definition of a request begins with.
-const OF_REQUESTS: [&str; 5] = ["{", "fragment", "mutation", "query", "subscription"];
 
 /// Adds what may have been meant in place of the refused token, or why it can't stand there; nothing where neither is known.
 pub fn push_hint(

@@ -1,9 +1,11 @@
 //! A front with samples after it, of which the parsers are asked.
 ghost use Rattle.std.specs.Prelude.{◌≡◌, [], ◌∷◌, ◌++◌, IfOk, OnOk, string_bytes};
+ghost use Rattle.std.specs.Str.{chars};
+ghost use Rattle.graphql_tokens.specs.tokens.Place.{place_after};
 ghost use Rattle.graphql_report.specs.inner.Expected.{TellsFrontOf, with_sample};
 
-use crate::fronts::{Language, is_front};
-use graphql_parser::Limits;
+use crate::fronts::{Language, end_of, is_front, is_front_to};
+use graphql_parser::{Limits, Pos};
 use std::alloc::{AllocError, Global};
 
 // How many bytes at least a text has room for after its line feed: no sample is longer, with a line feed after it.
@@ -20,14 +22,16 @@ pub fn line_of(alloc: Global, front: &str) -> Result<String, AllocError>
 }
 
 /// Whether some document within the limits begins with the front that the buffer holds and this sample. The sample is put
-/// after the front, and cut off again.
+/// after the front, which ends at this place, and cut off again.
 pub fn takes(
     alloc: Global,
     language: Language,
     limits: Limits,
     buffer: &mut String,
+    end: Pos,
     sample: &str,
 ) -> Result<bool, AllocError>
+    requires { end ≡ place_after (chars (string_bytes buffer.old)) }
     ensures answer { IfOk result (TellsFrontOf language limits
         (with_sample (string_bytes buffer.old) sample.now)) }
     ensures kept { OnOk result (string_bytes buffer.new ≡ string_bytes buffer.old) }
@@ -35,7 +39,16 @@ pub fn takes(
     let length = buffer.as_str().len();
     buffer.push_str(sample)?;
     buffer.push('\n')?;
-    let answer = is_front(alloc, language, buffer.as_str(), limits)?;
+    let answer = match end.line.checked_add(end_of(sample).line) {
+        Some(line) => is_front_to(
+            alloc,
+            language,
+            buffer.as_str(),
+            limits,
+            Pos { line, column: 1 },
+        )?,
+        None => is_front(alloc, language, buffer.as_str(), limits)?,
+    };
     buffer.truncate(length);
     Ok(answer)
 }

@@ -1,7 +1,7 @@
 //! Where a text is refused, and by which limit.
 ghost use Rattle.std.specs.Prelude.{◌≡◌, ℕ, List, ◌++◌};
 
-use crate::fronts::{Language, is_front};
+use crate::fronts::{Language, end_of, is_front};
 use crate::probes::{line_of, takes};
 use crate::samples::NUMBER_TEXT;
 use graphql_parser::lexer::{Token, Tokens};
@@ -30,7 +30,7 @@ impl ReadFrom {
         }
     }
 
-    /// The place in the whole text that is this place in the rest of the text.
+    /// The place in the whole text that is this place in the rest of the text. (This project's own call.)
     pub fn place_in_text(self, place: Pos) -> Pos {
         Pos {
             line: place.line.saturating_add(self.line.saturating_sub(1)),
@@ -222,7 +222,8 @@ pub fn reached_limit(
     token: &Token<'_>,
 ) -> Result<Depth, AllocError> {
     let mut line = line_of(alloc, read_before(text, from, token.start))?;
-    let (what, most) = if takes(alloc, language, limits, &mut line, NUMBER_TEXT)? {
+    let end = end_of(line.as_str());
+    let (what, most) = if takes(alloc, language, limits, &mut line, end, NUMBER_TEXT)? {
         ("lists and objects", limits.values())
     } else if token.text == "[" {
         ("list types", limits.types())
