@@ -12,7 +12,6 @@ use Rattle.graphql_grammar.specs.declared.value.frames.Open.{Open}
 use Rattle.graphql_grammar.specs.declared.value.frames.Frame.{Frame}
 use Rattle.graphql_reading.specs.grammar.Fronts.{Verdict, syntax, limit}
 use Rattle.graphql_reading.specs.grammar.Places.{at}
-use Rattle.graphql_reading.specs.grammar.Tests.{punct}
 use Rattle.graphql_reading.specs.reading.Ahead.{Ahead, Stays, tokens}
 use Rattle.graphql_grammar.specs.reading.OpenValues.{node_of, node_at, Opened, opened, Waiting, waiting, open_rest, add, resume, closes, enters, goes_on, enter_at, Met, MeetsAt, Meets}
 use Rattle.graphql_reading.specs.reading.Given.{Gives, GoesOn, Refuses}
@@ -154,10 +153,6 @@ value-stops tree part vars b old new e gives = (by e gives.0, gives.1)
 
 pub value-simple : {V : Type 0} (tree : V → Tree) (vars : Bool) (b : ℕ) (result : Result V Refusal) (old mid new : Ahead) → enter_at b (tokens old) ≡ Read None (tokens mid) → GoesOn old mid → Gives tree result mid new (node_at (simple_at vars)) → Gives tree result old new (node_at (value_at vars b))
 value-simple tree vars b result old mid new h = goes-as tree result old mid new (node_at (value_at vars b)) (node_at (simple_at vars)) (value-law vars b (tokens old) ∙ ap (λ (o : Outcome (Option Opened)). o >>= begun vars b) h)
-
--- where neither a list nor an object begins
-pub enters-none : (b : ℕ) (old : Ahead) → punct "[" old.hand.bare ≡ false → punct "{" old.hand.bare ≡ false → enter_at b (tokens old) ≡ Read None (tokens old)
-enters-none b old p q = rw (p, q) refl
 
 -- ---- a value with its place
 

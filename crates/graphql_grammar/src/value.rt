@@ -22,22 +22,7 @@ use smallvec::SmallVec;
 ///
 /// `Value : Variable | IntValue | FloatValue | StringValue | BooleanValue | NullValue | EnumValue | ListValue |
 /// ObjectValue`
-// Most are neither lists nor objects: those take no part of what reading a nested one needs.
-#[inline(always)]
 pub fn read_value<V: Literal>(parser: &mut Parser, limits: Limits) -> Reading<Positioned<V>>
-    ensures { Gives (placed V.tree) result parser.old parser.new
-        (value_at V.VARIABLES limits.values) }
-{
-    if parser.is_at_punct("[") || parser.is_at_punct("{") {
-        return read_nested(parser, limits);
-    }
-    let pos = parser.hand().pos;
-    Ok(Positioned::new(read_simple(parser)?, pos))
-}
-
-// Reads any value, as `read_value` does.
-#[inline(never)]
-fn read_nested<V: Literal>(parser: &mut Parser, limits: Limits) -> Reading<Positioned<V>>
     ensures { Gives (placed V.tree) result parser.old parser.new
         (value_at V.VARIABLES limits.values) }
 {

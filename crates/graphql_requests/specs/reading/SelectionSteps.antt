@@ -69,16 +69,6 @@ bare_field names arguments directives = record {
 abbrev pub given_arguments_at : ℕ → Reader Arguments
 given_arguments_at values = mapped_at given (maybe_arguments_at true values)
 
--- what stands after the names of a field, up to its set
-abbrev pub field_rest_at : ℕ → Bool → Names → Reader Heading
-field_rest_at values nests names =
-    mapped_at (λ x. (bare_field names x.0 x.1.0, x.1.1))
-    (then_at (given_arguments_at values) (then_at (directives_at true values) (maybe_brace_at nests)))
-
--- what stands after its alias
-abbrev pub aliased_rest_at : ℕ → Bool → Positioned Name → Reader Heading
-aliased_rest_at values nests alias ts = then_at (one_at (punct ":")) name_at ts >>= λ x rest. field_rest_at values nests (Some alias, x.1) rest
-
 abbrev pub field_head_at : ℕ → Bool → Reader Heading
 field_head_at values nests =
     mapped_at (λ x. (bare_field x.0 x.1.0 x.1.1.0, x.1.1.1))

@@ -1,9 +1,9 @@
 //! Readers of selections up to their sets.
-ghost use Rattle.std.specs.Prelude.{◌≡◌, Some, None, option_map};
+ghost use Rattle.std.specs.Prelude.{◌≡◌, Some, option_map};
 ghost use Rattle.graphql_syntax.specs.trees.Parts.{placed};
 ghost use Rattle.graphql_request_trees.specs.trees.RequestViews.{selection_trees, type_condition_tree};
 ghost use Rattle.graphql_requests.specs.grammar.Selections.{fragment_name};
-ghost use Rattle.graphql_requests.specs.reading.SelectionSteps.{onto, place_of, field_rest_at, aliased_rest_at, field_head_at, spread_at, inline_head_at, maybe_condition_at, head_at};
+ghost use Rattle.graphql_requests.specs.reading.SelectionSteps.{names_at, onto, field_head_at, spread_at, inline_head_at, maybe_condition_at, head_at};
 ghost use Rattle.graphql_reading.specs.reading.Given.{Gives};
 ghost use Rattle.graphql_requests.specs.reading.Selections.{type_condition_at, inline_first, selection_first};
 
@@ -19,6 +19,8 @@ use graphql_syntax::value::Name;
 
 // A field without a set has an empty one, which stands nowhere.
 const NOWHERE: Pos = Pos { line: 0, column: 0 };
+
+type Names = (Option<Positioned<Name>>, Positioned<Name>);
 
 type Selections = Vec<Positioned<Selection>>;
 
@@ -46,23 +48,36 @@ pub fn is_at_selection(parser: &Parser) -> bool
     parser.is_at_name() || parser.is_at_punct("...")
 }
 
-/// What stands after the names of a field, up to its set. The field is put after the others.
+/// An alias, if there is one, and a name.
 ///
-/// `Arguments? Directives? SelectionSet?`
+/// `Alias? Name`, where `Alias : Name ':'`
 #[inline(always)]
-fn read_rest(
+fn read_names(parser: &mut Parser) -> Reading<Names>
+    ensures { Gives (λ names. names) result parser.old parser.new names_at }
+{
+    let first = read_name(parser)?;
+    if !parser.is_at_punct(":") {
+        return Ok((None, first));
+    }
+    parser.take();
+    let name = read_name(parser)?;
+    Ok((Some(first), name))
+}
+
+/// A field up to its set.
+///
+/// `Field : Alias? Name Arguments? Directives? SelectionSet?` (GraphQL October 2021, section 2.5)
+fn read_field(
     parser: &mut Parser,
     limits: Limits,
     nests: bool,
     items: &mut Selections,
-    pos: Pos,
-    alias: Option<Positioned<Name>>,
-    name: Positioned<Name>,
 ) -> Reading<Option<Pos>>
-    requires { pos ≡ place_of (alias, name) }
     ensures { Gives (λ place. (selection_trees items.new.items, place)) result parser.old parser.new
-        (onto (selection_trees items.old.items) (field_rest_at limits.values nests (alias, name))) }
+        (onto (selection_trees items.old.items) (field_head_at limits.values nests)) }
 {
+    let pos = parser.hand().pos;
+    let (alias, name) = read_names(parser)?;
     let no_set = SelectionSet {
         items: parser.empty_list(),
     };
@@ -84,67 +99,6 @@ fn read_rest(
     let node = Selection::Field(Positioned::new(field, pos));
     parser.push(items, Positioned::new(node, pos))?;
     Ok(place)
-}
-
-// What `read_rest` reads of a field without an alias that has arguments or directives: few have any.
-#[inline(never)]
-fn read_given(
-    parser: &mut Parser,
-    limits: Limits,
-    nests: bool,
-    items: &mut Selections,
-    name: Positioned<Name>,
-) -> Reading<Option<Pos>>
-    ensures { Gives (λ place. (selection_trees items.new.items, place)) result parser.old parser.new
-        (onto (selection_trees items.old.items) (field_rest_at limits.values nests (None, name))) }
-{
-    let pos = name.pos;
-    read_rest(parser, limits, nests, items, pos, None, name)
-}
-
-/// What stands after the alias of a field, up to its set.
-///
-/// `':' Name Arguments? Directives? SelectionSet?`
-#[inline(never)]
-fn read_aliased(
-    parser: &mut Parser,
-    limits: Limits,
-    nests: bool,
-    items: &mut Selections,
-    alias: Positioned<Name>,
-) -> Reading<Option<Pos>>
-    ensures { Gives (λ place. (selection_trees items.new.items, place)) result parser.old parser.new
-        (onto (selection_trees items.old.items) (aliased_rest_at limits.values nests alias)) }
-{
-    parser.expect_punct(":")?;
-    let name = read_name(parser)?;
-    let pos = alias.pos;
-    read_rest(parser, limits, nests, items, pos, Some(alias), name)
-}
-
-/// A field up to its set.
-///
-/// `Field : Alias? Name Arguments? Directives? SelectionSet?` (GraphQL October 2021, section 2.5), where
-/// `Alias : Name ':'`
-// One without alias, arguments and directives, as most are, is put together where it goes.
-fn read_field(
-    parser: &mut Parser,
-    limits: Limits,
-    nests: bool,
-    items: &mut Selections,
-) -> Reading<Option<Pos>>
-    ensures { Gives (λ place. (selection_trees items.new.items, place)) result parser.old parser.new
-        (onto (selection_trees items.old.items) (field_head_at limits.values nests)) }
-{
-    let name = read_name(parser)?;
-    if parser.is_at_punct(":") {
-        return read_aliased(parser, limits, nests, items, name);
-    }
-    if parser.is_at_punct("(") || parser.is_at_punct("@") {
-        return read_given(parser, limits, nests, items, name);
-    }
-    let pos = name.pos;
-    read_rest(parser, limits, nests, items, pos, None, name)
 }
 
 /// A spread, after its `...`, where the name of a fragment is in hand. It has no set.
