@@ -7,6 +7,7 @@ use Rattle.std.proofs.lemmas.Str.{IsUtf8-drop}
 use Rattle.std.specs.Char.{is_ascii_digit}
 use Rattle.std.specs.List.{prefix_len}
 use Rattle.std.specs.Str.{chars}
+use Rattle.graphql_tokens.specs.tokens.BlockText.{is_blank_char}
 use Rattle.graphql_tokens.specs.tokens.Classes.{is_ignored, is_name_char}
 use Rattle.graphql_tokens.specs.tokens.Place.{is_in_line, is_line_end, is_line_feed}
 use Rattle.graphql_tokens.specs.tokens.Strings.{is_plain}
@@ -125,15 +126,12 @@ line_run = run_skipped is_within_line past_line (λ c cs t. ap (λ b. cond b cs 
 pub digit_inner : IsWithinLines is_ascii_digit
 digit_inner c h = (grind (arith, nat_tests), grind (arith, nat_tests))
 
--- ---- spaces
+-- ---- tabs and spaces
 
-abbrev pub is_space : ℕ → Bool
-is_space c = eqb c 32
-
-pub space_run : (text : List ℕ) → skip (past_class is_space text) ≡ skip text
-space_run = run_skipped is_space skip (λ c cs t. skip_goes c cs (ignored c t))
+pub blank_run : (text : List ℕ) → skip (past_class is_blank_char text) ≡ skip text
+blank_run = run_skipped is_blank_char skip (λ c cs t. skip_goes c cs (ignored c t))
   where
-    ignored : (c : ℕ) → is_space c ≡ true → is_ignored c ≡ true
+    ignored : (c : ℕ) → is_blank_char c ≡ true → is_ignored c ≡ true
     ignored c t = grind (arith, nat_tests)
 
 -- ---- plain ASCII characters of strings

@@ -2,6 +2,8 @@
 //! `bool` tells whether the part was there.
 
 ghost use Rattle.std.specs.Prelude.{◌≡◌, ◌≢◌, ◌≤◌, ◌<◌, ◌+◌, true, false, [], MatchOption, drop, length};
+ghost use Rattle.std.specs.Str.{byte};
+ghost use Rattle.graphql_tokens.specs.tokens.Classes.{is_ignored};
 ghost use Rattle.graphql_tokens.specs.inner.ByteClasses.{IsWithinLines, past_class};
 ghost use Rattle.graphql_tokens.specs.inner.Reading.{skip, past_line, past_char, past_dots};
 ghost use Rattle.graphql_tokens.specs.inner.Running.{ahead, IsRunning};
@@ -9,7 +11,7 @@ ghost use Rattle.graphql_tokens.specs.inner.Lexing.{RunsOver, IsFirstByte, Reads
 
 use super::class::CharClass;
 use crate::pos::running::RunningPlace;
-use crate::text::runs::{ByteClass, InLine, Spaces, past_run};
+use crate::text::runs::{Blanks, ByteClass, InLine, past_run};
 
 // The first byte of what is ahead, where the text goes on.
 #[inline(always)]
@@ -67,6 +69,34 @@ fn pass_line(bytes: &[u8], places: &mut RunningPlace)
     }
 }
 
+// Goes past something that is ignored, where it is next, with the line feed and the blanks after it, and tells whether it was.
+// `b` is the first byte of what is ahead. It is for what is rare, and never inlined, so that what is inlined for each token
+// stays small. Within it the place has no address, and so it stays in registers.
+#[inline(never)]
+fn pass_rare_ignored(bytes: &[u8], places: &mut RunningPlace, b: u8) -> bool
+    requires runs { RunsOver bytes.now places.old }
+    requires first { IsFirstByte b (ahead places.old) }
+    requires rare { b ≢ byte "#" → b < 128 → is_ignored b ≡ true }
+    ensures runs { RunsOver bytes.now places.new }
+    ensures passed { result ≡ true → skip (ahead places.new) ≡ skip (ahead places.old) }
+    ensures less { result ≡ true → length (ahead places.new) < length (ahead places.old) }
+    ensures none { result ≡ false → ahead places.new ≡ skip (ahead places.old) }
+    ensures forward { places.old.walk.offset ≤ places.new.walk.offset }
+{
+    let mut own = *places;
+    if b == b'#' {
+        pass_line(bytes, &mut own);
+    } else if own.pass() != '\u{feff}' && b >= 0x80 {
+        return false;
+    }
+    if let Some(b'\n') = peek(bytes, &own) {
+        own.pass_line_feed();
+    }
+    pass_class::<Blanks>(bytes, &mut own);
+    *places = own;
+    true
+}
+
 // Goes past `Ignored*`, where `Ignored : UnicodeBOM | WhiteSpace | LineTerminator | Comment | Comma`.
 #[inline(always)]
 pub fn pass_ignored(bytes: &[u8], places: &mut RunningPlace)
@@ -82,22 +112,19 @@ pub fn pass_ignored(bytes: &[u8], places: &mut RunningPlace)
             break;
         } else if b == b'\n' {
             places.pass_line_feed();
-            pass_class::<Spaces>(bytes, places);
-        } else if CharClass::Ignored.has(b) {
-            let c = places.pass_first(b);
-            if c < ' ' {
-                pass_class::<Spaces>(bytes, places);
-            }
-        } else if b == b'#' {
-            pass_line(bytes, places);
-        } else if b < 0x80 {
-            break;
-        } else {
+            pass_class::<Blanks>(bytes, places);
+        } else if b == b',' {
+            places.pass_ascii();
+        } else if CharClass::Ignored.has(b) || b == b'#' || b >= 0x80 {
+            // A copy is handed over, so that the caller's own place has no address and stays in registers.
             let mut after = *places;
-            if after.pass() != '\u{feff}' {
+            let is_passed = pass_rare_ignored(bytes, &mut after, b);
+            *places = after;
+            if !is_passed {
                 break;
             }
-            *places = after;
+        } else {
+            break;
         }
     }
 }

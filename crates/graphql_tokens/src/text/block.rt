@@ -8,8 +8,8 @@ ghost use Rattle.graphql_tokens.specs.tokens.Place as place;
 ghost use Rattle.graphql_tokens.specs.tokens.BlockText as spec;
 ghost use Rattle.graphql_tokens.specs.inner.Blocks.{is_space as is_space_char, end_len, counted, indent_with, trimmed, written, first_line, StartsText, EndsText, IsPlainBetween, IsUnquotedBetween, IsOneLine};
 
-use super::runs::{LineBytes, UnquotedBytes, past_run};
-use super::{byte, past_while};
+use super::byte;
+use super::runs::{Blanks, LineBytes, UnquotedBytes, past_run};
 use graphql_memory::Memory;
 use memchr::{memchr, memchr2};
 use std::alloc::AllocError;
@@ -62,7 +62,7 @@ fn past_blanks(bytes: &[u8], start: usize) -> usize
     ensures value { result ≡ start + prefix_len spec.is_blank_char (drop start bytes.now) }
     ensures within { result ≤ length bytes.now }
 {
-    past_while(bytes, start, is_blank)
+    past_run::<Blanks>(bytes, start)
 }
 
 // Where the next line begins, if a line ends at `end`.

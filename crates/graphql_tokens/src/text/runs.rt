@@ -7,6 +7,7 @@ ghost use Rattle.std.specs.List.{prefix_len};
 ghost use Rattle.std.specs.Simd.Lanes.{mask_l};
 ghost use Rattle.std.specs.Str.{byte};
 ghost use Rattle.graphql_tokens.specs.inner.ByteClasses.{is_outside};
+ghost use Rattle.graphql_tokens.specs.tokens.BlockText.{is_blank_char};
 ghost use Rattle.graphql_tokens.specs.tokens.Classes as classes;
 ghost use Rattle.graphql_tokens.specs.tokens.Place.{is_in_line};
 ghost use Rattle.graphql_tokens.specs.tokens.Strings as strings;
@@ -49,7 +50,9 @@ pub(crate) fn past_run<C: ByteClass>(bytes: &[u8], start: usize) -> usize
 }
 
 // The same where the bytes from `start` up to `from` are of the class, and fewer are left than are looked at at once.
-// Where there are enough before them, the last sixteen are looked at, some of them once more.
+// Where there are enough before them, the last sixteen are looked at, some of them once more. Never inlined: most runs end
+// before.
+#[inline(never)]
 fn past_last<C: ByteClass>(bytes: &[u8], start: usize, from: usize) -> usize
     requires forward { start ≤ from }
     requires few { length bytes.now < from + 16 }
@@ -139,20 +142,21 @@ impl ByteClass for PlainAscii {
     }
 }
 
-// Spaces.
-pub(crate) struct Spaces;
+// Tabs and spaces.
+pub(crate) struct Blanks;
 
-impl ByteClass for Spaces {
-    ghost has = { λ b. b == byte " " };
+impl ByteClass for Blanks {
+    ghost has = { is_blank_char };
 
     #[inline(always)]
     fn has(b: u8) -> bool {
-        b == b' '
+        b == b'\t' || b == b' '
     }
 
     #[inline(always)]
     fn outsiders(bytes: u8x16) -> u64 {
-        bytes.simd_ne(u8x16::splat(b' ')).to_bitmask()
+        let outside = bytes.simd_ne(u8x16::splat(b'\t')) & bytes.simd_ne(u8x16::splat(b' '));
+        outside.to_bitmask()
     }
 }
 
