@@ -1,7 +1,7 @@
 -- The steps of the loop that escapes a text.
-use Rattle.std.proofs.Common.{◌≡◌, ℕ, zero, suc, ◌+◌, ◌≤◌, ◌==◌, true, List, [], ◌∷◌, ◌++◌, length, take, drop, get_or, ap, sym, ◌∙◌, arith, append_assoc, length-append, take-append-drop}
+use Rattle.std.proofs.Common.{◌≡◌, ℕ, zero, suc, ◌+◌, ◌≤◌, ◌<◌, ◌==◌, true, List, [], ◌∷◌, ◌++◌, length, take, drop, get_or, ap, sym, ◌∙◌, arith, append_assoc, length-append, take-append-drop}
 use Rattle.std.proofs.lemmas.Bool.{or_parts, not-true, eqb-false, ltb-false}
-use Rattle.std.proofs.lemmas.List.{drop_more, take-append-le}
+use Rattle.std.proofs.lemmas.List.{drop_all, drop_more, take-append-le}
 use Rattle.json.specs.Print.{escape, escape_byte}
 use Rattle.json.specs.Run.{is_plain, is_stop}
 use Rattle.json.specs.Written.{PlainBetween}
@@ -29,6 +29,23 @@ plain_run text i (suc n) close fits plain =
     escape_at text i close (omega arith)
     ∙ (λ k. byte k ++ rest k)
     ∙ (λ k. take (suc n) (sym first k) ++ (escape (drop (next k) text) ++ close))
+
+-- and go with what comes before them and the byte after them
+pub piece : (comma front text : List ℕ) (i n : ℕ) (close : List ℕ) → i + n < length text → PlainBetween text i (i + n)
+    → comma ++ (front ++ (escape (drop i text) ++ close)) ≡ (comma ++ (front ++ (take n (drop i text) ++ escape_byte (get_or text (i + n) 0)))) ++ (escape (drop (i + n + 1) text) ++ close)
+piece comma front text i n close fits plain =
+    let run = take n (drop i text) in
+    let byte = escape_byte (get_or text (i + n) 0) in
+    let rest = escape (drop (i + n + 1) text) ++ close in
+    ap (λ l. comma ++ (front ++ l)) (plain_run text i n close (omega arith) plain ∙ ap (λ l. run ++ l) (escape_at text (i + n) close fits) ∙ sym (append_assoc run byte rest))
+    ∙ ap (λ l. comma ++ l) (sym (append_assoc front (run ++ byte) rest))
+    ∙ sym (append_assoc comma (front ++ (run ++ byte)) rest)
+
+-- or, where no byte comes after them, with the end
+pub last_piece : (comma front text : List ℕ) (i n : ℕ) (close : List ℕ) → i + n ≡ length text → PlainBetween text i (i + n)
+    → comma ++ (front ++ (escape (drop i text) ++ close)) ≡ comma ++ (front ++ (take n (drop i text) ++ close))
+last_piece comma front text i n close end plain =
+    ap (λ l. comma ++ (front ++ l)) (plain_run text i n close (omega arith) plain ∙ ap (λ l. take n (drop i text) ++ (escape l ++ close)) (drop_all (i + n) text (omega arith)))
 
 -- what stood before stays
 pub kept : (old now part new : List ℕ) → new ≡ now ++ part → take (length old) now ≡ old → take (length old) new ≡ old

@@ -8,8 +8,11 @@ use graphql_parser::Pos;
 use std::alloc::{AllocError, Global};
 use std::marker::Model;
 
-// As many bytes are made ready at a time.
+// As many bytes are made ready at a time,
 static BLOCK: [u8; 2048] = [0; 2048];
+
+// but so many at first, since most texts of errors are short.
+const FIRST: usize = 256;
 
 /// Bytes that are written one after another.
 ///
@@ -65,9 +68,7 @@ impl Buffer {
     pub fn cut(&mut self, len: usize)
         ensures { self.new.items ≡ take len self.old.items }
     {
-        if len < self.len {
-            self.len = len;
-        }
+        self.len = self.len.min(len);
     }
 
     /// Makes so many bytes ready.
@@ -82,6 +83,7 @@ impl Buffer {
         self.grow(more)
     }
 
+    // Adds zeros until so many bytes are ready.
     #[cold]
     #[inline(never)]
     fn grow(&mut self, more: usize) -> Result<(), AllocError>
@@ -89,7 +91,12 @@ impl Buffer {
         ensures ready { OnOk result (more ≤ self.new.ready) }
     {
         while self.bytes.len() - self.len < more {
-            self.bytes.extend_from_slice(&BLOCK)?;
+            let step = if self.bytes.is_empty() {
+                FIRST
+            } else {
+                BLOCK.len()
+            };
+            self.bytes.extend_from_slice(&BLOCK[..step])?;
         }
         Ok(())
     }
@@ -164,14 +171,14 @@ impl Buffer {
     }
 }
 
-// A comma is stored in any case, and counts where it is wanted.
+// Where no comma is wanted, the one that is stored is written over: no branch depends on it.
 #[inline(always)]
 fn put_comma(row: &mut [u8], at: usize, comma: bool) -> usize
     requires { at < length row.old }
     ensures { Placed row.old row.new at (cond comma (44 ∷ []) []) result }
 {
     row[at] = b',';
-    if comma { at + 1 } else { at }
+    at + usize::from(comma)
 }
 
 // A place, where there is one, as members of an object that has some.

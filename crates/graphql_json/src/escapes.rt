@@ -14,33 +14,59 @@ pub fn put_escaped(buffer: &mut Buffer, comma: bool, text: &[u8]) -> Result<(), 
     ensures { Appends result buffer.old.items buffer.new.items
         (cond comma (44 ∷ []) [] ++ 34 ∷ (escape text.now ++ 34 ∷ [])) }
 {
-    let len = buffer.len();
-    let done = add_escaped(buffer, comma, text);
-    if done.is_err() {
-        buffer.cut(len);
+    let start = buffer.len();
+    let written = put_runs(buffer, comma, text);
+    if written.is_err() {
+        buffer.cut(start);
     }
-    done
+    written
 }
 
-// Where memory is refused, some of it may be written.
-fn add_escaped(buffer: &mut Buffer, comma: bool, text: &[u8]) -> Result<(), AllocError>
+// Each run of bytes that need no escape goes with what comes before it and the escape after it. Where memory is refused, some
+// of it may be written.
+fn put_runs(buffer: &mut Buffer, comma: bool, text: &[u8]) -> Result<(), AllocError>
     ensures ok { OnOk result (buffer.new.items
         ≡ buffer.old.items ++ (cond comma (44 ∷ []) [] ++ 34 ∷ (escape text.now ++ 34 ∷ []))) }
     ensures front { take (length buffer.old.items) buffer.new.items ≡ buffer.old.items }
 {
-    buffer.put(comma, b"\"", b"", b"")?;
+    let mut comma = comma;
+    let mut front: &[u8] = b"\"";
     let mut at = 0;
-    while at < text.len() {
-        let run = plain_run(text, at);
-        if run > 0 {
-            buffer.put(false, b"", &text[at..at + run], b"")?;
-            at += run;
-        } else {
-            put_byte(buffer, text[at])?;
-            at += 1;
+    loop {
+        let end = at + plain_run(text, at);
+        let run = &text[at..end];
+        if end == text.len() {
+            return buffer.put(comma, front, run, b"\"");
         }
+        put_stopped(buffer, comma, front, run, text[end])?;
+        comma = false;
+        front = b"";
+        at = end + 1;
     }
-    buffer.put(false, b"\"", b"", b"")
+}
+
+// A run, and a byte after it with its escape if it needs one.
+#[tactic(auto, unfolding(json::specs::Print::escape_byte))]
+fn put_stopped(
+    buffer: &mut Buffer,
+    comma: bool,
+    front: &[u8],
+    run: &[u8],
+    byte: u8,
+) -> Result<(), AllocError>
+    requires { length front.now ≤ 64 }
+    ensures { Appends result buffer.old.items buffer.new.items
+        (cond comma (44 ∷ []) [] ++ (front.now ++ (run.now ++ escape_byte byte))) }
+{
+    let letter = letter(byte);
+    if letter > 0 {
+        return buffer.put(comma, front, run, &[b'\\', letter]);
+    }
+    if byte < 0x20 {
+        let digits = [b'\\', b'u', b'0', b'0', hex(byte / 16), hex(byte % 16)];
+        return buffer.put(comma, front, run, &digits);
+    }
+    buffer.put(comma, front, run, &[byte])
 }
 
 // How many bytes from an index on need no escape, up to the first that does.
@@ -71,21 +97,6 @@ fn plain_to<const N: usize>(text: &[u8], at: usize) -> usize
     end
 }
 
-// A byte of a string, with its escape if it needs one.
-#[tactic(auto, unfolding(json::specs::Print::escape_byte))]
-fn put_byte(buffer: &mut Buffer, byte: u8) -> Result<(), AllocError>
-    ensures { Appends result buffer.old.items buffer.new.items (escape_byte byte) }
-{
-    let letter = letter(byte);
-    if letter > 0 {
-        return buffer.put(false, b"\\", &[letter], b"");
-    }
-    if byte < 0x20 {
-        return buffer.put(false, b"\\u00", &[hex(byte / 16), hex(byte % 16)], b"");
-    }
-    buffer.put(false, b"", &[byte], b"")
-}
-
 // The letter that stands for a byte after a backslash, or 0 for none.
 fn letter(byte: u8) -> u8
     ensures { result ≡ escape_letter byte }
@@ -102,6 +113,7 @@ fn letter(byte: u8) -> u8
     }
 }
 
+// A hexadecimal digit, in lower case.
 fn hex(digit: u8) -> u8
     requires { digit < 16 }
     ensures { result ≡ digit_char digit }

@@ -132,6 +132,7 @@ pub fn copy(row: &mut [u8], at: usize, piece: &[u8]) -> usize
     at + piece.len()
 }
 
+// Writes one digit, and tells where it ends.
 #[inline(always)]
 fn copy_digit(row: &mut [u8], at: usize, digit: usize) -> usize
     requires { (digit < 10) × (at < length row.old) }
@@ -158,6 +159,7 @@ pub fn copy_number(row: &mut [u8], at: usize, number: usize) -> usize
     copy_long_number(row, at, number)
 }
 
+// The same of any number: one of three digits or more is rare.
 #[inline(never)]
 fn copy_long_number(row: &mut [u8], at: usize, number: usize) -> usize
     requires { at + 20 ≤ length row.old }

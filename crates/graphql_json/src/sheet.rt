@@ -337,6 +337,7 @@ impl Sheet {
         self.last_escaped(text)
     }
 
+    // The same of a text in which a byte needs an escape.
     #[inline(never)]
     fn last_escaped(&mut self, text: &str) -> Outcome
         ensures { Adds result self.old self.new
@@ -369,6 +370,7 @@ impl Sheet {
     }
 }
 
+// The word of a truth value.
 fn truth_word(value: bool) -> &'static str
     ensures { result.now ≡ token_text (boolean_token value) }
 {
