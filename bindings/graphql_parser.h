@@ -209,8 +209,8 @@ uint32_t graphql_parser_parse_schema_within(
  *                          way. A refused token is told with what was expected in its place. At a bad escape in a string
  *                          the report begins with the place of the escape, and `places` has that of the string.
  *
- * The words of a report may change with any version. Explaining a refused text takes as long as some twenty to forty checks
- * of the text before the refused token. `text`, `places` and `report` don't overlap. */
+ * The words of a report may change with any version. Explaining a refused text takes at most as long as some twenty to forty
+ * checks of the text before the refused token. `text`, `places` and `report` don't overlap. */
 uint32_t graphql_parser_explain_query(
     const uint8_t *text, size_t length, size_t selections, size_t values, size_t types, graphql_parser_places *places,
     graphql_parser_report *report);

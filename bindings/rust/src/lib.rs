@@ -147,8 +147,8 @@ pub fn check_schema<T: AsRef<str>>(input: T, limits: Limits) -> Result<()> {
 /// A report for people of what is wrong with a request; None where nothing is.
 ///
 /// It tells what was found and what was expected, with the line of the place and a caret under it, and with a second place
-/// where the error has two. Each line ends in a line feed. The words may change with any version of the library. It takes as
-/// long as some twenty to forty checks.
+/// where the error has two. Each line ends in a line feed. The words may change with any version of the library. It takes at
+/// most as long as some twenty to forty checks.
 ///
 /// ```
 /// use graphql_parser::{explain_query, Limits};

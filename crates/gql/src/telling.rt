@@ -223,8 +223,8 @@ impl<'a> Source<'a> {
         refused_token_from(alloc, self.language, self.text, from, self.limits, error)
     }
 
-    // Whether a report of the error counts no place from the beginning of the text: it does for all but the place of a refused
-    // token, and for an escape in a string.
+    // Whether the error can be told without a copy of the rest of the text, from whose beginning a report counts its places: so
+    // can a refused token, if it is no string in which a bad escape may stand.
     fn is_told_in_place(&self, error: &Error, token: Option<Token<'_>>) -> bool {
         let Some(token) = token else {
             return false;

@@ -11,10 +11,10 @@
 //! The checks give all of this themselves. A sample is expected where the text before the refused token, with the sample
 //! after it, is a viable front, and one check of these tells that ([`is_front`]). So a report of a refused text costs some
 //! twenty checks, or some forty where no name can stand there; each is linear, and one copy of the text is kept at a time.
-//! They are checks of the text before the refused token from the line on with which the last definition before it begins, if
-//! one begins with a line and after others, which one check more finds whole; else of all of that text. Of an error that
-//! names a place the refused token is found by that; at a limit it takes one check more, or some twenty where the limits
-//! aren't the default ones. A caller that read a text from a later line on says so, and what stands before isn't checked again
+//! Where the last definition before the refused token begins a line, and one check more finds that those before it are whole,
+//! only the text from that line on is checked; else all of the text before the refused token. Of an error that names a place
+//! the refused token is found by that; at a limit it takes one check more, or some twenty where the limits aren't the default
+//! ones. A caller that read a text from a later line on says so, and what stands before isn't checked again
 //! ([`explain_from`], [`finding_from`], [`refused_token_from`]).
 //!
 //! Proved of it, unless memory runs out: `is_front` answers true exactly where the tokens of a text are a viable front, in

@@ -8,8 +8,8 @@ use graphql_parser::lexer::{Token, Tokens};
 use graphql_parser::{Error, Limits, Pos, check_query_from, check_schema_from};
 use std::alloc::{AllocError, Global};
 
-/// Where the reading of a text began. The caller sees to it that the line begins at the offset: else places aren't those of the
-/// text, and of an offset at which no character begins, or past the end, nothing is read. (This project's own type.)
+/// The line on which the reading of a text began. The caller owes that `line` is the line that begins at `offset`, or places
+/// are wrong; if no character begins at `offset`, or it is past the end, nothing is read. (This project's own type.)
 #[derive(Clone, Copy, Debug, PartialEq, Eq)]
 pub struct ReadFrom {
     /// The byte offset.

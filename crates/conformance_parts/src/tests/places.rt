@@ -52,6 +52,40 @@ fn a_place_is_shown_with_the_characters_passed(rt: HostRuntime) -> Result<(), Fa
     Ok(())
 }
 
+// Within a line with characters that aren't ASCII too, and after each kind of line end.
+#[test]
+fn each_place_is_shown_with_the_characters_passed(rt: HostRuntime) -> Result<(), Fail> {
+    for text in ["aé\u{1F600} b\ncé d", "é\r\né\u{FEFF}\rx\n\néé", "\té\r\r\n b"] {
+        let mut calculator = PositionCalculator::new(text);
+        let mut last = 0usize;
+        let mut passed = 0usize;
+        let mut line = 1usize;
+        let mut before = 0usize;
+        for (offset, c) in text.char_indices() {
+            if offset < last || !text.is_char_boundary(offset) {
+                return Err(Fail::new("no offset to step to"));
+            }
+            let _place = calculator.step(offset);
+            let shown = format!(in rt.alloc(); "{calculator:?}")?;
+            let walk = format!(in rt.alloc(); "TextWalk {{ text: {text:?}, offset: {offset}, count: {passed} }}")?;
+            let place = format!(in rt.alloc(); "RunningPlace {{ walk: {walk}, line: {line}, before: {before} }}")?;
+            let expected = format!(in rt.alloc();
+                "PositionCalculator {{ counted: CountedPlace {{ place: {place}, number: WalkNumber }} }}"
+            )?;
+            assert_eq!(rt; shown.as_str(), expected.as_str());
+            last = offset;
+            passed = passed.saturating_add(1);
+            if c == '\n' {
+                line = line.saturating_add(1);
+            }
+            if c == '\n' || c == '\r' {
+                before = passed;
+            }
+        }
+    }
+    Ok(())
+}
+
 /// Offsets in a text, and their places.
 pub const OFFSETS_IN_ORDER: &str = r"
 -- Offsets in order.
