@@ -5,6 +5,7 @@ pub mod Selections
 pub mod Fragments
 pub mod Errors
 pub mod Schemas
+pub mod Stops
 pub mod Copies
 pub mod Words
 pub mod Runs

@@ -6,8 +6,11 @@ ghost use Rattle.json.specs.Print.{escape, escape_byte, escape_letter};
 ghost use Rattle.json.specs.Written.{PlainBetween};
 
 use crate::buffer::Buffer;
-use crate::plain::is_plain_at;
+use crate::plain::{is_plain_at, stops_at};
 use std::alloc::AllocError;
+
+// How many bytes of a run are looked at at once, where so many are left.
+const LANES: usize = 16;
 
 /// Writes a text in quotes, after a comma where one is wanted. Where memory is refused, nothing is written.
 pub fn put_escaped(buffer: &mut Buffer, comma: bool, text: &[u8]) -> Result<(), AllocError>
@@ -76,7 +79,14 @@ fn plain_run(text: &[u8], at: usize) -> usize
     ensures plain { PlainBetween text.now at (at + result) }
     ensures within { at + result ≤ length text.now }
 {
-    let end = plain_to::<16>(text, at);
+    let mut end = at;
+    while text.len() - end >= LANES {
+        let stops = stops_at::<LANES>(text, end);
+        if stops != 0 {
+            return end - at + stops.trailing_zeros() as usize;
+        }
+        end += LANES;
+    }
     let end = plain_to::<4>(text, end);
     plain_to::<1>(text, end) - at
 }

@@ -1,12 +1,28 @@
 //! Copies of texts into a row of bytes. A short text is two copies of a fixed size, which may overlap. A text is plain if no
 //! byte of it needs an escape in JSON.
-ghost use Rattle.std.specs.Prelude.{◌≡◌, ◌+◌, ◌<◌, ◌≤◌, [], ◌∷◌, length, take, decimal};
+ghost use Rattle.std.specs.Prelude.{◌≡◌, ◌+◌, ◌<◌, ◌≤◌, [], ◌∷◌, length, take, map, decimal};
 ghost use Rattle.std.specs.Bool.{OnTrue};
+ghost use Rattle.std.specs.Simd.Lanes.{chunk, mask_l};
 ghost use Rattle.graphql_json.specs.inner.Buffers.{CopiesPlain};
 ghost use Rattle.json.specs.Filled.{Placed};
+ghost use Rattle.json.specs.Run.{is_stop};
 ghost use Rattle.json.specs.Written.{PlainBetween};
 
 use std::simd::prelude::*;
+
+/// A bit for each of N bytes from an index on, the first one's the lowest, which is set where the byte needs an escape.
+#[inline(always)]
+pub fn stops_at<const N: usize>(text: &[u8], at: usize) -> u64
+    requires fits { at + N ≤ length text.now }
+    requires lanes { N ≤ 64 }
+    ensures { result ≡ mask_l (map is_stop (chunk at N text.now)) }
+{
+    let bytes = Simd::<u8, N>::from_slice(&text[at..]);
+    let stops = bytes.simd_eq(Simd::<u8, N>::splat(b'"'))
+        | bytes.simd_eq(Simd::<u8, N>::splat(b'\\'))
+        | bytes.simd_lt(Simd::<u8, N>::splat(0x20));
+    stops.to_bitmask()
+}
 
 /// Whether none of N bytes needs an escape, from an index on.
 #[inline(always)]
@@ -15,11 +31,7 @@ pub fn is_plain_at<const N: usize>(text: &[u8], at: usize) -> bool
     requires lanes { N ≤ 64 }
     ensures { OnTrue result (PlainBetween text.now at (at + N)) }
 {
-    let bytes = Simd::<u8, N>::from_slice(&text[at..]);
-    let stops = bytes.simd_eq(Simd::<u8, N>::splat(b'"'))
-        | bytes.simd_eq(Simd::<u8, N>::splat(b'\\'))
-        | bytes.simd_lt(Simd::<u8, N>::splat(0x20));
-    stops.to_bitmask() == 0
+    stops_at::<N>(text, at) == 0
 }
 
 // Copies the first N bytes of a text.
