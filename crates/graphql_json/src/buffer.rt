@@ -17,7 +17,7 @@ const FIRST: usize = 256;
 /// Bytes that are written one after another.
 ///
 /// Zeros stand after them, so that a piece is copied with one test for room. A contract sees the bytes, and how many zeros
-/// stand ready.
+/// stand ready. It is `pub` only for `graphql_packed`, and may change.
 #[derive(Drop)]
 pub struct Buffer {
     bytes: Vec<u8>,
@@ -58,14 +58,14 @@ impl Buffer {
     }
 
     /// How many bytes there are.
-    pub fn len(&self) -> usize
+    pub(crate) fn len(&self) -> usize
         ensures { result ≡ length self.now.items }
     {
         self.len
     }
 
     /// Leaves so many bytes, and drops those after them.
-    pub fn cut(&mut self, len: usize)
+    pub(crate) fn cut(&mut self, len: usize)
         ensures { self.new.items ≡ take len self.old.items }
     {
         self.len = self.len.min(len);
@@ -101,7 +101,8 @@ impl Buffer {
         Ok(())
     }
 
-    /// Writes three pieces, after a comma where one is wanted. Where memory is refused, none is written.
+    /// Writes three pieces, of which the first and the last have at most 64 bytes, after a comma where one is wanted. Where
+    /// memory is refused, none is written.
     #[inline(always)]
     pub fn put(
         &mut self,
@@ -126,7 +127,7 @@ impl Buffer {
     /// Writes what opens a node of a kind, with its place, after a comma where one is wanted. Where memory is refused,
     /// nothing is written.
     #[inline(always)]
-    pub fn put_opening(
+    pub(crate) fn put_opening(
         &mut self,
         comma: bool,
         kind: &[u8],
@@ -148,7 +149,7 @@ impl Buffer {
     /// Writes a text between two pieces, if no byte of it needs an escape. Else, or where memory is refused, nothing is
     /// written.
     #[inline(always)]
-    pub fn put_plain(
+    pub(crate) fn put_plain(
         &mut self,
         comma: bool,
         front: &[u8],

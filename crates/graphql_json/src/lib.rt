@@ -35,6 +35,7 @@ mod schema;
 mod sheet;
 mod values;
 
+pub use buffer::Buffer;
 use graphql_parser::Error;
 use graphql_parser::types::{ExecutableDocument, ServiceDocument};
 use place::Place;

@@ -4,6 +4,7 @@ ghost use Rattle.graphql_parser.specs.trees.Parts.{placed};
 ghost use Rattle.graphql_packed.specs.inner.Written.{Adds};
 ghost use Rattle.graphql_packed.specs.packed.Bytes.{choice as choice_of, flag as flag_of, list_bytes, node_bytes, number_bytes, optional_bytes, place_bytes, text_bytes};
 
+use graphql_json::Buffer as Bytes;
 use graphql_parser::{Pos, Positioned};
 use std::alloc::{AllocError, Global};
 use std::marker::Model;
@@ -28,7 +29,7 @@ pub trait Packed {
 /// A contract sees these bytes.
 #[derive(Drop)]
 pub struct Buffer {
-    bytes: Vec<u8>,
+    bytes: Bytes,
 }
 
 impl Model for Buffer {
@@ -45,7 +46,7 @@ impl Buffer {
         ensures { result ≡ [] }
     {
         Buffer {
-            bytes: Vec::new(alloc),
+            bytes: Bytes::new(alloc),
         }
     }
 
@@ -53,7 +54,7 @@ impl Buffer {
     pub fn finish(self) -> Vec<u8>
         ensures { result.items ≡ self }
     {
-        self.bytes
+        self.bytes.into_vec()
     }
 
     /// A choice, by its number.
@@ -61,8 +62,7 @@ impl Buffer {
     pub fn choice(&mut self, number: u8) -> Outcome
         ensures { Adds result self.old self.new (choice_of number) }
     {
-        self.bytes.push(number)?;
-        Ok(())
+        self.bytes.put(false, b"", b"", &[number])
     }
 
     #[inline(always)]
@@ -78,15 +78,17 @@ impl Buffer {
         ensures { Adds result self.old self.new (number_bytes number) }
     {
         let number = number as u64;
-        self.bytes.extend_from_slice(&number.to_le_bytes())
+        self.bytes.put(false, b"", b"", &number.to_le_bytes())
     }
 
     #[inline(always)]
+    #[tactic(auto, unfolding(crate::specs::packed::Bytes::number_bytes))]
     pub fn text(&mut self, text: &str) -> Outcome
         ensures { Adds result self.old self.new (text_bytes text.now) }
     {
-        self.number(text.len())?;
-        self.bytes.extend_from_slice(text.as_bytes())
+        let length = text.len() as u64;
+        self.bytes
+            .put(false, &length.to_le_bytes(), text.as_bytes(), b"")
     }
 
     #[inline(always)]
