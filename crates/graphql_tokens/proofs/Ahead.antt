@@ -5,11 +5,12 @@ use Rattle.std.specs.Char.{is_ascii_digit}
 use Rattle.graphql_tokens.specs.tokens.Place.{is_line_end, is_in_line}
 use Rattle.graphql_tokens.specs.tokens.Classes.{is_ignored, is_punct, is_name_start, is_name_char}
 use Rattle.graphql_tokens.specs.tokens.Cuts.{is_last}
-use Rattle.graphql_tokens.specs.inner.ByteClasses.{past_class}
+use Rattle.graphql_tokens.specs.inner.ByteClasses.{past_class, has_byte}
 use Rattle.graphql_tokens.specs.inner.Reading.{skip, past_line, past_dots, found, quoted, next}
 use Rattle.graphql_tokens.specs.inner.Running.{ahead}
 use Rattle.graphql_tokens.specs.inner.Lexing.{RunsOver, IsFirstByte, Gives, rest_if}
 use Rattle.graphql_tokens.specs.declared.pos.running.RunningPlace.{RunningPlace}
+use Rattle.graphql_tokens.specs.declared.lexer.class.CharClass.TheVariants.{EndsIgnored}
 use Rattle.graphql_tokens.specs.declared.lexer.TokenKind.{TokenKind}
 use Rattle.graphql_tokens.specs.declared.lexer.TokenKind.TheVariants.{Punct, Name, Number, Fault, End}
 use Rattle.graphql_tokens.specs.inner.Numbers.{past_number}
@@ -40,6 +41,10 @@ first_not b c d text rest f is l n = by (subst (IsFirstByte b) is f)
     by : IsFirstByte b (c ∷ rest) → eqb c d ≡ false
     by (inl x) = let other : c ≢ d = λ e. n (sym x.1 ∙ e) in grind (arith, nat_tests)
     by (inr x) = let wide : 128 ≤ c = x.2 in grind (arith, nat_tests)
+
+pub first_some : (b : ℕ) (text : List ℕ) → IsFirstByte b text → text ≢ []
+first_some b [] f e = f
+first_some b (c ∷ cs) f e = cc
 
 -- ---- ignored text
 
@@ -74,9 +79,6 @@ hash_shorter b (c ∷ rest) f e =
     let same : past_line (c ∷ rest) ≡ past_line rest = rw is refl in
     omega (arith, ap length same, line_shorter rest)
 
-pub skip_mark : (c : ℕ) (text rest : List ℕ) → text ≡ c ∷ rest → c ≡ 0xFEFF → skip rest ≡ skip text
-skip_mark c text rest is e = sym (ap skip is ∙ skip_goes c rest (ap is_ignored e))
-
 not_ignored : (c : ℕ) → 128 ≤ c → c ≢ 0xFEFF → is_ignored c ≡ false
 not_ignored c h n = grind (arith, nat_tests)
 
@@ -85,24 +87,22 @@ skip_wide b c text rest f is h n =
     let k = first_wide b c text rest f is h in
     is ∙ sym (ap skip is ∙ skip_rest (c ∷ rest) (not_ignored c k n, λ e. omega arith))
 
-pub skip_other : (b : ℕ) (text : List ℕ) → IsFirstByte b text → b < 128 → is_ignored b ≡ false → b ≢ 35 → text ≡ skip text
+skip_other : (b : ℕ) (text : List ℕ) → IsFirstByte b text → b < 128 → is_ignored b ≡ false → b ≢ 35 → text ≡ skip text
 skip_other b [] f l t n = absurd f
 skip_other b (c ∷ rest) f l t n =
     let is = first_low b c (c ∷ rest) rest f refl l in
     sym (skip_rest (c ∷ rest) (ap is_ignored is ∙ t, λ e. n (sym is ∙ e)))
 
-name_kept : (b : ℕ) → is_name_start b ≡ true → (b < 128) × (is_ignored b ≡ false) × (b ≢ 35)
-name_kept b t = (grind (arith, nat_tests), grind (arith, nat_tests), λ e. grind (arith, nat_tests))
+ends_kept : (b : ℕ) → has_byte EndsIgnored b ≡ true → (b < 128) × (is_ignored b ≡ false) × (b ≢ 35)
+ends_kept b t = (grind (arith, nat_tests), grind (arith, nat_tests), λ e. grind (arith, nat_tests))
 
-punct_kept : (b : ℕ) → is_punct b ≡ true → (b < 128) × (is_ignored b ≡ false) × (b ≢ 35)
-punct_kept b t = (grind (arith, nat_tests), grind (arith, nat_tests), λ e. grind (arith, nat_tests))
+-- what ends ignored text isn't ignored
+pub skip_end : (b : ℕ) (text : List ℕ) → IsFirstByte b text → has_byte EndsIgnored b ≡ true → text ≡ skip text
+skip_end b text f t = let k = ends_kept b t in skip_other b text f k.0 k.1 k.2
 
--- what begins a token isn't ignored
-pub skip_name : (b : ℕ) (text : List ℕ) → IsFirstByte b text → is_name_start b ≡ true → text ≡ skip text
-skip_name b text f t = let k = name_kept b t in skip_other b text f k.0 k.1 k.2
-
-pub skip_punct : (b : ℕ) (text : List ℕ) → IsFirstByte b text → is_punct b ≡ true → text ≡ skip text
-skip_punct b text f t = let k = punct_kept b t in skip_other b text f k.0 k.1 k.2
+-- what neither ends it nor begins a comment is
+pub blank_else : (b : ℕ) → b < 128 → b ≢ 35 → has_byte EndsIgnored b ≡ false → is_ignored b ≡ true
+blank_else b l n f = grind (arith, nat_tests)
 
 pub skip_nothing : (text : List ℕ) → text ≡ [] → text ≡ skip text
 skip_nothing text e = e ∙ sym (ap skip e ∙ skip_rest [] tt)

@@ -20,6 +20,7 @@ pub mod FirstBytes
 pub mod Integers
 pub mod Lanes
 pub mod Lexes
+pub mod Lines
 pub mod Lists
 pub mod Meanings
 pub mod Nexts

@@ -32,7 +32,7 @@ same_walk a b t o k = record {
   bound = rw t k.bound;
 }
 
-no_feed : (c : ℕ) → is_in_line c ≡ true → is_line_feed c ≡ false
+pub no_feed : (c : ℕ) → is_in_line c ≡ true → is_line_feed c ≡ false
 no_feed c h = grind (arith, nat_tests)
 
 -- one character after another

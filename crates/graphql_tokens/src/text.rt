@@ -23,7 +23,7 @@ use std::alloc::{AllocError, Global};
 
 // The byte at `at`, or 0 past the end.
 #[inline(always)]
-fn byte(bytes: &[u8], at: usize) -> u8
+pub(crate) fn byte(bytes: &[u8], at: usize) -> u8
     ensures { result ≡ slice_index bytes.now at }
 {
     if at < bytes.len() { bytes[at] } else { 0 }

@@ -85,7 +85,7 @@ pub fn pass_block(bytes: &[u8], places: &mut RunningPlace) -> bool
                 return true;
             }
         } else if b == b'\n' {
-            places.pass_line_feed();
+            places.pass_line_end(b);
         } else {
             places.pass_first(b);
             if b == b'\\' {

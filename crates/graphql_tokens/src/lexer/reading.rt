@@ -3,15 +3,16 @@
 
 ghost use Rattle.std.specs.Prelude.{◌≡◌, ◌≢◌, ◌≤◌, ◌<◌, ◌+◌, true, false, [], MatchOption, drop, length};
 ghost use Rattle.std.specs.Str.{byte};
-ghost use Rattle.graphql_tokens.specs.tokens.Classes.{is_ignored};
-ghost use Rattle.graphql_tokens.specs.inner.ByteClasses.{IsWithinLines, past_class};
+ghost use Rattle.graphql_tokens.specs.tokens.Place.{is_line_end};
+ghost use Rattle.graphql_tokens.specs.inner.ByteClasses.{IsWithinLines, past_class, begins_mark};
 ghost use Rattle.graphql_tokens.specs.inner.Reading.{skip, past_line, past_char, past_dots};
 ghost use Rattle.graphql_tokens.specs.inner.Running.{ahead, IsRunning};
 ghost use Rattle.graphql_tokens.specs.inner.Lexing.{RunsOver, IsFirstByte, Reads, rest_if};
 
 use super::class::CharClass;
 use crate::pos::running::RunningPlace;
-use crate::text::runs::{Blanks, ByteClass, InLine, past_run};
+use crate::text::byte as byte_at;
+use crate::text::runs::{Blanks, ByteClass, InLine, LineBytes, past_run};
 
 // The first byte of what is ahead, where the text goes on.
 #[inline(always)]
@@ -52,49 +53,93 @@ pub fn pass_class<C: ByteClass>(bytes: &[u8], places: &mut RunningPlace)
     places.pass_run(end - start);
 }
 
-// Goes past a `Comment`, or what is left of it, and the character that ends its line.
-#[inline(always)]
-fn pass_line(bytes: &[u8], places: &mut RunningPlace)
+// Goes past a `Comment`, or what is left of it, and the character that ends its line, wherever the text ends. It is for a
+// comment at the end of the text, whose characters count for the place of the end, and never inlined. Within it the place
+// has no address, and so it stays in registers.
+#[inline(never)]
+fn pass_last_line(bytes: &[u8], places: &mut RunningPlace)
     requires { RunsOver bytes.now places.old }
     ensures runs { RunsOver bytes.now places.new }
     ensures rest { ahead places.new ≡ past_line (ahead places.old) }
     ensures forward { places.old.walk.offset ≤ places.new.walk.offset }
 {
-    while has_more(bytes, places) {
-        let c = places.pass();
+    let mut own = *places;
+    while has_more(bytes, &own) {
+        let c = own.pass();
         if c == '\n' || c == '\r' {
             break;
         }
-        pass_class::<InLine>(bytes, places);
+        pass_class::<InLine>(bytes, &mut own);
+    }
+    *places = own;
+}
+
+// Goes past a `Comment`, and the character that ends its line.
+#[inline(always)]
+fn pass_comment(bytes: &[u8], places: &mut RunningPlace)
+    requires { RunsOver bytes.now places.old }
+    ensures runs { RunsOver bytes.now places.new }
+    ensures rest { ahead places.new ≡ past_line (ahead places.old) }
+    ensures forward { places.old.walk.offset ≤ places.new.walk.offset }
+{
+    let end = past_run::<LineBytes>(bytes, places.offset());
+    if end < bytes.len() {
+        places.pass_line(end, bytes[end]);
+        return;
+    }
+    // A copy is handed over, so that the caller's own place has no address and stays in registers.
+    let mut after = *places;
+    pass_last_line(bytes, &mut after);
+    *places = after;
+}
+
+// Goes past what `b` begins: a line feed, a carriage return with a line feed after it, or a comment with the character that ends
+// its line.
+#[inline(always)]
+fn pass_line(bytes: &[u8], places: &mut RunningPlace, b: u8)
+    requires runs { RunsOver bytes.now places.old }
+    requires first { IsFirstByte b (ahead places.old) }
+    requires begins { b ≢ byte "#" → is_line_end b ≡ true }
+    ensures runs { RunsOver bytes.now places.new }
+    ensures skipped { skip (ahead places.new) ≡ skip (ahead places.old) }
+    ensures less { length (ahead places.new) < length (ahead places.old) }
+    ensures forward { places.old.walk.offset ≤ places.new.walk.offset }
+{
+    if b == b'#' {
+        pass_comment(bytes, places);
+        return;
+    }
+    places.pass_line_end(b);
+    if b == b'\r'
+        && let Some(b'\n') = peek(bytes, places)
+    {
+        places.pass_line_end(b'\n');
     }
 }
 
-// Goes past something that is ignored, where it is next, with the line feed and the blanks after it, and tells whether it was.
-// `b` is the first byte of what is ahead. It is for what is rare, and never inlined, so that what is inlined for each token
-// stays small. Within it the place has no address, and so it stays in registers.
-#[inline(never)]
-fn pass_rare_ignored(bytes: &[u8], places: &mut RunningPlace, b: u8) -> bool
-    requires runs { RunsOver bytes.now places.old }
-    requires first { IsFirstByte b (ahead places.old) }
-    requires rare { b ≢ byte "#" → b < 128 → is_ignored b ≡ true }
+// Goes past the tabs and spaces with which a line begins. Many lines have none.
+#[inline(always)]
+fn pass_indent(bytes: &[u8], places: &mut RunningPlace)
+    requires { RunsOver bytes.now places.old }
     ensures runs { RunsOver bytes.now places.new }
-    ensures passed { result ≡ true → skip (ahead places.new) ≡ skip (ahead places.old) }
-    ensures less { result ≡ true → length (ahead places.new) < length (ahead places.old) }
-    ensures none { result ≡ false → ahead places.new ≡ skip (ahead places.old) }
+    ensures skipped { skip (ahead places.new) ≡ skip (ahead places.old) }
+    ensures no_more { length (ahead places.new) ≤ length (ahead places.old) }
     ensures forward { places.old.walk.offset ≤ places.new.walk.offset }
 {
-    let mut own = *places;
-    if b == b'#' {
-        pass_line(bytes, &mut own);
-    } else if own.pass() != '\u{feff}' && b >= 0x80 {
-        return false;
+    if let Some(b) = peek(bytes, places)
+        && Blanks::has(b)
+    {
+        pass_class::<Blanks>(bytes, places);
     }
-    if let Some(b'\n') = peek(bytes, &own) {
-        own.pass_line_feed();
-    }
-    pass_class::<Blanks>(bytes, &mut own);
-    *places = own;
-    true
+}
+
+// Whether U+FEFF begins at `at`. Never inlined: it is rare.
+#[inline(never)]
+fn is_mark(bytes: &[u8], at: usize) -> bool
+    requires { at < length bytes.now }
+    ensures { result ≡ begins_mark (drop at bytes.now) }
+{
+    bytes[at] == 0xEF && byte_at(bytes, at + 1) == 0xBB && byte_at(bytes, at + 2) == 0xBF
 }
 
 // Goes past `Ignored*`, where `Ignored : UnicodeBOM | WhiteSpace | LineTerminator | Comment | Comma`.
@@ -108,21 +153,16 @@ pub fn pass_ignored(bytes: &[u8], places: &mut RunningPlace)
     while let Some(b) = peek(bytes, places) {
         if b == b' ' {
             places.pass_ascii();
-        } else if CharClass::NameStart.has(b) || CharClass::Punct.has(b) {
+        } else if CharClass::EndsIgnored.has(b) {
             break;
-        } else if b == b'\n' {
-            places.pass_line_feed();
-            pass_class::<Blanks>(bytes, places);
-        } else if b == b',' {
+        } else if b == b'\n' || b == b'\r' || b == b'#' {
+            pass_line(bytes, places, b);
+            pass_indent(bytes, places);
+        } else if b < 0x80 {
+            // A tab or a comma.
             places.pass_ascii();
-        } else if CharClass::Ignored.has(b) || b == b'#' || b >= 0x80 {
-            // A copy is handed over, so that the caller's own place has no address and stays in registers.
-            let mut after = *places;
-            let is_passed = pass_rare_ignored(bytes, &mut after, b);
-            *places = after;
-            if !is_passed {
-                break;
-            }
+        } else if is_mark(bytes, places.offset()) {
+            places.pass_mark();
         } else {
             break;
         }

@@ -1,8 +1,11 @@
 //! A place that moves through a text with the characters passed.
 
-ghost use Rattle.std.specs.Prelude.{◌≡◌, ◌≢◌, ◌<◌, ◌≤◌, ◌+◌, ℕ, ◌∷◌, [], length};
+ghost use Rattle.std.specs.Prelude.{◌≡◌, ◌≢◌, ◌<◌, ◌≤◌, ◌+◌, ◌-◌, ◌^◌, ℕ, ◌∷◌, [], true, if◌then◌else◌, length, drop, get_or};
+ghost use Rattle.std.specs.List.{prefix_len};
 ghost use Rattle.std.specs.Str.{IsCharBoundary};
-ghost use Rattle.graphql_tokens.specs.tokens.Place.{place};
+ghost use Rattle.graphql_tokens.specs.tokens.Place.{place, is_in_line, is_line_end, is_line_feed};
+ghost use Rattle.graphql_tokens.specs.inner.ByteClasses.{begins_mark};
+ghost use Rattle.graphql_tokens.specs.inner.Reading.{past_line};
 ghost use Rattle.graphql_tokens.specs.inner.Running.{ahead, IsRunning, BeginsInAscii, IsRunOfAscii};
 ghost use Rattle.graphql_tokens.specs.inner.Lexing.{IsFirstByte};
 ghost use Rattle.graphql_tokens.specs.inner.TextWalk.{Passes};
@@ -66,6 +69,21 @@ impl<'a> RunningPlace<'a> {
         }
     }
 
+    // Begins the columns at the offset, and a line too if it was a line feed that ended the one before.
+    #[inline(always)]
+    fn begin_columns(&mut self, b: u8)
+        requires { self.old.line < 2 ^ 64 - 1 }
+        ensures { self.new ≡ record self.old {
+          line = self.old.line + (if is_line_feed b then 1 else 0);
+          origin = self.old.walk.offset;
+        } }
+    {
+        if b == b'\n' {
+            self.line += 1;
+        }
+        self.origin = self.walk.offset();
+    }
+
     // The next character, which is passed.
     #[inline(always)]
     pub fn pass(&mut self) -> char
@@ -107,19 +125,52 @@ impl<'a> RunningPlace<'a> {
         self.walk.pass_ascii();
     }
 
-    // Passes a line feed, which is next.
+    // Passes a line feed or a carriage return, which is next.
     #[inline(always)]
-    pub fn pass_line_feed(&mut self)
+    pub fn pass_line_end(&mut self, b: u8)
         requires running { IsRunning self.old }
-        requires feed { IsFirstByte 10 (ahead self.old) }
+        requires first { IsFirstByte b (ahead self.old) }
+        requires ends { is_line_end b ≡ true }
         ensures running { IsRunning self.new }
         ensures same { self.new.walk.text.now ≡ self.old.walk.text.now }
-        ensures passed { ahead self.old ≡ 10 ∷ ahead self.new }
+        ensures passed { ahead self.old ≡ b ∷ ahead self.new }
         ensures forward { self.old.walk.offset < self.new.walk.offset }
     {
         self.walk.pass_ascii();
-        self.line += 1;
-        self.origin = self.walk.offset();
+        self.begin_columns(b);
+    }
+
+    // Passes the rest of a line, up to `end`, and the character `b` there, which ends it. The columns begin anew after it, so
+    // nothing needs to be known of what stands before.
+    #[inline(always)]
+    pub fn pass_line(&mut self, end: usize, b: u8)
+        requires running { IsRunning self.old }
+        requires line { end ≡ self.old.walk.offset + prefix_len is_in_line
+            (drop self.old.walk.offset self.old.walk.text.now) }
+        requires within { end < length self.old.walk.text.now }
+        requires last { b ≡ get_or self.old.walk.text.now end 0 }
+        ensures running { IsRunning self.new }
+        ensures same { self.new.walk.text.now ≡ self.old.walk.text.now }
+        ensures rest { ahead self.new ≡ past_line (ahead self.old) }
+        ensures forward { self.old.walk.offset < self.new.walk.offset }
+    {
+        let len = end - self.walk.offset() + 1;
+        self.walk.pass_run(len);
+        self.begin_columns(b);
+    }
+
+    // Passes U+FEFF, which is next.
+    #[inline(always)]
+    pub fn pass_mark(&mut self)
+        requires running { IsRunning self.old }
+        requires mark { begins_mark (drop self.old.walk.offset self.old.walk.text.now) ≡ true }
+        ensures running { IsRunning self.new }
+        ensures same { self.new.walk.text.now ≡ self.old.walk.text.now }
+        ensures passed { ahead self.old ≡ 0xFEFF ∷ ahead self.new }
+        ensures forward { self.old.walk.offset < self.new.walk.offset }
+    {
+        self.walk.pass_run(3);
+        self.origin += 2;
     }
 
     // Passes so many ASCII characters that end no line, without a look at them.

@@ -9,17 +9,10 @@ ghost use Rattle.graphql_tokens.specs.tokens.BlockText as spec;
 ghost use Rattle.graphql_tokens.specs.inner.Blocks.{is_space as is_space_char, end_len, counted, indent_with, trimmed, written, first_line, StartsText, EndsText, IsPlainBetween, IsUnquotedBetween, IsOneLine};
 
 use super::byte;
-use super::runs::{Blanks, LineBytes, UnquotedBytes, past_run};
+use super::runs::{Blanks, ByteClass, LineBytes, UnquotedBytes, past_run};
 use graphql_memory::Memory;
 use memchr::{memchr, memchr2};
 use std::alloc::AllocError;
-
-#[inline(always)]
-fn is_blank(b: u8) -> bool
-    ensures { result ≡ spec.is_blank_char b }
-{
-    b == b'\t' || b == b' '
-}
 
 #[inline(always)]
 fn is_in_line(b: u8) -> bool
@@ -32,7 +25,7 @@ fn is_in_line(b: u8) -> bool
 fn is_space(b: u8) -> bool
     ensures { result ≡ is_space_char b }
 {
-    is_blank(b) || !is_in_line(b)
+    Blanks::has(b) || !is_in_line(b)
 }
 
 // Whether `\"""` begins at `at`.

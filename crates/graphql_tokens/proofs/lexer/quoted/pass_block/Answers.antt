@@ -27,10 +27,10 @@ loop-b-preserved-else-pass_quotes-eq3 c =
 
 pub loop-b-preserved-then-b-eq10 : goal.loop-b-preserved-then-b-eq10
 loop-b-preserved-then-b-eq10 c =
-    let e = c.pass_line_feed.ensures in
+    let e = c.pass_line_end.ensures in
     record {
       runs = record { running = e.running; same = e.same ∙ c.loop-b.invariant.runs.same };
-      same = sym (ap past_block e.passed ∙ block_other 10 (ahead c.pass_line_feed.new.self) refl refl) ∙ c.loop-b.invariant.same;
+      same = sym (ap past_block (e.passed ∙ ap (λ d. d ∷ ahead c.pass_line_end.new.self) c.if-b-eq10.true) ∙ block_other 10 (ahead c.pass_line_end.new.self) refl refl) ∙ c.loop-b.invariant.same;
       forward = omega arith;
     }
 

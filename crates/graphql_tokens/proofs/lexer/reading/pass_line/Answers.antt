@@ -1,18 +1,19 @@
-use Rattle.std.proofs.Common.{◌≡◌, ◌≢◌, ℕ, List, ◌∷◌, cond, ◌||◌, eqb, sym, ap, ◌∙◌, arith}
-use Rattle.std.proofs.lemmas.Bool.{ne_eqb}
-use Rattle.graphql_tokens.specs.inner.Reading.{past_line}
-use Rattle.graphql_tokens.specs.inner.Running.{ahead}
-use Rattle.graphql_tokens.proofs.Runs.{line_run}
+use Rattle.std.proofs.Common.{length, refl, sym, ap, ◌∙◌, arith}
+use Rattle.graphql_tokens.specs.inner.Reading.{skip}
+use Rattle.graphql_tokens.proofs.Ahead.{skip_hash, hash_shorter}
+use Rattle.graphql_tokens.proofs.Skips.{skip_goes, line_end_ignored}
 use Rattle.graphql_tokens.proofs.lexer.reading.pass_line.Goals as goal
 
-goes_on : (c : ℕ) (text rest : List ℕ) → text ≡ c ∷ rest → c ≢ 10 → c ≢ 13 → past_line rest ≡ past_line text
-goes_on c text rest is f r = sym (ap past_line is ∙ ap (λ b. cond (b || eqb c 13) rest (past_line rest)) (ne_eqb c 10 f) ∙ ap (λ b. cond b rest (past_line rest)) (ne_eqb c 13 r))
+pub returns-then-b-eq35-clause-skipped : goal.returns-then-b-eq35-clause-skipped
+returns-then-b-eq35-clause-skipped c = ap skip c.pass_comment.ensures.rest ∙ skip_hash c.args.b _ c.requires.first c.if-b-eq35.true
 
-pub loop-places-preserved : goal.loop-places-preserved
-loop-places-preserved c =
-    let e = c.pass_class.ensures in
-    record {
-      runs = e.runs;
-      same = ap past_line e.rest ∙ line_run (ahead c.pass-c.new.self) ∙ goes_on c.pass-c.result _ _ c.pass-c.ensures.passed (λ e. absurd (c.if-c-eq10.false e)) c.if-c-eq13.false ∙ c.loop-places.invariant.same;
-      forward = omega arith;
-    }
+pub returns-then-b-eq35-clause-less : goal.returns-then-b-eq35-clause-less
+returns-then-b-eq35-clause-less c = omega (arith, ap length c.pass_comment.ensures.rest, hash_shorter c.args.b _ c.requires.first c.if-b-eq35.true)
+
+pub returns-in-Some-eq10-clause-skipped : goal.returns-in-Some-eq10-clause-skipped
+returns-in-Some-eq10-clause-skipped c =
+    sym (ap skip c.pass_line_end.ensures.passed ∙ skip_goes c.args.b _ (line_end_ignored c.args.b (c.requires.begins c.if-b-eq35.false)) ∙ ap skip c.pass_line_end-2.ensures.passed ∙ skip_goes 10 _ refl)
+
+pub returns-else-b-eq13-clause-skipped : goal.returns-else-b-eq13-clause-skipped
+returns-else-b-eq13-clause-skipped c =
+    sym (ap skip c.pass_line_end.ensures.passed ∙ skip_goes c.args.b _ (line_end_ignored c.args.b (c.requires.begins c.if-b-eq35.false)))

@@ -2,7 +2,7 @@ use Rattle.std.proofs.Common.{◌≡◌, ℕ, ◌<◌, Bool, not, eqb, bit_and, 
 use Rattle.std.proofs.lemmas.Bool.{agree_below_at}
 use Rattle.graphql_tokens.specs.inner.ByteClasses.{bit_of, has_byte}
 use Rattle.graphql_tokens.specs.declared.lexer.class.CharClass.{CharClass}
-use Rattle.graphql_tokens.specs.declared.lexer.class.CharClass.TheVariants.{Ignored, NameStart, NameChar, Punct, Digit, Plain, NumberStart, PlainAscii}
+use Rattle.graphql_tokens.specs.declared.lexer.class.CharClass.TheVariants.{EndsIgnored, NameStart, NameChar, Punct, Digit, Plain, NumberStart, PlainAscii}
 use Rattle.graphql_tokens.specs.declared.lexer.class.TheConstants.{CLASSES}
 use Rattle.graphql_tokens.proofs.lexer.class.CharClass.has.Goals as goal
 
@@ -12,7 +12,7 @@ has_bit bit b = not (eqb (bit_and (get_or CLASSES b 0) bit) 0)
 
 -- the whole table
 table : (class : CharClass) (b : ℕ) → b < 256 → has_bit (bit_of class) b ≡ has_byte class b
-table Ignored b low = agree_below_at (has_bit 1) (has_byte Ignored) 256 b refl low
+table EndsIgnored b low = agree_below_at (has_bit 1) (has_byte EndsIgnored) 256 b refl low
 table NameStart b low = agree_below_at (has_bit 2) (has_byte NameStart) 256 b refl low
 table NameChar b low = agree_below_at (has_bit 4) (has_byte NameChar) 256 b refl low
 table Punct b low = agree_below_at (has_bit 8) (has_byte Punct) 256 b refl low
