@@ -5,7 +5,7 @@ use Rattle.std.specs.Char.{is_ascii_digit}
 use Rattle.graphql_tokens.specs.tokens.Place.{is_line_end, is_in_line}
 use Rattle.graphql_tokens.specs.tokens.Classes.{is_ignored, is_punct, is_name_start, is_name_char}
 use Rattle.graphql_tokens.specs.tokens.Cuts.{is_last}
-use Rattle.graphql_tokens.specs.inner.ByteClasses.{past_class, has_byte}
+use Rattle.graphql_tokens.specs.inner.ByteClasses.{past_class, has_byte, begins_number}
 use Rattle.graphql_tokens.specs.inner.Reading.{skip, past_line, past_dots, found, quoted, next}
 use Rattle.graphql_tokens.specs.inner.Running.{ahead}
 use Rattle.graphql_tokens.specs.inner.Lexing.{RunsOver, IsFirstByte, Gives, rest_if}
@@ -14,7 +14,6 @@ use Rattle.graphql_tokens.specs.declared.lexer.class.CharClass.TheVariants.{Ends
 use Rattle.graphql_tokens.specs.declared.lexer.TokenKind.{TokenKind}
 use Rattle.graphql_tokens.specs.declared.lexer.TokenKind.TheVariants.{Punct, Name, Number, Fault, End}
 use Rattle.graphql_tokens.specs.inner.Numbers.{past_number}
-use Rattle.graphql_tokens.proofs.Numbers.{begins_number}
 use Rattle.graphql_tokens.proofs.Nexts.{at_number}
 use Rattle.graphql_tokens.proofs.Skips.{skip_goes, skip_comment, skip_rest}
 

@@ -25,9 +25,12 @@ each_lane : (f : ℕ → ℕ) (p : ℕ → Bool) → agree_below (λ x. top 7 (f
 each_lane f p all [] fits = refl
 each_lane f p all (x ∷ xs) fits = ap₂ (λ b bs. b ∷ bs) (agree_below_at (λ y. top 7 (f y)) p 256 x all fits.0.fits) (each_lane f p all xs fits.1)
 
-pub mask_of : (f : ℕ → ℕ) (p : ℕ → Bool) (v : List ℕ) {lanes : List ℕ} → length v ≡ 16 → Each1 (Fits w8) v → lanes ≡ map f v → agree_below (λ x. top 7 (f x)) p 256 ≡ true
+pub sixteen : (v : List ℕ) → length v ≡ 16 → length v ≤ 64
+sixteen v e = omega arith
+
+pub mask_of : (f : ℕ → ℕ) (p : ℕ → Bool) (v : List ℕ) {lanes : List ℕ} → length v ≤ 64 → Each1 (Fits w8) v → lanes ≡ map f v → agree_below (λ x. top 7 (f x)) p 256 ≡ true
     → mask_l (map (top 7) lanes) % 2 ^ 64 ≡ mask_l (map p v)
-mask_of f p v long fits e all =
+mask_of f p v few fits e all =
     ap (λ l. mask_l l % 2 ^ 64) (ap (map (top 7)) e ∙ map-map (top 7) f v ∙ each_lane f p all v fits)
     ∙ mask_l-mod (map p v) 64 (omega (arith, length-map v p))
 

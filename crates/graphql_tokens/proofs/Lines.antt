@@ -1,16 +1,16 @@
 -- A running place that passes the rest of a line, or the byte order mark.
-use Rattle.std.proofs.Common.{◌≡◌, ◌≢◌, ℕ, ◌+◌, ◌≤◌, ◌<◌, Bool, true, false, cond, not, ◌&&◌, eqb, List, [], ◌∷◌, ◌++◌, length, take, drop, get_or, refl, sym, ap, subst, ◌∙◌, append_assoc, arith, one-add, length-drop}
+use Rattle.std.proofs.Common.{◌≡◌, ℕ, ◌+◌, ◌≤◌, ◌<◌, Bool, true, false, cond, not, List, [], ◌∷◌, ◌++◌, length, take, drop, get_or, refl, sym, ap, ◌∙◌, append_assoc, arith, one-add, length-drop}
 use Rattle.std.proofs.lemmas.Bool.Decides.{nat_tests}
 use Rattle.std.proofs.lemmas.List.{append_cancel_right, take-append-drop, drop-drop, get_or-drop}
 use Rattle.std.proofs.lemmas.List.Sums.{prefix_len_stops, sum_by-append}
 use Rattle.std.proofs.lemmas.Str.{IsUtf8-drop, IsCharBoundary-before_ascii, IsCharBoundary-after_ascii, encodes-chars}
-use Rattle.std.specs.Char.{encode_utf8, len_utf8}
+use Rattle.std.specs.Char.{encode_utf8}
 use Rattle.std.specs.List.{count_by, prefix_len}
 use Rattle.std.specs.Str.{chars, IsUtf8, IsCharBoundary, encode_utf8_all}
-use Rattle.graphql_tokens.specs.tokens.Place.{place, place_after, is_in_line, is_line_end, is_line_feed}
+use Rattle.graphql_tokens.specs.tokens.Place.{place_after, is_in_line, is_line_end, is_line_feed}
 use Rattle.graphql_tokens.specs.inner.ByteClasses.{begins_mark}
 use Rattle.graphql_tokens.specs.inner.Reading.{skip, past_line}
-use Rattle.graphql_tokens.specs.inner.TextWalk.{IsWalking, Passes}
+use Rattle.graphql_tokens.specs.inner.TextWalk.{Passes}
 use Rattle.graphql_tokens.specs.inner.Running.{ahead, IsRunning}
 use Rattle.graphql_tokens.specs.inner.Lexing.{IsFirstByte}
 use Rattle.graphql_tokens.specs.declared.pos.text_walk.TextWalk.{TextWalk}

@@ -12,13 +12,13 @@ use Rattle.graphql_tokens.specs.tokens.Blocks.{IsBlock}
 use Rattle.graphql_tokens.specs.inner.Numerals.{then_past}
 use Rattle.graphql_tokens.specs.inner.Numbers.{past_number}
 use Rattle.graphql_tokens.specs.inner.Quoted.{past_string, past_block}
-use Rattle.graphql_tokens.specs.inner.ByteClasses.{past_class}
+use Rattle.graphql_tokens.specs.inner.ByteClasses.{begins_number, past_class}
 use Rattle.graphql_tokens.specs.inner.Reading.{next, past_char, past_dots, found, triple, double, quoted}
 use Rattle.graphql_tokens.specs.declared.lexer.TokenKind.{TokenKind}
 use Rattle.graphql_tokens.specs.declared.lexer.TokenKind.TheVariants.{Punct, Name, Number, String, Block, Fault, End}
 use Rattle.graphql_tokens.proofs.Options.{some_same}
 use Rattle.graphql_tokens.proofs.Skips.{IsRest}
-use Rattle.graphql_tokens.proofs.Numbers.{Allows, number_is, number_only, begins_number, number_head, number_alone}
+use Rattle.graphql_tokens.proofs.Numbers.{Allows, number_is, number_only, number_head, number_alone}
 use Rattle.graphql_tokens.proofs.StringTokens.{string_is, string_only, content_head}
 use Rattle.graphql_tokens.proofs.BlockTokens.{three_quotes, block_is, block_only}
 use Rattle.graphql_tokens.proofs.Contents.{former_means}

@@ -1,9 +1,10 @@
 -- `past_number` passes numbers that may end where they do, and all of them.
-use Rattle.std.proofs.Common.{◌≡◌, ℕ, Bool, true, false, cond, ◌||◌, eqb, List, [], ◌∷◌, ◌++◌, Option, Some, None, refl, sym, ap, ◌∙◌, arith, inl, inr, subst}
+use Rattle.std.proofs.Common.{◌≡◌, ℕ, Bool, true, false, cond, eqb, List, [], ◌∷◌, ◌++◌, Option, Some, None, refl, sym, ap, ◌∙◌, arith, inl, inr, subst}
 use Rattle.std.proofs.lemmas.Bool.Decides.{nat_tests}
 use Rattle.std.specs.Char.{is_ascii_digit}
 use Rattle.graphql_tokens.specs.tokens.Classes.{is_ignored, is_punct, is_name_start}
 use Rattle.graphql_tokens.specs.tokens.Numbers.{is_minus, is_e, IsOptional, IsWhole, IsNumber, forbids_number}
+use Rattle.graphql_tokens.specs.inner.ByteClasses.{begins_number}
 use Rattle.graphql_tokens.specs.inner.Numerals.{past_optional, past_whole, past_fraction, past_exponent, then_past, past_numeral}
 use Rattle.graphql_tokens.specs.inner.Numbers.{unless_forbidden, past_number}
 use Rattle.graphql_tokens.specs.inner.Reading.{past_char}
@@ -56,9 +57,6 @@ number_only w rest n a =
     ap (λ r. then_past r unless_forbidden) (numeral_only w rest n h.0 h.1 h.2) ∙ allowed_only rest a
 
 -- ---- the first character
-
-abbrev pub begins_number : ℕ → Bool
-begins_number c = is_ascii_digit c || eqb c 45
 
 pub record BeginsNumber (w : List ℕ) : Type 0 where
   pub first : ℕ

@@ -1,9 +1,10 @@
 //! The tokens of a text, by GraphQL October 2021, section 2.1.
 
-ghost use Rattle.std.specs.Prelude.{◌≡◌, ◌≤◌, false, if◌then◌else◌};
+ghost use Rattle.std.specs.Prelude.{◌≡◌, ◌≤◌, true, false, if◌then◌else◌};
 ghost use Rattle.graphql_tokens.specs.tokens.Cuts.{is_last};
 ghost use Rattle.graphql_tokens.specs.tokens.Classes as classes;
 ghost use Rattle.graphql_tokens.specs.inner.Reading.{next, quoted};
+ghost use Rattle.graphql_tokens.specs.inner.ByteClasses.{begins_number};
 ghost use Rattle.graphql_tokens.specs.inner.Running.{ahead};
 ghost use Rattle.graphql_tokens.specs.inner.Lexing.{RunsOver, IsFirstByte, Gives};
 
@@ -138,22 +139,31 @@ fn pass_quoted(bytes: &[u8], places: &mut RunningPlace) -> TokenKind
     found(TokenKind::Block, pass_block(bytes, places))
 }
 
-// Passes a token that is neither a name nor a punctuator of one character, and gives its kind. `b` is the token's
-// first byte.
+// Passes a number and gives its kind, or a fault. `b` is its first byte.
+#[inline(always)]
+fn pass_number_token(bytes: &[u8], places: &mut RunningPlace, b: u8) -> TokenKind
+    requires runs { RunsOver bytes.now places.old }
+    requires first { IsFirstByte b (ahead places.old) }
+    requires number { begins_number b ≡ true }
+    ensures { Gives next bytes.now places.old result places.new }
+{
+    found(TokenKind::Number, pass_number(bytes, places))
+}
+
+// Passes a token that is neither a name nor a number nor a punctuator of one character, and gives its kind. `b` is the
+// token's first byte.
 #[inline(always)]
 fn pass_rare_token(bytes: &[u8], places: &mut RunningPlace, b: u8) -> TokenKind
     requires runs { RunsOver bytes.now places.old }
     requires first { IsFirstByte b (ahead places.old) }
     requires no_name { classes.is_name_start b ≡ false }
     requires no_punct { classes.is_punct b ≡ false }
+    requires no_number { begins_number b ≡ false }
     ensures { Gives next bytes.now places.old result places.new }
 {
     if b == b'"' {
         places.pass_ascii();
         return pass_quoted(bytes, places);
-    }
-    if CharClass::NumberStart.has(b) {
-        return found(TokenKind::Number, pass_number(bytes, places));
     }
     if b == b'.' {
         places.pass_ascii();
@@ -170,6 +180,7 @@ fn pass_other_token(bytes: &[u8], places: &mut RunningPlace, b: u8) -> TokenKind
     requires first { IsFirstByte b (ahead places.old) }
     requires no_name { classes.is_name_start b ≡ false }
     requires no_punct { classes.is_punct b ≡ false }
+    requires no_number { begins_number b ≡ false }
     ensures { Gives next bytes.now places.old result places.new }
 {
     let mut own = *places;
@@ -198,6 +209,11 @@ fn pass_token(bytes: &[u8], places: &mut RunningPlace) -> TokenKind
     }
     // A copy is handed over, so that the caller's own place has no address and stays in registers.
     let mut after = *places;
+    if CharClass::NumberStart.has(b) {
+        let kind = pass_number_token(bytes, &mut after, b);
+        *places = after;
+        return kind;
+    }
     let kind = pass_other_token(bytes, &mut after, b);
     *places = after;
     kind

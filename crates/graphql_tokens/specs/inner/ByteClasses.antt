@@ -25,6 +25,10 @@ past_class has (c ∷ cs) = if has c then past_class has cs else c ∷ cs
 abbrev pub begins_mark : List ℕ → Bool
 begins_mark text = slice_index text 0 == 0xEF && slice_index text 1 == 0xBB && slice_index text 2 == 0xBF
 
+-- a digit or a minus
+abbrev pub begins_number : ℕ → Bool
+begins_number b = is_ascii_digit b || b == byte "-"
+
 -- the bytes of each class of the lexer's table
 abbrev pub has_byte : CharClass → ℕ → Bool
 has_byte EndsIgnored b = nat_lt b 128 && not (is_ignored b || b == byte "#")
@@ -33,7 +37,7 @@ has_byte NameChar b = is_name_char b
 has_byte Punct b = is_punct b
 has_byte Digit b = is_ascii_digit b
 has_byte Plain b = is_plain b
-has_byte NumberStart b = is_ascii_digit b || b == byte "-"
+has_byte NumberStart b = begins_number b
 has_byte PlainAscii b = is_plain b && nat_lt b 128
 
 -- the bit of each class in the table

@@ -90,7 +90,7 @@ fn may_end(bytes: &[u8], places: &RunningPlace) -> bool
 // Passes an `IntValue` or a `FloatValue`, `'-'? ('0' | NonZeroDigit Digit*) FractionalPart? ExponentPart?` (GraphQL
 // October 2021, sections 2.9.1 and 2.9.2), and tells whether it was there and may end where it does.
 #[inline(always)]
-pub fn pass_number(bytes: &[u8], places: &mut RunningPlace) -> bool
+fn pass_numeral(bytes: &[u8], places: &mut RunningPlace) -> bool
     requires { RunsOver bytes.now places.old }
     ensures { Reads past_number bytes.now places.old result places.new }
 {
@@ -105,4 +105,17 @@ pub fn pass_number(bytes: &[u8], places: &mut RunningPlace) -> bool
         return false;
     }
     may_end(bytes, places)
+}
+
+// The same, but never inlined, so that what is inlined for each token stays small. Within it the place has no address, and so
+// it stays in registers, and strings take none of these.
+#[inline(never)]
+pub fn pass_number(bytes: &[u8], places: &mut RunningPlace) -> bool
+    requires { RunsOver bytes.now places.old }
+    ensures { Reads past_number bytes.now places.old result places.new }
+{
+    let mut own = *places;
+    let is_found = pass_numeral(bytes, &mut own);
+    *places = own;
+    is_found
 }

@@ -6,7 +6,7 @@ ghost use Rattle.graphql_tokens.specs.inner.Running.{ahead};
 ghost use Rattle.graphql_tokens.specs.inner.Lexing.{RunsOver, Reads};
 
 use super::class::CharClass;
-use super::reading::{pass_char, pass_class, pass_many, peek};
+use super::reading::{pass_char, pass_class, peek};
 use crate::pos::running::RunningPlace;
 use crate::text::escape::escape_at;
 use crate::text::runs::PlainAscii;
@@ -43,7 +43,7 @@ pub fn pass_string(bytes: &[u8], places: &mut RunningPlace) -> bool
             let Some((_, len)) = escape_at(&bytes[places.offset()..]) else {
                 return false;
             };
-            pass_many(places, len);
+            places.pass_run(len);
         }
     }
     false

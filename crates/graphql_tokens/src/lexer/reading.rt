@@ -6,7 +6,7 @@ ghost use Rattle.std.specs.Str.{byte};
 ghost use Rattle.graphql_tokens.specs.tokens.Place.{is_line_end};
 ghost use Rattle.graphql_tokens.specs.inner.ByteClasses.{IsWithinLines, past_class, begins_mark};
 ghost use Rattle.graphql_tokens.specs.inner.Reading.{skip, past_line, past_char, past_dots};
-ghost use Rattle.graphql_tokens.specs.inner.Running.{ahead, IsRunning};
+ghost use Rattle.graphql_tokens.specs.inner.Running.{ahead};
 ghost use Rattle.graphql_tokens.specs.inner.Lexing.{RunsOver, IsFirstByte, Reads, rest_if};
 
 use super::class::CharClass;
@@ -197,22 +197,4 @@ pub fn pass_dots(bytes: &[u8], places: &mut RunningPlace) -> bool
     ensures { Reads past_dots bytes.now places.old result places.new }
 {
     pass_char(bytes, places, b'.') && pass_char(bytes, places, b'.')
-}
-
-// Goes past so many characters.
-// Inlined, so that no place has an address and each stays in registers.
-#[inline(always)]
-pub fn pass_many(places: &mut RunningPlace, count: usize)
-    requires running { IsRunning places.old }
-    requires more { count ≤ length (ahead places.old) }
-    ensures running { IsRunning places.new }
-    ensures same { places.new.walk.text.now ≡ places.old.walk.text.now }
-    ensures rest { ahead places.new ≡ drop count (ahead places.old) }
-    ensures forward { places.old.walk.offset ≤ places.new.walk.offset }
-{
-    let mut left = count;
-    while left > 0 {
-        places.pass();
-        left -= 1;
-    }
 }

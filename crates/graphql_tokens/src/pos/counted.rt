@@ -6,7 +6,7 @@ ghost use Rattle.graphql_tokens.specs.tokens.Place.{place};
 ghost use Rattle.graphql_tokens.specs.inner.Running.{ahead};
 ghost use Rattle.graphql_tokens.specs.inner.Counting.{IsCounting};
 
-use super::running::RunningPlace;
+use super::running::{CountedRunning, RunningPlace};
 use super::{Pos, shown};
 use std::fmt;
 use std::marker::Model;
@@ -98,8 +98,12 @@ impl<'a> CountedPlace<'a> {
 
 impl fmt::Debug for CountedPlace<'_> {
     fn fmt<W: fmt::Write>(&self, f: &mut fmt::Formatter<W>) -> fmt::Result {
-        let shown = shown::CountedPlace {
+        let place = CountedRunning {
             place: &self.place,
+            count: self.passed,
+        };
+        let shown = shown::CountedPlace {
+            place: &place,
             number: &self.number,
         };
         shown.fmt(f)

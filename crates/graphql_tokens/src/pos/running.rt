@@ -10,7 +10,7 @@ ghost use Rattle.graphql_tokens.specs.inner.Running.{ahead, IsRunning, BeginsInA
 ghost use Rattle.graphql_tokens.specs.inner.Lexing.{IsFirstByte};
 ghost use Rattle.graphql_tokens.specs.inner.TextWalk.{Passes};
 
-use super::text_walk::TextWalk;
+use super::text_walk::{CountedWalk, TextWalk};
 use super::{Pos, shown};
 use std::fmt;
 
@@ -207,11 +207,32 @@ impl<'a> RunningPlace<'a> {
 
 impl fmt::Debug for RunningPlace<'_> {
     fn fmt<W: fmt::Write>(&self, f: &mut fmt::Formatter<W>) -> fmt::Result {
-        let in_line = self.walk.offset().wrapping_sub(self.origin);
+        let shown = CountedRunning {
+            place: self,
+            count: self.walk.shown_count(),
+        };
+        shown.fmt(f)
+    }
+}
+
+// A place as `Debug` shows it, where it is known how many characters it has passed.
+#[derive(Drop)]
+pub struct CountedRunning<'p, 'a> {
+    pub place: &'p RunningPlace<'a>,
+    pub count: usize,
+}
+
+impl fmt::Debug for CountedRunning<'_, '_> {
+    fn fmt<W: fmt::Write>(&self, f: &mut fmt::Formatter<W>) -> fmt::Result {
+        let in_line = self.place.walk.offset().wrapping_sub(self.place.origin);
+        let walk = CountedWalk {
+            walk: &self.place.walk,
+            count: self.count,
+        };
         let shown = shown::RunningPlace {
-            walk: &self.walk,
-            line: self.line,
-            before: self.walk.shown_count().wrapping_sub(in_line),
+            walk: &walk,
+            line: self.place.line,
+            before: self.count.wrapping_sub(in_line),
         };
         shown.fmt(f)
     }

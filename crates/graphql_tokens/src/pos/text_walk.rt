@@ -100,10 +100,27 @@ impl<'a> TextWalk<'a> {
 
 impl fmt::Debug for TextWalk<'_> {
     fn fmt<W: fmt::Write>(&self, f: &mut fmt::Formatter<W>) -> fmt::Result {
-        let shown = shown::TextWalk {
-            text: self.text,
-            offset: self.offset,
+        let shown = CountedWalk {
+            walk: self,
             count: self.shown_count(),
+        };
+        shown.fmt(f)
+    }
+}
+
+// A walk as `Debug` shows it, where it is known how many characters it has passed.
+#[derive(Drop)]
+pub struct CountedWalk<'w, 'a> {
+    pub walk: &'w TextWalk<'a>,
+    pub count: usize,
+}
+
+impl fmt::Debug for CountedWalk<'_, '_> {
+    fn fmt<W: fmt::Write>(&self, f: &mut fmt::Formatter<W>) -> fmt::Result {
+        let shown = shown::TextWalk {
+            text: self.walk.text,
+            offset: self.walk.offset,
+            count: self.count,
         };
         shown.fmt(f)
     }

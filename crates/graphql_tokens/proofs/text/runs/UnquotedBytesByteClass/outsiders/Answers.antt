@@ -2,7 +2,7 @@ use Rattle.std.proofs.Common.{refl}
 use Rattle.std.proofs.lemmas.Simd.{zip2_of_maps, zip2_splat}
 use Rattle.graphql_tokens.specs.inner.ByteClasses.{is_outside}
 use Rattle.graphql_tokens.proofs.BlockOneLine.{is_unquoted}
-use Rattle.graphql_tokens.proofs.Lanes.{mask_of}
+use Rattle.graphql_tokens.proofs.Lanes.{mask_of, sixteen}
 use Rattle.graphql_tokens.proofs.text.runs.UnquotedBytesByteClass.outsiders.Goals as goal
 
 pub returns : goal.returns
@@ -10,4 +10,4 @@ returns c =
     let v = c.args.bytes in
     let long = c.fits-bytes.0 in
     let line_ends = zip2_of_maps _ _ _ v (zip2_splat _ v 16 10 long) (zip2_splat _ v 16 13 long) in
-    mask_of _ (is_outside is_unquoted) v long c.fits-bytes.1 (zip2_of_maps _ _ _ v line_ends (zip2_splat _ v 16 92 long)) refl
+    mask_of _ (is_outside is_unquoted) v (sixteen v long) c.fits-bytes.1 (zip2_of_maps _ _ _ v line_ends (zip2_splat _ v 16 92 long)) refl

@@ -1,6 +1,6 @@
 use Rattle.std.proofs.Common.{◌∙◌, arith}
 use Rattle.graphql_tokens.proofs.Numbers.{optional_by, whole_fails, fraction_fails, exponent_next}
-use Rattle.graphql_tokens.proofs.lexer.number.pass_number.Goals as goal
+use Rattle.graphql_tokens.proofs.lexer.number.pass_numeral.Goals as goal
 
 pub returns-then-not-pass_whole : goal.returns-then-not-pass_whole
 returns-then-not-pass_whole c =
