@@ -198,7 +198,7 @@ blank_boundary bs at k u b l h = by (cases_lt at k)
 
 -- ---- ends of lines
 
-end_low : (c : ℕ) → is_in_line c ≡ false → c < 128
+pub end_low : (c : ℕ) → is_in_line c ≡ false → c < 128
 end_low c h = by (line_end_cases c h)
   where
     by : (c ≡ 10) ⊎ (c ≡ 13) → c < 128

@@ -6,8 +6,8 @@ use Rattle.std.proofs.lemmas.List.{append-nil, take_all, drop_all, take_more, dr
 use Rattle.std.specs.List.{prefix_len}
 use Rattle.graphql_tokens.specs.tokens.Place.{is_in_line}
 use Rattle.graphql_tokens.specs.tokens.BlockText.{begins_quotes, unquoted, is_blank_char, indent}
-use Rattle.graphql_tokens.specs.inner.Blocks.{end_len, trimmed, cleaned, IsPlainBetween}
-use Rattle.graphql_tokens.proofs.BlockLines.{line_between, line_end_of}
+use Rattle.graphql_tokens.specs.inner.Blocks.{trimmed, IsPlainBetween}
+use Rattle.graphql_tokens.proofs.BlockLines.{line_between}
 use Rattle.graphql_tokens.proofs.BlockQuotes.{unquoted_front}
 use Rattle.graphql_tokens.proofs.EscapeUnits.{both}
 
@@ -36,7 +36,7 @@ begins_taken (suc m) (c ∷ cs) h =
     rw (r.0, taken m 0 cs r.1, taken m 1 cs q.1, taken m 2 cs p.1) refl
 
 -- a part of the text has no escaped quotes
-part_unquoted : (bs : List ℕ) (from n : ℕ) → IsPlainBetween bs 0 (length bs) → unquoted (take n (drop from bs)) ≡ take n (drop from bs)
+pub part_unquoted : (bs : List ℕ) (from n : ℕ) → IsPlainBetween bs 0 (length bs) → unquoted (take n (drop from bs)) ≡ take n (drop from bs)
 part_unquoted bs from n p =
     unquoted_front (length part) part (λ k l. none k l (begins_quotes (drop k part)) refl)
     ∙ ap (λ x. take (length part) part ++ unquoted x) (drop_all (length part) part (omega arith))
@@ -95,18 +95,11 @@ cut bs at blanks end from here b e w f = by (ltb (end - at) here) refl f
               ∙ ap (take (end - from)) (drop-drop (from - at) at bs ∙ ap (λ k. drop k bs) there));
         }
 
--- the line as it is written
-pub plain_line : (bs : List ℕ) (at blanks end from here : ℕ) → IsPlainBetween bs 0 (length bs) → Cut bs at blanks end from here → take (end - from) (drop from bs) ≡ cleaned here (take (end - at) (drop at bs))
-plain_line bs at blanks end from here p c = sym (part_unquoted bs from (end - from) p) ∙ ap unquoted c.line
-
 -- it ends in a line feed
-pub plain_end : (bs : List ℕ) (at end : ℕ) → IsPlainBetween bs 0 (length bs) → end ≡ at + prefix_len is_in_line (drop at bs) → end < length bs → (get_or bs end 0 ≡ 10) × (end + end_len (drop end bs) ≡ end + 1)
-plain_end bs at end p e l =
-    let stops = line_end_of bs at end e l in
+pub plain_feed : (bs : List ℕ) (end : ℕ) → IsPlainBetween bs 0 (length bs) → end < length bs → is_in_line (get_or bs end 0) ≡ false → get_or bs end 0 ≡ 10
+plain_feed bs end p l stops =
     let other : get_or bs end 0 ≢ 13 = (p end (omega arith) l).0 in
-    let feed : get_or bs end 0 ≡ 10 = grind (arith, nat_tests) in
-    let same : get_or (drop end bs) 0 0 ≡ 10 = get_or-drop end bs 0 0 ∙ ap (λ k. get_or bs k 0) (let z : end + 0 ≡ end = omega arith in z) ∙ feed in
-    (feed, rw same refl)
+    grind (arith, nat_tests)
 
 -- and its line feed goes with it
 pub with_feed : (bs : List ℕ) (from end : ℕ) → from ≤ end → end < length bs → get_or bs end 0 ≡ 10 → take (end + 1 - from) (drop from bs) ≡ take (end - from) (drop from bs) ++ 10 ∷ []

@@ -1,8 +1,8 @@
 -- A running place that passes the rest of a line, or the byte order mark.
-use Rattle.std.proofs.Common.{◌≡◌, ℕ, ◌+◌, ◌≤◌, ◌<◌, Bool, true, false, cond, not, List, [], ◌∷◌, ◌++◌, length, take, drop, get_or, refl, sym, ap, ◌∙◌, append_assoc, arith, one-add, length-drop}
+use Rattle.std.proofs.Common.{◌≡◌, ℕ, ◌+◌, ◌≤◌, ◌<◌, Bool, true, false, cond, not, List, [], ◌∷◌, ◌++◌, length, take, drop, get_or, refl, sym, ap, ◌∙◌, append_assoc, arith, one-add}
 use Rattle.std.proofs.lemmas.Bool.Decides.{nat_tests}
-use Rattle.std.proofs.lemmas.List.{append_cancel_right, take-append-drop, drop-drop, get_or-drop}
-use Rattle.std.proofs.lemmas.List.Sums.{prefix_len_stops, sum_by-append}
+use Rattle.std.proofs.lemmas.List.{append_cancel_right, take-append-drop, drop-drop}
+use Rattle.std.proofs.lemmas.List.Sums.{sum_by-append}
 use Rattle.std.proofs.lemmas.Str.{IsUtf8-drop, IsCharBoundary-before_ascii, IsCharBoundary-after_ascii, encodes-chars}
 use Rattle.std.specs.Char.{encode_utf8}
 use Rattle.std.specs.List.{count_by, prefix_len}
@@ -16,6 +16,7 @@ use Rattle.graphql_tokens.specs.inner.Lexing.{IsFirstByte}
 use Rattle.graphql_tokens.specs.declared.pos.text_walk.TextWalk.{TextWalk}
 use Rattle.graphql_tokens.specs.declared.pos.running.RunningPlace.{RunningPlace}
 use Rattle.graphql_tokens.proofs.Ahead.{skip_wide}
+use Rattle.graphql_tokens.proofs.BlockLines.{end_low, line_end_of}
 use Rattle.graphql_tokens.proofs.Chars.{chars_split}
 use Rattle.graphql_tokens.proofs.Places.{line_push, column_push}
 use Rattle.graphql_tokens.proofs.Running.{walks_past, ahead_past, runs_in_line}
@@ -53,12 +54,6 @@ high_in_line c h = grind (arith, nat_tests)
 in_line_alike : IsAlike is_in_line
 in_line_alike c d h k = high_in_line c h ∙ sym (high_in_line d k)
 
-pub end_low : (c : ℕ) → is_line_end c ≡ true → c < 128
-end_low c h = grind (arith, nat_tests)
-
-low_end : (c : ℕ) → is_in_line c ≡ false → c < 128
-low_end c h = grind (arith, nat_tests)
-
 -- the line that goes on at an offset, and ends at another
 record Line (bs : List ℕ) (i end : ℕ) : Type 0 where
   ends : is_in_line (get_or bs end 0) ≡ false
@@ -68,10 +63,8 @@ record Line (bs : List ℕ) (i end : ℕ) : Type 0 where
 line_at : (bs : List ℕ) (i end : ℕ) → IsUtf8 bs → IsCharBoundary bs i → end ≡ i + prefix_len is_in_line (drop i bs) → end < length bs → Line bs i end
 line_at bs i end u b e l =
     let n = prefix_len is_in_line (drop i bs) in
-    let stops : is_in_line (get_or (drop i bs) n 0) ≡ false = prefix_len_stops is_in_line (drop i bs) 0 (omega (arith, length-drop i bs)) in
-    let same : get_or (drop i bs) n 0 ≡ get_or bs end 0 = get_or-drop i bs n 0 ∙ ap (λ k. get_or bs k 0) (sym e) in
-    let ends : is_in_line (get_or bs end 0) ≡ false = ap is_in_line (sym same) ∙ stops in
-    let low = low_end (get_or bs end 0) ends in
+    let ends = line_end_of bs i end e l in
+    let low = end_low (get_or bs end 0) ends in
     let span : drop (prefix_len is_in_line (chars (drop i bs))) (chars (drop i bs)) ≡ chars (drop n (drop i bs)) = sym (span_chars is_in_line in_line_alike (drop i bs) (IsUtf8-drop bs i u b)) in
     let there : drop n (drop i bs) ≡ drop end bs = drop-drop n i bs ∙ ap (λ k. drop k bs) (sym e) in
     record {

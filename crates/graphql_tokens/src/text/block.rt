@@ -1,9 +1,9 @@
 //! The lines of a block string.
 
-ghost use Rattle.std.specs.Prelude.{◌≡◌, ◌≤◌, ◌<◌, ◌+◌, ◌-◌, ◌++◌, [], false, true, nat_lt, min, if◌then◌else◌, drop, length, IfSome, MatchOption, OnOk, OnErr, string_bytes};
+ghost use Rattle.std.specs.Prelude.{◌≡◌, ◌≤◌, ◌<◌, ◌+◌, ◌-◌, ◌++◌, ◌∷◌, [], false, true, nat_lt, min, if◌then◌else◌, take, drop, length, slice_index, IfSome, MatchOption, OnOk, OnErr, string_bytes};
 ghost use Rattle.graphql_memory.specs.Memory.{Refused};
 ghost use Rattle.std.specs.List.{prefix_len};
-ghost use Rattle.std.specs.Str.{IsUtf8};
+ghost use Rattle.std.specs.Str.{IsUtf8, IsCharBoundary};
 ghost use Rattle.graphql_tokens.specs.tokens.Place as place;
 ghost use Rattle.graphql_tokens.specs.tokens.BlockText as spec;
 ghost use Rattle.graphql_tokens.specs.inner.Blocks.{is_space as is_space_char, end_len, counted, indent_with, trimmed, written, first_line, StartsText, EndsText, IsPlainBetween, IsUnquotedBetween, IsOneLine};
@@ -203,6 +203,54 @@ pub fn one_line(text: &str, loses_indent: bool) -> Option<&str>
     Some(dedented(text, if loses_indent { blanks } else { 0 }))
 }
 
+// Where the line from `at` to `end` goes on after its indent, if it has tabs and spaces up to `blanks`. A shorter line keeps
+// them.
+#[inline(always)]
+fn past_indent(at: usize, blanks: usize, end: usize, indent: usize) -> usize
+    requires { at ≤ end }
+    ensures { result ≡ (if nat_lt (end - at) indent then at else min blanks (at + indent)) }
+{
+    if end - at < indent {
+        return at;
+    }
+    blanks.min(at + indent)
+}
+
+// Adds the line from `from` to `end`, and a line feed if another line comes. In a plain text it goes as it stands, with the line
+// feed that ends it.
+#[inline(always)]
+fn push_line(
+    memory: &mut Memory,
+    value: &mut String,
+    text: &str,
+    from: usize,
+    end: usize,
+    is_plain: bool,
+) -> Result<(), AllocError>
+    requires order { from ≤ end }
+    requires within { end ≤ length text.now }
+    requires starts { IsCharBoundary text.now from }
+    requires ends { end < length text.now → place.is_in_line (slice_index text.now end) ≡ false }
+    requires plain { is_plain ≡ true → IsPlainBetween text.now 0 (length text.now) }
+    ensures value { OnOk result (string_bytes value.new ≡ string_bytes value.old ++
+        (spec.unquoted (take (end - from) (drop from text.now)) ++
+        (if nat_lt end (length text.now) then 10 ∷ [] else []))) }
+    ensures refused { OnErr result (Refused memory.new) }
+{
+    let bytes = text.as_bytes();
+    if is_plain {
+        if end < bytes.len() {
+            return memory.push_text(value, &text[from..end + 1]);
+        }
+        return memory.push_text(value, &text[from..end]);
+    }
+    push_unquoted(memory, value, &text[from..end])?;
+    if end < bytes.len() {
+        return memory.push_char(value, '\n');
+    }
+    Ok(())
+}
+
 // Adds the lines of the text, joined by line feeds and without their indent, which is `first_indent` for
 // the first of them. In a text that `is_plain` neither a carriage return nor `\"""` stands.
 pub fn push_lines(
@@ -218,65 +266,6 @@ pub fn push_lines(
         written first_indent indent (spec.lines_of text.now)) }
     ensures refused { OnErr result (Refused memory.new) }
 {
-    if is_plain {
-        return push_plain_lines(memory, value, text, first_indent, indent);
-    }
-    push_any_lines(memory, value, text, first_indent, indent)
-}
-
-// Adds the lines of any text, as `push_lines` does.
-fn push_any_lines(
-    memory: &mut Memory,
-    value: &mut String,
-    text: &str,
-    first_indent: usize,
-    indent: usize,
-) -> Result<(), AllocError>
-    ensures value { OnOk result (string_bytes value.new ≡ string_bytes value.old ++
-        written first_indent indent (spec.lines_of text.now)) }
-    ensures refused { OnErr result (Refused memory.new) }
-{
-    let bytes = text.as_bytes();
-    let mut at = 0;
-    let mut here = first_indent;
-    'lines: loop {
-        let end = past_line(bytes, at);
-        push_unquoted(memory, value, dedented(&text[at..end], here))?;
-        if end == bytes.len() {
-            return Ok(());
-        }
-        memory.push_char(value, '\n')?;
-        at = next_line(bytes, end);
-        here = indent;
-    }
-}
-
-// Where the line from `at` to `end` goes on after its indent, if it has tabs and spaces up to `blanks`. A shorter line keeps
-// them.
-#[inline(always)]
-fn past_indent(at: usize, blanks: usize, end: usize, indent: usize) -> usize
-    requires { at ≤ end }
-    ensures { result ≡ (if nat_lt (end - at) indent then at else min blanks (at + indent)) }
-{
-    if end - at < indent {
-        return at;
-    }
-    blanks.min(at + indent)
-}
-
-// Adds the lines of a plain text, as `push_lines` does: each goes with its line feed.
-fn push_plain_lines(
-    memory: &mut Memory,
-    value: &mut String,
-    text: &str,
-    first_indent: usize,
-    indent: usize,
-) -> Result<(), AllocError>
-    requires { IsPlainBetween text.now 0 (length text.now) }
-    ensures value { OnOk result (string_bytes value.new ≡ string_bytes value.old ++
-        written first_indent indent (spec.lines_of text.now)) }
-    ensures refused { OnErr result (Refused memory.new) }
-{
     let bytes = text.as_bytes();
     let mut at = 0;
     let mut here = first_indent;
@@ -284,12 +273,11 @@ fn push_plain_lines(
         let blanks = past_blanks(bytes, at);
         let end = past_line(bytes, blanks);
         let from = past_indent(at, blanks, end, here);
+        push_line(memory, value, text, from, end, is_plain)?;
         if end == bytes.len() {
-            memory.push_text(value, &text[from..end])?;
             return Ok(());
         }
-        memory.push_text(value, &text[from..end + 1])?;
-        at = end + 1;
+        at = next_line(bytes, end);
         here = indent;
     }
 }

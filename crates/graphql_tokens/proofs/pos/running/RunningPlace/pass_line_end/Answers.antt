@@ -1,16 +1,16 @@
 use Rattle.std.proofs.Common.{not, sym, ap, ◌∙◌, arith}
 use Rattle.graphql_tokens.specs.inner.TextWalk.{Passes}
 use Rattle.graphql_tokens.proofs.FirstBytes.{first_ahead}
-use Rattle.graphql_tokens.proofs.Lines.{end_low}
+use Rattle.graphql_tokens.proofs.BlockLines.{end_low}
 use Rattle.graphql_tokens.proofs.Running.{some_ahead, ahead_past, runs_anew, running_bound}
 use Rattle.graphql_tokens.proofs.pos.running.RunningPlace.pass_line_end.Goals as goal
 
 pub pass_ascii-requires-clause-more : goal.pass_ascii-requires-clause-more
-pass_ascii-requires-clause-more c = some_ahead c.args.self.now (first_ahead c.args.b c.args.self.now c.requires.running c.requires.first (end_low c.args.b c.requires.ends)).0
+pass_ascii-requires-clause-more c = some_ahead c.args.self.now (first_ahead c.args.b c.args.self.now c.requires.running c.requires.first (end_low c.args.b (ap not c.requires.ends))).0
 
 pub pass_ascii-requires-clause-ascii : goal.pass_ascii-requires-clause-ascii
 pass_ascii-requires-clause-ascii c =
-    let low = end_low c.args.b c.requires.ends in
+    let low = end_low c.args.b (ap not c.requires.ends) in
     omega (arith, low, (first_ahead c.args.b c.args.self.now c.requires.running c.requires.first low).1)
 
 pub begin_columns-requires : goal.begin_columns-requires
@@ -18,7 +18,7 @@ begin_columns-requires c = omega (arith, running_bound c.args.self.now c.require
 
 passes : (c : goal.After-begin_columns) → Passes c.args.b c.args.self.now.walk c.begin_columns.new.self.walk
 passes c =
-    let same = (first_ahead c.args.b c.args.self.now c.requires.running c.requires.first (end_low c.args.b c.requires.ends)).1 in
+    let same = (first_ahead c.args.b c.args.self.now c.requires.running c.requires.first (end_low c.args.b (ap not c.requires.ends))).1 in
     rw (ap (λ a. a.walk) c.begin_columns.ensures, ← same) c.pass_ascii.ensures.passes
 
 pub returns-clause-running : goal.returns-clause-running

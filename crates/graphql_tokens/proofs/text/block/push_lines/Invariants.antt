@@ -3,7 +3,7 @@ use Rattle.std.specs.Prelude.{string_bytes}
 use Rattle.std.specs.Str.{IsCharBoundary}
 use Rattle.graphql_tokens.specs.tokens.BlockText.{lines_of}
 use Rattle.graphql_tokens.specs.inner.Blocks.{written}
-use Rattle.graphql_tokens.proofs.text.block.push_any_lines.Given as goal
+use Rattle.graphql_tokens.proofs.text.block.push_lines.Given as goal
 
 abbrev pub invariant-lines : goal.invariant-lines
 invariant-lines l = record {
