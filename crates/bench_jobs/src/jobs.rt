@@ -3,6 +3,7 @@ use crate::awkward::{awkward_texts, read_awkward};
 use crate::digest::Digest;
 use crate::mistaken::{mistaken_texts, report};
 use crate::random::Random;
+use crate::remarks::{read_remarked, remarked_texts};
 use crate::request_texts::{long_request_of, request_of};
 use crate::schema_texts::schema_of;
 use crate::stamped::{Stamped, Texts, keep, no_texts};
@@ -21,6 +22,7 @@ pub enum Job {
     Trees,
     Awkward,
     Reports,
+    Remarks,
 }
 
 /// What a text is.
@@ -52,6 +54,16 @@ pub fn digest_of(alloc: Global, job: Job, seed: u64, rounds: u32) -> Result<u64,
             for text in &mut texts {
                 text.stamped.change(&mut random);
                 report(alloc, text, &mut digest)?;
+            }
+        }
+        return Ok(digest.number());
+    }
+    if job == Job::Remarks {
+        let mut texts = remarked_texts(alloc, &mut random)?;
+        for _ in 0..rounds {
+            for text in &mut texts {
+                text.stamped.change(&mut random);
+                read_remarked(alloc, text, &mut digest);
             }
         }
         return Ok(digest.number());
@@ -88,7 +100,7 @@ fn requests_of(alloc: Global, job: Job, random: &mut Random) -> Result<Texts, Al
 fn schemas_of(alloc: Global, job: Job, random: &mut Random) -> Result<Texts, AllocError> {
     let mut texts = no_texts(alloc);
     let sizes: &[usize] = match job {
-        Job::Requests | Job::Awkward | Job::Reports => &[],
+        Job::Requests | Job::Awkward | Job::Reports | Job::Remarks => &[],
         Job::Schemas => &[50_000, 80_000, 120_000, 200_000, 300_000, 1_200_000],
         Job::Checks => &[50_000, 120_000, 300_000],
         Job::Trees => &[50_000, 150_000],

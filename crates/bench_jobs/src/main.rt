@@ -2,8 +2,9 @@
 //! repository, and prints a digest of all that these answered, and no times.
 //!
 //! `bench_jobs JOB SEED ROUNDS`, where a job is one of `requests` and `schemas`, which parse, walk and drop; `checks`, which
-//! make no tree; `trees`, which give trees as JSON and as bytes; `awkward`, texts that
-//! strangers send, and reports of what is wrong; and `reports`, of a mistake late in a text. A job makes its texts once; each round changes the names in all of them
+//! make no tree; `trees`, which give trees as JSON and as bytes; `awkward`, texts that strangers send, and reports of what is
+//! wrong; `reports`, of a mistake late in a text; and `remarks`, which cut texts full of comments, line ends and blanks of
+//! all kinds into tokens, check them and parse them. A job makes its texts once; each round changes the names in all of them
 //! before it reads them, so no text is read twice. Nothing is claimed of it but that it is safe and ends.
 #![tactic(auto)]
 
@@ -13,6 +14,7 @@ mod jobs;
 mod maker;
 mod mistaken;
 mod random;
+mod remarks;
 mod request_texts;
 mod schema_texts;
 mod stamped;
@@ -21,7 +23,8 @@ mod walks;
 use jobs::{Job, digest_of};
 use std::{env, io};
 
-const USAGE: &str = "usage: bench_jobs requests|schemas|checks|trees|awkward|reports SEED ROUNDS";
+const USAGE: &str =
+    "usage: bench_jobs requests|schemas|checks|trees|awkward|reports|remarks SEED ROUNDS";
 
 fn main(rt: HostRuntime) -> io::Result<()> {
     let words: Vec<String> = env::args(&rt)?.skip(1).collect(rt.alloc())?;
@@ -48,6 +51,7 @@ fn job_named(word: &str) -> Option<Job> {
         "trees" => Some(Job::Trees),
         "awkward" => Some(Job::Awkward),
         "reports" => Some(Job::Reports),
+        "remarks" => Some(Job::Remarks),
         _ => None,
     }
 }

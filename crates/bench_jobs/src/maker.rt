@@ -185,6 +185,19 @@ impl Maker {
         self.put(STAMP)
     }
 
+    /// Writes a piece of a made text, in which the same letters change.
+    pub fn put_made(&mut self, text: &str) -> Outcome {
+        let mut pieces = text.split(STAMP);
+        if let Some(first) = pieces.next() {
+            self.put(first)?;
+        }
+        for piece in pieces {
+            self.put_marked("")?;
+            self.put(piece)?;
+        }
+        Ok(())
+    }
+
     /// Writes some words of prose.
     pub fn put_prose(&mut self, count: usize) -> Outcome {
         for _ in 0..count {
