@@ -17,3 +17,5 @@ mod reports;
 mod requests;
 #[cfg(test)]
 mod schemas;
+#[cfg(test)]
+mod seeds;

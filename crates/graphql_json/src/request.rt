@@ -15,11 +15,11 @@ use crate::place::{Place, stands_before};
 use crate::sheet::{Node, Outcome, Sheet};
 use crate::values::{operation_word, write_arguments, write_name, write_named_type};
 use graphql_parser::types::{
-    ExecutableDocument, Field, FragmentDefinition, FragmentSpread, InlineFragment,
+    ExecutableDocument, Field, FragmentDefinition, FragmentSpread, InlineFragment, NameMap,
     OperationDefinition, Selection, SelectionSet, TypeCondition, VariableDefinition,
 };
 use graphql_parser::value::Name;
-use graphql_parser::{IndexMap, Pos, Positioned};
+use graphql_parser::{Pos, Positioned};
 use std::alloc::AllocError;
 
 /// The tree of a request: its operations in their order and its fragments in theirs, merged by their places. Each operation
@@ -46,7 +46,7 @@ impl Node for ExecutableDocument {
 // The fragments from an index on whose places are smaller than one. Gives the index of the first whose isn't.
 fn write_fragments_before(
     sheet: &mut Sheet,
-    fragments: &IndexMap<Name, Positioned<FragmentDefinition>>,
+    fragments: &NameMap<Positioned<FragmentDefinition>>,
     from: usize,
     pos: Pos,
     place: Place,
@@ -70,7 +70,7 @@ fn write_fragments_before(
 // The fragments from an index on.
 fn write_fragments(
     sheet: &mut Sheet,
-    fragments: &IndexMap<Name, Positioned<FragmentDefinition>>,
+    fragments: &NameMap<Positioned<FragmentDefinition>>,
     from: usize,
     place: Place,
 ) -> Outcome

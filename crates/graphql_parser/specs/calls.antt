@@ -8,6 +8,7 @@ pub use Rattle.graphql_syntax.specs.calls.TypeText
 pub use Rattle.graphql_syntax.specs.calls.Views
 pub use Rattle.graphql_syntax.specs.calls.Words
 pub use Rattle.graphql_request_trees.specs.calls.Defaults
+pub use Rattle.graphql_request_trees.specs.calls.Hashing
 pub use Rattle.graphql_request_trees.specs.calls.Lending
 pub use Rattle.graphql_request_trees.specs.calls.Operations
 pub use Rattle.graphql_request_trees.specs.calls.Sets

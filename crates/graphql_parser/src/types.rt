@@ -4,8 +4,8 @@
 //! public, and a tree that a caller builds is as good as one that was read.
 pub use graphql_request_trees::{
     DocumentOperations, ExecutableDocument, Field, FragmentDefinition, FragmentSpread,
-    InlineFragment, OperationDefinition, OperationsIter, Selection, SelectionSet, TypeCondition,
-    VariableDefinition,
+    InlineFragment, NameHasher, NameMap, NameSeed, OperationDefinition, OperationsIter, Selection,
+    SelectionSet, TypeCondition, VariableDefinition,
 };
 pub use graphql_schema_trees::{
     DirectiveDefinition, DirectiveLocation, EnumType, EnumValueDefinition, FieldDefinition,

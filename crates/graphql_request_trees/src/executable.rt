@@ -14,12 +14,13 @@ ghost use Rattle.graphql_request_trees.specs.declared.executable.SelectionSet.{o
 ghost use Rattle.graphql_request_trees.specs.calls.Sets.{set_of};
 ghost use Rattle.graphql_request_trees.specs.calls.Operations.{operations_list, operation_named, operation_item};
 
+use crate::hasher::NameMap;
 use crate::lookup::find_entry;
 use graphql_syntax::pos::{Pos, Positioned};
 use graphql_syntax::types::lookup::find_argument;
 use graphql_syntax::types::{Directive, OperationType, Type};
 use graphql_syntax::value::{ConstValue, Name, Value};
-use indexmap::{IndexMap, map};
+use indexmap::map;
 use std::alloc::{AllocError, Global};
 use std::borrow::Cow;
 use std::iter::FusedIterator;
@@ -31,7 +32,7 @@ pub struct ExecutableDocument {
     /// The operations: a parsed request has at least one.
     pub operations: DocumentOperations,
     /// The fragments under their names, in source order.
-    pub fragments: IndexMap<Name, Positioned<FragmentDefinition>>,
+    pub fragments: NameMap<Positioned<FragmentDefinition>>,
 }
 
 /// The operations of a request (section 2.3).
@@ -40,7 +41,7 @@ pub enum DocumentOperations {
     /// One operation without a name, as `{a}` or `query {a}`.
     Single(Positioned<OperationDefinition>),
     /// Operations under their names, in source order.
-    Multiple(IndexMap<Name, Positioned<OperationDefinition>>),
+    Multiple(NameMap<Positioned<OperationDefinition>>),
 }
 
 /// The operations of a request, in source order, each with its name where it has one.

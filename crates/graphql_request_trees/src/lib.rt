@@ -11,6 +11,7 @@
 
 mod clones;
 mod executable;
+mod hasher;
 mod lookup;
 
 pub use executable::{
@@ -18,3 +19,4 @@ pub use executable::{
     InlineFragment, OperationDefinition, OperationsIter, Selection, SelectionSet, TypeCondition,
     VariableDefinition,
 };
+pub use hasher::{NameHasher, NameMap, NameSeed};

@@ -5,12 +5,12 @@
 ghost use Rattle.std.specs.Prelude.{◌≡◌, option_map};
 ghost use Rattle.graphql_syntax.specs.calls.Named.{named};
 
+use crate::hasher::NameMap;
 use graphql_syntax::value::Name;
-use indexmap::IndexMap;
 
 /// The value of the first entry of this name.
 #[tactic(auto, using(crate::proofs::Entries::named_by_lookup))]
-pub(crate) fn find_entry<'a, V>(map: &'a IndexMap<Name, V>, name: &str) -> Option<&'a V>
+pub(crate) fn find_entry<'a, V>(map: &'a NameMap<V>, name: &str) -> Option<&'a V>
     ensures { option_map (λ v. v.now) result ≡ named name.now map.now.entries }
 {
     if let Some(key) = Name::in_place(name) {

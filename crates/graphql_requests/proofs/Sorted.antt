@@ -18,9 +18,9 @@ use Rattle.graphql_requests.specs.grammar.Documents.{named_operations, fragments
 use Rattle.graphql_requests.specs.grammar.Request.{Definition, operation, fragment}
 use Rattle.graphql_requests.specs.grammar.Requests.{requests}
 use Rattle.graphql_requests.specs.grammar.Rules.{breach_of, missing_operation, first_operation, first_anonymous, first_operation_named, first_fragment_named}
-use Rattle.graphql_grammar.specs.answers.Answers.{IsDocument}
+use Rattle.graphql_grammar.specs.answers.Answers.{IsDocument, Lacks}
 use Rattle.graphql_grammar.specs.answers.Breaches.{or_else}
-use Rattle.graphql_grammar.specs.declared.error.Error.TheVariants.{MultipleOperations, OperationDuplicated, FragmentDuplicated}
+use Rattle.graphql_grammar.specs.declared.error.Error.TheVariants.{MultipleOperations, OperationDuplicated, FragmentDuplicated, MissingOperation}
 use Rattle.graphql_requests.specs.declared.definitions.Definition.{Definition as CodeDefinition}
 use Rattle.graphql_requests.specs.reading.Definitions.{definition_tree}
 use Rattle.graphql_requests.specs.reading.Sorting.{definition_trees, anonymous_in, first_place, IsSorted}
@@ -176,6 +176,15 @@ multiple-document ds s operations h e some is =
           ∙ ap (λ os. record { operations = os; fragments = map (entry_tree fragment_tree) s.fragments.entries }) (sym (beside-named (named_operations ds) ds its))
           ∙ ap (λ fs. record { operations = operations_beside (named_operations ds) ds; fragments = fs }) h.fragments;
     }
+
+-- without an operation, one is lacking
+pub lacks-operation : (ds : List Definition) (s : Sorted) → IsSorted ds s → s.anonymous ≡ None → s.operations.entries ≡ [] → Lacks requests ds MissingOperation
+lacks-operation ds s h e none = record {
+  unbroken = h.unbroken;
+  is = ap missing_operation (first-found ds s h
+      ∙ ap (λ (x : Option (Positioned OperationDefinition)). or_else (place-of x) (first_place s.operations.entries)) e
+      ∙ ap (λ (es : List (Name × Positioned OperationDefinition)). first_place es) none);
+}
 
 -- ---- lists of definitions of the code
 

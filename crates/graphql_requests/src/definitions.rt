@@ -1,10 +1,11 @@
 //! Readers of operations, fragments and requests.
-ghost use Rattle.std.specs.Prelude.{◌≡◌, IfOk};
+ghost use Rattle.std.specs.Prelude.{◌≡◌, IfOk, option_map};
 ghost use Rattle.graphql_requests.specs.grammar.Selections.{fragment_name};
 ghost use Rattle.graphql_reading.specs.grammar.Places.{name_of};
 ghost use Rattle.graphql_reading.specs.reading.Outcome.{one_at};
 ghost use Rattle.graphql_requests.specs.grammar.Request.{Definition as SpecDefinition};
 ghost use Rattle.graphql_requests.specs.reading.Definitions.{definition_tree, maybe_name_at, worded_at};
+ghost use Rattle.graphql_requests.specs.reading.Seeds.{name_in};
 ghost use Rattle.graphql_reading.specs.reading.Given.{Gives};
 ghost use Rattle.graphql_requests.specs.reading.Request.{short_operation_at, fragment_at, definition_first, definition_at};
 
@@ -28,6 +29,18 @@ pub enum Definition {
     Operation(Option<Name>, Positioned<OperationDefinition>),
     /// A fragment, with its name.
     Fragment(Name, Positioned<FragmentDefinition>),
+}
+
+impl Definition {
+    /// The name; None for an operation without one.
+    pub(crate) fn name(&self) -> Option<&Name>
+        ensures { option_map (λ name. name.now) result ≡ name_in self.now }
+    {
+        match self {
+            Definition::Operation(name, _) => name.as_ref(),
+            Definition::Fragment(name, _) => Some(name),
+        }
+    }
 }
 
 /// Reads the name of a fragment.

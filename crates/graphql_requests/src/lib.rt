@@ -23,6 +23,7 @@ ghost use Rattle.graphql_requests.specs.grammar.Requests.{requests};
 
 pub mod definitions;
 mod rules;
+mod seeds;
 pub mod selections;
 mod variables;
 

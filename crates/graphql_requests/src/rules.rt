@@ -7,10 +7,13 @@ ghost use Rattle.graphql_syntax.specs.trees.Parts.{placed};
 ghost use Rattle.graphql_requests.specs.grammar.Request.{Definition as SpecDefinition, operation as an_operation, fragment as a_fragment};
 ghost use Rattle.graphql_grammar.specs.answers.Breaches.{or_else};
 ghost use Rattle.graphql_requests.specs.reading.Request.{definitions_at};
+ghost use Rattle.graphql_requests.specs.reading.Seeds.{document_seed};
 ghost use Rattle.graphql_requests.specs.reading.Sorting.{definition_trees, first_place, IsSorted, IsAdded};
+ghost use Rattle.indexmap.specs.IndexMap.{hasher_of, IsEmpty};
 ghost use Rattle.graphql_requests.specs.grammar.Requests.{requests};
 
 use crate::definitions::Definition;
+use crate::seeds::seed_of;
 use graphql_grammar::document::Kept;
 use graphql_grammar::error::{Error, Result};
 use graphql_memory::Memory;
@@ -18,7 +21,7 @@ use graphql_reading::limits::Limits;
 use graphql_reading::parser::{Parser, Reading};
 use graphql_reading::production::one_or_more;
 use graphql_request_trees::{
-    DocumentOperations, ExecutableDocument, FragmentDefinition, OperationDefinition,
+    DocumentOperations, ExecutableDocument, FragmentDefinition, NameMap, OperationDefinition,
 };
 use graphql_syntax::pos::{Pos, Positioned};
 use graphql_syntax::value::Name;
@@ -28,11 +31,27 @@ use indexmap::IndexMap;
 #[derive(Drop)]
 struct Sorted {
     anonymous: Option<Positioned<OperationDefinition>>,
-    operations: IndexMap<Name, Positioned<OperationDefinition>>,
-    fragments: IndexMap<Name, Positioned<FragmentDefinition>>,
+    operations: NameMap<Positioned<OperationDefinition>>,
+    fragments: NameMap<Positioned<FragmentDefinition>>,
 }
 
 impl Sorted {
+    /// None so far, in maps that hash by the seed for all these definitions.
+    fn none_of(definitions: &[Definition], memory: &Memory) -> Sorted
+        ensures anonymous { result.anonymous ≡ None }
+        ensures operations { IsEmpty result.operations }
+        ensures fragments { IsEmpty result.fragments }
+        ensures operations_seed { hasher_of result.operations ≡ document_seed definitions.now }
+        ensures fragments_seed { hasher_of result.fragments ≡ document_seed definitions.now }
+    {
+        let seed = seed_of(definitions);
+        Sorted {
+            anonymous: None,
+            operations: IndexMap::with_hasher(memory.heap(), seed),
+            fragments: IndexMap::with_hasher(memory.heap(), seed),
+        }
+    }
+
     /// Where the first operation stands.
     fn first_operation(&self) -> Option<Pos>
         ensures { result ≡ or_else (option_map (λ o. o.pos) self.now.anonymous)
@@ -143,11 +162,7 @@ impl<'a> Kept<'a> for KeptDefinitions {
     }
 
     fn into_document(self, memory: &mut Memory) -> Result<ExecutableDocument> {
-        let mut sorted = Sorted {
-            anonymous: None,
-            operations: IndexMap::new(memory.heap()),
-            fragments: IndexMap::new(memory.heap()),
-        };
+        let mut sorted = Sorted::none_of(self.items.as_slice(), memory);
         for definition in self.items {
             let added = match definition {
                 Definition::Operation(name, operation) => match name {

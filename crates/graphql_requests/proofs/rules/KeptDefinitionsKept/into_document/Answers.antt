@@ -1,4 +1,4 @@
-use Rattle.std.proofs.Common.{rules, ◌≡◌, Bool, IsTrue, false, List, [], ◌∷◌, length, refl, ap, sym, ◌∙◌, ◌++◌, subst, append_assoc}
+use Rattle.std.proofs.Common.{rules, ◌≡◌, Bool, IsTrue, false, List, [], ◌∷◌, length, ap, sym, ◌∙◌, ◌++◌, subst, append_assoc, inr}
 use Rattle.std.proofs.lemmas.List.{append-nil, nil_from_length}
 use Rattle.std.proofs.lemmas.Result.{err_from_is_err_and}
 use Rattle.graphql_requests.specs.reading.Definitions.{definition_tree}
@@ -6,12 +6,12 @@ use Rattle.graphql_requests.specs.reading.Sorting.{definition_trees, IsSorted, I
 use Rattle.graphql_requests.proofs.OneMore.{map-last}
 use Rattle.graphql_requests.specs.grammar.Requests.{requests}
 use Rattle.graphql_grammar.proofs.Answering.{breaks}
-use Rattle.graphql_requests.proofs.Sorted.{sorted-none, trees-split, single-document, multiple-document}
+use Rattle.graphql_requests.proofs.Sorted.{sorted-none, trees-split, single-document, multiple-document, lacks-operation}
 use Rattle.graphql_requests.proofs.rules.KeptDefinitionsKept.into_document.Goals as goal
 use Rattle.graphql_requests.proofs.rules.KeptDefinitionsKept.into_document.Goals.{After-branch-added, in-Operation+in-Some-name, in-Operation+in-None-name, in-Fragment, in-Some-anonymous, in-None-2}
 
 pub loop-definition-init : goal.loop-definition-init
-loop-definition-init c = (tt, tt, search rules, sorted-none _ refl c.new.ensures.empty c.new-2.ensures.empty)
+loop-definition-init c = (tt, tt, search rules, sorted-none _ c.none_of-sorted.ensures.anonymous c.none_of-sorted.ensures.operations c.none_of-sorted.ensures.fragments)
 
 -- a definition is added by what it is
 added : (c : After-branch-added) → IsAdded (definition_trees c.loop-definition.yielded) (definition_tree c.in-Some.definition) c.match-definition.added c.match-definition.sorted
@@ -37,6 +37,15 @@ returns-in_err-added-clause-document c ds h =
     rw (p.1, p.2) (breaks requests ds (definition_trees front) (definition_tree c.in-Some.definition) _ _
     (sym h ∙ ap definition_trees (kept.2 ∙ ap (λ l. front ++ l) c.in-Some.ensures.steps.0) ∙ trees-split front c.in-Some.definition _)
     kept.3.unbroken (rw c.in_err-added.was at (added (goal.at.returns-in_err-added-clause-document c).After-branch-added)))
+
+pub returns-in-None-anonymous-clause-document : goal.returns-in-None-anonymous-clause-document
+returns-in-None-anonymous-clause-document c ds h =
+    let kept = c.loop-definition.invariant in
+    let front = c.loop-definition.yielded in
+    let s = c.loop-definition.sorted in
+    let all = kept.2 ∙ ap (λ l. front ++ l) (nil_from_length _ (sym c.loop-definition.definition-iterator.rest.ok.0 ∙ c.in-None.ensures.steps.0)) ∙ append-nil front in
+    let sorted = subst (λ ds. IsSorted ds s) (ap definition_trees (sym all) ∙ h) kept.3 in
+    inr (lacks-operation ds s sorted c.in-None-anonymous.is (nil_from_length _ (c.is_empty.ensures.0 c.if-is_empty.true)))
 
 not-empty : {A : Type 0} {es : List A} {r : Bool} → r ≡ false → (es ≡ [] → IsTrue r) → es ≡ [] → ⊥
 not-empty e h k = let yes = h k in absurd (let no = sym yes ∙ e in cc)
