@@ -1,16 +1,12 @@
 //! Strings with escapes.
 ghost use Rattle.std.specs.Prelude.{◌≡◌, ◌+◌, ◌<◌, ◌≤◌, [], ◌∷◌, ◌++◌, cond, length, take, OnOk};
 ghost use Rattle.std.specs.Char.{digit_char};
-ghost use Rattle.graphql_json.specs.inner.Buffers.{Appends};
+ghost use Rattle.graphql_json.specs.buffer.Buffered.{Appends};
 ghost use Rattle.json.specs.Print.{escape, escape_byte, escape_letter};
-ghost use Rattle.json.specs.Written.{PlainBetween};
 
 use crate::buffer::Buffer;
-use crate::plain::{is_plain_at, stops_at};
+use crate::plain::plain_run;
 use std::alloc::AllocError;
-
-// How many bytes of a run are looked at at once, where so many are left.
-const LANES: usize = 16;
 
 /// Writes a text in quotes, after a comma where one is wanted. Where memory is refused, nothing is written.
 pub fn put_escaped(buffer: &mut Buffer, comma: bool, text: &[u8]) -> Result<(), AllocError>
@@ -18,6 +14,7 @@ pub fn put_escaped(buffer: &mut Buffer, comma: bool, text: &[u8]) -> Result<(), 
         (cond comma (44 ∷ []) [] ++ 34 ∷ (escape text.now ++ 34 ∷ [])) }
 {
     let start = buffer.len();
+    buffer.make_room(text.len() + text.len() / 8)?;
     let written = put_runs(buffer, comma, text);
     if written.is_err() {
         buffer.cut(start);
@@ -39,7 +36,7 @@ fn put_runs(buffer: &mut Buffer, comma: bool, text: &[u8]) -> Result<(), AllocEr
         let end = at + plain_run(text, at);
         let run = &text[at..end];
         if end == text.len() {
-            return buffer.put(comma, front, run, b"\"");
+            return buffer.put_run(comma, front, run, b"\"");
         }
         put_stopped(buffer, comma, front, run, text[end])?;
         comma = false;
@@ -63,48 +60,13 @@ fn put_stopped(
 {
     let letter = letter(byte);
     if letter > 0 {
-        return buffer.put(comma, front, run, &[b'\\', letter]);
+        return buffer.put_run(comma, front, run, &[b'\\', letter]);
     }
     if byte < 0x20 {
         let digits = [b'\\', b'u', b'0', b'0', hex(byte / 16), hex(byte % 16)];
-        return buffer.put(comma, front, run, &digits);
+        return buffer.put_run(comma, front, run, &digits);
     }
-    buffer.put(comma, front, run, &[byte])
-}
-
-// How many bytes from an index on need no escape, up to the first that does.
-#[inline(always)]
-fn plain_run(text: &[u8], at: usize) -> usize
-    requires { at ≤ length text.now }
-    ensures plain { PlainBetween text.now at (at + result) }
-    ensures within { at + result ≤ length text.now }
-{
-    let mut end = at;
-    while text.len() - end >= LANES {
-        let stops = stops_at::<LANES>(text, end);
-        if stops != 0 {
-            return end - at + stops.trailing_zeros() as usize;
-        }
-        end += LANES;
-    }
-    let end = plain_to::<4>(text, end);
-    plain_to::<1>(text, end) - at
-}
-
-// Where the first N bytes begin of which one needs an escape, from an index on by steps of N, or where fewer are left.
-#[inline(always)]
-fn plain_to<const N: usize>(text: &[u8], at: usize) -> usize
-    requires from { at ≤ length text.now }
-    requires lanes { (1 ≤ N) × (N ≤ 64) }
-    ensures plain { PlainBetween text.now at result }
-    ensures from { at ≤ result }
-    ensures within { result ≤ length text.now }
-{
-    let mut end = at;
-    while text.len() - end >= N && is_plain_at::<N>(text, end) {
-        end += N;
-    }
-    end
+    buffer.put_run(comma, front, run, &[byte])
 }
 
 // The letter that stands for a byte after a backslash, or 0 for none.

@@ -8,6 +8,8 @@
 //! - a node has no `loc`; with [`Places::Written`] it has `line` and `column` after its `kind`;
 //! - these nodes have no place: the document, the names of operations and fragments, the roots of a schema, the name of
 //!   a variable in a value, and what is inside a list, an object or a list type;
+//! - the place of `on` before a fragment's type, and the outer place of a selection, are in no node, as in GraphQL.js: trees
+//!   that differ only there have one JSON. In a parsed tree a selection's outer place is that of the node in it;
 //! - a string has no `block`, which tells whether it is a block string;
 //! - an object has each field once, with the value that stands last.
 //!

@@ -10,8 +10,9 @@ use graphql_parser::Pos;
 pub enum Places {
     /// No node has a place.
     LeftOut,
-    /// Each node that has a place in the tree has the numbers `line` and `column`, both counted from 1. A node at 0:0,
-    /// which is no place of a text, has neither.
+    /// Each node of the JSON that has a place in the tree has the numbers `line` and `column`, both counted from 1. A node
+    /// at 0:0, which is no place of a text, has neither. Two places of a tree are no node's here: that of `on` before a
+    /// fragment's type, and the outer one of a selection, where in a parsed tree its field, spread or fragment stands too.
     Written,
 }
 

@@ -10,9 +10,12 @@ ghost use Rattle.json.specs.Written.{PlainBetween};
 
 use std::simd::prelude::*;
 
-/// A bit for each of N bytes from an index on, the first one's the lowest, which is set where the byte needs an escape.
+// How many bytes of a run are looked at at once, where so many are left.
+const LANES: usize = 16;
+
+// A bit for each of N bytes from an index on, the first one's the lowest, which is set where the byte needs an escape.
 #[inline(always)]
-pub fn stops_at<const N: usize>(text: &[u8], at: usize) -> u64
+fn stops_at<const N: usize>(text: &[u8], at: usize) -> u64
     requires fits { at + N ≤ length text.now }
     requires lanes { N ≤ 64 }
     ensures { result ≡ mask_l (map is_stop (chunk at N text.now)) }
@@ -24,14 +27,49 @@ pub fn stops_at<const N: usize>(text: &[u8], at: usize) -> u64
     stops.to_bitmask()
 }
 
-/// Whether none of N bytes needs an escape, from an index on.
+// Whether none of N bytes needs an escape, from an index on.
 #[inline(always)]
-pub fn is_plain_at<const N: usize>(text: &[u8], at: usize) -> bool
+fn is_plain_at<const N: usize>(text: &[u8], at: usize) -> bool
     requires fits { at + N ≤ length text.now }
     requires lanes { N ≤ 64 }
     ensures { OnTrue result (PlainBetween text.now at (at + N)) }
 {
     stops_at::<N>(text, at) == 0
+}
+
+/// How many bytes from an index on need no escape, up to the first that does.
+#[inline(always)]
+pub fn plain_run(text: &[u8], at: usize) -> usize
+    requires { at ≤ length text.now }
+    ensures plain { PlainBetween text.now at (at + result) }
+    ensures within { at + result ≤ length text.now }
+{
+    let mut end = at;
+    while text.len() - end >= LANES {
+        let stops = stops_at::<LANES>(text, end);
+        if stops != 0 {
+            return end - at + stops.trailing_zeros() as usize;
+        }
+        end += LANES;
+    }
+    let end = plain_to::<4>(text, end);
+    plain_to::<1>(text, end) - at
+}
+
+// Where the first N bytes begin of which one needs an escape, from an index on by steps of N, or where fewer are left.
+#[inline(always)]
+fn plain_to<const N: usize>(text: &[u8], at: usize) -> usize
+    requires from { at ≤ length text.now }
+    requires lanes { (1 ≤ N) × (N ≤ 64) }
+    ensures plain { PlainBetween text.now at result }
+    ensures from { at ≤ result }
+    ensures within { result ≤ length text.now }
+{
+    let mut end = at;
+    while text.len() - end >= N && is_plain_at::<N>(text, end) {
+        end += N;
+    }
+    end
 }
 
 // Copies the first N bytes of a text.

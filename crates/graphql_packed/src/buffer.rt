@@ -86,9 +86,25 @@ impl Buffer {
     pub fn text(&mut self, text: &str) -> Outcome
         ensures { Adds result self.old self.new (text_bytes text.now) }
     {
+        if self.bytes.ready() < 9 + text.len() {
+            return self.text_growing(text);
+        }
         let length = text.len() as u64;
         self.bytes
-            .put(false, &length.to_le_bytes(), text.as_bytes(), b"")
+            .put_ready(false, &length.to_le_bytes(), text.as_bytes(), b"");
+        Ok(())
+    }
+
+    // The same where room has to be made.
+    #[cold]
+    #[inline(never)]
+    #[tactic(auto, unfolding(crate::specs::packed::Bytes::number_bytes))]
+    fn text_growing(&mut self, text: &str) -> Outcome
+        ensures { Adds result self.old self.new (text_bytes text.now) }
+    {
+        let length = text.len() as u64;
+        self.bytes
+            .put_growing(false, &length.to_le_bytes(), text.as_bytes(), b"")
     }
 
     #[inline(always)]

@@ -4,7 +4,8 @@
 //!
 //! - a number is eight bytes, the lowest first, and a choice is one byte;
 //! - a text is the number of its bytes, and these, in UTF-8;
-//! - a node begins with its place, its line and its column;
+//! - a node begins with its place, its line and its column; a selection is a choice and the node in it, whose place in a
+//!   parsed tree is the selection's too, so the outer place is left out;
 //! - a list is the number of its items, and these; what may be missing is a choice, and then the part if it is there.
 //!
 //! Nothing else reads it, and it may change with any version.

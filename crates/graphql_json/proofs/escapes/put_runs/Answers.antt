@@ -12,9 +12,9 @@ returns-then-end-text-clause-ok c =
     let old = c.loop-buffer.buffer.items in
     let comma : List ℕ = cond c.loop-buffer.comma (44 ∷ []) [] in
     let front = c.loop-buffer.front.now in
-    let wrote : OnOk c.put.result (c.put.new.self.items ≡ old ++ (comma ++ (front ++ (take n (drop at text) ++ 34 ∷ [])))) = search rules in
+    let wrote : OnOk c.put_run.result (c.put_run.new.self.items ≡ old ++ (comma ++ (front ++ (take n (drop at text) ++ 34 ∷ [])))) = search rules in
     let all = ap (λ l. old ++ l) (sym (last_piece comma front text at n (34 ∷ []) c.if-end-text.true c.plain_run.ensures.plain)) ∙ c.loop-buffer.invariant.0 in
-    subst (λ (x : List ℕ). OnOk c.put.result (c.put.new.self.items ≡ x)) all wrote
+    subst (λ (x : List ℕ). OnOk c.put_run.result (c.put_run.new.self.items ≡ x)) all wrote
 
 pub loop-buffer-preserved : goal.loop-buffer-preserved
 loop-buffer-preserved c =

@@ -1,7 +1,7 @@
 use Rattle.std.proofs.Common.{◌+◌, arith, sym, ◌∙◌}
 use lib.Count.{count_trailing_zeros}
 use Rattle.graphql_json.proofs.Stops.{joined, plain_through, plain_to_stop}
-use Rattle.graphql_json.proofs.escapes.plain_run.Goals as goal
+use Rattle.graphql_json.proofs.plain.plain_run.Goals as goal
 
 pub returns-then-stops-ne0-clause-plain : goal.returns-then-stops-ne0-clause-plain
 returns-then-stops-ne0-clause-plain c k after before =

@@ -1,0 +1,2 @@
+-- Public: the buffer that bytes are written into.
+pub mod Buffered
