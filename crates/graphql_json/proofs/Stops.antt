@@ -1,24 +1,12 @@
 -- A look at bytes leaves a mask, and the mask tells which of them need no escape.
-use Rattle.std.proofs.Common.{◌≡◌, ◌≢◌, ℕ, ◌+◌, ◌%◌, ◌^◌, ◌≤◌, ◌<◌, Bool, true, not, ◌==◌, List, [], ◌∷◌, length, map, Fits, w8, inl, inr, refl, sym, ap, ap₂, ◌∙◌, arith}
-use Rattle.std.proofs.lemmas.Bool.{OnTrue_from, agree_below, agree_below_at, cases_lt, eqb-true}
-use Rattle.std.proofs.lemmas.List.{length-map}
-use Rattle.std.proofs.lemmas.Simd.{length-chunk, map-map, mask_l-mod, none_from_empty_mask, run_in_chunk_fails, run_in_chunk_le, trailing_mask_l}
+use Rattle.std.proofs.Common.{◌≡◌, ◌≢◌, ℕ, ◌+◌, ◌≤◌, ◌<◌, not, ◌==◌, List, length, map, inl, inr, sym, ap, ◌∙◌, arith}
+use Rattle.std.proofs.lemmas.Bool.{OnTrue_from, cases_lt, eqb-true}
+use Rattle.std.proofs.lemmas.Simd.{length-chunk, none_from_empty_mask, run_in_chunk_fails, run_in_chunk_le, trailing_mask_l}
 use Rattle.std.specs.Bool.{OnTrue}
 use lib.Count.{count_trailing_zeros}
-use lib.Lanes.{Each1, chunk, mask_l, top}
+use lib.Lanes.{chunk, mask_l}
 use Rattle.json.specs.Run.{is_stop}
 use Rattle.json.specs.Written.{PlainBetween}
-
-each_byte : (f : ℕ → ℕ) (p : ℕ → Bool) → agree_below (λ x. top 7 (f x)) p 256 ≡ true → (bytes : List ℕ) → Each1 (Fits w8) bytes → map (λ x. top 7 (f x)) bytes ≡ map p bytes
-each_byte f p all [] fits = refl
-each_byte f p all (x ∷ xs) fits = ap₂ (λ b bs. b ∷ bs) (agree_below_at (λ y. top 7 (f y)) p 256 x all fits.0.fits) (each_byte f p all xs fits.1)
-
--- from the lanes that comparisons leave to a bit for each byte that passes a test
-pub mask_of_bytes : (f : ℕ → ℕ) (p : ℕ → Bool) (bytes : List ℕ) {lanes : List ℕ} → length bytes ≤ 64 → Each1 (Fits w8) bytes → lanes ≡ map f bytes → agree_below (λ x. top 7 (f x)) p 256 ≡ true
-    → mask_l (map (top 7) lanes) % 2 ^ 64 ≡ mask_l (map p bytes)
-mask_of_bytes f p bytes few fits e all =
-    ap (λ l. mask_l (map (top 7) l) % 2 ^ 64) e ∙ ap (λ l. mask_l l % 2 ^ 64) (map-map (top 7) f bytes ∙ each_byte f p all bytes fits)
-    ∙ mask_l-mod (map p bytes) 64 (omega (arith, length-map bytes p))
 
 module _ (text : List ℕ) (at n : ℕ) (fits : at + n ≤ length text) where
   -- no bit is set
