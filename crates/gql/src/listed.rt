@@ -34,7 +34,8 @@ fn kind_name(kind: TokenKind) -> &'static str {
     }
 }
 
-fn push_in_one_line(out: &mut String, text: &str) -> Result<(), AllocError> {
+/// Adds a spelling, with `\n` and `\r` for the ends of lines.
+pub fn push_in_one_line(out: &mut String, text: &str) -> Result<(), AllocError> {
     if !text.contains(['\n', '\r']) {
         return out.push_str(text);
     }

@@ -10,7 +10,7 @@ use crate::telling::{Names, Source, Teller};
 use crate::texts::Texts;
 use graphql_json::{Places, request_json, schema_json};
 use graphql_parser::{Error, parse_query_limited, parse_schema_limited};
-use graphql_report::{Language, ReadFrom, Style};
+use graphql_report::{Language, Style};
 use std::alloc::{AllocError, Global};
 use std::io::Write;
 
@@ -261,7 +261,7 @@ fn tree<E: Write>(
     let (status, printed) = match tree_json(teller.alloc, &source, call.has_places)? {
         Ok(json) => (0, Printed::Json(json)),
         Err(error) => {
-            teller.tell(&source, ReadFrom::TOP, &error, err)?;
+            teller.tell_one(&source, &error, err)?;
             (1, Printed::Nothing)
         }
     };

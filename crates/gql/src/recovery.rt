@@ -4,19 +4,31 @@ use graphql_parser::lexer::{Token, TokenKind, Tokens};
 use graphql_report::Language;
 use std::alloc::{AllocError, Global};
 
-/// Whether an odd number of three quotes is left of a text: what was found out last, and from which offset on.
+/// Whether an odd number of three quotes is left of a text: what was found out last, and from which offset on; and
+/// whether it was told.
 #[derive(Clone, Copy)]
 pub struct Quotes {
     known: Option<(usize, bool)>,
+    is_told: bool,
 }
 
 impl Quotes {
     /// Nothing was found out.
-    pub const UNKNOWN: Quotes = Quotes { known: None };
+    pub const UNKNOWN: Quotes = Quotes {
+        known: None,
+        is_told: false,
+    };
 
-    // Whether an odd number is left from this offset on. What is known of an offset before it is used, if no run of quotes
-    // goes over this one: then the text after it isn't looked at again.
-    fn are_odd_from(&mut self, text: &str, offset: usize) -> bool {
+    /// Whether it is told for the first time that an odd number is left.
+    pub fn is_first_told(&mut self) -> bool {
+        let is_first = !self.is_told;
+        self.is_told = true;
+        is_first
+    }
+
+    /// Whether an odd number is left from this offset on. What is known of an offset before it is used, if no run of quotes
+    /// goes over this one: then the text after it isn't looked at again.
+    pub fn are_odd_from(&mut self, text: &str, offset: usize) -> bool {
         let is_odd = match self.odd_between(text, offset) {
             Some(is_odd) => is_odd,
             None => match text.split_at_checked(offset) {
@@ -44,17 +56,11 @@ impl Quotes {
 /// and begins a definition of this language. What is inside of a block string is no token, so it begins none.
 ///
 /// Where a block string isn't closed, or isn't opened, the insides and outsides of all that follow are taken for each other.
-/// So no definition is looked for where an odd number of three quotes is left. `quotes` is what was found out of these in
-/// the same text.
-pub fn next_definition(
-    language: Language,
-    text: &str,
-    from: usize,
-    quotes: &mut Quotes,
-) -> Option<usize> {
+/// So no definition is looked for where an odd number of three quotes is left; `is_odd` tells whether it is from there on.
+pub fn next_definition(language: Language, text: &str, from: usize, is_odd: bool) -> Option<usize> {
     text.split_at_checked(from)?;
     let mut start = from;
-    let mut is_odd = quotes.are_odd_from(text, from);
+    let mut is_odd = is_odd;
     // Where no token begins, the search goes on with the next line, so each turn passes one.
     for _ in 0..text.len() {
         match look_from(language, text, start, is_odd) {
@@ -82,14 +88,6 @@ pub fn rest_at(alloc: Global, text: &str, offset: usize) -> Result<Option<String
     }
     rest.push_str(back)?;
     Ok(Some(rest))
-}
-
-/// How many lines end in this part of a text.
-pub fn lines_between(text: &str, from: usize, to: usize) -> usize {
-    match text.get(from..to) {
-        Some(part) => part.matches('\n').count(),
-        None => 0,
-    }
 }
 
 /// What is found among the tokens of a text.
@@ -153,9 +151,131 @@ fn is_keyword(language: Language, token: &Token<'_>) -> bool {
     token.kind.is_name() && language_of_keyword(token.text) == Some(language)
 }
 
-/// Whether the text has an odd number of three quotes.
+/// Whether the text has an odd number of three quotes that the lexer takes for the begin or the end of a block string: none
+/// after a backslash, and none in a comment.
 pub fn has_odd_quotes(text: &str) -> bool {
-    text.matches("\"\"\"").count() % 2 == 1
+    let mut seen = Seen::NOTHING;
+    for (offset, _) in text.match_indices(QUOTES) {
+        seen = seen.up_to(text, offset);
+    }
+    seen.open.is_some()
+}
+
+/// Where the block string probably begins that isn't closed, if an odd number of three quotes is left of a text that was read
+/// from `from` on and refused at `refused`. Such a string ends where the next one was to begin, with a definition in it, or with
+/// the first words of that one after it, which are refused. If there is none, it is the one that nothing ends.
+pub fn probable_opening(
+    language: Language,
+    text: &str,
+    from: usize,
+    refused: usize,
+) -> Option<usize> {
+    let (_, rest) = text.split_at_checked(from)?;
+    let mut seen = Seen::NOTHING;
+    for (offset, _) in rest.match_indices(QUOTES) {
+        let before = seen;
+        seen = seen.up_to(rest, offset);
+        let Some(open) = before.open else {
+            continue;
+        };
+        let start = from.saturating_add(open);
+        let end = from.saturating_add(offset);
+        let is_closed = seen.open.is_none();
+        if is_closed
+            && (holds_definition(language, text, start, end)
+                || leads_to(language, text, end, refused))
+        {
+            return Some(start);
+        }
+    }
+    Some(from.saturating_add(seen.open?))
+}
+
+// Whether a line with a definition begins in the block string between the three quotes at these offsets.
+fn holds_definition(language: Language, text: &str, start: usize, end: usize) -> bool {
+    match text.split_at_checked(end) {
+        Some((front, _)) => {
+            let inside = start.saturating_add(QUOTES.len());
+            next_definition(language, front, inside, false).is_some()
+        }
+        None => false,
+    }
+}
+
+// Whether only words stand between the three quotes at an offset and the refused token, of which the first is no keyword.
+fn leads_to(language: Language, text: &str, quotes: usize, refused: usize) -> bool {
+    let Some(words) = text.get(quotes.saturating_add(QUOTES.len())..refused) else {
+        return false;
+    };
+    let mut is_first = true;
+    for token in Tokens::new(words) {
+        let is_word = token.kind.is_name() && !(is_first && is_keyword(language, &token));
+        if !is_word && !matches!(token.kind, TokenKind::End) {
+            return false;
+        }
+        is_first = false;
+    }
+    true
+}
+
+// What begins and ends a block string.
+const QUOTES: &str = "\"\"\"";
+
+// What was seen of a text, at the beginning of which a token may stand.
+#[derive(Clone, Copy)]
+struct Seen {
+    // Where the part that was seen ends, after three quotes.
+    end: usize,
+    // Where the block string begins that is open there.
+    open: Option<usize>,
+    // Whether a comment is.
+    is_comment: bool,
+}
+
+impl Seen {
+    const NOTHING: Seen = Seen {
+        end: 0,
+        open: None,
+        is_comment: false,
+    };
+
+    // The same after the next three quotes, which stand at this offset.
+    fn up_to(self, text: &str, offset: usize) -> Seen {
+        let passed = text.get(self.end..offset).unwrap_or("");
+        let is_comment = self.open.is_none() && ends_in_comment(passed, self.is_comment);
+        let open = if is_comment || passed.ends_with('\\') {
+            self.open
+        } else if self.open.is_some() {
+            None
+        } else {
+            Some(offset)
+        };
+        Seen {
+            end: offset.saturating_add(QUOTES.len()),
+            open,
+            is_comment,
+        }
+    }
+}
+
+// Whether a comment goes on to the end of a text outside of block strings, which begins in one or doesn't.
+fn ends_in_comment(text: &str, begins_in_one: bool) -> bool {
+    match text.rsplit_once(['\n', '\r']) {
+        Some((_, line)) => has_comment(line),
+        None => begins_in_one || has_comment(text),
+    }
+}
+
+// Whether a comment begins in a line: with a number sign that stands in no string.
+fn has_comment(line: &str) -> bool {
+    match line.split_once('#') {
+        Some((front, _)) => {
+            let quotes = front.matches('"').count();
+            let escaped = front.matches("\\\"").count();
+            quotes % 2 == escaped % 2
+        }
+        None => false,
+    }
 }
 
 /// The rest of the line from this offset on, and where the next line begins.

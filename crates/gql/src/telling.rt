@@ -1,13 +1,17 @@
 //! Telling what is wrong with a file: in a report for people, or in a line for a program.
+ghost use Rattle.std.specs.Prelude.{◌≡◌, IfSome};
+ghost use Rattle.graphql_report.specs.reports.Rests.{BeginsAt};
+
 use crate::check::error_of;
 use crate::command::Format;
 use crate::output::complain;
-use crate::recovery::{Quotes, lines_between, next_definition, rest_at};
+use crate::recovery::{Quotes, next_definition, probable_opening, rest_at};
 use crate::texts::Unread;
 use graphql_parser::lexer::{Token, TokenKind};
+use graphql_parser::pos::PositionCalculator;
 use graphql_parser::{Error, Limits, Memory, Pos};
 use graphql_report::{
-    Finding, Language, ReadFrom, Style, explain_from, finding_from, refused_token_from,
+    Finding, Language, ReadFrom, ReadUpTo, Style, explain_from, finding_from, refused_token_from,
 };
 use serde::Serialize;
 use std::alloc::{AllocError, Global};
@@ -64,6 +68,9 @@ impl Teller {
     /// A refused text is read again from the next definition on, and so on. What the definitions before the refused one lack, or
     /// have twice, is no matter then, and neither is that an operation without a name isn't alone: a brace at the beginning of a
     /// line may belong to a definition that is refused before it.
+    ///
+    /// Where an odd number of three quotes is left after a refused token, it is said once where the block string probably begins
+    /// that isn't closed.
     pub fn tell_all<E: Write>(
         &mut self,
         source: &Source<'_>,
@@ -74,36 +81,26 @@ impl Teller {
             return Ok(());
         }
         let mut quotes = Quotes::UNKNOWN;
-        self.tell(source, ReadFrom::TOP, error, err)?;
-        let token = source.refused_from(self.alloc, ReadFrom::TOP, error)?;
-        let mut next = source.next_after(ReadFrom::TOP, token, &mut quotes);
+        let top = ReadFrom::top(source.text);
+        let token = source.refused_from(self.alloc, top, error)?;
+        let mut read = source.read_up_to(top, token, &mut quotes);
+        self.tell(source, &read.known, error, err)?;
         for _ in 1..MOST_FINDINGS {
-            let Some(from) = next else {
+            let Some(from) = source.next_after(&read) else {
                 break;
             };
-            next = self.tell_rest(source, from, &mut quotes, err)?;
+            let Some(error) = source.error_from(self.alloc, from)? else {
+                break;
+            };
+            let token = source.refused_from(self.alloc, from, &error)?;
+            read = source.read_up_to(from, token, &mut quotes);
+            if source.is_told_in_place(&error, token) {
+                self.tell(source, &read.known, &error, err)?;
+            } else {
+                self.tell_copied(source, &read.known, err)?;
+            }
         }
         Ok(())
-    }
-
-    // Tells the first error of the text from there on, and gives where it is read next.
-    fn tell_rest<E: Write>(
-        &mut self,
-        source: &Source<'_>,
-        from: ReadFrom,
-        quotes: &mut Quotes,
-        err: &mut E,
-    ) -> Result<Option<ReadFrom>, AllocError> {
-        let Some(error) = source.error_from(self.alloc, from)? else {
-            return Ok(None);
-        };
-        let token = source.refused_from(self.alloc, from, &error)?;
-        if source.is_told_in_place(&error, token) {
-            self.tell(source, from, &error, err)?;
-        } else {
-            self.tell_copied(source, from, err)?;
-        }
-        Ok(source.next_after(from, token, quotes))
     }
 
     // Tells the first error of a copy of the text from there on, before which as many lines stand: places that are counted
@@ -111,31 +108,50 @@ impl Teller {
     fn tell_copied<E: Write>(
         &mut self,
         source: &Source<'_>,
-        from: ReadFrom,
+        known: &ReadUpTo<'_>,
         err: &mut E,
     ) -> Result<(), AllocError> {
-        let Some(text) = rest_at(self.alloc, source.text, from.offset)? else {
+        let Some(text) = rest_at(self.alloc, source.text, known.from.offset)? else {
             return Ok(());
         };
         let rest = Source {
             text: text.as_str(),
             ..*source
         };
-        match rest.error_from(self.alloc, ReadFrom::TOP)? {
-            Some(error) => self.tell(&rest, ReadFrom::TOP, &error, err),
+        match rest.error_from(self.alloc, ReadFrom::top(rest.text))? {
+            Some(error) => self.tell(&rest, &in_copy(known, rest.text), &error, err),
             None => Ok(()),
         }
     }
 
-    /// Tells the error of a text that was read from there on: a report goes to `err`, and a line for programs is added to the
+    /// Tells the error of a text that was read from its beginning on.
+    pub fn tell_one<E: Write>(
+        &mut self,
+        source: &Source<'_>,
+        error: &Error,
+        err: &mut E,
+    ) -> Result<(), AllocError> {
+        let Source {
+            language,
+            limits,
+            text,
+            ..
+        } = *source;
+        let known = ReadUpTo::refused(self.alloc, language, text, limits, error)?;
+        self.tell(source, &known, error, err)
+    }
+
+    /// Tells the error of a text of whose reading this is known: a report goes to `err`, and a line for programs is added to the
     /// lines.
     pub fn tell<E: Write>(
         &mut self,
         source: &Source<'_>,
-        from: ReadFrom,
+        known: &ReadUpTo<'_>,
         error: &Error,
         err: &mut E,
-    ) -> Result<(), AllocError> {
+    ) -> Result<(), AllocError>
+        requires { BeginsAt source.now.text.now known.now.from }
+    {
         let Source {
             names,
             language,
@@ -145,11 +161,11 @@ impl Teller {
         let (alloc, style, shown) = (self.alloc, self.style, names.shown);
         self.findings = self.findings.saturating_add(1);
         if self.format == Format::Text {
-            let report = explain_from(style, alloc, language, shown, text, from, limits, error)?;
+            let report = explain_from(style, alloc, language, shown, text, known, limits, error)?;
             complain(err, report.as_str());
             return Ok(());
         }
-        let finding = finding_from(alloc, language, text, from, limits, error)?;
+        let finding = finding_from(alloc, language, text, known, limits, error)?;
         self.push_finding(names, &finding)
     }
 
@@ -216,7 +232,9 @@ impl<'a> Source<'a> {
         alloc: Global,
         from: ReadFrom,
         error: &Error,
-    ) -> Result<Option<Token<'a>>, AllocError> {
+    ) -> Result<Option<Token<'a>>, AllocError>
+        requires { BeginsAt self.now.text.now from }
+    {
         if !matches!(error, Error::Syntax { .. } | Error::RecursionLimitExceeded) {
             return Ok(None);
         }
@@ -237,19 +255,72 @@ impl<'a> Source<'a> {
         matches!(error, Error::Syntax { .. }) && !may_have_escape
     }
 
-    // Where a text is read next that was read from there on up to this token.
-    fn next_after(
-        &self,
-        from: ReadFrom,
-        token: Option<Token<'_>>,
-        quotes: &mut Quotes,
-    ) -> Option<ReadFrom> {
-        let offset = next_definition(self.language, self.text, token?.start, quotes)?;
-        let lines = lines_between(self.text, from.offset, offset);
-        Some(ReadFrom {
-            offset,
-            line: from.line.saturating_add(lines),
-        })
+    // What is known of the text's reading from there on up to this token.
+    fn read_up_to(&self, from: ReadFrom, token: Option<Token<'a>>, quotes: &mut Quotes) -> Read<'a>
+        ensures { result.known.from ≡ from }
+    {
+        let is_odd = match token {
+            Some(token) => quotes.are_odd_from(self.text, token.start),
+            None => false,
+        };
+        let unclosed = match token {
+            Some(token) if is_odd && quotes.is_first_told() => self.unclosed(from, &token),
+            _ => None,
+        };
+        Read {
+            known: ReadUpTo {
+                from,
+                token,
+                unclosed,
+            },
+            is_odd,
+        }
+    }
+
+    // Where a block string probably begins that isn't closed, if that isn't the refused token.
+    fn unclosed(&self, from: ReadFrom, token: &Token<'_>) -> Option<Pos> {
+        let start = probable_opening(self.language, self.text, from.offset, token.start)?;
+        let (front, _) = self.text.split_at_checked(start)?;
+        if start == token.start {
+            return None;
+        }
+        Some(PositionCalculator::new(front).step(front.len()))
+    }
+
+    // Where a text is read next of whose reading this is known.
+    fn next_after(&self, read: &Read<'_>) -> Option<ReadFrom>
+        requires { BeginsAt self.now.text.now read.now.known.from }
+        ensures { IfSome result (λ from. BeginsAt self.now.text.now from) }
+    {
+        let ReadUpTo { from, token, .. } = read.known;
+        let offset = next_definition(self.language, self.text, token?.start, read.is_odd)?;
+        from.later(self.text, offset)
+    }
+}
+
+// What is known of the reading of a text, and whether an odd number of three quotes is left after it.
+#[derive(Clone, Copy)]
+struct Read<'a> {
+    known: ReadUpTo<'a>,
+    is_odd: bool,
+}
+
+// The same of a copy of the text from there on, before which as many lines stand, each of a line feed alone.
+fn in_copy<'a>(known: &ReadUpTo<'a>, copy: &str) -> ReadUpTo<'a>
+    ensures { BeginsAt copy.now result.from }
+{
+    let from = known.from;
+    let lines = from.line.saturating_sub(1);
+    ReadUpTo {
+        from: ReadFrom::top(copy),
+        token: known.token.map(|token| Token {
+            start: token
+                .start
+                .saturating_sub(from.offset)
+                .saturating_add(lines),
+            ..token
+        }),
+        unclosed: known.unclosed,
     }
 }
 

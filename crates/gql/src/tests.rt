@@ -1,6 +1,9 @@
 //! Runs of the program: what each prints, and the status that it ends with.
 mod fakes;
 mod findings;
+mod listed;
+mod quotes;
+mod rests;
 mod rows;
 
 use crate::language::read_as;

@@ -3,6 +3,8 @@ mod Lines
 mod Joins
 mod Depths
 mod Ends
+mod Spots
+mod LaterLines
 mod Listed
 mod Parted
 mod ToldFronts

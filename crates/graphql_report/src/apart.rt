@@ -92,8 +92,8 @@ pub fn is_apart(
     is_whole(alloc, language, whole, limits)
 }
 
-// Whether the last character is a line feed.
-fn ends_line(text: &str) -> bool
+/// Whether the last character is a line feed.
+pub fn ends_line(text: &str) -> bool
     ensures { IsTrue result → LastIsLineFeed (chars text.now) }
 {
     match text.strip_suffix('\n') {

@@ -12,8 +12,8 @@ const COLUMNS_AFTER: usize = 48;
 // What stands where a line is cut.
 const CUT: &str = "...";
 
-/// Whether a line ends with the character.
-pub fn is_line_end(c: char) -> bool {
+// Whether a line ends with the character.
+fn is_line_end(c: char) -> bool {
     c == '\n' || c == '\r'
 }
 

@@ -2,13 +2,18 @@
 ghost use Rattle.std.specs.Prelude.{◌≡◌, IfOk, Some};
 ghost use Rattle.graphql_grammar.specs.errors.Errors.{error_places};
 ghost use Rattle.graphql_report.specs.reports.Findings.{StandsAt, first_of};
+ghost use Rattle.std.specs.Prelude.{MatchOption, [], ℕ, List, ◌++◌};
+ghost use Rattle.std.specs.Str.{chars};
+ghost use Rattle.graphql_tokens.specs.tokens.Place.{place_after};
 ghost use Rattle.graphql_report.specs.reports.Reports.{IsToldAt, IsPlaceIn};
+ghost use Rattle.graphql_report.specs.reports.Rests.{AreCounted, BeginsAt};
 
-use crate::excerpt::is_line_end;
 use crate::fronts::{Language, end_of};
-use crate::refused::{ReadFrom, before, reached_limit, refused_token_from, split};
-use crate::report::{TOO_DEEP, details_of, place_told, remark_of};
+use crate::refused::{before, reached_limit, split};
+use crate::report::{TOO_DEEP, details_of, limit_remark, place_told, remark_of};
+use crate::rests::ReadUpTo;
 use graphql_parser::lexer::Token;
+use graphql_parser::pos::PositionCalculator;
 use graphql_parser::{Error, Limits, Pos};
 use std::alloc::{AllocError, Global};
 
@@ -37,27 +42,30 @@ pub fn finding_of(
 ) -> Result<Finding, AllocError>
     ensures { IfOk result (λ finding. StandsAt text.now error.now finding.place) }
 {
-    finding_from(alloc, language, text, ReadFrom::TOP, limits, error)
+    let read = ReadUpTo::refused(alloc, language, text, limits, error)?;
+    finding_from(alloc, language, text, &read, limits, error)
 }
 
-/// What [`finding_of`] gives, of a text that was read from there on. What stands before isn't read, but where a place is
-/// counted: that of an escape in a string, and of a token that nests too deep. The places of `error` are those in the whole
-/// text. (This project's own call.)
+/// What [`finding_of`] gives, of a text that was read from a later line on, up to a token that is known. The caller owes that
+/// the line begins where `read` says, and that the token is the refused one. What stands before
+/// isn't read, but where a place is counted: that of an escape in a string, and of a token that nests too deep. The places of
+/// `error` are those in the whole text. (This project's own call.)
 pub fn finding_from(
     alloc: Global,
     language: Language,
     text: &str,
-    from: ReadFrom,
+    read: &ReadUpTo<'_>,
     limits: Limits,
     error: &Error,
 ) -> Result<Finding, AllocError>
+    requires { BeginsAt text.now read.now.from }
     ensures { IfOk result (λ finding. StandsAt text.now error.now finding.place) }
 {
     match error {
         Error::Syntax { start, .. } => {
-            syntax_finding(alloc, language, text, from, limits, error, *start)
+            syntax_finding(alloc, language, text, read, limits, error, *start)
         }
-        Error::RecursionLimitExceeded => limit_finding(alloc, language, text, from, limits, error),
+        Error::RecursionLimitExceeded => limit_finding(alloc, language, text, read, limits, error),
         Error::MultipleRoots { .. }
         | Error::MissingQueryRoot { .. }
         | Error::MultipleOperations { .. }
@@ -73,7 +81,7 @@ fn syntax_finding(
     alloc: Global,
     language: Language,
     text: &str,
-    from: ReadFrom,
+    read: &ReadUpTo<'_>,
     limits: Limits,
     error: &Error,
     start: Pos,
@@ -81,15 +89,14 @@ fn syntax_finding(
     ensures { IfOk result (λ finding. (place : Pos) × (finding.place ≡ Some place) ×
         IsToldAt text.now start place) }
 {
-    let token = refused_token_from(alloc, language, text, from, limits, error)?;
-    let details = details_of(alloc, language, text, from, limits, token)?;
+    let details = details_of(alloc, language, text, read, limits)?;
     let (front, back) = split(text, details.offset);
     let place = place_told(front, back, start, details.is_inside);
     let mut message = String::from_str(alloc, "syntax error: ")?;
     message.push_str(details.message.as_str())?;
     Ok(Finding {
         place: Some(place),
-        end: token.and_then(|token| end_of_token(&token)),
+        end: read.token.and_then(|token| end_of_token(&token)),
         status: status_of(error),
         message,
     })
@@ -100,7 +107,7 @@ fn limit_finding(
     alloc: Global,
     language: Language,
     text: &str,
-    from: ReadFrom,
+    read: &ReadUpTo<'_>,
     limits: Limits,
     error: &Error,
 ) -> Result<Finding, AllocError>
@@ -108,7 +115,7 @@ fn limit_finding(
         IsPlaceIn text.now place) }
 {
     let status = status_of(error);
-    let Some(token) = refused_token_from(alloc, language, text, from, limits, error)? else {
+    let Some(token) = read.token else {
         return Ok(Finding {
             place: Some(place_of(text, text.len())),
             end: None,
@@ -116,13 +123,14 @@ fn limit_finding(
             message: format!(in alloc; "{TOO_DEEP} at the end of the text")?,
         });
     };
-    let depth = reached_limit(alloc, language, text, from, limits, &token)?;
-    let (what, most) = (depth.what, depth.most);
+    let depth = reached_limit(alloc, language, text, read.from, limits, &token)?;
+    let mut message = String::from_str(alloc, TOO_DEEP)?;
+    message.push_str(limit_remark(alloc, &depth, read)?.as_str())?;
     Ok(Finding {
         place: Some(place_of(text, token.start)),
         end: end_of_token(&token),
         status,
-        message: format!(in alloc; "{TOO_DEEP}: {what} may nest {most} deep")?,
+        message,
     })
 }
 
@@ -149,21 +157,26 @@ fn place_of(text: &str, offset: usize) -> Pos
 }
 
 // Where a token ends, if it has any characters. A line may end in a block string.
-fn end_of_token(token: &Token<'_>) -> Option<Pos> {
-    if token.text.is_empty() {
+fn end_of_token(token: &Token<'_>) -> Option<Pos>
+    ensures { (front : List ℕ) → AreCounted (front ++ chars token.now.text.now) →
+        token.now.pos ≡ place_after front →
+        MatchOption result (token.now.text.now ≡ []) (λ end.
+        end ≡ place_after (front ++ chars token.now.text.now)) }
+{
+    let (start, text) = (token.pos, token.text);
+    if text.is_empty() {
         return None;
     }
-    let end = end_of(token.text);
-    let column = if token.text.contains(is_line_end) {
-        end.column
+    let mut places = PositionCalculator::new(text);
+    let end = places.step(text.len());
+    let is_one_line = end.column > places.stepped();
+    let column = if is_one_line {
+        start.column.saturating_add(end.column.saturating_sub(1))
     } else {
-        token
-            .pos
-            .column
-            .saturating_add(end.column.saturating_sub(1))
+        end.column
     };
     Some(Pos {
-        line: token.pos.line.saturating_add(end.line.saturating_sub(1)),
+        line: start.line.saturating_add(end.line.saturating_sub(1)),
         column,
     })
 }

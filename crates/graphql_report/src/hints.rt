@@ -2,6 +2,7 @@
 use crate::fronts::Language;
 use crate::refused::after;
 use crate::samples::{END, LOCATION, NAME};
+use graphql_parser::Pos;
 use graphql_parser::lexer::{Token, TokenKind, Tokens};
 use std::alloc::{AllocError, Global};
 use strsim::damerau_levenshtein;
@@ -77,6 +78,14 @@ pub fn push_hint(
         return out.push_str(" (did you mean \"implements\"?)");
     }
     push_guess(alloc, out, token, expected)
+}
+
+/// Adds that a block string isn't closed, which probably begins at this place.
+pub fn push_unclosed(out: &mut String, place: Pos) -> Result<(), AllocError> {
+    write!(
+        out,
+        " (the block string that begins at {place} is probably not closed)"
+    )
 }
 
 fn push_other_language(

@@ -14,8 +14,8 @@
 //! Where the last definition before the refused token begins a line, and one check more finds that those before it are whole,
 //! only the text from that line on is checked; else all of the text before the refused token. Of an error that names a place
 //! the refused token is found by that; at a limit it takes one check more, or some twenty where the limits aren't the default
-//! ones. A caller that read a text from a later line on says so, and what stands before isn't checked again
-//! ([`explain_from`], [`finding_from`], [`refused_token_from`]).
+//! ones. A caller that read a text from a later line on says so, and what stands before isn't checked again: it has the refused
+//! token from [`refused_token_from`], and hands it on with what it knows ([`ReadUpTo`], [`explain_from`], [`finding_from`]).
 //!
 //! Proved of it, unless memory runs out: `is_front` answers true exactly where the tokens of a text are a viable front, in
 //! both languages and at all limits; what is expected is exactly those of the samples, in their order, that can stand
@@ -35,11 +35,13 @@ mod hints;
 mod probes;
 mod refused;
 mod report;
+mod rests;
 mod samples;
 mod style;
 
 pub use findings::{Finding, finding_from, finding_of};
 pub use fronts::{Language, is_front};
-pub use refused::{ReadFrom, refused_token, refused_token_from};
+pub use refused::{refused_token, refused_token_from};
 pub use report::{explain, explain_from, explain_in};
+pub use rests::{ReadFrom, ReadUpTo};
 pub use style::Style;

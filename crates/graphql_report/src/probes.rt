@@ -4,7 +4,7 @@ ghost use Rattle.std.specs.Str.{chars};
 ghost use Rattle.graphql_tokens.specs.tokens.Place.{place_after};
 ghost use Rattle.graphql_report.specs.inner.Expected.{TellsFrontOf, with_sample};
 
-use crate::fronts::{Language, end_of, is_front, is_front_to};
+use crate::fronts::{Language, end_of, is_front_to};
 use graphql_parser::{Limits, Pos};
 use std::alloc::{AllocError, Global};
 
@@ -39,16 +39,11 @@ pub fn takes(
     let length = buffer.as_str().len();
     buffer.push_str(sample)?;
     buffer.push('\n')?;
-    let answer = match end.line.checked_add(end_of(sample).line) {
-        Some(line) => is_front_to(
-            alloc,
-            language,
-            buffer.as_str(),
-            limits,
-            Pos { line, column: 1 },
-        )?,
-        None => is_front(alloc, language, buffer.as_str(), limits)?,
+    let end = Pos {
+        line: end.line + end_of(sample).line,
+        column: 1,
     };
+    let answer = is_front_to(alloc, language, buffer.as_str(), limits, end)?;
     buffer.truncate(length);
     Ok(answer)
 }

@@ -1,58 +1,14 @@
 //! Where a text is refused, and by which limit.
 ghost use Rattle.std.specs.Prelude.{◌≡◌, ℕ, List, ◌++◌};
+ghost use Rattle.graphql_report.specs.reports.Rests.{BeginsAt};
 
 use crate::fronts::{Language, end_of, is_front};
 use crate::probes::{line_of, takes};
+use crate::rests::{ReadFrom, read_before};
 use crate::samples::NUMBER_TEXT;
 use graphql_parser::lexer::{Token, Tokens};
 use graphql_parser::{Error, Limits, Pos, check_query_from, check_schema_from};
 use std::alloc::{AllocError, Global};
-
-/// The line on which the reading of a text began. The caller owes that `line` is the line that begins at `offset`, or places
-/// are wrong; if no character begins at `offset`, or it is past the end, nothing is read. (This project's own type.)
-#[derive(Clone, Copy, Debug, PartialEq, Eq)]
-pub struct ReadFrom {
-    /// The byte offset.
-    pub offset: usize,
-    /// The line that begins there, counted from 1.
-    pub line: usize,
-}
-
-impl ReadFrom {
-    /// The beginning of the text.
-    pub const TOP: ReadFrom = ReadFrom { offset: 0, line: 1 };
-
-    // The place in the rest of the text that is this place in the whole text.
-    fn place_in_rest(self, place: Pos) -> Pos {
-        Pos {
-            line: place.line.saturating_sub(self.line.saturating_sub(1)),
-            column: place.column,
-        }
-    }
-
-    /// The place in the whole text that is this place in the rest of the text. (This project's own call.)
-    pub fn place_in_text(self, place: Pos) -> Pos {
-        Pos {
-            line: place.line.saturating_add(self.line.saturating_sub(1)),
-            column: place.column,
-        }
-    }
-
-    // A token of the rest of the text, with its offset and its place in the whole text.
-    fn moved(self, token: Token<'_>) -> Token<'_> {
-        Token {
-            kind: token.kind,
-            text: token.text,
-            start: token.start.saturating_add(self.offset),
-            pos: self.place_in_text(token.pos),
-        }
-    }
-}
-
-/// What was read of a text that was read from there on, up to this offset in the whole text.
-pub fn read_before(text: &str, from: ReadFrom, offset: usize) -> &str {
-    before(after(text, from.offset), offset.saturating_sub(from.offset))
-}
 
 /// The parts of `text` before this offset and from it on; the whole text and nothing where the offset is none of its.
 pub fn split(text: &str, offset: usize) -> (&str, &str)
@@ -88,11 +44,11 @@ pub fn refused_token<'a>(
     limits: Limits,
     error: &Error,
 ) -> Result<Option<Token<'a>>, AllocError> {
-    refused_token_from(alloc, language, text, ReadFrom::TOP, limits, error)
+    refused_token_from(alloc, language, text, ReadFrom::top(text), limits, error)
 }
 
-/// As [`refused_token`], of a text that was read from there on: what stands before is not looked at. The places of the
-/// error and of the token are those in the whole text. (This project's own call.)
+/// As [`refused_token`], of a text that was read from this line on: what stands before is not looked at. The caller owes that
+/// the line begins there. The places of the error and of the token are those in the whole text. (This project's own call.)
 pub fn refused_token_from<'a>(
     alloc: Global,
     language: Language,
@@ -100,7 +56,9 @@ pub fn refused_token_from<'a>(
     from: ReadFrom,
     limits: Limits,
     error: &Error,
-) -> Result<Option<Token<'a>>, AllocError> {
+) -> Result<Option<Token<'a>>, AllocError>
+    requires { BeginsAt text.now from }
+{
     let rest = after(text, from.offset);
     let token = refused_in(alloc, language, rest, from, limits, error)?;
     Ok(match token {

@@ -2,6 +2,7 @@
 ghost use Rattle.std.specs.Prelude.{◌≡◌, ◌∷◌, ◌++◌, [], IfOk, string_bytes};
 ghost use Rattle.graphql_grammar.specs.errors.Errors.{error_text};
 ghost use Rattle.graphql_report.specs.declared.style.Style.TheVariants.{Plain};
+ghost use Rattle.graphql_report.specs.reports.Rests.{BeginsAt};
 ghost use Rattle.graphql_report.specs.reports.Reports.{IsReport, IsToldAt, TellsSyntax, TellsLimit, Tells, TellsPlaces, named as named_by};
 
 use crate::definitions::offsets_of;
@@ -9,10 +10,9 @@ use crate::excerpt::{excerpt_of, shown};
 use crate::expected::expected_after;
 use crate::faults::fault_of;
 use crate::fronts::{Language, end_of};
-use crate::hints::{is_no_enum_value, push_hint};
-use crate::refused::{
-    ReadFrom, after, before, reached_limit, read_before, refused_token_from, split,
-};
+use crate::hints::{is_no_enum_value, push_hint, push_unclosed};
+use crate::refused::{Depth, after, before, reached_limit, split};
+use crate::rests::{ReadUpTo, read_before};
 use crate::samples::{END, NAME, NUMBER, VALUE};
 use crate::style::{Part, Style};
 use graphql_parser::lexer::{Token, TokenKind};
@@ -87,24 +87,26 @@ pub fn explain_in(
     ensures { IfOk result (λ report.
         IsReport style file_name.now text.now error.now (string_bytes report)) }
 {
-    let from = ReadFrom::TOP;
-    explain_from(style, alloc, language, file_name, text, from, limits, error)
+    let read = &ReadUpTo::refused(alloc, language, text, limits, error)?;
+    explain_from(style, alloc, language, file_name, text, read, limits, error)
 }
 
-/// What [`explain_in`] gives, of a text that was read from there on. What stands before isn't read, but for the line of the
-/// place, and where a place is counted: that of an escape in a string, and of a token that nests too deep. The places of
-/// `error` are those in the whole text. An error about definitions is looked for in the whole text. (This project's own
-/// call.)
+/// What [`explain_in`] gives, of a text that was read from a later line on, up to a token that is known. The caller owes that
+/// the line begins where `read` says, and that the token is the refused one. What stands before
+/// isn't read, but for the line of the place, and where a place is counted: that of an escape in a string, and of a token that
+/// nests too deep. The places of `error` are those in the whole text. An error about definitions is looked for in the whole
+/// text. (This project's own call.)
 pub fn explain_from(
     style: Style,
     alloc: Global,
     language: Language,
     file_name: &str,
     text: &str,
-    from: ReadFrom,
+    read: &ReadUpTo<'_>,
     limits: Limits,
     error: &Error,
 ) -> Result<String, AllocError>
+    requires { BeginsAt text.now read.now.from }
     ensures { IfOk result (λ report.
         IsReport style file_name.now text.now error.now (string_bytes report)) }
 {
@@ -112,13 +114,11 @@ pub fn explain_from(
         style,
         file_name,
         text,
-        from,
+        read,
     };
     match error {
-        Error::Syntax { start, .. } => {
-            explain_syntax(alloc, source, language, limits, error, *start)
-        }
-        Error::RecursionLimitExceeded => explain_limit(alloc, source, language, limits, error),
+        Error::Syntax { start, .. } => { explain_syntax(alloc, source, language, limits, *start) }
+        Error::RecursionLimitExceeded => explain_limit(alloc, source, language, limits),
         Error::MissingOperation | Error::OutOfMemory => explain_plain(alloc, file_name, error),
         Error::MissingQueryRoot { pos } => explain_place(alloc, source, error, *pos),
         Error::MultipleRoots { schema, pos, .. } => {
@@ -135,13 +135,13 @@ pub fn explain_from(
     }
 }
 
-// A text, where its reading began, and how a report of it is written.
+// A text, what is known of its reading, and how a report of it is written.
 #[derive(Clone, Copy)]
 struct Source<'a> {
     style: Style,
     file_name: &'a str,
     text: &'a str,
-    from: ReadFrom,
+    read: &'a ReadUpTo<'a>,
 }
 
 // A message with its place, which goes on so, and the line of the place.
@@ -201,17 +201,14 @@ fn explain_syntax(
     source: &Source<'_>,
     language: Language,
     limits: Limits,
-    error: &Error,
     start: Pos,
 ) -> Result<String, AllocError>
     ensures { IfOk result (λ report.
         TellsSyntax source.now.style source.now.file_name.now source.now.text.now start
         (string_bytes report)) }
 {
-    let (text, from) = (source.text, source.from);
-    let token = refused_token_from(alloc, language, text, from, limits, error)?;
-    let details = details_of(alloc, language, text, from, limits, token)?;
-    let (front, back) = split(text, details.offset);
+    let details = details_of(alloc, language, source.text, source.read, limits)?;
+    let (front, back) = split(source.text, details.offset);
     let place = place_told(front, back, start, details.is_inside);
     let mut message = String::from_str(alloc, "syntax ")?;
     source.style.push(&mut message, Part::Error, "error")?;
@@ -250,23 +247,22 @@ pub fn place_told(front: &str, back: &str, start: Pos, is_inside: bool) -> Pos
     start
 }
 
-/// What is told of the refused token of a text that was read from there on.
+/// What is told of the token up to which a text was read.
 pub fn details_of(
     alloc: Global,
     language: Language,
     text: &str,
-    from: ReadFrom,
+    read: &ReadUpTo<'_>,
     limits: Limits,
-    token: Option<Token<'_>>,
 ) -> Result<Details, AllocError> {
-    let Some(token) = token else {
+    let Some(token) = read.token else {
         return Ok(Details {
             message: String::from_str(alloc, "the text is refused")?,
             offset: text.len(),
             is_inside: false,
         });
     };
-    let front = read_before(text, from, token.start);
+    let front = read_before(text, read.from, token.start);
     let expected = expected_after(alloc, language, front, limits)?;
     let expected = expected.as_slice();
     let mut message = String::new(alloc);
@@ -281,7 +277,10 @@ pub fn details_of(
         push_found(&mut message, &token)?;
     }
     push_expected(&mut message, language, &token, expected)?;
-    push_hint(alloc, &mut message, language, text, &token, expected)?;
+    match read.unclosed {
+        Some(place) => push_unclosed(&mut message, place)?,
+        None => push_hint(alloc, &mut message, language, text, &token, expected)?,
+    }
     Ok(Details {
         message,
         offset: token.start.saturating_add(offset),
@@ -295,22 +294,34 @@ fn explain_limit(
     source: &Source<'_>,
     language: Language,
     limits: Limits,
-    error: &Error,
 ) -> Result<String, AllocError>
     ensures { IfOk result (λ report.
         TellsLimit source.now.style source.now.file_name.now source.now.text.now
         (string_bytes report)) }
 {
-    let (text, from) = (source.text, source.from);
-    let Some(token) = refused_token_from(alloc, language, text, from, limits, error)? else {
+    let (text, read) = (source.text, source.read);
+    let Some(token) = read.token else {
         let more = " at the end of the text";
         return told_at(alloc, source, end_of(text), text.len(), TOO_DEEP, more);
     };
-    let depth = reached_limit(alloc, language, text, from, limits, &token)?;
-    let (what, most) = (depth.what, depth.most);
-    let more = format!(in alloc; ": {what} may nest {most} deep")?;
+    let depth = reached_limit(alloc, language, text, read.from, limits, &token)?;
+    let more = limit_remark(alloc, &depth, read)?;
     let place = end_of(before(text, token.start));
     told_at(alloc, source, place, token.start, TOO_DEEP, more.as_str())
+}
+
+/// What is said after the message of a limit that is reached.
+pub fn limit_remark(
+    alloc: Global,
+    depth: &Depth,
+    read: &ReadUpTo<'_>,
+) -> Result<String, AllocError> {
+    let Depth { what, most } = *depth;
+    let mut remark = format!(in alloc; ": {what} may nest {most} deep")?;
+    if let Some(place) = read.unclosed {
+        push_unclosed(&mut remark, place)?;
+    }
+    Ok(remark)
 }
 
 // ---- trees that break a rule

@@ -35,6 +35,34 @@ const FILES: &[(&str, &[u8])] = &[
         "fields.graphql",
         b"type A {\na: B!!\ntype: C\ninput(a: D): E\n}\ntype F {\n  g H\n}\n",
     ),
+    (
+        "escaped.graphqls",
+        b"\"\"\"\nWritten \\\"\"\" here.\n\"\"\"\ntype A {\n  b C\n}\n\n\"\"\"\nThe end \\\"\"\"\n\"\"\"\ntype D {\n  e F\n}\n\ntype G {\n  h I\n}\n",
+    ),
+    (
+        "noted.graphqls",
+        b"type A {\n  b C\n}\n# three quotes, \"\"\", in a comment\ntype D {\n  e(f: G = \"a#1\", h: I = \"\"\"j\"\"\") K\n}\n",
+    ),
+    (
+        "open.graphqls",
+        b"type A {\n  \"\"\" of b\n  b: Int\n}\n\n\"\"\"\nOf C.\n\"\"\"\ntype C {\n  d E\n}\n",
+    ),
+    (
+        "later.graphqls",
+        b"\"\"\"Of A\"\"\"\ntype A {\n  b C\n}\n\"\"\"\nOf D.\ntype D {\n  e F\n}\n\"\"\"\nOf G.\n\"\"\"\ntype G {\n  h I\n}\n\"\"\"\nOf J.\n\"\"\"\ntype J {\n  k: L\n}\n",
+    ),
+    (
+        "listed.graphqls",
+        b"enum A {\n  \"\"\" the b\n  B\n  \"\"\" the c \"\"\"\n  C\n}\ntype D {\n  e F\n}\n",
+    ),
+    (
+        "last.graphqls",
+        b"type A {\n  b: C\n}\n\"\"\" of D\ntype D {\n  e F\n}\n",
+    ),
+    (
+        "deep.graphql",
+        b"{\n  a {\n    b\n  }\n}\nquery C {\n  d(e: \"\"\" f)\n}\n",
+    ),
 ];
 
 /// These files.

@@ -1,25 +1,29 @@
 //! What is told of texts with many mistakes, beside what was told when each rest of a text was copied and read with as many
 //! lines before it, the tokens were looked for in all of it, and its quotes were counted anew. How the text was gone through
 //! stands here as it was; the reports of both forms are those of `graphql_report`.
+ghost use Rattle.std.specs.Prelude.{IfOk};
+ghost use Rattle.graphql_report.specs.reports.Rests.{BeginsAt};
+
 use crate::check::error_of;
 use crate::command::Format;
-use crate::recovery::{Search, has_odd_quotes, line_from, look_from, rest_at};
+use crate::recovery::{Search, has_odd_quotes, line_from, look_from, probable_opening, rest_at};
 use crate::telling::{MOST_FINDINGS, Names, Source, Teller};
 use crate::tests::fakes::Sheet;
 use graphql_parser::lexer::{Token, Tokens};
 use graphql_parser::pos::PositionCalculator;
 use graphql_parser::{Error, Limits, Memory, Pos, check_query_from, check_schema_from};
-use graphql_report::{Language, ReadFrom, Style, finding_of, refused_token};
+use graphql_report::{Language, ReadFrom, ReadUpTo, Style, finding_of, refused_token};
 use std::alloc::{AllocError, Global};
 use std::io::ErrorKind;
 use std::process::Abort;
 use std::str;
 use std::test::Fail;
 
-// Texts of each language that are made.
-const TEXTS: usize = 150;
+/// Texts of each language that are made.
+pub const TEXTS: usize = 150;
 
-const OF_SCHEMAS: [&str; 30] = [
+/// Pieces of which schema files are made.
+pub const OF_SCHEMAS: [&str; 30] = [
     "type A {\n",
     "type B implements C & D {\n",
     "  a: Int\n",
@@ -52,7 +56,8 @@ const OF_SCHEMAS: [&str; 30] = [
     "\n",
 ];
 
-const OF_REQUESTS: [&str; 24] = [
+/// Pieces of which requests are made.
+pub const OF_REQUESTS: [&str; 24] = [
     "query A($b: Int = 1) {\n",
     "query C @d {\n",
     "mutation {\n",
@@ -147,8 +152,8 @@ fn next_number(state: &mut u64) -> usize {
     (next >> 11) as usize
 }
 
-// A text of some of these pieces.
-fn made(alloc: Global, pieces: &[&'static str], state: &mut u64) -> Result<String, AllocError> {
+/// A text of some of these pieces.
+pub fn made(alloc: Global, pieces: &[&'static str], state: &mut u64) -> Result<String, AllocError> {
     let mut text = String::new(alloc);
     for _ in 0..next_number(state) % 40 {
         let at = next_number(state).checked_rem(pieces.len()).unwrap_or(0);
@@ -219,15 +224,54 @@ fn error_before(alloc: Global, source: &Source<'_>) -> Result<Option<Error>, All
     }
 }
 
+// What is known of the reading of a text from its beginning on. Once, where an odd number of three quotes is left, it is told
+// where the block string probably begins that isn't closed.
+fn known_before<'a>(
+    alloc: Global,
+    source: &Source<'a>,
+    error: &Error,
+    is_told: &mut bool,
+) -> Result<ReadUpTo<'a>, AllocError>
+    ensures { IfOk result (λ known. BeginsAt source.now.text.now known.from) }
+{
+    let mut known = ReadUpTo {
+        from: ReadFrom::top(source.text),
+        token: None,
+        unclosed: None,
+    };
+    if !matches!(error, Error::Syntax { .. } | Error::RecursionLimitExceeded) {
+        return Ok(known);
+    }
+    known.token = token_before(alloc, source, error)?;
+    let Some(token) = known.token else {
+        return Ok(known);
+    };
+    let is_odd = match source.text.split_at_checked(token.start) {
+        Some((_, rest)) => has_odd_quotes(rest),
+        None => false,
+    };
+    if is_odd && !*is_told {
+        *is_told = true;
+        known.unclosed = unclosed_before(source, &token);
+    }
+    Ok(known)
+}
+
+fn unclosed_before(source: &Source<'_>, token: &Token<'_>) -> Option<Pos> {
+    let start = probable_opening(source.language, source.text, 0, token.start)?;
+    let (front, _) = source.text.split_at_checked(start)?;
+    if start == token.start {
+        return None;
+    }
+    Some(PositionCalculator::new(front).step(front.len()))
+}
+
 fn rest_before(
     alloc: Global,
     source: &Source<'_>,
-    error: &Error,
+    known: &ReadUpTo<'_>,
 ) -> Result<Option<String>, AllocError> {
-    if !matches!(error, Error::Syntax { .. } | Error::RecursionLimitExceeded) {
-        return Ok(None);
-    }
-    let Some(token) = token_before(alloc, source, error)? else {
+    let Some(token) = known.token else {
         return Ok(None);
     };
     match definition_before(source.language, source.text, token.start) {
@@ -243,8 +287,10 @@ fn tell_all_before(
     err: &mut Sheet,
 ) -> Result<(), AllocError> {
     let alloc = teller.alloc;
-    teller.tell(whole, ReadFrom::TOP, error, err)?;
-    let Some(mut rest) = rest_before(alloc, whole, error)? else {
+    let mut is_told = false;
+    let known = known_before(alloc, whole, error, &mut is_told)?;
+    teller.tell(whole, &known, error, err)?;
+    let Some(mut rest) = rest_before(alloc, whole, &known)? else {
         return Ok(());
     };
     for _ in 1..MOST_FINDINGS {
@@ -255,8 +301,9 @@ fn tell_all_before(
         let Some(error) = error_before(alloc, &source)? else {
             break;
         };
-        teller.tell(&source, ReadFrom::TOP, &error, err)?;
-        let Some(next) = rest_before(alloc, &source, &error)? else {
+        let known = known_before(alloc, &source, &error, &mut is_told)?;
+        teller.tell(&source, &known, &error, err)?;
+        let Some(next) = rest_before(alloc, &source, &known)? else {
             break;
         };
         rest = next;

@@ -101,6 +101,63 @@ $ check fields.graphql
 !    |     ^
 = 1
 
+$ check escaped.graphqls noted.graphqls
+> 2 files: 0 good, 2 refused (5 findings)
+! escaped.graphqls:5:5: syntax error: found "C", expected "(" or ":"
+!  5 |   b C
+!    |     ^
+! escaped.graphqls:12:5: syntax error: found "F", expected "(" or ":"
+!  12 |   e F
+!     |     ^
+! escaped.graphqls:16:5: syntax error: found "I", expected "(" or ":"
+!  16 |   h I
+!     |     ^
+! noted.graphqls:2:5: syntax error: found "C", expected "(" or ":"
+!  2 |   b C
+!    |     ^
+! noted.graphqls:6:35: syntax error: found "K", expected ":"
+!  6 |   e(f: G = "a#1", h: I = """j""") K
+!    |                                   ^
+= 1
+
+$ check open.graphqls later.graphqls
+> 2 files: 0 good, 2 refused (3 findings)
+! open.graphqls:7:4: syntax error: found "C", expected "(" or ":" (the block string that begins at 2:3 is probably not closed)
+!  7 | Of C.
+!    |    ^
+! open.graphqls:10:5: syntax error: found "E", expected "(" or ":"
+!  10 |   d E
+!     |     ^
+! later.graphqls:3:5: syntax error: found "C", expected "(" or ":" (the block string that begins at 5:1 is probably not closed)
+!  3 |   b C
+!    |     ^
+= 1
+
+$ check listed.graphqls last.graphqls
+> 2 files: 0 good, 2 refused (4 findings)
+! listed.graphqls:4:13: syntax error: this block string is not closed by """, expected a name, a string, "@" or "}" (the block string that begins at 2:3 is probably not closed)
+!  4 |   """ the c """
+!    |             ^
+! listed.graphqls:8:5: syntax error: found "F", expected "(" or ":"
+!  8 |   e F
+!    |     ^
+! last.graphqls:4:1: syntax error: this block string is not closed by """, expected a string, "directive", "enum", "extend", "input", "interface", "scalar", "schema", "type", "union" or the end of the text
+!  4 | """ of D
+!    | ^
+! last.graphqls:6:5: syntax error: found "F", expected "(" or ":"
+!  6 |   e F
+!    |     ^
+= 1
+
+$ check --format json open.graphqls
+> {"file":"open.graphqls","line":7,"column":4,"endLine":7,"endColumn":5,"severity":"error","status":"SYNTAX","message":"syntax error: found \"C\", expected \"(\" or \":\" (the block string that begins at 2:3 is probably not closed)"}
+> {"file":"open.graphqls","line":10,"column":5,"endLine":10,"endColumn":6,"severity":"error","status":"SYNTAX","message":"syntax error: found \"E\", expected \"(\" or \":\""}
+= 1
+
+$ check --format github --limits 0,64,64 deep.graphql
+> ::error file=deep.graphql,line=2,col=5::recursion limit exceeded: selection sets may nest 0 deep (the block string that begins at 7:8 is probably not closed)
+= 1
+
 $ check -q query.graphql none
 = 2
 
