@@ -2,7 +2,6 @@
 use Rattle.std.proofs.Common.{◌<◌, ◌^◌, length, rules, ◌≡◌, ℕ, ◌+◌, cond, List, [], ◌∷◌, ◌++◌, refl, sym, ap, ◌∙◌, arith}
 use Rattle.std.proofs.lemmas.List.Sums.{sum_by-append}
 use Rattle.std.proofs.lemmas.Str.{chars-append, IsUtf8-append, chars-IsAscii}
-use Rattle.std.specs.List.{count_by}
 use Rattle.std.specs.Str.{chars, IsUtf8}
 use Rattle.graphql_tokens.specs.declared.pos.Pos.{Pos}
 use Rattle.graphql_tokens.specs.tokens.Place.{place_after, is_line_feed}

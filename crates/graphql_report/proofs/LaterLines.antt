@@ -1,5 +1,5 @@
 -- Where lines begin in a text: at its beginning, and after the line feeds that are counted in its bytes.
-use Rattle.std.proofs.Common.{take, drop, subst, ◌^◌, ◌≡◌, ℕ, zero, suc, ◌+◌, ◌≤◌, ◌<◌, cond, false, ◌⊎◌, List, [], ◌∷◌, ◌++◌, length, get_or, refl, sym, ap, ◌∙◌, inl, inr, arith}
+use Rattle.std.proofs.Common.{take, drop, subst, ◌^◌, ◌≡◌, ℕ, suc, ◌+◌, ◌≤◌, ◌<◌, cond, false, ◌⊎◌, List, [], ◌∷◌, ◌++◌, length, get_or, refl, sym, ap, ◌∙◌, inl, inr, arith}
 use Rattle.std.proofs.lemmas.Bool.{cases_lt}
 use Rattle.std.proofs.lemmas.Bool.Decides.{nat_tests}
 use Rattle.std.proofs.lemmas.List.{append-nil, take-append-drop, take-take}

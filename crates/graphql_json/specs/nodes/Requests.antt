@@ -1,6 +1,6 @@
 -- The JSON of requests.
 -- Source: the syntax trees of GraphQL.js, version 16. The document and the names of operations and fragments have no place: our trees keep none.
-use Rattle.std.specs.Prelude.{List, [], ◌∷◌, Option, Some, None, map, if◌then◌else◌, codes}
+use Rattle.std.specs.Prelude.{List, [], ◌∷◌, Option, Some, None, if◌then◌else◌, codes}
 use Rattle.graphql_parser.specs.calls.Words.{operation_word}
 use Rattle.graphql_parser.specs.trees.Parts.{Name}
 use Rattle.graphql_parser.specs.trees.Request.{Document, operations_of, OperationDefinition, FragmentDefinition, VariableDefinition, TypeCondition, FragmentSpread, Selection, field, fragment_spread, inline_fragment, SelectionSet, no_selections, selection_and}

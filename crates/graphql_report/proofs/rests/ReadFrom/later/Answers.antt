@@ -1,5 +1,4 @@
-use Rattle.std.proofs.Common.{◌≡◌, ℕ, ◌+◌, ◌<◌, ◌≤◌, ◌^◌, List, length, refl, subst, sym, arith, ap, IsTrue}
-use Rattle.graphql_tokens.proofs.Chars.{length-chars}
+use Rattle.std.proofs.Common.{◌<◌, ◌^◌, length, refl, arith}
 use Rattle.graphql_report.proofs.LaterLines.{Passes, line-fits, begins-there}
 use Rattle.graphql_report.proofs.rests.ReadFrom.later.Goals as goal
 
