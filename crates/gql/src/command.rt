@@ -40,7 +40,7 @@ pub struct Call<'a> {
     pub is_verbose: bool,
     /// A request that lacks nothing but an operation is good: so it is without `--executable`.
     pub takes_fragments: bool,
-    /// `--places`: the tree has the place of each node.
+    /// `--places`: each node of the tree that has a place is written with it.
     pub has_places: bool,
     /// `--format`.
     pub format: Format,

@@ -42,7 +42,7 @@ Options:
                    or empty, and TERM is not dumb
   -v, --verbose    check: a line for each good file
   -q, --quiet      check: nothing but the status
-  --places         tree: with the line and the column of each node
+  --places         tree: with the line and the column of each node that has a place
   --               each word after it is a file
   -h, --help       prints this
   -V, --version    prints the version

@@ -1,8 +1,7 @@
 //! What is wrong with a text, in parts: for those who show it in a way of their own.
-ghost use Rattle.std.specs.Prelude.{◌≡◌, IfOk, Some};
+ghost use Rattle.std.specs.Prelude.{◌≡◌, ◌++◌, ℕ, List, [], Some, IfOk, MatchOption};
 ghost use Rattle.graphql_grammar.specs.errors.Errors.{error_places};
 ghost use Rattle.graphql_report.specs.reports.Findings.{StandsAt, first_of};
-ghost use Rattle.std.specs.Prelude.{MatchOption, [], ℕ, List, ◌++◌};
 ghost use Rattle.std.specs.Str.{chars};
 ghost use Rattle.graphql_tokens.specs.tokens.Place.{place_after};
 ghost use Rattle.graphql_report.specs.reports.Reports.{IsToldAt, IsPlaceIn};
@@ -47,9 +46,9 @@ pub fn finding_of(
 }
 
 /// What [`finding_of`] gives, of a text that was read from a later line on, up to a token that is known. The caller owes that
-/// the line begins where `read` says, and that the token is the refused one. What stands before
-/// isn't read, but where a place is counted: that of an escape in a string, and of a token that nests too deep. The places of
-/// `error` are those in the whole text. (This project's own call.)
+/// the line begins where `read` says, and that the token is the refused one. What stands before isn't read, but where a place
+/// is counted: that of an escape in a string, and of a token that nests too deep. The places of `error` are those in the whole
+/// text. (This project's own call.)
 pub fn finding_from(
     alloc: Global,
     language: Language,

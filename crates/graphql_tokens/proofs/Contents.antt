@@ -5,16 +5,16 @@ use Rattle.std.proofs.lemmas.Bool.{cases_lt}
 use Rattle.std.proofs.lemmas.Bool.Decides.{nat_tests}
 use Rattle.std.proofs.lemmas.List.{append-nil, get_or-drop, take_rest}
 use Rattle.std.proofs.lemmas.List.Sums.{prefix_len-le-length, prefix_len_stops}
-use Rattle.std.proofs.lemmas.Str.{encodes-chars, chars-append, encodes-append, encodes-IsAscii, chars-IsAscii, encode_ascii, chars-encodes, chars-nil, IsUtf8-take, IsUtf8-drop, IsUtf8-between, IsUtf8-append, IsUtf8-from_ascii, IsAscii-append, IsCharBoundary-before_ascii, IsCharBoundary-end, IsCharBoundary-from_take}
-use Rattle.std.proofs.lemmas.Str.Ascii.{IsAscii-nil, IsAscii-cons}
-use Rattle.std.specs.Char.{IsScalar, encode_utf8, is_ascii_hexdigit}
+use Rattle.std.proofs.lemmas.Str.{encodes-chars, chars-append, encodes-append, encodes-IsAscii, chars-IsAscii, encode_ascii, chars-encodes, chars-nil, IsUtf8-take, IsUtf8-drop, IsUtf8-between, IsUtf8-append, IsUtf8-from_ascii, IsCharBoundary-before_ascii, IsCharBoundary-end, IsCharBoundary-from_take}
+use Rattle.std.specs.Char.{IsScalar, encode_utf8}
 use Rattle.std.specs.List.{AllByRecursion, concat, prefix_len}
-use Rattle.std.specs.Str.{chars, IsUtf8, IsAscii, IsCharBoundary, encode_utf8_all}
+use Rattle.std.specs.Str.{chars, IsUtf8, IsCharBoundary, encode_utf8_all}
 use Rattle.graphql_tokens.specs.tokens.Edition.{Former, Current}
-use Rattle.graphql_tokens.specs.tokens.Strings.{is_plain, Escape, quote, backslash, slash, backspace, form_feed, line_feed, carriage_return, tab, AreHexDigits, IsFourDigits, UnitMeans, UnitsMean, StringMeans, IsContent}
+use Rattle.graphql_tokens.specs.tokens.Strings.{is_plain, Escape, quote, backslash, slash, backspace, form_feed, line_feed, carriage_return, tab, UnitMeans, UnitsMean, StringMeans, IsContent}
 use Rattle.graphql_tokens.specs.calls.Escapes.{escape_at}
 use Rattle.graphql_tokens.proofs.Chars.{chars_split}
 use Rattle.graphql_tokens.proofs.Scan.{ascii_char}
+use Rattle.graphql_tokens.proofs.EscapeChars.{escape_ascii}
 use Rattle.graphql_tokens.proofs.EscapeUnits.{EscapeMeans, escape_reads, escape_found, pair_scalar}
 
 -- ---- editions
@@ -144,34 +144,18 @@ means_once content value other m n =
 
 -- ---- bytes
 
-hex_ascii : (ds : List ℕ) → AreHexDigits ds → IsAscii ds
-hex_ascii [] h = IsAscii-nil
-hex_ascii (d ∷ ds) h = let x : is_ascii_hexdigit d ≡ true = h.0 in let low : d < 128 = grind (arith, nat_tests) in IsAscii-cons d ds low (hex_ascii ds h.1)
-
-letter_ascii : (e c : ℕ) → Escape e c → (e < 128) × IsScalar c
-letter_ascii _ _ quote = (omega arith, refl)
-letter_ascii _ _ backslash = (omega arith, refl)
-letter_ascii _ _ slash = (omega arith, refl)
-letter_ascii _ _ backspace = (omega arith, refl)
-letter_ascii _ _ form_feed = (omega arith, refl)
-letter_ascii _ _ line_feed = (omega arith, refl)
-letter_ascii _ _ carriage_return = (omega arith, refl)
-letter_ascii _ _ tab = (omega arith, refl)
-
-four_ascii : (u : List ℕ) (n : ℕ) → IsFourDigits u n → IsAscii u
-four_ascii u n w = rw w.1 (IsAscii-cons 92 (117 ∷ w.0) (omega arith) (IsAscii-cons 117 w.0 (omega arith) (hex_ascii w.0 w.3)))
-
-pub escape_ascii : (u : List ℕ) (c : ℕ) → EscapeMeans u c → IsAscii u
-escape_ascii u c (inl w) = rw w.1 (IsAscii-cons 92 (w.0 ∷ []) (omega arith) (IsAscii-cons w.0 [] (letter_ascii w.0 c w.2).0 IsAscii-nil))
-escape_ascii u c (inr (inl w)) = four_ascii u c w.0
-escape_ascii u c (inr (inr (inl w))) =
-    let end : List ℕ = w.0 ++ 125 ∷ [] in
-    let ascii = IsAscii-append w.0 (125 ∷ []) (hex_ascii w.0 w.3) (IsAscii-cons 125 [] (omega arith) IsAscii-nil) in
-    rw w.1 (IsAscii-cons 92 (117 ∷ 123 ∷ end) (omega arith) (IsAscii-cons 117 (123 ∷ end) (omega arith) (IsAscii-cons 123 end (omega arith) ascii)))
-escape_ascii u c (inr (inr (inr w))) = rw w.4 (IsAscii-append w.0 w.1 (four_ascii w.0 w.2 w.5) (four_ascii w.1 w.3 w.6))
+letter_scalar : (e c : ℕ) → Escape e c → IsScalar c
+letter_scalar _ _ quote = refl
+letter_scalar _ _ backslash = refl
+letter_scalar _ _ slash = refl
+letter_scalar _ _ backspace = refl
+letter_scalar _ _ form_feed = refl
+letter_scalar _ _ line_feed = refl
+letter_scalar _ _ carriage_return = refl
+letter_scalar _ _ tab = refl
 
 escape_scalar : (u : List ℕ) (c : ℕ) → EscapeMeans u c → IsScalar c
-escape_scalar u c (inl w) = (letter_ascii w.0 c w.2).1
+escape_scalar u c (inl w) = letter_scalar w.0 c w.2
 escape_scalar u c (inr (inl w)) = w.1
 escape_scalar u c (inr (inr (inl w))) = w.5
 escape_scalar u c (inr (inr (inr w))) = pair_scalar w.2 w.3 c w.7 w.8 w.9

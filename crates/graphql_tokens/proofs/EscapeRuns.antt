@@ -1,62 +1,18 @@
 -- A running place that passes an escape: a run of ASCII characters within a line.
-use Rattle.std.proofs.Common.{◌≡◌, ℕ, zero, suc, ◌+◌, ◌-◌, ◌≤◌, ◌<◌, true, List, [], ◌∷◌, ◌++◌, Some, length, take, drop, get_or, refl, sym, ap, ◌∙◌, arith, inl, inr, add-zero, length-drop}
+use Rattle.std.proofs.Common.{◌≡◌, ℕ, zero, suc, ◌+◌, ◌-◌, ◌≤◌, ◌<◌, List, ◌++◌, Some, length, take, drop, get_or, sym, ap, ◌∙◌, arith, add-zero, length-drop}
 use Rattle.std.proofs.Math.Seq.{take-length}
-use Rattle.std.proofs.lemmas.Bool.Decides.{nat_tests}
 use Rattle.std.proofs.lemmas.List.{get_or-drop}
 use Rattle.std.proofs.lemmas.Str.{IsCharBoundary-after_ascii}
-use Rattle.std.specs.Char.{is_ascii_hexdigit}
-use Rattle.std.specs.List.{AllByRecursion}
 use Rattle.std.specs.Str.{chars, IsUtf8, IsCharBoundary}
 use Rattle.graphql_tokens.specs.tokens.Place.{is_in_line}
-use Rattle.graphql_tokens.specs.tokens.Strings.{Escape, quote, backslash, slash, backspace, form_feed, line_feed, carriage_return, tab, AreHexDigits, IsFourDigits}
 use Rattle.graphql_tokens.specs.calls.Escapes.{escape_at}
 use Rattle.graphql_tokens.specs.inner.Running.{ahead, IsRunning, IsRunOfAscii}
 use Rattle.graphql_tokens.specs.inner.Lexing.{RunsOver}
 use Rattle.graphql_tokens.specs.declared.pos.running.RunningPlace.{RunningPlace}
 use Rattle.graphql_tokens.proofs.Contents.{escape_some}
-use Rattle.graphql_tokens.proofs.EscapeUnits.{EscapeMeans, escape_found}
+use Rattle.graphql_tokens.proofs.EscapeChars.{escape_in_line, in_line_at}
+use Rattle.graphql_tokens.proofs.EscapeUnits.{escape_found}
 use Rattle.graphql_tokens.proofs.Scan.{ascii_char}
-
--- ---- the characters of an escape
-
-abbrev InLine : ℕ → Type 0
-InLine c = (c < 128) × (is_in_line c ≡ true)
-
-abbrev AreInLine : List ℕ → Type 0
-AreInLine cs = AllByRecursion (λ c. (c < 128) × (is_in_line c ≡ true)) cs
-
-both_in_line : (xs ys : List ℕ) → AreInLine xs → AreInLine ys → AreInLine (xs ++ ys)
-both_in_line [] ys h k = k
-both_in_line (x ∷ xs) ys h k = (h.0, both_in_line xs ys h.1 k)
-
-hex_in_line : (ds : List ℕ) → AreHexDigits ds → AreInLine ds
-hex_in_line [] h = tt
-hex_in_line (d ∷ ds) h = let x : is_ascii_hexdigit d ≡ true = h.0 in ((grind (arith, nat_tests), grind (arith, nat_tests)), hex_in_line ds h.1)
-
-letter_in_line : (e c : ℕ) → Escape e c → InLine e
-letter_in_line _ _ quote = (omega arith, refl)
-letter_in_line _ _ backslash = (omega arith, refl)
-letter_in_line _ _ slash = (omega arith, refl)
-letter_in_line _ _ backspace = (omega arith, refl)
-letter_in_line _ _ form_feed = (omega arith, refl)
-letter_in_line _ _ line_feed = (omega arith, refl)
-letter_in_line _ _ carriage_return = (omega arith, refl)
-letter_in_line _ _ tab = (omega arith, refl)
-
-four_in_line : (u : List ℕ) (n : ℕ) → IsFourDigits u n → AreInLine u
-four_in_line u n w = rw w.1 ((omega arith, refl), ((omega arith, refl), hex_in_line w.0 w.3))
-
-escape_in_line : (u : List ℕ) (c : ℕ) → EscapeMeans u c → AreInLine u
-escape_in_line u c (inl w) = rw w.1 ((omega arith, refl), (letter_in_line w.0 c w.2, tt))
-escape_in_line u c (inr (inl w)) = four_in_line u c w.0
-escape_in_line u c (inr (inr (inl w))) =
-    rw w.1 ((omega arith, refl), ((omega arith, refl), ((omega arith, refl), both_in_line w.0 (125 ∷ []) (hex_in_line w.0 w.3) ((omega arith, refl), tt))))
-escape_in_line u c (inr (inr (inr w))) = rw w.4 (both_in_line w.0 w.1 (four_in_line w.0 w.2 w.5) (four_in_line w.1 w.3 w.6))
-
-in_line_at : (xs rest : List ℕ) (k : ℕ) → AreInLine xs → k < length xs → InLine (get_or (xs ++ rest) k 0)
-in_line_at [] rest k h l = absurd (omega arith)
-in_line_at (x ∷ xs) rest zero h l = h.0
-in_line_at (x ∷ xs) rest (suc k) h l = in_line_at xs rest k h.1 (omega arith)
 
 -- ---- in bytes
 

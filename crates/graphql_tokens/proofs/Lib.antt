@@ -14,6 +14,7 @@ pub mod BlockWritten
 pub mod Chars
 pub mod Contents
 pub mod Editions
+pub mod EscapeChars
 pub mod EscapeRuns
 pub mod EscapeUnits
 pub mod Escapes

@@ -11,7 +11,8 @@ use Rattle.graphql_tokens.specs.calls.Escapes.{escape_at}
 use Rattle.graphql_tokens.specs.inner.Quoted.{past_unit, past_string_from, past_string}
 use Rattle.graphql_tokens.proofs.Options.{some_same, counts_down}
 use Rattle.graphql_tokens.proofs.EscapeUnits.{EscapeMeans, escape_reads, escape_found}
-use Rattle.graphql_tokens.proofs.Contents.{escape_front, escape_ascii, escape_some}
+use Rattle.graphql_tokens.proofs.Contents.{escape_front, escape_some}
+use Rattle.graphql_tokens.proofs.EscapeChars.{escape_ascii}
 
 -- ---- steps
 
@@ -33,9 +34,6 @@ other_step c cs p q = rw (p, q) refl
 pub string_stuck : (c : ℕ) (cs : List ℕ) → is_plain c ≡ false → eqb c 34 ≡ false → escape_at (c ∷ cs) ≡ None → past_string (c ∷ cs) ≡ None
 unfolding past_string
 string_stuck c cs p q e = other_step c cs p q ∙ ap (λ o. past_unit o (λ n. past_string_from n cs)) e
-
-pub escape_within : (text : List ℕ) (v n : ℕ) → escape_at text ≡ Some (v, n) → n ≤ length text
-escape_within text v n e = (escape_some text v n e).1
 
 pub drop_pred : (n c : ℕ) (cs : List ℕ) → 1 ≤ n → drop (n - 1) cs ≡ drop n (c ∷ cs)
 drop_pred zero c cs h = absurd (omega arith)
