@@ -2,6 +2,7 @@
 //! `bool` tells whether the part was there.
 
 ghost use Rattle.std.specs.Prelude.{◌≡◌, ◌≢◌, ◌≤◌, ◌<◌, ◌+◌, true, false, [], MatchOption, drop, length};
+ghost use Rattle.std.specs.Str.{byte};
 ghost use Rattle.graphql_tokens.specs.tokens.Place.{is_line_end};
 ghost use Rattle.graphql_tokens.specs.inner.ByteClasses.{IsWithinLines, past_class, begins_mark};
 ghost use Rattle.graphql_tokens.specs.inner.Reading.{skip, past_line, past_char, past_dots};
@@ -92,17 +93,22 @@ fn pass_comment(bytes: &[u8], places: &mut RunningPlace)
     *places = after;
 }
 
-// Goes past a line feed, or a carriage return and the line feed after it, if there is one. `b` is its first byte.
+// Goes past what `b` begins: a line feed, a carriage return with a line feed after it, or a comment with the character that ends
+// its line.
 #[inline(always)]
-fn pass_line_end(bytes: &[u8], places: &mut RunningPlace, b: u8)
+fn pass_line(bytes: &[u8], places: &mut RunningPlace, b: u8)
     requires runs { RunsOver bytes.now places.old }
     requires first { IsFirstByte b (ahead places.old) }
-    requires ends { is_line_end b ≡ true }
+    requires begins { b ≢ byte "#" → is_line_end b ≡ true }
     ensures runs { RunsOver bytes.now places.new }
     ensures skipped { skip (ahead places.new) ≡ skip (ahead places.old) }
     ensures less { length (ahead places.new) < length (ahead places.old) }
     ensures forward { places.old.walk.offset ≤ places.new.walk.offset }
 {
+    if b == b'#' {
+        pass_comment(bytes, places);
+        return;
+    }
     places.pass_line_end(b);
     if b == b'\r'
         && let Some(b'\n') = peek(bytes, places)
@@ -149,13 +155,9 @@ pub fn pass_ignored(bytes: &[u8], places: &mut RunningPlace)
             places.pass_ascii();
         } else if CharClass::EndsIgnored.has(b) {
             break;
-        } else if b == b'\n' || b == b'\r' {
-            pass_line_end(bytes, places, b);
+        } else if b == b'\n' || b == b'\r' || b == b'#' {
+            pass_line(bytes, places, b);
             pass_indent(bytes, places);
-        } else if b == b'#' {
-            // The blanks of the next line are passed one by one: where a run of sixteen bytes begins is known only
-            // after the run before it, so two in a row take longer than a few predicted branches.
-            pass_comment(bytes, places);
         } else if b < 0x80 {
             // A tab or a comma.
             places.pass_ascii();
