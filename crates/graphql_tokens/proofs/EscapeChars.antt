@@ -13,7 +13,7 @@ abbrev pub InLine : ℕ → Type 0
 InLine c = (c < 128) × (is_in_line c ≡ true)
 
 abbrev pub AreInLine : List ℕ → Type 0
-AreInLine cs = AllByRecursion (λ c. (c < 128) × (is_in_line c ≡ true)) cs
+AreInLine cs = AllByRecursion InLine cs
 
 both_in_line : (xs ys : List ℕ) → AreInLine xs → AreInLine ys → AreInLine (xs ++ ys)
 both_in_line [] ys h k = k
