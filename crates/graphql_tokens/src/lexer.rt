@@ -294,8 +294,10 @@ impl<'a> Tokens<'a> {
         // Each of them, but a fault, has a spelling of its kind.
         ensures proper { AreProperButFaults (left self.old) }
     {
-        let bytes = self.text.as_bytes();
         let mut places = self.places;
+        // The place's own text, so that where it lies is kept in registers once.
+        let text = places.text();
+        let bytes = text.as_bytes();
         pass_ignored(bytes, &mut places);
         let start = places.offset();
         let pos = places.pos();
@@ -307,7 +309,7 @@ impl<'a> Tokens<'a> {
         self.last = kind;
         Token {
             kind,
-            text: &self.text[start..end],
+            text: &text[start..end],
             start,
             pos,
         }

@@ -2,8 +2,6 @@
 //! `bool` tells whether the part was there.
 
 ghost use Rattle.std.specs.Prelude.{◌≡◌, ◌≢◌, ◌≤◌, ◌<◌, ◌+◌, true, false, [], MatchOption, drop, length};
-ghost use Rattle.std.specs.Str.{byte};
-ghost use Rattle.graphql_tokens.specs.tokens.Place.{is_line_end};
 ghost use Rattle.graphql_tokens.specs.inner.ByteClasses.{IsWithinLines, past_class, begins_mark};
 ghost use Rattle.graphql_tokens.specs.inner.Reading.{skip, past_line, past_char, past_dots};
 ghost use Rattle.graphql_tokens.specs.inner.Running.{ahead};
@@ -93,30 +91,6 @@ fn pass_comment(bytes: &[u8], places: &mut RunningPlace)
     *places = after;
 }
 
-// Goes past what `b` begins: a line feed, a carriage return with a line feed after it, or a comment with the character that ends
-// its line.
-#[inline(always)]
-fn pass_line(bytes: &[u8], places: &mut RunningPlace, b: u8)
-    requires runs { RunsOver bytes.now places.old }
-    requires first { IsFirstByte b (ahead places.old) }
-    requires begins { b ≢ byte "#" → is_line_end b ≡ true }
-    ensures runs { RunsOver bytes.now places.new }
-    ensures skipped { skip (ahead places.new) ≡ skip (ahead places.old) }
-    ensures less { length (ahead places.new) < length (ahead places.old) }
-    ensures forward { places.old.walk.offset ≤ places.new.walk.offset }
-{
-    if b == b'#' {
-        pass_comment(bytes, places);
-        return;
-    }
-    places.pass_line_end(b);
-    if b == b'\r'
-        && let Some(b'\n') = peek(bytes, places)
-    {
-        places.pass_line_end(b'\n');
-    }
-}
-
 // Goes past the tabs and spaces with which a line begins. Many lines have none.
 #[inline(always)]
 fn pass_indent(bytes: &[u8], places: &mut RunningPlace)
@@ -155,9 +129,16 @@ pub fn pass_ignored(bytes: &[u8], places: &mut RunningPlace)
             places.pass_ascii();
         } else if CharClass::EndsIgnored.has(b) {
             break;
-        } else if b == b'\n' || b == b'\r' || b == b'#' {
-            pass_line(bytes, places, b);
+        } else if b == b'\n' {
+            places.pass_line_end(b'\n');
             pass_indent(bytes, places);
+        } else if b == b'\r' {
+            // Lines are counted at line feeds: this begins the columns anew.
+            places.pass_line_end(b'\r');
+        } else if b == b'#' {
+            // The blanks of the next line are passed one by one: where a run of sixteen bytes begins is known only
+            // after the run before it, so two in a row take longer than a few predicted branches.
+            pass_comment(bytes, places);
         } else if b < 0x80 {
             // A tab or a comma.
             places.pass_ascii();

@@ -59,6 +59,13 @@ impl<'a> RunningPlace<'a> {
     }
 
     #[inline(always)]
+    pub fn text(&self) -> &'a str
+        ensures { result.now ≡ self.now.walk.text.now }
+    {
+        self.walk.text()
+    }
+
+    #[inline(always)]
     pub fn pos(&self) -> Pos
         requires { IsRunning self.now }
         ensures { result ≡ place self.now.walk.text.now self.now.walk.offset }

@@ -8,7 +8,7 @@ ghost use Rattle.graphql_tokens.specs.inner.TextWalk.{IsWalking, Passes};
 use super::shown;
 use std::fmt;
 
-// The text, and how many of its bytes were passed. It hands the text out nowhere. A copy of it goes on by itself.
+// The text, and how many of its bytes were passed. A copy of it goes on by itself.
 #[derive(Clone, Copy)]
 pub struct TextWalk<'a> {
     text: &'a str,
@@ -95,6 +95,13 @@ impl<'a> TextWalk<'a> {
         ensures { result ≡ self.now.offset }
     {
         self.offset
+    }
+
+    #[inline(always)]
+    pub fn text(&self) -> &'a str
+        ensures { result.now ≡ self.now.text.now }
+    {
+        self.text
     }
 }
 

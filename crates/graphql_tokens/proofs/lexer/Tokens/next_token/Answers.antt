@@ -11,10 +11,14 @@ use Rattle.graphql_tokens.proofs.Lexes.{Passed, pass_gives, pass_moves, left_end
 use Rattle.graphql_tokens.proofs.lexer.Tokens.next_token.Goals as goal
 use Rattle.graphql_tokens.proofs.lexer.Tokens.next_token.Goals.{then-is_last, else-is_last}
 
-passed : (c : goal.After-t23-1) → Passed c.self.inside.text.now c.self.inside.places c.pass_ignored.new.places c.pass_token-kind.new.places c.pass_token-kind.result c.if-is_last.end
+-- the place's text is the lexer's
+own : (c : goal.After-t24-1) → c.text-text.result.now ≡ c.self.inside.text.now
+own c = c.text-text.ensures ∙ c.self.invariant.runs.same
+
+passed : (c : goal.After-t24-1) → Passed c.self.inside.text.now c.self.inside.places c.pass_ignored.new.places c.pass_token-kind.new.places c.pass_token-kind.result c.if-is_last.end
 passed c =
     let bs = c.self.inside.text.now in
-    let same = c.as_bytes-bytes.ensures.value in
+    let same = c.as_bytes-bytes.ensures.value ∙ own c in
     let p = c.pass_ignored.ensures in
     let t = c.pass_token-kind.ensures in
     record {
@@ -30,7 +34,7 @@ passed c =
       other_end = λ l. elim c.if-is_last.branch [ then-is_last w ↦ let f = w.if-is_last.true in let g = sym c.is_last-is_last.ensures ∙ f in absurd (cc) | else-is_last w ↦ w.end-is ∙ w.offset-end.ensures ];
     }
 
-not_ended : (c : goal.After-t23-1) → is_last c.self.inside.last ≡ false
+not_ended : (c : goal.After-t24-1) → is_last c.self.inside.last ≡ false
 not_ended c = by (is_last c.self.inside.last) refl
   where
     by : (b : Bool) → is_last c.self.inside.last ≡ b → is_last c.self.inside.last ≡ false
@@ -39,11 +43,11 @@ not_ended c = by (is_last c.self.inside.last) refl
         absurd (c.requires (sym (ap left c.self.view_is) ∙ c.self.invariant.given ∙ ap (λ b. cond b [] (tokens_at c.self.inside.text.now c.self.inside.places.walk.offset)) e))
 
 -- the tokens still to come, by the place that is reached
-still : (c : goal.After-t23-1) → drop c.self.inside.taken (tokens_at c.self.inside.text.now 0) ≡ tokens_at c.self.inside.text.now c.self.inside.places.walk.offset
+still : (c : goal.After-t24-1) → drop c.self.inside.taken (tokens_at c.self.inside.text.now 0) ≡ tokens_at c.self.inside.text.now c.self.inside.places.walk.offset
 still c = c.self.invariant.given ∙ ap (λ b. cond b [] (tokens_at c.self.inside.text.now c.self.inside.places.walk.offset)) (not_ended c)
 
 -- without the token that is passed
-after : (c : goal.After-t23-1) → drop (c.self.inside.taken + 1) (tokens_at c.self.inside.text.now 0) ≡ cond (is_last c.pass_token-kind.result) [] (tokens_at c.self.inside.text.now c.pass_token-kind.new.places.walk.offset)
+after : (c : goal.After-t24-1) → drop (c.self.inside.taken + 1) (tokens_at c.self.inside.text.now 0) ≡ cond (is_last c.pass_token-kind.result) [] (tokens_at c.self.inside.text.now c.pass_token-kind.new.places.walk.offset)
 after c =
     sym (drop-drop 1 c.self.inside.taken (tokens_at c.self.inside.text.now 0))
     ∙ ap (drop 1) (still c ∙ pass_gives _ _ _ _ _ _ (passed c))
@@ -70,7 +74,7 @@ returns-clause-token c =
     let more = tokens_at bs c.pass_token-kind.new.places.walk.offset in
     let shown : left c.args.self.now ≡ tokens_at bs c.self.inside.places.walk.offset = sym (ap left c.self.view_is) ∙ still c in
     let word : slice_range bs start.walk.offset end ≡ c.range.result.now =
-    ap (λ s. slice_range bs s end) (sym c.offset-start.ensures) ∙ sym c.range.ensures.value in
+    ap (λ s. slice_range bs s end) (sym c.offset-start.ensures) ∙ ap (λ t. slice_range t c.offset-start.result end) (sym (own c)) ∙ sym c.range.ensures.value in
     let pos : place bs start.walk.offset ≡ c.pos-pos.result =
     ap (λ t. place t start.walk.offset) (sym (passed c).at_start.same) ∙ sym c.pos-pos.ensures in
     shown ∙ pass_gives _ _ _ _ _ _ (passed c)
