@@ -18,7 +18,7 @@ What `gql check --executable` says of a request, and after `core:` graphql-core 
 quotes for double ones, without `Syntax Error: `, at our first place unless it gives another. Without a `core:` it accepts the
 text: it has no limit of depth, reads type definitions too, and asks for no operation. Each line of ours comes after the file's
 name and, if it has a place, before [the text's line with a caret](../README.md#try-it). One ends in `(the block string that
-begins at 2:3 is probably not closed)` if an odd number of `"""` is left: then definitions after it may be left out.
+begins at 2:3 is probably not closed)` if nothing closes a block string: then definitions after it may be left out.
 
 `tests/messages.py` makes this page of the tested rows of `crates/conformance/src/reports/messages.rt` and of graphql-core's
 parser and its three rules on names."""

@@ -5,7 +5,7 @@ ghost use Rattle.graphql_report.specs.reports.Rests.{BeginsAt};
 use crate::check::error_of;
 use crate::command::Format;
 use crate::output::complain;
-use crate::recovery::{Quotes, next_definition, probable_opening, rest_at};
+use crate::recovery::{next_definition, probable_opening, rest_at, unclosed_string};
 use crate::texts::Unread;
 use graphql_parser::lexer::{Token, TokenKind};
 use graphql_parser::pos::PositionCalculator;
@@ -69,8 +69,10 @@ impl Teller {
     /// have twice, is no matter then, and neither is that an operation without a name isn't alone: a brace at the beginning of a
     /// line may belong to a definition that is refused before it.
     ///
-    /// Where an odd number of three quotes is left after a refused token, it is said once where the block string probably begins
-    /// that isn't closed.
+    /// Where nothing closes a block string, an earlier one may be open that ends where that one was to begin, and what stands in
+    /// strings and between them may be taken for each other up to there. So it is told where the open one probably begins, and no
+    /// definition is looked for before the line after the one that nothing closes. What is read after a later error was searched
+    /// for such a string at the first.
     pub fn tell_all<E: Write>(
         &mut self,
         source: &Source<'_>,
@@ -80,24 +82,38 @@ impl Teller {
         if self.is_quiet {
             return Ok(());
         }
-        let mut quotes = Quotes::UNKNOWN;
-        let top = ReadFrom::top(source.text);
-        let token = source.refused_from(self.alloc, top, error)?;
-        let mut read = source.read_up_to(top, token, &mut quotes);
-        self.tell(source, &read.known, error, err)?;
+        let from = ReadFrom::top(source.text);
+        let token = source.refused_from(self.alloc, from, error)?;
+        let mut known = ReadUpTo {
+            from,
+            token,
+            unclosed: None,
+        };
+        let mut passed = token.map(|token| token.start);
+        if let Some(token) = token
+            && let Some(last) = unclosed_string(source.text, token.start)
+        {
+            known.unclosed = source.opening(&token, last);
+            passed = Some(last);
+        }
+        self.tell(source, &known, error, err)?;
         for _ in 1..MOST_FINDINGS {
-            let Some(from) = source.next_after(&read) else {
+            let Some(from) = source.next_after(known.from, passed) else {
                 break;
             };
             let Some(error) = source.error_from(self.alloc, from)? else {
                 break;
             };
-            let token = source.refused_from(self.alloc, from, &error)?;
-            read = source.read_up_to(from, token, &mut quotes);
-            if source.is_told_in_place(&error, token) {
-                self.tell(source, &read.known, &error, err)?;
+            known = ReadUpTo {
+                from,
+                token: source.refused_from(self.alloc, from, &error)?,
+                unclosed: None,
+            };
+            passed = known.token.map(|token| token.start);
+            if source.is_told_in_place(&error, known.token) {
+                self.tell(source, &known, &error, err)?;
             } else {
-                self.tell_copied(source, &read.known, err)?;
+                self.tell_copied(source, &known, err)?;
             }
         }
         Ok(())
@@ -255,31 +271,10 @@ impl<'a> Source<'a> {
         matches!(error, Error::Syntax { .. }) && !may_have_escape
     }
 
-    // What is known of the text's reading from there on up to this token.
-    fn read_up_to(&self, from: ReadFrom, token: Option<Token<'a>>, quotes: &mut Quotes) -> Read<'a>
-        ensures { result.known.from ≡ from }
-    {
-        let is_odd = match token {
-            Some(token) => quotes.are_odd_from(self.text, token.start),
-            None => false,
-        };
-        let unclosed = match token {
-            Some(token) if is_odd && quotes.is_first_told() => self.unclosed(from, &token),
-            _ => None,
-        };
-        Read {
-            known: ReadUpTo {
-                from,
-                token,
-                unclosed,
-            },
-            is_odd,
-        }
-    }
-
-    // Where a block string probably begins that isn't closed, if that isn't the refused token.
-    fn unclosed(&self, from: ReadFrom, token: &Token<'_>) -> Option<Pos> {
-        let start = probable_opening(self.language, self.text, from.offset, token.start)?;
+    // Where the block string probably begins that isn't closed, if that isn't the refused token; `last` is the one that nothing
+    // closes.
+    fn opening(&self, token: &Token<'_>, last: usize) -> Option<Pos> {
+        let start = probable_opening(self.language, self.text, token.start, last);
         let (front, _) = self.text.split_at_checked(start)?;
         if start == token.start {
             return None;
@@ -287,22 +282,14 @@ impl<'a> Source<'a> {
         Some(PositionCalculator::new(front).step(front.len()))
     }
 
-    // Where a text is read next of whose reading this is known.
-    fn next_after(&self, read: &Read<'_>) -> Option<ReadFrom>
-        requires { BeginsAt self.now.text.now read.now.known.from }
+    // Where a text is read next that was read from there on and passed up to this offset, if a token was refused.
+    fn next_after(&self, from: ReadFrom, passed: Option<usize>) -> Option<ReadFrom>
+        requires { BeginsAt self.now.text.now from }
         ensures { IfSome result (λ from. BeginsAt self.now.text.now from) }
     {
-        let ReadUpTo { from, token, .. } = read.known;
-        let offset = next_definition(self.language, self.text, token?.start, read.is_odd)?;
+        let offset = next_definition(self.language, self.text, passed?)?;
         from.later(self.text, offset)
     }
-}
-
-// What is known of the reading of a text, and whether an odd number of three quotes is left after it.
-#[derive(Clone, Copy)]
-struct Read<'a> {
-    known: ReadUpTo<'a>,
-    is_odd: bool,
 }
 
 // The same of a copy of the text from there on, before which as many lines stand, each of a line feed alone.

@@ -1,12 +1,13 @@
 //! What is told of texts with many mistakes, beside what was told when each rest of a text was copied and read with as many
-//! lines before it, the tokens were looked for in all of it, and its quotes were counted anew. How the text was gone through
-//! stands here as it was; the reports of both forms are those of `graphql_report`.
+//! lines before it, the tokens were looked for in all of it, and so was a block string that nothing closes. How the text was gone
+//! through stands here as it was; the reports of both forms are those of `graphql_report`, and so is the refused token within other
+//! limits than the default; where a definition or a block string begins is found alike for both.
 ghost use Rattle.std.specs.Prelude.{IfOk};
 ghost use Rattle.graphql_report.specs.reports.Rests.{BeginsAt};
 
 use crate::check::error_of;
 use crate::command::Format;
-use crate::recovery::{Search, has_odd_quotes, line_from, look_from, probable_opening, rest_at};
+use crate::recovery::{next_definition, probable_opening, rest_at, unclosed_string};
 use crate::telling::{MOST_FINDINGS, Names, Source, Teller};
 use crate::tests::fakes::Sheet;
 use graphql_parser::lexer::{Token, Tokens};
@@ -199,24 +200,6 @@ fn token_before<'a>(
     Ok(Tokens::new(source.text).nth(taken.saturating_sub(1)))
 }
 
-fn definition_before(language: Language, text: &str, from: usize) -> Option<usize> {
-    let (_, rest) = text.split_at_checked(from)?;
-    let mut start = from;
-    let mut is_odd = has_odd_quotes(rest);
-    for _ in 0..text.len() {
-        match look_from(language, text, start, is_odd) {
-            Search::Found(offset) => return Some(offset),
-            Search::Fault(offset) => {
-                let (line, next) = line_from(text, offset)?;
-                is_odd = is_odd != has_odd_quotes(line);
-                start = next;
-            }
-            Search::Ended => return None,
-        }
-    }
-    None
-}
-
 fn error_before(alloc: Global, source: &Source<'_>) -> Result<Option<Error>, AllocError> {
     match error_of(&mut Memory::new(alloc), source, true)? {
         Some(Error::MultipleOperations { .. }) => Ok(None),
@@ -224,13 +207,12 @@ fn error_before(alloc: Global, source: &Source<'_>) -> Result<Option<Error>, All
     }
 }
 
-// What is known of the reading of a text from its beginning on. Once, where an odd number of three quotes is left, it is told
-// where the block string probably begins that isn't closed.
+// What is known of the reading of a text from its beginning on. Where nothing closes a block string of the rest, it is told where
+// the one probably begins that isn't closed.
 fn known_before<'a>(
     alloc: Global,
     source: &Source<'a>,
     error: &Error,
-    is_told: &mut bool,
 ) -> Result<ReadUpTo<'a>, AllocError>
     ensures { IfOk result (λ known. BeginsAt source.now.text.now known.from) }
 {
@@ -246,19 +228,14 @@ fn known_before<'a>(
     let Some(token) = known.token else {
         return Ok(known);
     };
-    let is_odd = match source.text.split_at_checked(token.start) {
-        Some((_, rest)) => has_odd_quotes(rest),
-        None => false,
-    };
-    if is_odd && !*is_told {
-        *is_told = true;
-        known.unclosed = unclosed_before(source, &token);
+    if let Some(last) = unclosed_string(source.text, token.start) {
+        known.unclosed = unclosed_before(source, &token, last);
     }
     Ok(known)
 }
 
-fn unclosed_before(source: &Source<'_>, token: &Token<'_>) -> Option<Pos> {
-    let start = probable_opening(source.language, source.text, 0, token.start)?;
+fn unclosed_before(source: &Source<'_>, token: &Token<'_>, last: usize) -> Option<Pos> {
+    let start = probable_opening(source.language, source.text, token.start, last);
     let (front, _) = source.text.split_at_checked(start)?;
     if start == token.start {
         return None;
@@ -274,7 +251,8 @@ fn rest_before(
     let Some(token) = known.token else {
         return Ok(None);
     };
-    match definition_before(source.language, source.text, token.start) {
+    let passed = unclosed_string(source.text, token.start).unwrap_or(token.start);
+    match next_definition(source.language, source.text, passed) {
         Some(offset) => rest_at(alloc, source.text, offset),
         None => Ok(None),
     }
@@ -287,8 +265,7 @@ fn tell_all_before(
     err: &mut Sheet,
 ) -> Result<(), AllocError> {
     let alloc = teller.alloc;
-    let mut is_told = false;
-    let known = known_before(alloc, whole, error, &mut is_told)?;
+    let known = known_before(alloc, whole, error)?;
     teller.tell(whole, &known, error, err)?;
     let Some(mut rest) = rest_before(alloc, whole, &known)? else {
         return Ok(());
@@ -301,7 +278,7 @@ fn tell_all_before(
         let Some(error) = error_before(alloc, &source)? else {
             break;
         };
-        let known = known_before(alloc, &source, &error, &mut is_told)?;
+        let known = known_before(alloc, &source, &error)?;
         teller.tell(&source, &known, &error, err)?;
         let Some(next) = rest_before(alloc, &source, &known)? else {
             break;
