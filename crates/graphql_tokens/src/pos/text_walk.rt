@@ -105,16 +105,6 @@ impl<'a> TextWalk<'a> {
     }
 }
 
-impl fmt::Debug for TextWalk<'_> {
-    fn fmt<W: fmt::Write>(&self, f: &mut fmt::Formatter<W>) -> fmt::Result {
-        let shown = CountedWalk {
-            walk: self,
-            count: self.shown_count(),
-        };
-        shown.fmt(f)
-    }
-}
-
 // A walk as `Debug` shows it, where it is known how many characters it has passed.
 #[derive(Drop)]
 pub struct CountedWalk<'w, 'a> {

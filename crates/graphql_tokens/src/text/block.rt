@@ -15,17 +15,10 @@ use memchr::{memchr, memchr2};
 use std::alloc::AllocError;
 
 #[inline(always)]
-fn is_in_line(b: u8) -> bool
-    ensures { result ≡ place.is_in_line b }
-{
-    b != b'\n' && b != b'\r'
-}
-
-#[inline(always)]
 fn is_space(b: u8) -> bool
     ensures { result ≡ is_space_char b }
 {
-    Blanks::has(b) || !is_in_line(b)
+    Blanks::has(b) || !LineBytes::has(b)
 }
 
 // Whether `\"""` begins at `at`.
@@ -83,7 +76,7 @@ pub fn first_text(bytes: &[u8]) -> Option<usize>
         if text == bytes.len() {
             return None;
         }
-        if is_in_line(bytes[text]) {
+        if LineBytes::has(bytes[text]) {
             return Some(start);
         }
         start = next_line(bytes, text);

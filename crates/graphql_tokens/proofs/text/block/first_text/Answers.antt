@@ -21,11 +21,11 @@ returns-then-text-bytes c =
     let b = blank_line bs i j c.past_blanks-text.ensures.value inv.within c.past_blanks-text.ensures.within (inl (omega arith)) in
     inv.lines ∙ ap from_text (line_at_end bs i j b.0 c.if-text-bytes.true inv.within) ∙ from_text_blank (take (j - i) (drop i bs)) [] b.1
 
-pub returns-then-is_in_line : goal.returns-then-is_in_line
-returns-then-is_in_line c =
+pub returns-then-has : goal.returns-then-has
+returns-then-has c =
     let inv = c.loop-start.invariant in
     let short = below c.past_blanks-text.ensures.within c.if-text-bytes.false in
-    let here = text_line _ _ _ c.past_blanks-text.ensures.value inv.within short (sym c.is_in_line.ensures ∙ c.if-is_in_line.true) in
+    let here = text_line _ _ _ c.past_blanks-text.ensures.value inv.within short (sym c.has.ensures ∙ c.if-has.true) in
     record {
       within = inv.within;
       boundary = inv.boundary;
@@ -41,7 +41,7 @@ loop-start-preserved c =
     let j = c.past_blanks-text.result in
     let inv = c.loop-start.invariant in
     let l = below c.past_blanks-text.ensures.within c.if-text-bytes.false in
-    let stops : is_in_line (get_or bs j 0) ≡ false = sym c.is_in_line.ensures ∙ c.if-is_in_line.false in
+    let stops : is_in_line (get_or bs j 0) ≡ false = sym c.has.ensures ∙ c.if-has.false in
     let b = blank_line bs i j c.past_blanks-text.ensures.value inv.within c.past_blanks-text.ensures.within (inr stops) in
     let next = c.next_line-start.ensures.value in
     record {
