@@ -142,7 +142,7 @@ pub extern "C" fn graphql_parser_check_schema_within(
 
 /// Reads a request as [`graphql_parser_check_query`] does, and hands over its tree as JSON, or its error.
 ///
-/// The JSON is that of `graphql_json`: for an accepted text `request_json`, in which each node has its place where
+/// The JSON is that of `graphql_json`: for an accepted text `request_json`, with the places that it writes where
 /// `with_places` is true; for a refused one `error_json`. It is handed over in a block of the program's `malloc`, which
 /// the caller gives back by `free`. Where memory was refused, a limit is too large or the text isn't UTF-8, it is null
 /// and has no bytes. `json` is written on every call, and what stood there isn't looked at.
