@@ -1,5 +1,5 @@
 #!/usr/bin/env python3
-"""Makes docs/MESSAGES.md: each text of crates/conformance/src/reports/messages.rt with our messages, which it has,
+"""Makes docs/MESSAGES.md: each text of the table reports_messages.rows of `conformance` with our messages, which it has,
 and the message of graphql-core, the port of GraphQL.js to Python. `tests/messages.py > docs/MESSAGES.md`."""
 import re
 from pathlib import Path
@@ -8,11 +8,11 @@ import graphql
 from graphql.validation import LoneAnonymousOperationRule, UniqueFragmentNamesRule, UniqueOperationNamesRule
 
 ROOT = Path(__file__).resolve().parent.parent
-ROWS = ROOT / "crates/conformance/src/reports/messages.rt"
+ROWS = ROOT / "crates/conformance/data/tables/reports_messages.rows"
 RULES = [UniqueOperationNamesRule, LoneAnonymousOperationRule, UniqueFragmentNamesRule]
 SCHEMA = graphql.build_schema("type Query { a: Int }")
 
-HEAD = """# Messages
+HEAD = '''# Messages
 
 What `gql check --executable` says of a request, and after `core:` graphql-core {version}, the port of GraphQL.js to Python: single
 quotes for double ones, without `Syntax Error: `, at our first place unless it gives another. Without a `core:` it accepts the
@@ -20,8 +20,8 @@ text: it has no limit of depth, reads type definitions too, and asks for no oper
 name and, if it has a place, before [the text's line with a caret](../README.md#try-it). One ends in `(the block string that
 begins at 2:3 is probably not closed)` if nothing closes a block string: then definitions after it may be left out.
 
-`tests/messages.py` makes this page of the tested rows of `crates/conformance/src/reports/messages.rt` and of graphql-core's
-parser and its three rules on names."""
+`tests/messages.py` makes this page of the tested rows of `reports_messages.rows` in `crates/conformance` and of graphql-core's
+parser and its three rules on names.'''
 SYNTAX = "syntax error: "
 
 
@@ -79,7 +79,7 @@ def cases(table):
 
 
 def main():
-    table = re.search(r'r#"\n(.*?)"#', ROWS.read_text(), re.S)[1]
+    table = ROWS.read_text()
     syntax, others = [], []
     for text, told in cases(table):
         text, told = meant(text), report(told)

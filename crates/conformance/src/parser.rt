@@ -3,7 +3,6 @@
 mod answers;
 mod asked;
 mod budgets;
-mod chosen;
 mod documents;
 mod errors;
 mod hostile;
@@ -12,8 +11,6 @@ mod taken;
 mod views;
 
 pub use answers::{OTHERWISE, Parser, are_alike};
-pub use asked::{Asked, Call};
-pub use chosen::limits;
+pub use asked::{answer, limits_of};
 pub use documents::Document;
 pub use errors::shown;
-pub use views::View;

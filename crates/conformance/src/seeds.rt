@@ -5,8 +5,73 @@ use graphql_parser::{IndexMap, parse_query};
 use std::alloc::{AllocError, Global};
 use std::test::Fail;
 
-// The least count of definitions whose names have a digest.
-const MANY: usize = 33;
+/// What is said of the seeds of requests with so many definitions.
+///
+/// - `changed`: whether the seed is the default, and how many of the names change it, if no more than all of them
+/// - `found`: how many of the names are found where they stand, in the request and in a clone of it with the same seed
+/// - `compared`: how maps compare, one by the default seed and one by that of this digest, with the same names in another
+///   order and with other names
+pub fn answer(alloc: Global, what: &str, text: &str) -> Result<String, Fail> {
+    match what {
+        "changed" => changed(alloc, text.parse()?),
+        "found" => found(alloc, text.parse()?),
+        "compared" => compared(alloc, text.parse()?),
+        _ => Err(Fail::new("nothing to say")),
+    }
+}
+
+fn changed(alloc: Global, count: usize) -> Result<String, Fail> {
+    let seed = seed_of(alloc, count, count)?;
+    let kind = if seed == NameSeed::default() {
+        "the default"
+    } else {
+        "a digest"
+    };
+    if seed != seed_of(alloc, count, count)? {
+        return Ok(String::from_str(alloc, "another seed for the same names")?);
+    }
+    let mut others = 0usize;
+    for changed in 0..count {
+        if seed != seed_of(alloc, count, changed)? {
+            others = others.saturating_add(1);
+        }
+    }
+    Ok(format!(in alloc; "{kind}, changed by {others} names")?)
+}
+
+fn found(alloc: Global, count: usize) -> Result<String, Fail> {
+    let text = request_of(alloc, count, count)?;
+    let document = document_of(alloc, text.as_str())?;
+    let clone = document.clone()?;
+    if seed_in(&clone).is_none() || seed_in(&clone) != seed_in(&document) {
+        return Ok(String::from_str(alloc, "a clone with another seed")?);
+    }
+    let mut found = 0usize;
+    for index in 0..count {
+        let name = format!(in alloc; "A{index}")?;
+        let line = line_of(&document, name.as_str());
+        let wanted = index.saturating_add(1);
+        if line == if index < 2 { None } else { Some(wanted) }
+            && line == line_of(&clone, name.as_str())
+        {
+            found = found.saturating_add(1);
+        }
+    }
+    Ok(format!(in alloc; "{found} names")?)
+}
+
+fn line_of(document: &ExecutableDocument, name: &str) -> Option<usize> {
+    Some(document.fragment(name)?.pos.line)
+}
+
+fn compared(alloc: Global, digest: u64) -> Result<String, Fail> {
+    let seed = NameSeed::of_digest(digest);
+    let map = map_of(alloc, NameSeed::default(), ["A", "BC"])?;
+    let is_same = map == map_of(alloc, seed, ["BC", "A"])?;
+    let is_other = map == map_of(alloc, seed, ["B", "AC"])?;
+    let is_default = seed == NameSeed::default();
+    Ok(format!(in alloc; "default {is_default}, same names {is_same}, others {is_other}")?)
+}
 
 // A request of so many definitions: two operations, then fragments. Their names are `A0`, `A1` and so on, but for that
 // of one definition, which is `B` and its index.
@@ -42,47 +107,6 @@ fn seed_of(alloc: Global, count: usize, changed: usize) -> Result<NameSeed, Fail
     Ok(seed_in(&document).ok_or("two seeds")?)
 }
 
-#[test]
-fn each_name_changes_the_seed(rt: HostRuntime) -> Result<(), Fail> {
-    let seed = seed_of(rt.alloc(), MANY, MANY)?;
-    assert!(rt; seed == seed_of(rt.alloc(), MANY, MANY)?);
-    assert!(rt; seed != NameSeed::default());
-    for changed in 0..MANY {
-        assert!(rt; seed != seed_of(rt.alloc(), MANY, changed)?);
-    }
-    Ok(())
-}
-
-#[test]
-fn few_names_have_no_digest(rt: HostRuntime) -> Result<(), Fail> {
-    for changed in 0..MANY {
-        assert!(rt; seed_of(rt.alloc(), MANY - 1, changed)? == NameSeed::default());
-    }
-    Ok(())
-}
-
-#[test]
-fn names_are_found_whatever_the_seed(rt: HostRuntime) -> Result<(), Fail> {
-    for count in [MANY - 1, MANY, 1_000] {
-        let text = request_of(rt.alloc(), count, count)?;
-        let document = document_of(rt.alloc(), text.as_str())?;
-        let clone = document.clone()?;
-        assert!(rt; seed_in(&clone).is_some() && seed_in(&clone) == seed_in(&document));
-        for index in 0..count {
-            let name = format!(in rt.alloc(); "A{index}")?;
-            let found = document
-                .fragment(name.as_str())
-                .map(|fragment| fragment.pos.line);
-            let again = clone
-                .fragment(name.as_str())
-                .map(|fragment| fragment.pos.line);
-            let line = if index < 2 { None } else { Some(index + 1) };
-            assert!(rt; found == line && again == line);
-        }
-    }
-    Ok(())
-}
-
 // A map of two names, in one order or the other.
 fn map_of(alloc: Global, seed: NameSeed, names: [&str; 2]) -> Result<NameMap<usize>, Fail> {
     let mut map = IndexMap::with_hasher(alloc, seed);
@@ -90,16 +114,4 @@ fn map_of(alloc: Global, seed: NameSeed, names: [&str; 2]) -> Result<NameMap<usi
         map.insert(Name::new(alloc, name)?, name.len())?;
     }
     Ok(map)
-}
-
-#[test]
-fn equal_maps_are_equal_whatever_their_seeds(rt: HostRuntime) -> Result<(), Fail> {
-    let map = map_of(rt.alloc(), NameSeed::default(), ["A", "BC"])?;
-    for digest in [0, 1, 2] {
-        let seed = NameSeed::of_digest(digest);
-        assert!(rt; seed != NameSeed::default());
-        assert!(rt; map == map_of(rt.alloc(), seed, ["BC", "A"])?);
-        assert!(rt; map != map_of(rt.alloc(), seed, ["B", "AC"])?);
-    }
-    Ok(())
 }

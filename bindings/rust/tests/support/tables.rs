@@ -1,7 +1,7 @@
 //! The texts of the library's own tests.
 //!
-//! Their files have raw strings: tables, with a text before the arrow of each row, and whole texts. What the marks of a row
-//! stand for is written at `crates/rows`.
+//! Their files have tables, with a text before the arrow of each row, and whole texts. How they are written, and what the
+//! marks of a row stand for, is said at `crates/rows`.
 use std::fs;
 use std::path::{Path, PathBuf};
 
@@ -12,15 +12,16 @@ pub fn path(inside: &str) -> PathBuf {
         .join(inside)
 }
 
-/// All texts of the tables, and all raw strings.
+/// All texts of the tables, and what their files hold besides.
 pub fn texts() -> Vec<String> {
     let crates = ["conformance", "conformance_parts"];
     let mut texts = Vec::new();
     for name in crates {
-        for file in files(&path("crates").join(name).join("src")) {
-            for text in raw_strings(&fs::read_to_string(file).unwrap()) {
-                texts.extend(rows(text));
-                texts.push(text.to_owned());
+        for file in files(&path("crates").join(name).join("data/tables")) {
+            for table in fs::read_to_string(file).unwrap().split("\n== ") {
+                let (_, inside) = table.split_once('\n').unwrap();
+                texts.extend(rows(inside));
+                texts.extend(inside.split("\n⇒\n").map(str::to_owned));
             }
         }
     }

@@ -55,6 +55,27 @@ pub enum View {
 type Outcome = Result<(), AllocError>;
 
 impl View {
+    /// The view of this name in the tables.
+    pub fn named(name: &str) -> Option<View> {
+        Some(match name {
+            "sizes" => View::Sizes,
+            "argument" => View::Argument,
+            "response key" => View::ResponseKey,
+            "defaults" => View::Defaults,
+            "directives" => View::Directives,
+            "operations" => View::Operations,
+            "named" => View::Named,
+            "into const" => View::IntoConst,
+            "equality" => View::Equality,
+            "directive into const" => View::DirectiveIntoConst,
+            "sets of selections" => View::SetsOfSelections,
+            "text" => View::Text,
+            "viewed" => View::Viewed,
+            "field viewed" => View::FieldViewed,
+            _ => return None,
+        })
+    }
+
     /// What is seen of a schema file: the whole tree, its sizes, or the word `accepted`.
     pub fn of_file(self, alloc: Global, document: &ServiceDocument) -> Result<String, AllocError> {
         let mut shown = Shown::new(alloc, !matches!(self, View::Placeless));

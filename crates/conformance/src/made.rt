@@ -1,0 +1,87 @@
+//! Values that programs make: limits, sets of selections, places of directives, trees.
+use crate::parser::limits_of;
+use graphql_parser::types::{
+    DirectiveLocation, SelectionSet, ServiceDocument, TypeDefinition, TypeKind,
+    TypeSystemDefinition,
+};
+use graphql_parser::value::Name;
+use graphql_parser::{Limits, Pos, Positioned};
+use rows::Shown;
+use std::alloc::Global;
+use std::test::Fail;
+
+/// What is said of a value that a program makes.
+///
+/// - `limits`: whether three numbers are limits, and whether they are the default
+/// - `limits shown`: what limits print, and their numbers; and whether a copy is equal
+/// - `set`: how many selections a new set has
+/// - `locations`: the places where directives may stand, each as it is called and as it prints
+pub fn answer(alloc: Global, what: &str, text: &str) -> Result<String, Fail> {
+    let mut shown = Shown::new(alloc, true);
+    match (what, limits_of(text)) {
+        ("limits", None) => shown.word("none"),
+        ("limits", Some(limits)) if limits == Limits::default() => shown.word("the default"),
+        ("limits", Some(_)) => shown.word("some"),
+        ("limits shown", Some(limits)) => write_limits(&mut shown, limits),
+        ("set", _) => shown.item("", &SelectionSet::new(alloc).items.len()),
+        ("locations", _) => {
+            for location in LOCATIONS {
+                shown.item(" ", &location);
+                shown.item("=", &location.as_str());
+            }
+        }
+        _ => return Err(Fail::new("nothing to make")),
+    }
+    Ok(shown.finish()?)
+}
+
+fn write_limits(shown: &mut Shown, limits: Limits) {
+    let copy = limits;
+    shown.debugged("", &limits);
+    shown.item(" ", &copy.selections());
+    shown.item(" ", &copy.values());
+    shown.item(" ", &copy.types());
+    if copy != limits {
+        shown.word(" with another copy");
+    }
+}
+
+/// A file of one scalar with this name, which stands somewhere, and its name nowhere.
+pub fn lone_type(alloc: Global, name: &str) -> Result<ServiceDocument, Fail> {
+    let definition = TypeDefinition {
+        extend: false,
+        description: None,
+        name: Positioned::new(Name::new(alloc, name)?, Pos::default()),
+        directives: Vec::new(alloc),
+        kind: TypeKind::Scalar,
+    };
+    let place = Pos { line: 0, column: 1 };
+    let mut definitions = Vec::new(alloc);
+    definitions.push(TypeSystemDefinition::TypeDef(Positioned::new(
+        definition, place,
+    )))?;
+    Ok(ServiceDocument { definitions })
+}
+
+/// The places where directives may stand, in requests and then in schema files.
+const LOCATIONS: [DirectiveLocation; 19] = [
+    DirectiveLocation::Query,
+    DirectiveLocation::Mutation,
+    DirectiveLocation::Subscription,
+    DirectiveLocation::Field,
+    DirectiveLocation::FragmentDefinition,
+    DirectiveLocation::FragmentSpread,
+    DirectiveLocation::InlineFragment,
+    DirectiveLocation::VariableDefinition,
+    DirectiveLocation::Schema,
+    DirectiveLocation::Scalar,
+    DirectiveLocation::Object,
+    DirectiveLocation::FieldDefinition,
+    DirectiveLocation::ArgumentDefinition,
+    DirectiveLocation::Interface,
+    DirectiveLocation::Union,
+    DirectiveLocation::Enum,
+    DirectiveLocation::EnumValue,
+    DirectiveLocation::InputObject,
+    DirectiveLocation::InputFieldDefinition,
+];

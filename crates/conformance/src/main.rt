@@ -1,0 +1,46 @@
+//! Tables of cases with expected answers: requests and schema files, what the calls of their trees and of their errors give,
+//! their JSON, and the reports of refused texts. The answers were worked out by hand from the rules of `docs/GRAMMAR.md`, and
+//! never taken from what the crates print.
+//!
+//! The tables are the files of `data/tables`, in the notation of the crate `rows`. The program prints how many rows each table
+//! has, and the rows that do not hold: the file `stdout` has the counts, and no such row.
+#![tactic(auto)]
+
+mod errors;
+mod json;
+mod kept;
+mod made;
+mod parser;
+mod reports;
+mod seeds;
+
+use parser::Parser;
+use rows::{Subject, judge};
+use std::alloc::Global;
+use std::test::Fail;
+
+/// The calls that the tables are about.
+struct Calls;
+
+impl Subject for Calls {
+    fn answer(&self, alloc: Global, call: &str, text: &str) -> Result<String, Fail> {
+        match call.split_once(' ') {
+            Some(("query", asked)) => parser::answer(alloc, Parser::Query, asked, text),
+            Some(("schema", "kept")) => kept::of_file(alloc, text),
+            Some(("schema", "long")) => kept::of_long_file(alloc, text),
+            Some(("schema", asked)) => parser::answer(alloc, Parser::Schema, asked, text),
+            Some(("error", part)) => errors::answer(alloc, part, text),
+            Some(("json", part)) => json::answer(alloc, part, text),
+            Some(("report", limits)) => reports::of_text(alloc, limits, text),
+            Some(("front", limits)) => reports::front(alloc, limits, text),
+            Some(("exact", what)) => reports::exact(alloc, what, text),
+            Some(("made", what)) => made::answer(alloc, what, text),
+            Some(("seeds", what)) => seeds::answer(alloc, what, text),
+            _ => Err(Fail::new("no such call")),
+        }
+    }
+}
+
+fn main(rt: HostRuntime) -> Result<(), Fail> {
+    judge(&rt, &Calls)
+}
