@@ -3,7 +3,8 @@
 //! never taken from what the crates print.
 //!
 //! The tables are the files of `data/tables`, in the notation of the crate `rows`. The program prints how many rows each table
-//! has, and the rows that do not hold: the file `stdout` has the counts, and no such row.
+//! has, and the rows that do not hold: the file `stdout` has the counts, and no such row. So a new row is a line of a table,
+//! and counts there.
 #![tactic(auto)]
 
 mod errors;

@@ -44,13 +44,17 @@ fn push_plain(out: &mut String, text: &str) -> Result<(), AllocError> {
     Ok(())
 }
 
-// The text with its number in place of each №.
-fn push_numbered(out: &mut String, text: &str, index: usize) -> Result<(), AllocError> {
-    for (place, part) in text.split('№').enumerate() {
-        if place > 0 {
-            write!(out, "{index}")?;
+// The text so many times, each time with its number in place of each №.
+fn push_times(out: &mut String, count: usize, text: &str) -> Result<(), AllocError> {
+    let mut plain = String::new(*out.allocator());
+    push_plain(&mut plain, text)?;
+    for index in 0..count {
+        for (place, part) in plain.as_str().split('№').enumerate() {
+            if place > 0 {
+                write!(out, "{index}")?;
+            }
+            out.push_str(part)?;
         }
-        push_plain(out, part)?;
     }
     Ok(())
 }
@@ -60,10 +64,7 @@ fn push_inside(out: &mut String, inside: &str) -> Result<(), AllocError> {
     if let Some((count, text)) = inside.split_once('×')
         && let Ok(count) = count.parse::<usize>()
     {
-        for index in 0..count {
-            push_numbered(out, text, index)?;
-        }
-        return Ok(());
+        return push_times(out, count, text);
     }
     if let Ok(code) = u32::from_str_radix(inside, 16)
         && let Some(c) = char::from_u32(code)

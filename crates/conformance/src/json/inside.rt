@@ -11,45 +11,55 @@ pub struct Inside {
     json_after: &'static str,
 }
 
+// The selections of a query.
+const SELECTIONS: Inside = Inside {
+    before: "{",
+    after: "}",
+    json_before: r#"{"kind":"OperationDefinition","operation":"query","variableDefinitions":[],"directives":[],"selectionSet":{"kind":"SelectionSet","selections":["#,
+    json_after: "]}}",
+};
+
+// The variables of a query.
+const VARIABLES: Inside = Inside {
+    before: "query(",
+    after: "){f}",
+    json_before: r#"{"kind":"OperationDefinition","operation":"query","variableDefinitions":["#,
+    json_after: r#"],"directives":[],"selectionSet":{"kind":"SelectionSet","selections":[{"kind":"Field","name":{"kind":"Name","value":"f"},"arguments":[],"directives":[]}]}}"#,
+};
+
+// The value of an argument.
+const VALUE: Inside = Inside {
+    before: "{f(x:",
+    after: ")}",
+    json_before: r#"{"kind":"OperationDefinition","operation":"query","variableDefinitions":[],"directives":[],"selectionSet":{"kind":"SelectionSet","selections":[{"kind":"Field","name":{"kind":"Name","value":"f"},"arguments":[{"kind":"Argument","name":{"kind":"Name","value":"x"},"value":"#,
+    json_after: r#"}],"directives":[]}]}}"#,
+};
+
+// The default of a variable.
+const DEFAULT: Inside = Inside {
+    before: "query($v:T=",
+    after: "){f}",
+    json_before: r#"{"kind":"OperationDefinition","operation":"query","variableDefinitions":[{"kind":"VariableDefinition","variable":{"kind":"Variable","name":{"kind":"Name","value":"v"}},"type":{"kind":"NamedType","name":{"kind":"Name","value":"T"}},"defaultValue":"#,
+    json_after: r#","directives":[]}],"directives":[],"selectionSet":{"kind":"SelectionSet","selections":[{"kind":"Field","name":{"kind":"Name","value":"f"},"arguments":[],"directives":[]}]}}"#,
+};
+
+// The type of a variable.
+const TYPE: Inside = Inside {
+    before: "query($v:",
+    after: "){f}",
+    json_before: r#"{"kind":"OperationDefinition","operation":"query","variableDefinitions":[{"kind":"VariableDefinition","variable":{"kind":"Variable","name":{"kind":"Name","value":"v"}},"type":"#,
+    json_after: r#","directives":[]}],"directives":[],"selectionSet":{"kind":"SelectionSet","selections":[{"kind":"Field","name":{"kind":"Name","value":"f"},"arguments":[],"directives":[]}]}}"#,
+};
+
 impl Inside {
     /// What stands around the part of this name.
     pub fn of_part(part: &str) -> Option<Inside> {
         Some(match part {
-            // The selections of a query.
-            "selections" => Inside {
-                before: "{",
-                after: "}",
-                json_before: r#"{"kind":"OperationDefinition","operation":"query","variableDefinitions":[],"directives":[],"selectionSet":{"kind":"SelectionSet","selections":["#,
-                json_after: "]}}",
-            },
-            // The variables of a query.
-            "variables" => Inside {
-                before: "query(",
-                after: "){f}",
-                json_before: r#"{"kind":"OperationDefinition","operation":"query","variableDefinitions":["#,
-                json_after: r#"],"directives":[],"selectionSet":{"kind":"SelectionSet","selections":[{"kind":"Field","name":{"kind":"Name","value":"f"},"arguments":[],"directives":[]}]}}"#,
-            },
-            // The value of an argument.
-            "value" => Inside {
-                before: "{f(x:",
-                after: ")}",
-                json_before: r#"{"kind":"OperationDefinition","operation":"query","variableDefinitions":[],"directives":[],"selectionSet":{"kind":"SelectionSet","selections":[{"kind":"Field","name":{"kind":"Name","value":"f"},"arguments":[{"kind":"Argument","name":{"kind":"Name","value":"x"},"value":"#,
-                json_after: r#"}],"directives":[]}]}}"#,
-            },
-            // The default of a variable.
-            "default" => Inside {
-                before: "query($v:T=",
-                after: "){f}",
-                json_before: r#"{"kind":"OperationDefinition","operation":"query","variableDefinitions":[{"kind":"VariableDefinition","variable":{"kind":"Variable","name":{"kind":"Name","value":"v"}},"type":{"kind":"NamedType","name":{"kind":"Name","value":"T"}},"defaultValue":"#,
-                json_after: r#","directives":[]}],"directives":[],"selectionSet":{"kind":"SelectionSet","selections":[{"kind":"Field","name":{"kind":"Name","value":"f"},"arguments":[],"directives":[]}]}}"#,
-            },
-            // The type of a variable.
-            "type" => Inside {
-                before: "query($v:",
-                after: "){f}",
-                json_before: r#"{"kind":"OperationDefinition","operation":"query","variableDefinitions":[{"kind":"VariableDefinition","variable":{"kind":"Variable","name":{"kind":"Name","value":"v"}},"type":"#,
-                json_after: r#","directives":[]}],"directives":[],"selectionSet":{"kind":"SelectionSet","selections":[{"kind":"Field","name":{"kind":"Name","value":"f"},"arguments":[],"directives":[]}]}}"#,
-            },
+            "selections" => SELECTIONS,
+            "variables" => VARIABLES,
+            "value" => VALUE,
+            "default" => DEFAULT,
+            "type" => TYPE,
             _ => return None,
         })
     }
