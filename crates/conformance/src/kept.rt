@@ -53,7 +53,9 @@ pub fn of_long_file(alloc: Global, count: &str) -> Result<String, Fail> {
 }
 
 fn read(alloc: Global, text: &str) -> Result<ServiceDocument, Fail> {
-    check_schema(alloc, text).ok().ok_or("refused by the check")?;
+    check_schema(alloc, text)
+        .ok()
+        .ok_or("refused by the check")?;
     Ok(parse_schema(alloc, text).ok().ok_or("refused")?)
 }
 

@@ -57,9 +57,7 @@ pub fn lone_type(alloc: Global, name: &str) -> Result<ServiceDocument, Fail> {
     };
     let place = Pos { line: 0, column: 1 };
     let mut definitions = Vec::new(alloc);
-    definitions.push(TypeSystemDefinition::TypeDef(Positioned::new(
-        definition, place,
-    )))?;
+    definitions.push(TypeSystemDefinition::TypeDef(Positioned::new(definition, place)))?;
     Ok(ServiceDocument { definitions })
 }
 

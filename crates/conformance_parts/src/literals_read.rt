@@ -5,9 +5,9 @@ use graphql_memory::Memory;
 use graphql_reading::limits::Limits;
 use graphql_reading::parser::{Parser, Reading, Refusal};
 use graphql_tokens::lexer::Tokens;
+use rows::Shown;
 use rows::trees::Written;
 use rows::trees::plain::Plain;
-use rows::Shown;
 use std::alloc::{AllocError, Global};
 use std::test::Fail;
 
