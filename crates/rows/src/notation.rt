@@ -46,8 +46,12 @@ fn push_plain(out: &mut String, text: &str) -> Result<(), AllocError> {
 
 // The text so many times, each time with its number in place of each №.
 fn push_times(out: &mut String, count: usize, text: &str) -> Result<(), AllocError> {
-    let mut plain = String::new(*out.allocator());
+    let alloc = *out.allocator();
+    let mut plain = String::new(alloc);
     push_plain(&mut plain, text)?;
+    if !text.contains('№') {
+        return out.push_str(plain.as_str().repeat(alloc, count)?.as_str());
+    }
     for index in 0..count {
         for (place, part) in plain.as_str().split('№').enumerate() {
             if place > 0 {
