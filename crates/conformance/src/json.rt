@@ -44,7 +44,8 @@ pub fn answer(alloc: Global, part: &str, text: &str) -> Result<String, Fail> {
 
 // The JSON of a document, or of its error.
 fn json_of<D: Document>(alloc: Global, text: &str, places: Places) -> Result<String, Fail> {
-    let (answer, checked) = D::answers(alloc, text);
+    let answer = D::parsed(alloc, text);
+    let checked = D::checked(alloc, text);
     if !are_alike(&answer, &checked) {
         return Ok(String::from_str(alloc, OTHERWISE)?);
     }

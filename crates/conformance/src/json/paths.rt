@@ -10,9 +10,8 @@ use std::test::Fail;
 /// The texts that stand at the paths before the text, in the JSON of it: the same with places as without.
 pub fn answer<D: Document>(alloc: Global, row: &str) -> Result<String, Fail> {
     let (paths, text) = pair(row, " in ")?;
-    let (answer, checked) = D::answers(alloc, text);
-    checked.ok().ok_or("refused by the check")?;
-    let document = answer.ok().ok_or("refused")?;
+    D::checked(alloc, text).ok().ok_or("refused by the check")?;
+    let document = D::parsed(alloc, text).ok().ok_or("refused")?;
     let plain = found_in(alloc, document.json(alloc, Places::LeftOut)?, paths)?;
     let placed = found_in(alloc, document.json(alloc, Places::Written)?, paths)?;
     if placed == plain {
@@ -32,11 +31,15 @@ fn found_in(alloc: Global, json: Vec<u8>, paths: &str) -> Result<String, Fail> {
         found.word("a member came twice; ");
     }
     for path in paths.split_whitespace() {
-        found.word(match value.pointer(path) {
-            Some(part) => part.as_str().unwrap_or("no text"),
-            None => "nothing there",
-        });
+        found.word(text_at(&value, path));
         found.word("; ");
     }
     Ok(found.finish()?)
+}
+
+fn text_at<'a>(value: &'a Value, path: &str) -> &'a str {
+    match value.pointer(path) {
+        Some(part) => part.as_str().unwrap_or("no text"),
+        None => "nothing there",
+    }
 }

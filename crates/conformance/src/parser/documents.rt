@@ -7,8 +7,11 @@ use std::alloc::{AllocError, Global};
 
 /// What the parser of a language gives.
 pub trait Document: Sized + Drop {
-    /// What the parser answers, and what its check does.
-    fn answers(alloc: Global, text: &str) -> (Answer<Self>, Answer<()>);
+    /// What the parser answers.
+    fn parsed(alloc: Global, text: &str) -> Answer<Self>;
+
+    /// What its check answers.
+    fn checked(alloc: Global, text: &str) -> Answer<()>;
 
     /// What is seen of it; `asked` is the name that is looked up in a request.
     fn seen(&self, alloc: Global, view: View, asked: &str) -> Result<String, AllocError>;
@@ -18,8 +21,12 @@ pub trait Document: Sized + Drop {
 }
 
 impl Document for ExecutableDocument {
-    fn answers(alloc: Global, text: &str) -> (Answer<ExecutableDocument>, Answer<()>) {
-        (parse_query(alloc, text), check_query(alloc, text))
+    fn parsed(alloc: Global, text: &str) -> Answer<ExecutableDocument> {
+        parse_query(alloc, text)
+    }
+
+    fn checked(alloc: Global, text: &str) -> Answer<()> {
+        check_query(alloc, text)
     }
 
     fn seen(&self, alloc: Global, view: View, asked: &str) -> Result<String, AllocError> {
@@ -32,8 +39,12 @@ impl Document for ExecutableDocument {
 }
 
 impl Document for ServiceDocument {
-    fn answers(alloc: Global, text: &str) -> (Answer<ServiceDocument>, Answer<()>) {
-        (parse_schema(alloc, text), check_schema(alloc, text))
+    fn parsed(alloc: Global, text: &str) -> Answer<ServiceDocument> {
+        parse_schema(alloc, text)
+    }
+
+    fn checked(alloc: Global, text: &str) -> Answer<()> {
+        check_schema(alloc, text)
     }
 
     fn seen(&self, alloc: Global, view: View, _: &str) -> Result<String, AllocError> {
