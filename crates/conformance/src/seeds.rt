@@ -43,16 +43,25 @@ fn found(alloc: Global, count: usize) -> Result<String, Fail> {
     let text = request_of(alloc, count, count)?;
     let document = document_of(alloc, text.as_str())?;
     let clone = document.clone()?;
-    if seed_in(&clone).is_none() || seed_in(&clone) != seed_in(&document) {
+    found_in(alloc, &document, &clone, count)
+}
+
+fn found_in(
+    alloc: Global,
+    document: &ExecutableDocument,
+    clone: &ExecutableDocument,
+    count: usize,
+) -> Result<String, Fail> {
+    if seed_in(clone).is_none() || seed_in(clone) != seed_in(document) {
         return Ok(String::from_str(alloc, "a clone with another seed")?);
     }
     let mut found = 0usize;
     for index in 0..count {
         let name = format!(in alloc; "A{index}")?;
-        let line = line_of(&document, name.as_str());
+        let line = line_of(document, name.as_str());
         let wanted = index.saturating_add(1);
         if line == if index < 2 { None } else { Some(wanted) }
-            && line == line_of(&clone, name.as_str())
+            && line == line_of(clone, name.as_str())
         {
             found = found.saturating_add(1);
         }
@@ -66,11 +75,16 @@ fn line_of(document: &ExecutableDocument, name: &str) -> Option<usize> {
 
 fn compared(alloc: Global, digest: u64) -> Result<String, Fail> {
     let seed = NameSeed::of_digest(digest);
-    let map = map_of(alloc, NameSeed::default(), ["A", "BC"])?;
-    let is_same = map == map_of(alloc, seed, ["BC", "A"])?;
-    let is_other = map == map_of(alloc, seed, ["B", "AC"])?;
+    let is_same = is_equal(alloc, seed, ["BC", "A"])?;
+    let is_other = is_equal(alloc, seed, ["B", "AC"])?;
     let is_default = seed == NameSeed::default();
     Ok(format!(in alloc; "default {is_default}, same names {is_same}, others {is_other}")?)
+}
+
+// Whether a map by the default seed, of `A` and `BC`, equals that of these names by this seed.
+fn is_equal(alloc: Global, seed: NameSeed, names: [&str; 2]) -> Result<bool, Fail> {
+    let map = map_of(alloc, NameSeed::default(), ["A", "BC"])?;
+    Ok(map == map_of(alloc, seed, names)?)
 }
 
 // A request of so many definitions: two operations, then fragments. Their names are `A0`, `A1` and so on, but for that

@@ -169,9 +169,7 @@ impl View {
                 write_argument(alloc, shown, asked, field.directives.first())
             }
             View::ResponseKey => {
-                let key = field.response_key();
-                shown.item("", &key.node);
-                shown.place("@", &key.pos);
+                write_response_key(shown, field);
                 Ok(())
             }
             View::DirectiveIntoConst => write_directive(alloc, shown, field.directives.first()),
@@ -205,6 +203,12 @@ impl View {
             _ => Ok(()),
         }
     }
+}
+
+fn write_response_key(shown: &mut Shown, field: &Field) {
+    let key = field.response_key();
+    shown.item("", &key.node);
+    shown.place("@", &key.pos);
 }
 
 fn write_found<V: Written>(shown: &mut Shown, value: Option<&Positioned<V>>) {
