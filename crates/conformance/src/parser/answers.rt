@@ -80,8 +80,14 @@ impl Parser {
             return String::from_str(alloc, if is_same { "" } else { OTHERWISE });
         }
         let seen = match self {
-            Parser::Query => of_request(alloc, view, tokens, others)?,
-            Parser::Schema => of_file(alloc, view, tokens, others)?,
+            Parser::Query => {
+                let checked = check_query_from(alloc, others);
+                of_answers(alloc, view, "", &parse_query_from(alloc, tokens), &checked)?
+            }
+            Parser::Schema => {
+                let checked = check_schema_from(alloc, others);
+                of_answers(alloc, view, "", &parse_schema_from(alloc, tokens), &checked)?
+            }
         };
         if others.taken() != tokens.taken() {
             return String::from_str(alloc, OTHERWISE);
@@ -106,26 +112,6 @@ impl Parser {
     pub fn accepted(self, alloc: Global, text: &str) -> Result<String, AllocError> {
         self.of_text(alloc, View::Acceptance, "", text)
     }
-}
-
-fn of_request(
-    alloc: Global,
-    view: View,
-    tokens: &mut Tokens<'_>,
-    others: &mut Tokens<'_>,
-) -> Result<String, AllocError> {
-    let checked = check_query_from(alloc, others);
-    of_answers(alloc, view, "", &parse_query_from(alloc, tokens), &checked)
-}
-
-fn of_file(
-    alloc: Global,
-    view: View,
-    tokens: &mut Tokens<'_>,
-    others: &mut Tokens<'_>,
-) -> Result<String, AllocError> {
-    let checked = check_schema_from(alloc, others);
-    of_answers(alloc, view, "", &parse_schema_from(alloc, tokens), &checked)
 }
 
 /// Whether a check answers as the parser: both accept, or both give the same error.
