@@ -7,6 +7,7 @@
 //! and counts there.
 #![tactic(auto)]
 
+mod commands;
 mod errors;
 mod json;
 mod kept;
@@ -15,6 +16,7 @@ mod parser;
 mod reports;
 mod seeds;
 
+use commands::judge_runs;
 use parser::Parser;
 use rows::{Subject, judge};
 use std::alloc::Global;
@@ -37,11 +39,13 @@ impl Subject for Calls {
             Some(("exact", what)) => reports::exact(alloc, what, text),
             Some(("made", what)) => made::answer(alloc, what, text),
             Some(("seeds", what)) => seeds::answer(alloc, what, text),
+            Some(("gql", part)) => commands::answer(alloc, part, text),
             _ => Err(Fail::new("no such call")),
         }
     }
 }
 
 fn main(rt: HostRuntime) -> Result<(), Fail> {
-    judge(&rt, &Calls)
+    judge(&rt, &Calls)?;
+    judge_runs(&rt)
 }

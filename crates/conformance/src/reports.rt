@@ -65,7 +65,8 @@ pub fn exact(alloc: Global, reading: &str, row: &str) -> Result<String, Fail> {
     Ok(format!(in alloc; "'{report}'")?)
 }
 
-fn read_as(reading: &str) -> Result<(Language, Limits), Fail> {
+/// The language and the limits at which a text is read, as `query 64 64 64`.
+pub fn read_as(reading: &str) -> Result<(Language, Limits), Fail> {
     let (language, limits) = pair(reading, " ")?;
     let language = match language {
         "query" => Language::Requests,

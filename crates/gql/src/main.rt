@@ -6,25 +6,12 @@
 //! tested.
 #![tactic(auto)]
 
-mod check;
-mod command;
-mod language;
-mod listed;
-mod output;
-mod program;
-mod recovery;
-mod telling;
-#[cfg(test)]
-mod tests;
-mod texts;
-
-use graphql_report::Style;
-pub use program::run;
+use graphql_commands::texts::Disk;
+use graphql_commands::{Style, run};
 use std::env::VarError;
 use std::io::IsTerminal;
 use std::process::ExitCode;
 use std::{env, io};
-use texts::Disk;
 
 fn main(rt: HostRuntime) -> ExitCode {
     let alloc = rt.alloc();

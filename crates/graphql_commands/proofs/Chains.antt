@@ -5,8 +5,8 @@ use Rattle.std.proofs.lemmas.List.{map-append}
 use Rattle.std.specs.declared.alloc.Global.{Global}
 use Rattle.std.specs.declared.string.String.{String}
 use Rattle.graphql_parser.specs.notation.Limits.{Limits}
-use Rattle.gql.specs.checked.Good.{IsGood, GiveGoodTexts}
-use Rattle.gql.specs.declared.texts.Unread.{Unread}
+use Rattle.graphql_commands.specs.checked.Good.{IsGood, GiveGoodTexts}
+use Rattle.graphql_commands.specs.declared.texts.Unread.{Unread}
 
 pub one-more : {T : Type 0} (gives : T → List ℕ → Result (String Global) Unread → T → Type 0) (fragments : Bool) (limits : Limits) (here : T) (names : List (List ℕ)) (there : T) (name : List ℕ) (read : Result (String Global) Unread) (next : T)
     → GiveGoodTexts gives fragments limits here names there

@@ -5,23 +5,21 @@
 ghost use Rattle.std.specs.Prelude.{IfOk};
 ghost use Rattle.graphql_report.specs.reports.Rests.{BeginsAt};
 
-use crate::check::error_of;
-use crate::command::Format;
-use crate::recovery::{next_definition, probable_opening, rest_at, unclosed_string};
-use crate::telling::{MOST_FINDINGS, Names, Source, Teller};
-use crate::tests::fakes::Sheet;
+use super::fakes::Sheet;
+use super::runs::patient;
+use crate::reports::read_as;
+use graphql_commands::check::error_of;
+use graphql_commands::command::Format;
+use graphql_commands::recovery::{next_definition, probable_opening, rest_at, unclosed_string};
+use graphql_commands::telling::{MOST_FINDINGS, Names, Source, Teller};
 use graphql_parser::lexer::{Token, Tokens};
 use graphql_parser::pos::PositionCalculator;
 use graphql_parser::{Error, Limits, Memory, Pos, check_query_from, check_schema_from};
 use graphql_report::{Language, ReadFrom, ReadUpTo, Style, finding_of, refused_token};
+use rows::pair;
 use std::alloc::{AllocError, Global};
-use std::io::ErrorKind;
-use std::process::Abort;
 use std::str;
 use std::test::Fail;
-
-/// Texts of each language that are made.
-pub const TEXTS: usize = 150;
 
 /// Pieces of which schema files are made.
 pub const OF_SCHEMAS: [&str; 30] = [
@@ -83,50 +81,6 @@ pub const OF_REQUESTS: [&str; 24] = [
     "é\n",
     "query type\n",
     "\n",
-];
-
-// Texts in which one thing is sure: two tokens at one place after a carriage return; a run of quotes that goes over the token
-// that is refused, in a later definition; a rule that is broken in a rest, and an operation without a name there; an
-// escape, an open string and a block string with a carriage return that are refused in a rest; the end of the text.
-const FIXED: [(Language, &str); 11] = [
-    (
-        Language::Schemas,
-        "type A {\n  b c\n}\ntype D {\n  e\r)\r}\n}\n",
-    ),
-    (
-        Language::Schemas,
-        "type A {\n  b c\n}\ntype D {\n  e(f: G = \"a\"\"\" b\n}\ntype H {\n  i\n}\n\"\"\"\n",
-    ),
-    (
-        Language::Schemas,
-        "type A {\n  b c\n}\ntype D {\n  e(f: G = \"a\"\"\"\"\"\" b\n}\ntype H {\n  i\n}\n",
-    ),
-    (
-        Language::Schemas,
-        "scalar\nschema { query: A query: B }\nschema { mutation: C }\n",
-    ),
-    (
-        Language::Requests,
-        "{a(}\nfragment B on C { d }\nfragment B on E { f }\n",
-    ),
-    (Language::Requests, "{a(}\n{ b }\nquery C { d }\n"),
-    (
-        Language::Requests,
-        "{a(}\nquery B { c(d: \"é\\q\") }\nquery E { f(g: \"h) }\nquery I { j(k: ) }\n",
-    ),
-    (
-        Language::Schemas,
-        "type A\ntype { }\ntype B { c: D \"\"\"e\rf\ng\"\"\" }\ntype H {\n",
-    ),
-    (Language::Requests, "{a(}\nquery B {\n"),
-    (
-        Language::Requests,
-        "{a(}\nquery B { ? }\n\nquery C { d }\nquery E {}\n",
-    ),
-    (
-        Language::Requests,
-        ")\nquery B { c } query D { e(f:) }\n{ g }\nquery H {}\n",
-    ),
 ];
 
 // A request with a mistake in so many definitions, and one that nests too deep last.
@@ -235,7 +189,7 @@ fn known_before<'a>(
 }
 
 fn unclosed_before(source: &Source<'_>, token: &Token<'_>, last: usize) -> Option<Pos> {
-    let start = probable_opening(source.language, source.text, token.start, last);
+    let start = probable_opening(source.language, source.text, token.start).unwrap_or(last);
     let (front, _) = source.text.split_at_checked(start)?;
     if start == token.start {
         return None;
@@ -299,7 +253,7 @@ fn told(
     is_before: bool,
 ) -> Result<String, Fail> {
     let mut teller = Teller::new(alloc, format, Style::Plain, false);
-    let mut err = Sheet::new(alloc, 1_000_000, ErrorKind::Other);
+    let mut err = patient(alloc);
     if is_before {
         tell_all_before(&mut teller, source, error, &mut err)?;
     } else {
@@ -332,36 +286,28 @@ fn end_before(
     Ok(Some(PositionCalculator::new(front).step(front.len())))
 }
 
-// A text is told alike in both forms. Gives how many findings it has.
-fn are_alike(
-    rt: &impl Abort,
-    alloc: Global,
-    source: &Source<'_>,
-    error: &Error,
-) -> Result<usize, Fail> {
-    let text = source.text;
-    let mut findings = 0;
-    for format in [Format::Text, Format::Json] {
-        let before = told(alloc, source, format, error, true)?;
-        let now = told(alloc, source, format, error, false)?;
-        assert_eq!(rt; now.as_str(), before.as_str(), "{text}");
-        // A line of JSON for each.
-        findings = now.as_str().lines().count();
+// How many findings a text with this error has, if it is told alike in both forms.
+fn counted(alloc: Global, source: &Source<'_>, error: &Error) -> Result<Option<usize>, Fail> {
+    let report = told(alloc, source, Format::Text, error, false)?;
+    // A line of JSON for each.
+    let lines = told(alloc, source, Format::Json, error, false)?;
+    let finding = finding_of(alloc, source.language, source.text, source.limits, error)?;
+    if report != told(alloc, source, Format::Text, error, true)?
+        || lines != told(alloc, source, Format::Json, error, true)?
+        || finding.end != end_before(alloc, source, error)?
+    {
+        return Ok(None);
     }
-    let finding = finding_of(alloc, source.language, text, source.limits, error)?;
-    let end = end_before(alloc, source, error)?;
-    assert!(rt; finding.end == end, "{text}");
-    Ok(findings)
+    Ok(Some(lines.as_str().lines().count()))
 }
 
-// Tells a text in both forms, if it has an error, and gives how many findings it has.
-fn tells_alike(
-    rt: &impl Abort,
+// How many findings a text has, if it is told alike in both forms.
+fn findings_of(
     alloc: Global,
     language: Language,
     limits: Limits,
     text: &str,
-) -> Result<usize, Fail> {
+) -> Result<Option<usize>, Fail> {
     let source = Source {
         names: Names {
             shown: "a",
@@ -372,18 +318,45 @@ fn tells_alike(
         text,
     };
     match error_of(&mut Memory::new(alloc), &source, true)? {
-        Some(error) => are_alike(rt, alloc, &source, &error),
-        None => Ok(0),
+        Some(error) => counted(alloc, &source, &error),
+        None => Ok(Some(0)),
     }
 }
 
-#[test]
-fn findings_are_those_of_copied_rests(rt: HostRuntime) -> Result<(), Fail> {
-    let alloc = rt.alloc();
-    let mut state = 20_261_126;
+/// Whether a text is told alike in both forms, which is read in a language and at limits, as `query 64 64 64`.
+pub fn told_alike(alloc: Global, reading: &str, text: &str) -> Result<String, Fail> {
+    let (language, limits) = read_as(reading)?;
+    let answer = match findings_of(alloc, language, limits, text)? {
+        Some(0) => "good",
+        Some(_) => "alike, some",
+        None => "otherwise",
+    };
+    Ok(String::from_str(alloc, answer)?)
+}
+
+/// Whether a request with a mistake in so many definitions is told alike, and how many findings it has.
+pub fn many_told(alloc: Global, count: &str) -> Result<String, Fail> {
+    let text = many_mistakes(alloc, count.parse()?)?;
+    let limits = Limits::default();
+    match findings_of(alloc, Language::Requests, limits, text.as_str())? {
+        Some(found) => Ok(format!(in alloc; "alike, {found}")?),
+        None => Ok(String::from_str(alloc, "otherwise")?),
+    }
+}
+
+/// Two numbers, with a blank between them.
+pub fn number_pair(row: &str) -> Result<(u64, usize), Fail> {
+    let (one, other) = pair(row, " ")?;
+    Ok((one.parse()?, other.parse()?))
+}
+
+/// Whether made texts are told alike, so many of each language, after the seed: every third within narrow limits. If not, the
+/// first that isn't.
+pub fn made_told(alloc: Global, row: &str) -> Result<String, Fail> {
+    let (mut state, count) = number_pair(row)?;
     let mut refused = 0usize;
     let mut findings = 0usize;
-    for turn in 0..TEXTS {
+    for turn in 0..count {
         let limits = if turn % 3 == 0 {
             Limits::new(1, 2, 1).unwrap_or_default()
         } else {
@@ -395,26 +368,14 @@ fn findings_are_those_of_copied_rests(rt: HostRuntime) -> Result<(), Fail> {
                 Language::Schemas => &OF_SCHEMAS,
             };
             let text = made(alloc, pieces, &mut state)?;
-            let found = tells_alike(&rt, alloc, language, limits, text.as_str())?;
+            let Some(found) = findings_of(alloc, language, limits, text.as_str())? else {
+                return Ok(text);
+            };
             refused = refused.saturating_add(found.min(1));
             findings = findings.saturating_add(found);
         }
     }
-    assert!(rt; refused > TEXTS, "{refused}");
-    // Many of them were found in rests.
-    assert!(rt;
-        findings > refused.saturating_mul(2),
-        "{findings} in {refused}"
-    );
-    for (language, text) in FIXED {
-        let found = tells_alike(&rt, alloc, language, Limits::default(), text)?;
-        assert!(rt; found > 0, "{text}");
-    }
-    for (count, wanted) in [(3, 5), (120, 100)] {
-        let text = many_mistakes(alloc, count)?;
-        let limits = Limits::default();
-        let found = tells_alike(&rt, alloc, Language::Requests, limits, text.as_str())?;
-        assert_eq!(rt; found, wanted);
-    }
-    Ok(())
+    let is_many = refused > count && findings > refused.saturating_mul(2);
+    let many = if is_many { "many" } else { "few" };
+    Ok(format!(in alloc; "alike, {many} in rests")?)
 }

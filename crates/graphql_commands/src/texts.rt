@@ -2,7 +2,7 @@
 ghost use Rattle.std.specs.Prelude.{ℕ, List, Result};
 ghost use Rattle.std.specs.declared.alloc.Global.{Global};
 ghost use Rattle.std.specs.declared.string.String.{String as Text};
-ghost use Rattle.gql.specs.declared.texts.Unread.{Unread};
+ghost use Rattle.graphql_commands.specs.declared.texts.Unread.{Unread};
 
 use std::alloc::{AllocError, Global};
 use std::io::{ErrorKind, Read};

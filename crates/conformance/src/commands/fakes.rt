@@ -1,5 +1,5 @@
 //! Texts and writers over memory.
-use crate::texts::{Texts, Unread, text_of};
+use graphql_commands::texts::{Texts, Unread, text_of};
 use std::alloc::{AllocError, Global};
 use std::io::{Error, ErrorKind, Result as IoResult, Write};
 

@@ -1,6 +1,6 @@
 use Rattle.std.proofs.Common.{◌≡◌, ◌≤◌, map, take}
-use Rattle.gql.specs.checked.Good.{GiveGoodTexts}
-use Rattle.gql.proofs.check.check_files.Given as goal
+use Rattle.graphql_commands.specs.checked.Good.{GiveGoodTexts}
+use Rattle.graphql_commands.proofs.check.check_files.Given as goal
 
 abbrev pub invariant-loop-name : goal.invariant-loop-name
 invariant-loop-name g l = record { most : l.worst ≤ 2; good : l.worst ≡ 0 → GiveGoodTexts g.T.Texts.gives l.call.takes_fragments l.call.limits l.fn.texts (map (λ name. name.now) (take l.name-index l.files.items)) l.texts }

@@ -1,5 +1,5 @@
 //! Telling what is wrong with a file: in a report for people, or in a line for a program.
-ghost use Rattle.std.specs.Prelude.{◌≡◌, IfSome};
+ghost use Rattle.std.specs.Prelude.{◌≡◌, IfSome, IfOk};
 ghost use Rattle.graphql_report.specs.reports.Rests.{BeginsAt};
 
 use crate::check::error_of;
@@ -82,15 +82,9 @@ impl Teller {
         if self.is_quiet {
             return Ok(());
         }
-        let from = ReadFrom::top(source.text);
-        let token = source.refused_from(self.alloc, from, error)?;
-        let mut known = ReadUpTo {
-            from,
-            token,
-            unclosed: None,
-        };
-        let mut passed = token.map(|token| token.start);
-        if let Some(token) = token
+        let mut known = source.refused_first(self.alloc, error)?;
+        let mut passed = known.token.map(|token| token.start);
+        if let Some(token) = known.token
             && let Some(last) = unclosed_string(source.text, token.start)
         {
             known.unclosed = source.opening(&token, last);
@@ -147,13 +141,7 @@ impl Teller {
         error: &Error,
         err: &mut E,
     ) -> Result<(), AllocError> {
-        let Source {
-            language,
-            limits,
-            text,
-            ..
-        } = *source;
-        let known = ReadUpTo::refused(self.alloc, language, text, limits, error)?;
+        let known = source.refused_first(self.alloc, error)?;
         self.tell(source, &known, error, err)
     }
 
@@ -242,6 +230,13 @@ impl<'a> Source<'a> {
         }
     }
 
+    // The reading of the text from its beginning on, up to the token that is refused.
+    fn refused_first(&self, alloc: Global, error: &Error) -> Result<ReadUpTo<'a>, AllocError>
+        ensures { IfOk result (λ read. BeginsAt self.now.text.now read.from) }
+    {
+        ReadUpTo::refused(alloc, self.language, self.text, self.limits, error)
+    }
+
     // The refused token of a text that was read from there on, if one is refused.
     fn refused_from(
         &self,
@@ -274,7 +269,7 @@ impl<'a> Source<'a> {
     // Where the block string probably begins that isn't closed, if that isn't the refused token; `last` is the one that nothing
     // closes.
     fn opening(&self, token: &Token<'_>, last: usize) -> Option<Pos> {
-        let start = probable_opening(self.language, self.text, token.start, last);
+        let start = probable_opening(self.language, self.text, token.start).unwrap_or(last);
         let (front, _) = self.text.split_at_checked(start)?;
         if start == token.start {
             return None;

@@ -7,16 +7,7 @@ use std::alloc::{AllocError, Global};
 /// Where the next definition begins, at this offset or after it: at the first token that stands at the beginning of a line
 /// and begins a definition of this language. What is inside of a block string is no token, so it begins none.
 pub fn next_definition(language: Language, text: &str, from: usize) -> Option<usize> {
-    let mut start = from;
-    // Where no token begins, the search goes on with the next line, so each turn passes one.
-    for _ in 0..text.len() {
-        match look_from(language, text, start) {
-            Search::Found(offset) => return Some(offset),
-            Search::Fault(offset) => start = next_line(text, offset)?,
-            Search::Ended => return None,
-        }
-    }
-    None
+    searched(text, from, |start| look_from(language, text, start))
 }
 
 /// The text from this offset on, after a line feed for each one before it: so each place in it is that in the text, if a
@@ -42,6 +33,23 @@ enum Search {
     Fault(usize),
     // Neither is there.
     Ended,
+}
+
+// Where a search that begins at an offset finds what it looks for, of one that begins at this offset, and then in the next line
+// after each place where no token begins.
+fn searched<F: Fn(usize) -> Search>(text: &str, from: usize, look: F) -> Option<usize>
+    requires { F.IsAlwaysCallable look }
+{
+    let mut start = from;
+    // Each turn passes a line.
+    for _ in 0..text.len() {
+        match look(start) {
+            Search::Found(offset) => return Some(offset),
+            Search::Fault(offset) => start = next_line(text, offset)?,
+            Search::Ended => return None,
+        }
+    }
+    None
 }
 
 // Looks at the tokens from this offset on for a definition at the beginning of a line.
@@ -96,45 +104,31 @@ fn is_keyword(language: Language, token: &Token<'_>) -> bool {
 /// Where the block string begins that nothing closes, of a text that is read from this offset on, and in the next line after
 /// each place where no token begins.
 pub fn unclosed_string(text: &str, from: usize) -> Option<usize> {
-    let mut start = from;
-    for _ in 0..text.len() {
-        let (_, rest) = text.split_at_checked(start)?;
-        let fault = fault_in(rest)?;
-        let offset = start.saturating_add(fault);
-        if text.get(offset..)?.starts_with(QUOTES) {
-            return Some(offset);
-        }
-        start = next_line(text, offset)?;
-    }
-    None
+    searched(text, from, |start| look_for_quotes(text, start))
 }
 
-// Where the first token of a text begins that is none.
-fn fault_in(text: &str) -> Option<usize> {
-    for token in Tokens::new(text) {
+// Looks at the tokens from this offset on for a block string that isn't closed: none begins where a token is, and three quotes at
+// which none begins are those of such a string.
+fn look_for_quotes(text: &str, from: usize) -> Search {
+    let Some((_, rest)) = text.split_at_checked(from) else {
+        return Search::Ended;
+    };
+    for token in Tokens::new(rest) {
         if matches!(token.kind, TokenKind::Fault) {
-            return Some(token.start);
+            let offset = from.saturating_add(token.start);
+            return match text.split_at_checked(offset) {
+                Some((_, rest)) if rest.starts_with(QUOTES) => Search::Found(offset),
+                _ => Search::Fault(offset),
+            };
         }
     }
-    None
+    Search::Ended
 }
 
-/// Where the block string probably begins that isn't closed, of a text that was refused at `refused`, and in which nothing
-/// closes the one at `last`. Such a string ends where the next one was to begin, with a definition in it, or with the first
-/// words of that one after it, which are refused. If there is none, it is the last one.
-pub fn probable_opening(language: Language, text: &str, refused: usize, last: usize) -> usize {
-    let mut start = 0;
-    for _ in 0..text.len() {
-        match look_for_opening(language, text, start, refused) {
-            Search::Found(offset) => return offset,
-            Search::Fault(offset) => match next_line(text, offset) {
-                Some(next) => start = next,
-                None => return last,
-            },
-            Search::Ended => return last,
-        }
-    }
-    last
+/// Where the block string probably begins that isn't closed, of a text that was refused at `refused`. Such a string ends where
+/// the next one was to begin, with a definition in it, or with the first words of that one after it, which are refused.
+pub fn probable_opening(language: Language, text: &str, refused: usize) -> Option<usize> {
+    searched(text, 0, |start| look_for_opening(language, text, start, refused))
 }
 
 // Looks at the tokens from this offset on for a block string that ends where the next one was to begin.

@@ -1,5 +1,5 @@
 use Rattle.graphql_report.specs.reports.Rests.{BeginsAt}
-use Rattle.gql.proofs.telling.Teller.tell_all.Given as goal
+use Rattle.graphql_commands.proofs.telling.Teller.tell_all.Given as goal
 
 abbrev pub invariant-loop : goal.invariant-loop
 invariant-loop g l = BeginsAt l.source.text.now l.known.from

@@ -1,8 +1,8 @@
 //! Checking texts: whether each is good.
 ghost use Rattle.std.specs.Prelude.{◌≡◌, ◌≤◌, ◌↔◌, IfOk, OnErr, map, Ok, None};
 ghost use Rattle.graphql_parser.specs.Memory.{Refused};
-ghost use Rattle.gql.specs.checked.Good.{IsGoodText, IsGood, GiveGoodTexts};
-ghost use Rattle.gql.specs.declared.check.Found.TheVariants.{Good};
+ghost use Rattle.graphql_commands.specs.checked.Good.{IsGoodText, IsGood, GiveGoodTexts};
+ghost use Rattle.graphql_commands.specs.declared.check.Found.TheVariants.{Good};
 
 use crate::command::{Call, Format};
 use crate::language::read_as;

@@ -14,7 +14,7 @@ use Rattle.graphql_parser.specs.schemas.Schemas.{schemas}
 use Rattle.graphql_parser.specs.types.Error.TheVariants.{MissingOperation}
 use Rattle.graphql_report.specs.declared.fronts.Language.{Language}
 use Rattle.graphql_report.specs.declared.fronts.Language.TheVariants.{Requests, Schemas}
-use Rattle.gql.specs.declared.texts.Unread.{Unread}
+use Rattle.graphql_commands.specs.declared.texts.Unread.{Unread}
 
 -- These tokens have one tree, and it is a document: it breaks no rule and lacks nothing, or an operation alone where
 -- `fragments` says that it may.

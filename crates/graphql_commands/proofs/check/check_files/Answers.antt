@@ -1,6 +1,6 @@
 use Rattle.std.proofs.Common.{Ok, ap, ◌∙◌, arith}
-use Rattle.gql.proofs.Chains.{next-name}
-use Rattle.gql.proofs.check.check_files.Goals as goal
+use Rattle.graphql_commands.proofs.Chains.{next-name}
+use Rattle.graphql_commands.proofs.check.check_files.Goals as goal
 
 pub loop-name-preserved : goal.loop-name-preserved
 loop-name-preserved g c = record {

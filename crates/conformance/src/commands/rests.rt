@@ -1,0 +1,115 @@
+//! What is told of a text that is read from a later line on: the same as of a copy of the rest after as many line feeds.
+ghost use Rattle.graphql_report.specs.reports.Rests.{BeginsAt};
+
+use crate::reports::read_as;
+use graphql_commands::check::error_of;
+use graphql_commands::recovery::rest_at;
+use graphql_commands::telling::{Names, Source};
+use graphql_parser::{Error, Memory};
+use graphql_report::{
+    Finding, ReadFrom, ReadUpTo, Style, explain, explain_from, finding_from, finding_of,
+    refused_token_from,
+};
+use rows::pair;
+use std::alloc::{AllocError, Global};
+use std::test::Fail;
+
+// What stands before the third line, from which a rest is read.
+const FRONT: &str = "# é\n) type\n";
+
+/// What is told of this rest, which is read in a language and at limits, as `query 64 64 64`: the place, where the token ends,
+/// and the status. Of a copy of it the same is told, and the same report is made.
+pub fn told(alloc: Global, reading: &str, rest: &str) -> Result<String, Fail> {
+    let mut text = String::from_str(alloc, FRONT)?;
+    text.push_str(rest)?;
+    let text = text.as_str();
+    let copy = rest_at(alloc, text, FRONT.len())?.ok_or("no copy")?;
+    let (language, limits) = read_as(reading)?;
+    let source = Source {
+        names: Names {
+            shown: "f",
+            name: "f",
+        },
+        language,
+        limits,
+        text: copy.as_str(),
+    };
+    // The error of the copy, in which each place is that in the whole text.
+    let error = error_of(&mut Memory::new(alloc), &source, true)?;
+    let from = ReadFrom::top(text)
+        .later(text, FRONT.len())
+        .ok_or("no line")?;
+    told_alike(alloc, text, from, &source, &error.ok_or("a good text")?)
+}
+
+// What is told of a text from there on, if it is what is told of this copy of it.
+fn told_alike(
+    alloc: Global,
+    text: &str,
+    from: ReadFrom,
+    copy: &Source<'_>,
+    error: &Error,
+) -> Result<String, Fail>
+    requires { BeginsAt text.now from }
+{
+    let Source {
+        language,
+        limits,
+        ..
+    } = *copy;
+    let token = match error {
+        Error::Syntax { .. } | Error::RecursionLimitExceeded => {
+            refused_token_from(alloc, language, text, from, limits, error)?
+        }
+        _ => None,
+    };
+    let read = &ReadUpTo {
+        from,
+        token,
+        unclosed: None,
+    };
+    let finding = finding_from(alloc, language, text, read, limits, error)?;
+    let of_copy = finding_of(alloc, language, copy.text, limits, error)?;
+    let told = shown(alloc, &finding)?;
+    if told != shown(alloc, &of_copy)? || finding.message != of_copy.message {
+        return Ok(format!(in alloc; "{told}, but not of the copy")?);
+    }
+    let style = Style::Plain;
+    let report = explain_from(style, alloc, language, "f", text, read, limits, error)?;
+    let of_copy = explain(alloc, language, "f", copy.text, limits, error)?;
+    if report != of_copy {
+        return Ok(format!(in alloc; "{report} of the text, {of_copy} of the copy")?);
+    }
+    Ok(told)
+}
+
+// The place of a finding, where its token ends, and its status.
+fn shown(alloc: Global, finding: &Finding) -> Result<String, AllocError> {
+    let mut shown = String::new(alloc);
+    for place in [finding.place, finding.end] {
+        match place {
+            Some(place) => write!(shown, "{place} ")?,
+            None => shown.push_str("- ")?,
+        }
+    }
+    shown.push_str(finding.status)?;
+    Ok(shown)
+}
+
+/// The numbers of the lines that begin at these offsets of a text of four line feeds, each counted from the one before it.
+pub fn later_line(alloc: Global, offsets: &str) -> Result<String, Fail> {
+    let text = "# é\n) type\n{\n\n";
+    let mut answer = String::new(alloc);
+    let mut from = ReadFrom::top(text);
+    for offset in offsets.split_ascii_whitespace() {
+        match from.later(text, offset.parse()?) {
+            Some(later) => {
+                let line = later.line;
+                write!(answer, "{line} ")?;
+                from = later;
+            }
+            None => answer.push_str("none ")?,
+        }
+    }
+    Ok(answer)
+}

@@ -1,0 +1,81 @@
+//! Runs of the program: what each prints, and the status that it ends with.
+//!
+//! The file `runs` has them, with an empty line between two, in the notation of the crate `rows`. The first line of a run has its
+//! arguments, with blanks between them, after `$`, or after `%` where reports have colours. Then come the lines that it writes to
+//! standard output, after `> `, those that it writes to standard error, after `! `, and after `= ` its status.
+use super::fakes::{Files, Sheet};
+use graphql_commands::{Style, run};
+use rows::meant;
+use std::alloc::{AllocError, Global};
+use std::io::ErrorKind;
+use std::test::Fail;
+use std::{fs, str};
+
+const MANY: usize = 1_000_000;
+
+/// A sheet that takes all that is written.
+pub fn patient(alloc: Global) -> Sheet {
+    Sheet::new(alloc, MANY, ErrorKind::Other)
+}
+
+/// Runs the program on these words, which have blanks between them; there are none that are text where it is None.
+pub fn ended(
+    alloc: Global,
+    words: Option<&str>,
+    style: Style,
+    out: &mut Sheet,
+    err: &mut Sheet,
+) -> Result<u8, AllocError> {
+    let mut strings = Vec::new(alloc);
+    for word in words.unwrap_or("").split_ascii_whitespace() {
+        strings.push(String::from_str(alloc, word)?)?;
+    }
+    let words = words.map(|_| strings.as_slice());
+    Ok(run(alloc, words, style, &mut Files, out, err))
+}
+
+/// Prints how many runs the file has, and those that make something else, each with what it makes.
+pub fn judge_runs(rt: &HostRuntime) -> Result<(), Fail> {
+    let alloc = rt.alloc();
+    let runs = fs::read_to_string(rt, "runs")?;
+    let mut failures = String::new(alloc);
+    let mut count = 0usize;
+    for row in runs.as_str().trim_ascii().split("\n\n") {
+        let wanted = meant(alloc, row)?;
+        let made = made(alloc, wanted.as_str())?;
+        if made.as_str() != wanted.as_str() {
+            write!(failures, "\n{row}\n  found:\n{made}")?;
+        }
+        count = count.saturating_add(1);
+    }
+    println!(rt; "runs: {count} rows{failures}")?;
+    Ok(())
+}
+
+// The row that a run makes whose first line is that of this one.
+fn made(alloc: Global, row: &str) -> Result<String, Fail> {
+    let head = row.lines().next().unwrap_or("");
+    let (words, style) = match head.strip_prefix('%') {
+        Some(words) => (words, Style::Coloured),
+        None => (head.trim_start_matches('$'), Style::Plain),
+    };
+    let mut out = patient(alloc);
+    let mut err = patient(alloc);
+    let status = ended(alloc, Some(words), style, &mut out, &mut err)?;
+    let mut made = String::from_str(alloc, head)?;
+    made.push('\n')?;
+    push_lines(&mut made, "> ", &out)?;
+    push_lines(&mut made, "! ", &err)?;
+    write!(made, "= {status}")?;
+    Ok(made)
+}
+
+// Adds what was written, each line after this mark.
+fn push_lines(made: &mut String, mark: &str, sheet: &Sheet) -> Result<(), Fail> {
+    let text = str::from_utf8(sheet.held.as_slice())?;
+    for line in text.split_inclusive('\n') {
+        made.push_str(mark)?;
+        made.push_str(line)?;
+    }
+    Ok(())
+}

@@ -1,0 +1,23 @@
+//! The work of the program `gql`, over any source of texts and any writers.
+//!
+//! [`run`] does all that a call of the program asks for. The modules have its parts: what a call asks for ([`command`]),
+//! where texts come from ([`texts`]), what each is read as ([`language`]), whether it is good ([`check`]), what is told of one
+//! that isn't ([`telling`]), where reading goes on after a refused token ([`recovery`]), and lists of tokens ([`listed`]).
+//!
+//! Proved of it: it is safe and ends on every input; the status is 0, 1 or 2; a text is found good only where its tokens
+//! have a tree, and the files that are checked end with status 0 only where each of them was found good. What it prints is
+//! tested, in `conformance`.
+#![tactic(auto)]
+
+pub mod check;
+pub mod command;
+pub mod language;
+pub mod listed;
+mod output;
+mod program;
+pub mod recovery;
+pub mod telling;
+pub mod texts;
+
+pub use graphql_report::Style;
+pub use program::run;
