@@ -161,7 +161,7 @@ c_names() {
 c_version() {
     number=$(printf '%s\n' "$version" | awk -F . '{ print $1 * 10000 + $2 * 100 + $3 }')
     is_same "GRAPHQL_PARSER_VERSION_NUMBER" "$(sed -n 's/^#define GRAPHQL_PARSER_VERSION_NUMBER //p' "$here/graphql_parser.h")" "$number" &&
-        is_same "gql --version" "$(sed -n 's/.*"gql \([0-9.]*\)\\n".*/\1/p' "$here"/../crates/gql/src/*.rt)" "$version" &&
+        is_same "gql --version" "$(sed -n 's/.*"gql \([0-9.]*\)\\n".*/\1/p' "$here"/../crates/graphql_commands/src/*.rt)" "$version" &&
         is_same "Cargo.toml" "$(sed -n 's/^version = "\(.*\)"$/\1/p' "$here/rust/Cargo.toml")" "$version" &&
         is_same "graphql_parser for Python" "$(sed -n 's/^__version__ = "\(.*\)"$/\1/p' "$here/python/graphql_parser/__init__.py")" "$version"
 }
