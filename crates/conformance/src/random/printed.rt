@@ -1,5 +1,5 @@
 //! Texts and their canonical forms, worked out by hand from the rules of `example_printer`.
-use crate::languages::{Form, Kind, Language, Parsed, asked};
+use super::languages::{Form, Kind, Language, Parsed, asked};
 use std::alloc::{AllocError, Global};
 
 /// Requests, and what is printed of them.

@@ -1,5 +1,5 @@
 //! The two languages: their grammars, and what their parsers and checks answer.
-use crate::grammars;
+use super::grammars;
 use example_printer::{print_request, print_schema};
 use graphql_parser::lexer::Tokens;
 use graphql_parser::types::{ExecutableDocument, ServiceDocument};

@@ -1,6 +1,6 @@
 //! The rows: a call, its text, and the answer that was worked out by hand.
-use crate::calls::Call;
-use crate::inputs::Input;
+use super::calls::Call;
+use super::inputs::Input;
 use rows::{Shown, meant};
 use std::alloc::{AllocError, Global};
 

@@ -1,6 +1,6 @@
 //! The calls, and how their answers show. Showing takes no memory.
-use crate::free;
-use crate::inputs::{Input, first_field};
+use super::free;
+use super::inputs::{Input, first_field};
 use graphql_parser::lexer::Tokens;
 use graphql_parser::text::{block_string_value, string_value};
 use graphql_parser::types::{ExecutableDocument, Field, Selection, ServiceDocument, Type};

@@ -1,6 +1,6 @@
 //! A row once, and again and again at the end of memory, with a piece more each time.
-use crate::inputs::Input;
-use crate::table::{Outcome, ROOM, Row};
+use super::inputs::Input;
+use super::table::{Outcome, ROOM, Row};
 use little_memory::{ATTEMPTS, Attempt, attempts};
 use rows::Shown;
 use std::alloc::{AllocError, Global};

@@ -1,7 +1,7 @@
 //! The check of one text, and runs over many.
-use crate::grammars;
-use crate::languages::{Form, Kind, Language, Seen, asked};
-use crate::texts::Source;
+use super::grammars;
+use super::languages::{Form, Kind, Language, Seen, asked};
+use super::texts::Source;
 use graphql_parser::lexer::{TokenKind, Tokens};
 use rows::Shown;
 use std::alloc::{AllocError, Global};

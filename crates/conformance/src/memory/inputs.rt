@@ -1,5 +1,5 @@
 //! What calls are given besides a text. It is made while there is memory.
-use crate::calls::Call;
+use super::calls::Call;
 use graphql_parser::types::{
     ConstDirective, Directive, ExecutableDocument, Field, Selection, ServiceDocument, Type,
 };

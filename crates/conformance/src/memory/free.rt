@@ -1,5 +1,5 @@
 //! Calls that take no memory, and how their answers show.
-use crate::inputs::first_field;
+use super::inputs::first_field;
 use graphql_parser::lexer::Tokens;
 use graphql_parser::pos::PositionCalculator;
 use graphql_parser::types::{

@@ -1,6 +1,6 @@
 //! Random texts of a language: those that its grammar describes, and those that one edit took from there.
-use crate::random::Random;
-use crate::rules::Grammar;
+use super::numbers::Random;
+use super::rules::Grammar;
 use rows::Shown;
 use std::alloc::{AllocError, Global};
 

@@ -1,7 +1,7 @@
 //! Printers and calls with a mistake, which the checks have to find.
-use crate::checking::run;
-use crate::languages::{Form, Language, Parsed, Seen};
-use crate::values::run_values;
+use super::checking::run;
+use super::languages::{Form, Language, Parsed, Seen};
+use super::values::run_values;
 use graphql_parser::Result as Answer;
 use std::alloc::{AllocError, Global};
 

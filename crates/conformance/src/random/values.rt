@@ -1,5 +1,5 @@
 //! Random values as trees, and whether their texts are read as them again.
-use crate::random::Random;
+use super::numbers::Random;
 use graphql_parser::types::{DocumentOperations, OperationDefinition, Selection};
 use graphql_parser::value::{ConstValue, Name, Number, Value};
 use graphql_parser::{check_query, parse_query};

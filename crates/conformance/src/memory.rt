@@ -1,10 +1,4 @@
 //! Calls at the end of memory: each answers as its row says, or that memory was refused.
-//!
-//! `refused_memory` makes the call of each row again and again, with a piece of memory more each time, and prints how many
-//! rows hold. Where the number of a row stands on standard input, it makes the call of that row once, and prints what came
-//! of it: the script `tests/refuse_each.sh` has its requests for memory refused, one after the other.
-#![tactic(auto)]
-
 mod calls;
 mod free;
 mod inputs;
@@ -21,19 +15,9 @@ use trying::{failure, once};
 /// How many bytes are left for the rows, their texts and their trees.
 const ROOM_FOR_ROWS: usize = 1 << 25;
 
-fn main(rt: HostRuntime) -> io::Result<ExitCode> {
-    let Ok(text) = io::read_to_string(rt.alloc(), rt.stdin()) else {
-        println!(rt; "no row: out of memory")?;
-        return Ok(ExitCode::from(0));
-    };
-    match text.as_str().trim_ascii().parse() {
-        Ok(wanted) => one_row(&rt, wanted),
-        Err(_) => each_row(&rt),
-    }
-}
-
-// Makes the call of one row.
-fn one_row(rt: &HostRuntime, wanted: usize) -> io::Result<ExitCode> {
+/// Makes the call of the row of this number once, and prints what came of it. The status is 0 if the row holds, 1 if it doesn't,
+/// and 2 where there is none.
+pub fn one_row(rt: &HostRuntime, wanted: usize) -> io::Result<ExitCode> {
     let mut number = 0usize;
     for table in TABLES {
         for line in table.rows.lines() {
@@ -68,26 +52,27 @@ fn told(
     Ok(ExitCode::from(status))
 }
 
-// Makes the call of each row, again and again. Most of the memory is taken once, for all of them.
-fn each_row(rt: &HostRuntime) -> io::Result<ExitCode> {
+/// Whether each row holds: its call is made again and again, with a piece of memory more each time. Prints the rows that
+/// don't hold, and how many there are. Most of the memory is taken once, for all of them.
+pub fn all_hold(rt: &HostRuntime) -> io::Result<bool> {
     let alloc = rt.alloc();
     let Some(_held) = all_but(alloc, ROOM_FOR_ROWS)? else {
         println!(rt; "memory has no end here")?;
-        return Ok(ExitCode::from(1));
+        return Ok(false);
     };
     let mut count = 0usize;
-    let mut status = 0;
+    let mut holds = true;
     for table in TABLES {
         for line in table.rows.lines() {
             if is_row(line) {
                 if let Some(failure) = failure(alloc, Row::new(alloc, table, line)?)? {
                     println!(rt; "{line}\n  {failure}")?;
-                    status = 1;
+                    holds = false;
                 }
                 count = count.wrapping_add(1);
             }
         }
     }
     println!(rt; "{count} rows were tried")?;
-    Ok(ExitCode::from(status))
+    Ok(holds)
 }

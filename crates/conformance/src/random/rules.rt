@@ -1,5 +1,5 @@
 //! Grammars that are written as text, and what is made by their rules at random.
-use crate::random::Random;
+use super::numbers::Random;
 use std::alloc::{AllocError, Global};
 
 // So many steps one text takes at most: after the steps in which it grows, it is only brought to its end.
