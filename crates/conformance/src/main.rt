@@ -7,10 +7,10 @@
 //! - A run over random texts, in `random`.
 //! - Calls at the end of memory, whose rows stand in `memory`.
 //!
-//! `conformance` does all of it. It prints how many rows each table has, what was found of the random texts, and how many rows
-//! were tried at the end of memory, and what does not hold: the file `stdout` has the counts, and no row. So a new row is a
-//! line of a table, and counts there. `conformance SEED COUNT` makes the random run alone, over so many texts of each language.
-//! Where the number of a row at the end of memory stands on standard input, the call of that row is made once: the script
+//! `conformance` does all of it. It prints how many rows each table has, how many random texts had which answer, how many rows
+//! were tried at the end of memory, and whatever does not hold: the file `stdout` has the counts alone. So a new row is a line
+//! of a table, and counts there. `conformance SEED COUNT` makes the random run alone, over so many texts of each language.
+//! Where the number of a row of `memory` stands on standard input, the call of that row is made once: the script
 //! `tests/refuse_each.sh` has its requests for memory refused, one after the other.
 #![tactic(auto)]
 
@@ -82,7 +82,8 @@ fn main(rt: HostRuntime) -> Result<ExitCode, Fail> {
     Ok(status(random::all_hold(&rt, seed, count)?))
 }
 
-// The calls at the end of memory come last, since most of it is held meanwhile.
+// The calls at the end of memory come last, since most of it is held meanwhile. Of a row in a file that does not hold the
+// output alone tells, of all else the status too.
 fn everything(rt: &HostRuntime) -> Result<ExitCode, Fail> {
     judge(rt, &Calls)?;
     let texts_hold = random::all_hold(rt, SEED, COUNT)?;

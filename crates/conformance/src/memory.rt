@@ -15,8 +15,8 @@ use trying::{failure, once};
 /// How many bytes are left for the rows, their texts and their trees.
 const ROOM_FOR_ROWS: usize = 1 << 25;
 
-/// Makes the call of the row of this number once, and prints what came of it. The status is 0 if the row holds, 1 if it doesn't,
-/// and 2 where there is none.
+/// Makes the call of the row of this number once, and prints what came of it. The status is 0 if the row holds, 1 if it
+/// doesn't, and 2 where there is none.
 pub fn one_row(rt: &HostRuntime, wanted: usize) -> io::Result<ExitCode> {
     let mut number = 0usize;
     for table in TABLES {
