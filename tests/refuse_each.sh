@@ -1,5 +1,5 @@
 #!/bin/sh
-# Has each request for memory refused in turn, in the calls of crates/refused_memory.
+# Has each request for memory refused in turn, in the calls of crates/conformance/src/memory.
 #
 #   tests/refuse_each.sh [FIRST [LAST]]
 #
@@ -8,12 +8,12 @@
 # says, or tell that memory was refused. Each N takes two minutes or three, and a request of 64 nested sets asks for memory
 # more than a hundred times; FIRST and LAST choose a part.
 set -eu
-crate=$(dirname -- "$(readlink -f -- "$0")")/../crates/refused_memory
+crate=$(dirname -- "$(readlink -f -- "$0")")/../crates/conformance
 cases=$(mktemp -d)
 trap 'rm -rf "$cases" "$cases.log"' EXIT
 cd "$crate"
 # A row has a number of its own, which stands on standard input; how many rows there are stands in the file stdout.
-rows=$(cut -d" " -f1 stdout)
+rows=$(sed -n 's/ rows were tried$//p' stdout)
 row=0
 while [ "$row" -lt "$rows" ]; do
     echo "$row" >"$cases/$row"

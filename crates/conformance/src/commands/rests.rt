@@ -2,6 +2,7 @@
 ghost use Rattle.graphql_report.specs.reports.Rests.{BeginsAt};
 
 use crate::reports::read_as;
+use crate::rows::pair;
 use graphql_commands::check::error_of;
 use graphql_commands::recovery::rest_at;
 use graphql_commands::telling::{Names, Source};
@@ -10,7 +11,6 @@ use graphql_report::{
     Finding, ReadFrom, ReadUpTo, Style, explain, explain_from, finding_from, finding_of,
     refused_token_from,
 };
-use rows::pair;
 use std::alloc::{AllocError, Global};
 use std::test::Fail;
 

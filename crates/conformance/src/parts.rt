@@ -1,0 +1,53 @@
+//! What stands below the parsers: tokens, places, names, numbers, what strings mean, types and values, and the readers of
+//! values at a third type of values.
+mod literals_made;
+mod literals_read;
+mod names;
+mod nodes;
+mod numbers;
+mod places;
+mod tokens;
+mod type_texts;
+mod written;
+
+use graphql_syntax::types::{BaseType, OperationType, Type};
+use graphql_syntax::value::Name;
+use graphql_tokens::pos::Pos;
+use graphql_tokens::text::{block_string_value, string_value};
+use std::alloc::Global;
+use std::test::Fail;
+
+/// What the call of this name makes of a text.
+pub fn answer(alloc: Global, call: &str, text: &str) -> Result<String, Fail> {
+    match call {
+        "tokens" => tokens::shown(alloc, text),
+        "tokens for developers" => tokens::debugged(alloc, text),
+        "string value" => Ok(match string_value(alloc, text)? {
+            Some(value) => format!(in alloc; "'{value}'")?,
+            None => String::from_str(alloc, "none")?,
+        }),
+        "block string value" => {
+            let value = block_string_value(alloc, text)?;
+            Ok(format!(in alloc; "'{value}'")?)
+        }
+        "number" => numbers::shown(alloc, text),
+        "numbers compared" => numbers::two_compared(alloc, text),
+        "name" => names::shown(alloc, text),
+        "names ordered" => names::two_ordered(alloc, text),
+        "places of offsets" => places::of_row(alloc, text),
+        "calculator for developers" => places::debugged(alloc, text),
+        "place" => nodes::shown(alloc, text),
+        "places ordered" => nodes::two_ordered(alloc, text),
+        "nodes compared" => nodes::two_compared(alloc, text),
+        "node of a text" => nodes::of_text(alloc, text),
+        "type" => type_texts::shown(alloc, text),
+        "types compared" => type_texts::two_compared(alloc, text),
+        "value made" => literals_made::made(alloc, text),
+        "place as JSON" => written::read_back::<Pos>(alloc, text),
+        "operation as JSON" => written::read_back::<OperationType>(alloc, text),
+        "name as JSON" => written::read_back::<Name>(alloc, text),
+        "type as JSON" => written::read_back::<Type>(alloc, text),
+        "base type as JSON" => written::read_back::<BaseType>(alloc, text),
+        call => literals_read::answer(alloc, call, text),
+    }
+}
