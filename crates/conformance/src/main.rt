@@ -23,6 +23,7 @@ mod memory;
 mod parser;
 mod parts;
 mod random;
+mod readme;
 mod reports;
 mod rows;
 mod seeds;
@@ -59,6 +60,7 @@ impl Subject for Calls {
             Some(("exact", what)) => reports::exact(alloc, what, text),
             Some(("made", what)) => made::answer(alloc, what, text),
             Some(("seeds", what)) => seeds::answer(alloc, what, text),
+            Some(("readme", example)) => readme::answer(alloc, example, text),
             Some(("gql", part)) => commands::answer(alloc, part, text),
             _ => parts::answer(alloc, call, text),
         }

@@ -27,7 +27,7 @@ mod shown;
 mod tables;
 pub mod trees;
 
-pub use notation::meant;
+pub use notation::{in_one_line, meant};
 pub use shown::Shown;
 use std::alloc::{AllocError, Global};
 use std::test::Fail;

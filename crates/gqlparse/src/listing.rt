@@ -1,5 +1,6 @@
 //! What the program prints of an accepted text: a line for each definition, with the place where it stands.
-use graphql_parser::types::{ExecutableDocument, ServiceDocument, TypeKind, TypeSystemDefinition};
+use graphql_request_trees::ExecutableDocument;
+use graphql_schema_trees::{ServiceDocument, TypeKind, TypeSystemDefinition};
 use std::alloc::{AllocError, Global};
 
 /// The lines of a request: its operations, and then its fragments, each kind in source order.

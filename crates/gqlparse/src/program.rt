@@ -5,7 +5,9 @@ ghost use Rattle.gqlparse.specs.declared.program.Answer.TheVariants.{Help};
 ghost use Rattle.gqlparse.specs.declared.program.Stop.TheVariants.{NoMemory, Usage};
 
 use crate::listing::{request_lines, schema_lines};
-use graphql_parser::{Error, parse_query, parse_schema};
+use graphql_grammar::error::Error;
+use graphql_requests::parse_query;
+use graphql_schemas::parse_schema;
 use std::alloc::{AllocError, Global};
 use std::io::{ErrorKind, Read, Write};
 

@@ -1,6 +1,5 @@
-//! Tests of the program's work, and of the README's examples.
+//! Tests of the program's work.
 mod fakes;
 mod memory;
-mod readme;
 mod rows;
 mod runs;

@@ -1,7 +1,7 @@
 //! The notation of the rows: what stands for characters that are not seen, and for many of them.
 use std::alloc::{AllocError, Global};
 
-// The words of a text, with one blank between them.
+/// The words of a text, with one blank between them.
 pub fn in_one_line(alloc: Global, text: &str) -> Result<String, AllocError> {
     let mut out = String::new(alloc);
     for word in text.split_whitespace() {

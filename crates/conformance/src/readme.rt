@@ -1,9 +1,20 @@
-//! The example of README.md, as it stands there, and the one that docs/USING.md names. They are tested beside the program, which
-//! lets go of documents too: each crate that does so proves it anew, for every type of the tree.
+//! The example of README.md, as it stands there, and the one that docs/USING.md names.
+use crate::rows::in_one_line;
 use graphql_parser::types::{Selection, TypeKind, TypeSystemDefinition};
 use graphql_parser::{Error, parse_query, parse_schema};
 use std::alloc::Global;
 use std::test::Fail;
+
+/// What an example makes of a text: the outline of a request, or the types of a schema file that implement `Node`.
+pub fn answer(alloc: Global, example: &str, text: &str) -> Result<String, Fail> {
+    let lines = match example {
+        "outline" => outline(alloc, text),
+        "implementors" => implementors(alloc, text, "Node"),
+        _ => return Err(Fail::new("no such example")),
+    };
+    let lines = lines.ok().ok_or("refused")?;
+    Ok(in_one_line(alloc, lines.as_str())?)
+}
 
 /// What a request selects at the top, a line for each, with its place.
 fn outline(alloc: Global, text: &str) -> Result<String, Error> {
@@ -29,13 +40,6 @@ fn outline(alloc: Global, text: &str) -> Result<String, Error> {
     Ok(lines)
 }
 
-const REQUEST: &str = r"query Hero($id: ID!) {
-  hero: character(id: $id) { name }
-  ...Extra @include(if: true)
-}
-fragment Extra on Query { version }
-";
-
 /// The types that implement an interface, a line for each, with the place where they name it.
 fn implementors(alloc: Global, text: &str, interface: &str) -> Result<String, Error> {
     let document = parse_schema(alloc, text)?;
@@ -59,22 +63,3 @@ fn implementors(alloc: Global, text: &str, interface: &str) -> Result<String, Er
     }
     Ok(lines)
 }
-
-#[test]
-fn the_examples_print_what_the_readme_says(rt: HostRuntime) -> Result<(), Fail> {
-    let lines = outline(rt.alloc(), REQUEST).ok().ok_or("refused")?;
-    assert_eq!(rt;
-        lines.as_str(),
-        "2:3 field hero\n3:3 fragment Extra, defined: true\n"
-    );
-    let lines = implementors(rt.alloc(), SCHEMA, "Node")
-        .ok()
-        .ok_or("refused")?;
-    assert_eq!(rt; lines.as_str(), "2:22 User\n3:39 Order\n");
-    Ok(())
-}
-
-const SCHEMA: &str = r#"interface Node { id: ID! }
-type User implements Node { id: ID! }
-extend type Order implements Priced & Node @key(fields: "id")
-"#;
