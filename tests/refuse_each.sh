@@ -5,8 +5,8 @@
 #
 # For N from FIRST (1) to LAST, or until a run meets no refusal, the Nth request of the call of each row is refused, by
 # `rt try --fail-alloc`: without any proof, compiled with checks and on an interpreter. Each row must then answer as it
-# says, or tell that memory was refused. Each N takes some minutes, and a request of 64 nested sets asks for memory more than a
-# hundred times; FIRST and LAST choose a part.
+# says, or tell that memory was refused. Each N takes some minutes, and a request of 64 nested sets asks for memory more
+# than a hundred times; FIRST and LAST choose a part.
 set -eu
 crate=$(dirname -- "$(readlink -f -- "$0")")/../crates/conformance
 cases=$(mktemp -d)
