@@ -23,6 +23,6 @@ pub same_const_fields-returns-then-ne : goal.same_const_fields-returns-then-ne
 same_const_fields-returns-then-ne t c =
     let decided = λ (other same : Bool). fields_from (field_by const_tree) c.args.xs.now.items c.args.ys.now.items _ c.loop-i.i _ _ other same c.deref-x-items.ensures.value c.loop-i-test.true (sym c.args.xs.now.ok.0 ∙ sym c.len.ensures ∙ c.if-len.false ∙ c.len-2.ensures ∙ c.args.ys.now.ok.0) c.x-item.is c.index-y.ensures c.loop-i.invariant in
     elim c.then-ne.branch [
-        same_const_fields-then-ne-via-then-ne w ↦ sym (decided true _ w.if-ne.ensures refl) |
-        same_const_fields-then-ne-via-else-ne+then-not-same_const w ↦ sym (decided false false w.if-ne.ensures w.if-not-same_const.ensures)
+      | same_const_fields-then-ne-via-then-ne w ↦ sym (decided true _ w.if-ne.ensures refl)
+      | same_const_fields-then-ne-via-else-ne+then-not-same_const w ↦ sym (decided false false w.if-ne.ensures w.if-not-same_const.ensures)
     ]
