@@ -219,12 +219,7 @@ fn roots_of<'a>(alloc: Global, text: &'a str) -> Result<Vec<Root<'a>>, AllocErro
         let text_before = before.map_or("", |token| token.text);
         let is_named = token.kind.is_name();
         if depth == 0 && is_named && text_before != "@" {
-            let is_schema = token.text == "schema" && !BEFORE_NAMES.contains(&text_before);
-            schema = if is_schema {
-                Some(first_of(before, token))
-            } else {
-                None
-            };
+            schema = schema_at(before, token, text_before);
         }
         if let Some(schema) = schema
             && depth == 1
@@ -237,11 +232,29 @@ fn roots_of<'a>(alloc: Global, text: &'a str) -> Result<Vec<Root<'a>>, AllocErro
                 keyword: token,
             })?;
         }
-        is_body = is_body && depth > 0 || depth == 0 && token.text == "{";
+        is_body = is_body_after(is_body, depth, token.text);
         depth = depth_after(depth, &token);
         before = Some(token);
     }
     Ok(roots)
+}
+
+// The first token of a schema's definition, if this word outside of braces is its keyword.
+fn schema_at<'a>(
+    before: Option<Token<'a>>,
+    word: Token<'a>,
+    text_before: &str,
+) -> Option<Token<'a>> {
+    if word.text == "schema" && !BEFORE_NAMES.contains(&text_before) {
+        Some(first_of(before, word))
+    } else {
+        None
+    }
+}
+
+// Whether what follows this token is within the braces of a definition.
+fn is_body_after(is_body: bool, depth: usize, token: &str) -> bool {
+    if depth == 0 { token == "{" } else { is_body }
 }
 
 // The first root that its schema, at this place, names a second time, and the first token of the schema.
