@@ -1,9 +1,9 @@
 //! Tests of the parsers and of the crates around them, in three parts.
 //!
 //! - Tables of cases with expected answers, the files of `data/tables`: requests and schema files, what the calls of their
-//!   trees and of their errors give, their JSON, the reports of refused texts, and what stands below the parsers. The answers
-//!   were worked out by hand from the rules of `docs/GRAMMAR.md`, and never taken from what the crates print. The tables are
-//!   in the notation of the module `rows`.
+//!   trees and of their errors give, their JSON, the reports of refused texts, what stands below the parsers, and what `gql`
+//!   does, whose whole runs are in `data/runs`. The answers were worked out by hand from the rules of `docs/GRAMMAR.md`, and
+//!   never taken from what the crates print. The tables are in the notation of the module `rows`.
 //! - A run over random texts, in `random`.
 //! - Calls at the end of memory, whose rows stand in `memory`.
 //!
@@ -88,14 +88,14 @@ fn main(rt: HostRuntime) -> Result<ExitCode, Fail> {
     Ok(status(random::all_hold(&rt, seed, count)?))
 }
 
-// The calls at the end of memory come last, since most of it is held meanwhile. Of a row in a file that does not hold the
-// output alone tells, of all else the status too.
+// The calls at the end of memory come first, before anything else has cut the heap into pieces. Of a row in a file that does not
+// hold the output alone tells, of all else the status too.
 fn everything(rt: &HostRuntime) -> Result<ExitCode, Fail> {
+    let calls_hold = memory::all_hold(rt)?;
     judge(rt, &Calls)?;
     judge_runs(rt)?;
     let texts_hold = random::all_hold(rt, SEED, COUNT)?;
-    let calls_hold = memory::all_hold(rt)?;
-    Ok(status(texts_hold && calls_hold))
+    Ok(status(calls_hold && texts_hold))
 }
 
 fn status(holds: bool) -> ExitCode {
