@@ -1,8 +1,8 @@
 //! A third type of values, beside those of the crates.
 ghost use Rattle.std.specs.Prelude.{◌≡◌, map, string_bytes, true, false};
 ghost use Rattle.graphql_syntax.specs.trees.ValueTree.{Tree, null, number, string, boolean, enumeration, list, object, trees_of, fields_of};
-ghost use Rattle.rows.specs.declared.trees.plain.Plain.{fold-Plain};
-ghost use Rattle.rows.specs.declared.trees.plain.Plain.TheOpen.{Plain-F};
+ghost use Rattle.conformance.specs.declared.rows.trees.plain.Plain.{fold-Plain};
+ghost use Rattle.conformance.specs.declared.rows.trees.plain.Plain.TheOpen.{Plain-F};
 
 use graphql_syntax::value::{Literal, Name, Number};
 
