@@ -128,7 +128,11 @@ fn look_for_quotes(text: &str, from: usize) -> Search {
 /// Where the block string probably begins that isn't closed, of a text that was refused at `refused`. Such a string ends where
 /// the next one was to begin, with a definition in it, or with the first words of that one after it, which are refused.
 pub fn probable_opening(language: Language, text: &str, refused: usize) -> Option<usize> {
-    searched(text, 0, |start| look_for_opening(language, text, start, refused))
+    searched(
+        text,
+        0,
+        |start| look_for_opening(language, text, start, refused),
+    )
 }
 
 // Looks at the tokens from this offset on for a block string that ends where the next one was to begin.
