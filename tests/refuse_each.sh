@@ -1,19 +1,19 @@
 #!/bin/sh
-# Has each request for memory refused in turn, in the calls of crates/conformance/src/memory.
+# Has each request for memory refused in turn, in the calls of crates/refused_memory.
 #
 #   tests/refuse_each.sh [FIRST [LAST]]
 #
 # For N from FIRST (1) to LAST, or until a run meets no refusal, the Nth request of the call of each row is refused, by
 # `rt try --fail-alloc`: without any proof, compiled with checks and on an interpreter. Each row must then answer as it
-# says, or tell that memory was refused. Each N takes some minutes, and a request of 64 nested sets asks for memory more
-# than a hundred times; FIRST and LAST choose a part.
+# says, or tell that memory was refused. Each N takes two minutes or three, and a request of 64 nested sets asks for memory
+# more than a hundred times; FIRST and LAST choose a part.
 set -eu
-crate=$(dirname -- "$(readlink -f -- "$0")")/../crates/conformance
+crate=$(dirname -- "$(readlink -f -- "$0")")/../crates/refused_memory
 cases=$(mktemp -d)
 trap 'rm -rf "$cases" "$cases.log"' EXIT
 cd "$crate"
 # A row has a number of its own, which stands on standard input; how many rows there are stands in the file stdout.
-rows=$(sed -n 's/ rows were tried$//p' stdout)
+rows=$(cut -d" " -f1 stdout)
 row=0
 while [ "$row" -lt "$rows" ]; do
     echo "$row" >"$cases/$row"

@@ -7,9 +7,9 @@ mod runs;
 mod spellings;
 mod strings;
 
-use crate::rows::pair;
 use graphql_commands::language::read_as;
 use graphql_report::Language;
+use rows::pair;
 pub use runs::judge_runs;
 use std::alloc::Global;
 use std::io::ErrorKind;

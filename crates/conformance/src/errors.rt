@@ -1,9 +1,9 @@
 //! Errors: what they print, and the places that they name.
 use crate::parser::shown;
-use crate::rows::{Shown, compared, pair};
 use graphql_parser::types::OperationType;
 use graphql_parser::value::Name;
 use graphql_parser::{Error, ErrorPositions, Pos};
+use rows::{Shown, compared, pair};
 use std::alloc::{AllocError, Global};
 use std::test::Fail;
 

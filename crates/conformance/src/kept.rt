@@ -1,8 +1,8 @@
 //! Schema files of the length that people keep: a line for each definition, and places and contents inside.
-use crate::rows::trees::{Written, keyword};
-use crate::rows::{Shown, meant, pair};
 use graphql_parser::types::{ServiceDocument, TypeSystemDefinition};
 use graphql_parser::{check_schema, parse_schema};
+use rows::trees::{Written, keyword};
+use rows::{Shown, meant, pair};
 use std::alloc::Global;
 use std::test::Fail;
 

@@ -1,11 +1,10 @@
 //! The example of README.md, as it stands there, and the one that docs/USING.md names.
-use crate::rows::in_one_line;
 use graphql_parser::types::{Selection, TypeKind, TypeSystemDefinition};
 use graphql_parser::{Error, parse_query, parse_schema};
 use std::alloc::Global;
 use std::test::Fail;
 
-/// What an example makes of a text: the outline of a request, or the types of a schema file that implement `Node`.
+/// What an example makes of a text, in one line: the outline of a request, or the types of a schema file that implement `Node`.
 pub fn answer(alloc: Global, example: &str, text: &str) -> Result<String, Fail> {
     let lines = match example {
         "outline" => outline(alloc, text),
@@ -13,7 +12,7 @@ pub fn answer(alloc: Global, example: &str, text: &str) -> Result<String, Fail> 
         _ => return Err(Fail::new("no such example")),
     };
     let lines = lines.ok().ok_or("refused")?;
-    Ok(in_one_line(alloc, lines.as_str())?)
+    Ok(lines.as_str().replace(alloc, "\n", " ")?)
 }
 
 /// What a request selects at the top, a line for each, with its place.

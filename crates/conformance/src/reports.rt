@@ -3,12 +3,12 @@
 //! In a row the lines of a report stand one after another, and in a line that begins with a blank, as those with a line of
 //! the text and with the caret do, a `·` stands for each blank. The file is called `f`.
 use crate::parser::{OTHERWISE, limits_of};
-use crate::rows::pair;
 use graphql_parser::{
     Error, Limits, check_query_limited, check_schema_limited, parse_query_limited,
     parse_schema_limited,
 };
 use graphql_report::{Language, explain, finding_of, is_front};
+use rows::pair;
 use std::alloc::{AllocError, Global};
 use std::test::Fail;
 

@@ -6,8 +6,8 @@
 //! fragments.
 //!
 //! Proved of it: the printing ends without a fault on every tree, also on those that no text has. What is printed is tested by
-//! `conformance`: on some texts against forms that were worked out by hand, and on random texts that it is read as the same
-//! tree again.
+//! `roundtrip`: on some texts against forms that were worked out by hand, and on random texts that it is read as the same tree
+//! again.
 #![tactic(auto)]
 
 mod parts;

@@ -1,7 +1,7 @@
 //! The texts of the library's own tests.
 //!
 //! Their files have tables, with a text before the arrow of each row, and whole texts. How they are written, and what the
-//! marks of a row stand for, is said in `crates/conformance/src/rows.rt`.
+//! marks of a row stand for, is said at `crates/rows`.
 use std::fs;
 use std::path::{Path, PathBuf};
 
@@ -14,12 +14,15 @@ pub fn path(inside: &str) -> PathBuf {
 
 /// All texts of the tables, and what their files hold besides.
 pub fn texts() -> Vec<String> {
+    let crates = ["conformance", "conformance_parts"];
     let mut texts = Vec::new();
-    for file in files(&path("crates/conformance/data/tables")) {
-        for table in fs::read_to_string(file).unwrap().split("\n== ") {
-            let (_, inside) = table.split_once('\n').unwrap();
-            texts.extend(rows(inside));
-            texts.extend(inside.split("\n⇒\n").map(str::to_owned));
+    for name in crates {
+        for file in files(&path("crates").join(name).join("data/tables")) {
+            for table in fs::read_to_string(file).unwrap().split("\n== ") {
+                let (_, inside) = table.split_once('\n').unwrap();
+                texts.extend(rows(inside));
+                texts.extend(inside.split("\n⇒\n").map(str::to_owned));
+            }
         }
     }
     texts

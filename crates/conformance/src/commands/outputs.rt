@@ -1,8 +1,8 @@
 //! Help, and output that can't be written.
 use super::fakes::Sheet;
 use super::runs::{ended, patient};
-use crate::rows::pair;
 use graphql_commands::Style;
+use rows::pair;
 use std::alloc::Global;
 use std::io::ErrorKind;
 use std::str;

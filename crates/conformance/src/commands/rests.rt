@@ -2,7 +2,6 @@
 ghost use Rattle.graphql_report.specs.reports.Rests.{BeginsAt};
 
 use crate::reports::read_as;
-use crate::rows::pair;
 use graphql_commands::check::error_of;
 use graphql_commands::recovery::rest_at;
 use graphql_commands::telling::{Names, Source};
@@ -11,6 +10,7 @@ use graphql_report::{
     Finding, ReadFrom, ReadUpTo, Style, explain, explain_from, finding_from, finding_of,
     refused_token_from,
 };
+use rows::pair;
 use std::alloc::{AllocError, Global};
 use std::test::Fail;
 
@@ -96,20 +96,23 @@ fn shown(alloc: Global, finding: &Finding) -> Result<String, AllocError> {
     Ok(shown)
 }
 
-/// The numbers of the lines that begin at these offsets of a text of four line feeds, each counted from the one before it.
+/// The number of the line that begins at an offset of a text of four line feeds; with a second offset, also of the line that
+/// begins there, counted from the first one.
 pub fn later_line(alloc: Global, offsets: &str) -> Result<String, Fail> {
     let text = "# é\n) type\n{\n\n";
-    let mut answer = String::new(alloc);
-    let mut from = ReadFrom::top(text);
-    for offset in offsets.split_ascii_whitespace() {
-        match from.later(text, offset.parse()?) {
-            Some(later) => {
-                let line = later.line;
-                write!(answer, "{line} ")?;
-                from = later;
-            }
-            None => answer.push_str("none ")?,
-        }
+    let (first, second) = offsets.split_once(' ').unwrap_or((offsets, ""));
+    let Some(from) = ReadFrom::top(text).later(text, first.parse()?) else {
+        return Ok(String::from_str(alloc, "none")?);
+    };
+    let line = from.line;
+    if second.is_empty() {
+        return Ok(format!(in alloc; "{line}")?);
     }
-    Ok(answer)
+    match from.later(text, second.parse()?) {
+        Some(later) => {
+            let next = later.line;
+            Ok(format!(in alloc; "{line} {next}")?)
+        }
+        None => Ok(format!(in alloc; "{line} none")?),
+    }
 }

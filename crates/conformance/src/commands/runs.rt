@@ -1,11 +1,11 @@
 //! Runs of the program: what each prints, and the status that it ends with.
 //!
-//! The file `runs` has them, with an empty line between two, in the notation of the module `rows`. The first line of a run has its
+//! The file `runs` has them, with an empty line between two, in the notation of the crate `rows`. The first line of a run has its
 //! arguments, with blanks between them, after `$`, or after `%` where reports have colours. Then come the lines that it writes to
 //! standard output, after `> `, those that it writes to standard error, after `! `, and after `= ` its status.
 use super::fakes::{Files, Sheet};
-use crate::rows::meant;
 use graphql_commands::{Style, run};
+use rows::meant;
 use std::alloc::{AllocError, Global};
 use std::io::ErrorKind;
 use std::test::Fail;

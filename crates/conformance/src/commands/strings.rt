@@ -1,7 +1,7 @@
 //! Whether nothing closes a block string, and where the one probably begins that isn't closed.
-use crate::rows::pair;
 use graphql_commands::recovery::{probable_opening, unclosed_string};
 use graphql_report::Language;
+use rows::pair;
 use std::alloc::Global;
 use std::test::Fail;
 

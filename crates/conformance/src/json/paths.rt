@@ -1,8 +1,8 @@
 //! Long texts, whose JSON another reader of JSON takes.
 use super::text_of;
 use crate::parser::Document;
-use crate::rows::{Shown, pair};
 use graphql_json::Places;
+use rows::{Shown, pair};
 use serde_json::Value;
 use std::alloc::Global;
 use std::test::Fail;

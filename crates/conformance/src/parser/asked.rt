@@ -2,8 +2,8 @@
 use super::answers::Parser;
 use super::views::View;
 use super::{budgets, hostile, taken};
-use crate::rows::pair;
 use graphql_parser::Limits;
+use rows::pair;
 use std::alloc::Global;
 use std::test::Fail;
 

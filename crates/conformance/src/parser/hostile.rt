@@ -2,9 +2,9 @@
 use super::answers::Parser;
 use super::taken::counted;
 use super::views::View;
-use crate::rows::Shown;
 use graphql_parser::Pos;
 use graphql_parser::lexer::{TokenKind, Tokens};
+use rows::Shown;
 use std::alloc::{AllocError, Global};
 
 fn is_refused_at(alloc: Global, answer: &str, place: Pos) -> Result<bool, AllocError> {

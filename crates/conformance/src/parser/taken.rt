@@ -2,8 +2,8 @@
 //! own, and takes as many.
 use super::answers::Parser;
 use super::views::View;
-use crate::rows::Shown;
 use graphql_parser::lexer::Tokens;
+use rows::Shown;
 use std::alloc::{AllocError, Global};
 
 /// What a parser gives over fresh tokens of a text, and how many it takes.

@@ -1,13 +1,13 @@
 //! What the calls of a tree give, as text.
 use super::sizes::{write_file_sizes, write_request_sizes};
-use crate::rows::Shown;
-use crate::rows::trees::{Written, write_default_value, write_directives, write_value};
 use graphql_parser::Positioned;
 use graphql_parser::types::{
     Directive, ExecutableDocument, Field, OperationDefinition, OperationsIter, Selection,
     ServiceDocument,
 };
 use graphql_parser::value::{ConstValue, Name, Value, ValueView};
+use rows::Shown;
+use rows::trees::{Written, write_default_value, write_directives, write_value};
 use std::alloc::{AllocError, Global};
 
 /// What is looked at in a tree. The first four are for schema files too.

@@ -1,0 +1,72 @@
+//! Values of each type that are made by callers of the contracts, and what no clause says.
+ghost use Rattle.std.specs.Prelude.{◌≡◌, ◌∷◌, [], IsTrue, IfOk};
+ghost use Rattle.graphql_syntax.specs.trees.ValueTree.{null, boolean, list, object, trees_of, fields_of};
+
+use graphql_syntax::value::{ConstValue, Literal, Name, Value};
+use rows::Shown;
+use rows::trees::Written;
+use rows::trees::plain::Plain;
+use std::alloc::{AllocError, Global};
+use std::test::Fail;
+
+// `{name: [boolean, null]}`, at any type of values.
+fn example<V: Literal>(alloc: Global, name: Name, b: bool) -> Result<V, AllocError>
+    ensures { IfOk result (λ v. V.tree v
+        ≡ object (fields_of ((name, list (trees_of (boolean b ∷ null ∷ []))) ∷ []))) }
+{
+    let mut items = Vec::new(alloc);
+    items.push(V::boolean(b))?;
+    items.push(V::null())?;
+    let mut fields = Vec::new(alloc);
+    fields.push((name, V::list(items)))?;
+    Ok(V::object(fields))
+}
+
+// A variable, where the type has them, and else its name as a value of an enum.
+fn variable_or_enum<V: Literal>(name: Name, again: Name) -> V {
+    match V::variable(name) {
+        Some(value) => value,
+        None => V::enumeration(again),
+    }
+}
+
+// A clone is equal to its source.
+fn equals_its_clone(value: &ConstValue) -> Result<bool, AllocError>
+    ensures { IfOk result IsTrue }
+{
+    let copy = value.clone()?;
+    Ok(copy == *value)
+}
+
+// The value of this name, at a type.
+fn value_of<V: Literal>(alloc: Global, what: &str) -> Result<V, AllocError> {
+    let name = Name::new(alloc, "a")?;
+    match what {
+        "example" => example(alloc, name, true),
+        "yes" => Ok(V::boolean(true)),
+        "no" => Ok(V::boolean(false)),
+        "string" => Ok(V::string(String::from_str(alloc, "a")?)),
+        _ => Ok(variable_or_enum(name, Name::new(alloc, "b")?)),
+    }
+}
+
+fn shown<V: Literal + Written>(alloc: Global, what: &str) -> Result<String, Fail> {
+    let value: V = value_of(alloc, what)?;
+    let mut shown = Shown::new(alloc, true);
+    value.write(&mut shown);
+    Ok(shown.finish()?)
+}
+
+/// The value of a name, at the type after ` of `; and whether a clone of it is equal.
+pub fn made(alloc: Global, text: &str) -> Result<String, Fail> {
+    match text.split_once(" of ") {
+        Some((what, "Value")) => shown::<Value>(alloc, what),
+        Some((what, "ConstValue")) => shown::<ConstValue>(alloc, what),
+        Some((what, "Plain")) => shown::<Plain>(alloc, what),
+        Some((what, "ConstValue and a clone")) => {
+            let is_equal = equals_its_clone(&value_of(alloc, what)?)?;
+            Ok(format!(in alloc; "equal {is_equal}")?)
+        }
+        _ => Err(Fail::new("no such value")),
+    }
+}
