@@ -182,7 +182,9 @@ uint32_t graphql_parser_parse_schema(
  *                          What is given back isn't counted off, and neither are the JSON and what writing it takes
  *                          counted.
  *
- * A text that needs more is answered with GRAPHQL_PARSER_OUT_OF_MEMORY, as one for which `malloc` gave nothing. */
+ * A text that needs more is answered with GRAPHQL_PARSER_OUT_OF_MEMORY, as one for which `malloc` gave nothing. No text of
+ * n bytes needs more than 1105 * n + 1161 bytes, and no check of a schema file, or of a request of one definition, more
+ * than 57. */
 uint32_t graphql_parser_check_query_within(
     const uint8_t *text, size_t length, size_t selections, size_t values, size_t types, size_t memory,
     graphql_parser_places *places);

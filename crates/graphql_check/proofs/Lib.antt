@@ -17,6 +17,9 @@ pub mod OpenSets
 pub mod Mapped
 pub mod Documents
 pub mod Checking
+pub mod Calm
+pub mod HeadFunds
+pub mod OneDefinition
 pub mod ShortOperations
 pub mod RequestHeads
 pub mod WordedHeads

@@ -2,6 +2,7 @@
 use Rattle.std.specs.Prelude.{◌≡◌, Option, Some, None, Result, Ok, Err, List}
 use Rattle.graphql_tokens.specs.tokens.Token.{Token}
 use Rattle.graphql_reading.specs.reading.Ahead.{Ahead, tokens}
+use Rattle.graphql_reading.specs.reading.Funds.{Spares}
 use Rattle.graphql_reading.specs.reading.Given.{GoesOn, Refuses}
 use Rattle.graphql_reading.specs.reading.Outcome.{Outcome, Reader, Read, Refused}
 use Rattle.graphql_reading.specs.declared.parser.Refusal.{Refusal}
@@ -18,3 +19,7 @@ Told (Err refusal) old new r = Refuses refusal old new r
 
 abbrev pub Checks : {X Y : Type 0} → Result X Refusal → Ahead → Ahead → Reader Y → Type 0
 Checks result old new r = Told result old new r × GoesOn old new
+
+-- no memory was asked for, and no token came back
+abbrev pub Calm : Ahead → Ahead → Type 0
+Calm old new = (new.memory ≡ old.memory) × Spares 0 old new

@@ -1,7 +1,7 @@
 //! Readers of arguments, directives and default values that make no tree, by GraphQL October 2021, sections 2.6,
 //! 2.10 and 2.12.
 ghost use Rattle.std.specs.Prelude.{true, false};
-ghost use Rattle.graphql_check.specs.Checked.{Checks};
+ghost use Rattle.graphql_check.specs.Checked.{Checks, Calm};
 ghost use Rattle.graphql_tokens.specs.declared.pos.Positioned.{Positioned as Place};
 ghost use Rattle.graphql_syntax.specs.trees.Parts as trees;
 ghost use Rattle.graphql_grammar.specs.reading.Arguments.{argument_at, arguments_at, maybe_arguments_at, directive_at, directives_at, maybe_default_at};
@@ -40,7 +40,8 @@ impl<const VARIABLES: bool> Phrase for ArgumentPhrase<VARIABLES> {
 /// `Arguments : '(' Argument+ ')'` (GraphQL October 2021, section 2.6)
 #[inline(never)]
 fn check_arguments<const VARIABLES: bool>(parser: &mut Parser, limits: Limits) -> Reading<()>
-    ensures { Checks result parser.old parser.new (arguments_at VARIABLES limits.values) }
+    ensures checks { Checks result parser.old parser.new (arguments_at VARIABLES limits.values) }
+    ensures calm { Calm parser.old parser.new }
 {
     parser.expect_punct("(")?;
     check_one_or_more::<ArgumentPhrase<VARIABLES>>(parser, limits)?;
@@ -55,7 +56,8 @@ fn check_maybe_arguments_of<const VARIABLES: bool>(
     parser: &mut Parser,
     limits: Limits,
 ) -> Reading<()>
-    ensures { Checks result parser.old parser.new (maybe_arguments_at VARIABLES limits.values) }
+    ensures checks { Checks result parser.old parser.new (maybe_arguments_at VARIABLES limits.values) }
+    ensures calm { Calm parser.old parser.new }
 {
     if !parser.is_at_punct("(") {
         return Ok(());
@@ -68,7 +70,8 @@ fn check_maybe_arguments_of<const VARIABLES: bool>(
 /// `Arguments?`
 #[inline(always)]
 pub fn check_maybe_arguments(parser: &mut Parser, limits: Limits) -> Reading<()>
-    ensures { Checks result parser.old parser.new (maybe_arguments_at true limits.values) }
+    ensures checks { Checks result parser.old parser.new (maybe_arguments_at true limits.values) }
+    ensures calm { Calm parser.old parser.new }
 {
     check_maybe_arguments_of::<true>(parser, limits)
 }
@@ -101,14 +104,16 @@ impl<const VARIABLES: bool> Phrase for DirectivePhrase<VARIABLES> {
 /// `Directives? : Directive*` (GraphQL October 2021, section 2.12)
 #[inline(always)]
 pub fn check_directives(parser: &mut Parser, limits: Limits) -> Reading<()>
-    ensures { Checks result parser.old parser.new (directives_at true limits.values) }
+    ensures checks { Checks result parser.old parser.new (directives_at true limits.values) }
+    ensures calm { Calm parser.old parser.new }
 {
     check_any_number::<DirectivePhrase<true>>(parser, limits)
 }
 
 /// As [`check_directives`], without variables.
 pub fn check_const_directives(parser: &mut Parser, limits: Limits) -> Reading<()>
-    ensures { Checks result parser.old parser.new (directives_at false limits.values) }
+    ensures checks { Checks result parser.old parser.new (directives_at false limits.values) }
+    ensures calm { Calm parser.old parser.new }
 {
     check_any_number::<DirectivePhrase<false>>(parser, limits)
 }
@@ -118,7 +123,8 @@ pub fn check_const_directives(parser: &mut Parser, limits: Limits) -> Reading<()
 /// `DefaultValue? : ('=' Value[Const])?` (GraphQL October 2021, section 2.10)
 #[tactic(auto, unfolding(graphql_reading::specs::reading::Outcome::opt_at))]
 pub fn check_maybe_default(parser: &mut Parser, limits: Limits) -> Reading<()>
-    ensures { Checks result parser.old parser.new (maybe_default_at limits.values) }
+    ensures checks { Checks result parser.old parser.new (maybe_default_at limits.values) }
+    ensures calm { Calm parser.old parser.new }
 {
     if !parser.take_punct("=") {
         return Ok(());

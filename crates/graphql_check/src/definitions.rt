@@ -1,6 +1,11 @@
 //! Readers of operations, fragments and requests that keep of each definition what the rules look at.
-ghost use Rattle.std.specs.Prelude.{◌≡◌, true, option_map, map};
-ghost use Rattle.graphql_check.specs.Checked.{Checks};
+ghost use Rattle.std.specs.Prelude.{◌≡◌, ◌+◌, length, IfOk, IfSome, true, option_map, map};
+ghost use Rattle.graphql_check.specs.Checked.{Checks, Calm};
+ghost use Rattle.graphql_check.specs.HeadFunds.{name_bytes, heads_owed, HeadsPay};
+ghost use Rattle.graphql_check.specs.OneDefinition.{FirstStandsAlone};
+ghost use Rattle.graphql_reading.specs.reading.Ahead.{tokens};
+ghost use Rattle.graphql_reading.specs.reading.Funds.{Spares};
+ghost use Rattle.graphql_reading.specs.reading.Worth.{per_token};
 ghost use Rattle.graphql_check.specs.RequestHeads.{head_of, head_tree, in_heads};
 ghost use Rattle.graphql_tokens.specs.tokens.Seen.{seen};
 ghost use Rattle.graphql_grammar.specs.reading.Arguments.{directives_at};
@@ -44,8 +49,10 @@ impl Default for Head<'_> {
 ///
 /// `OperationDefinition : SelectionSet` (GraphQL October 2021, section 2.3)
 fn read_short_operation<'a>(parser: &mut Parser<'a>, limits: Limits) -> Reading<Head<'a>>
-    ensures { Gives head_tree result parser.old parser.new
+    ensures gives { Gives head_tree result parser.old parser.new
         (mapped_at head_of (short_operation_at limits)) }
+    ensures calm { Calm parser.old parser.new }
+    ensures pays { IfOk result (λ head. Spares (264 + name_bytes head) parser.old parser.new) }
 {
     let place = parser.hand().pos;
     check_selection_set(parser, limits)?;
@@ -54,8 +61,10 @@ fn read_short_operation<'a>(parser: &mut Parser<'a>, limits: Limits) -> Reading<
 
 #[tactic(auto, unfolding(graphql_reading::specs::reading::Outcome::opt_at))]
 fn read_maybe_name<'a>(parser: &mut Parser<'a>) -> Reading<Option<Token<'a>>>
-    ensures { Gives (option_map seen) result parser.old parser.new
+    ensures gives { Gives (option_map seen) result parser.old parser.new
         (opt_at any_name (one_at any_name)) }
+    ensures calm { Calm parser.old parser.new }
+    ensures pays { IfOk result (λ name. IfSome name (λ token. Spares (per_token + length token.text.now) parser.old parser.new)) }
 {
     if !parser.is_at_name() {
         return Ok(None);
@@ -73,8 +82,9 @@ fn text_of<'a>(name: Option<Token<'a>>) -> Option<&'a str>
 ///
 /// `Directives? SelectionSet`
 fn check_body(parser: &mut Parser, limits: Limits) -> Reading<()>
-    ensures { Checks result parser.old parser.new
+    ensures checks { Checks result parser.old parser.new
         (then_at (directives_at true limits.values) (own_set_at limits)) }
+    ensures calm { Calm parser.old parser.new }
 {
     check_directives(parser, limits)?;
     check_selection_set(parser, limits)
@@ -85,8 +95,10 @@ fn check_body(parser: &mut Parser, limits: Limits) -> Reading<()>
 /// `OperationDefinition : OperationType Name? VariableDefinitions? Directives? SelectionSet` (GraphQL October 2021,
 /// section 2.3)
 fn read_operation<'a>(parser: &mut Parser<'a>, limits: Limits) -> Reading<Head<'a>>
-    ensures { Gives head_tree result parser.old parser.new
+    ensures gives { Gives head_tree result parser.old parser.new
         (mapped_at head_of (full_operation_at limits)) }
+    ensures calm { Calm parser.old parser.new }
+    ensures pays { IfOk result (λ head. Spares (264 + name_bytes head) parser.old parser.new) }
 {
     let (word, _) = read_operation_type(parser)?;
     let name = read_maybe_name(parser)?;
@@ -96,7 +108,9 @@ fn read_operation<'a>(parser: &mut Parser<'a>, limits: Limits) -> Reading<Head<'
 }
 
 fn expect_fragment_name<'a>(parser: &mut Parser<'a>) -> Reading<Token<'a>>
-    ensures { Gives seen result parser.old parser.new (one_at fragment_name) }
+    ensures gives { Gives seen result parser.old parser.new (one_at fragment_name) }
+    ensures calm { Calm parser.old parser.new }
+    ensures pays { IfOk result (λ token. Spares (per_token + length token.text.now) parser.old parser.new) }
 {
     if !is_at_fragment_name(parser) {
         return Err(Refusal::Syntax);
@@ -107,8 +121,10 @@ fn expect_fragment_name<'a>(parser: &mut Parser<'a>) -> Reading<Token<'a>>
 /// `FragmentDefinition : 'fragment' FragmentName TypeCondition Directives? SelectionSet` (GraphQL October 2021,
 /// section 2.8)
 fn read_fragment<'a>(parser: &mut Parser<'a>, limits: Limits) -> Reading<Head<'a>>
-    ensures { Gives head_tree result parser.old parser.new
+    ensures gives { Gives head_tree result parser.old parser.new
         (mapped_at head_of (fragment_at limits)) }
+    ensures calm { Calm parser.old parser.new }
+    ensures pays { IfOk result (λ head. Spares (264 + name_bytes head) parser.old parser.new) }
 {
     let word = parser.expect_keyword("fragment")?;
     let name = expect_fragment_name(parser)?;
@@ -119,8 +135,10 @@ fn read_fragment<'a>(parser: &mut Parser<'a>, limits: Limits) -> Reading<Head<'a
 
 /// `ExecutableDefinition : OperationDefinition | FragmentDefinition`
 fn read_head<'a>(parser: &mut Parser<'a>, limits: Limits) -> Reading<Head<'a>>
-    ensures { Gives head_tree result parser.old parser.new
+    ensures gives { Gives head_tree result parser.old parser.new
         (mapped_at head_of (definition_at limits)) }
+    ensures calm { Calm parser.old parser.new }
+    ensures pays { IfOk result (λ head. Spares (264 + name_bytes head) parser.old parser.new) }
 {
     if parser.is_at_punct("{") {
         read_short_operation(parser, limits)
@@ -135,10 +153,13 @@ fn read_head<'a>(parser: &mut Parser<'a>, limits: Limits) -> Reading<Head<'a>>
 ///
 /// `ExecutableDocument : ExecutableDefinition+` (GraphQL October 2021, section 2.2)
 pub fn read_heads<'a>(parser: &mut Parser<'a>, limits: Limits) -> Reading<SmallVec<Head<'a>, 1>>
-    ensures { Gives in_heads result parser.old parser.new
+    ensures gives { Gives in_heads result parser.old parser.new
         (mapped_at (map head_of) (definitions_at limits)) }
+    ensures pays { HeadsPay result parser.old parser.new }
+    ensures alone { FirstStandsAlone limits (tokens parser.old) →
+        (parser.new.memory ≡ parser.old.memory) × IfOk result (λ heads. heads_owed heads.items ≡ 0) }
 {
-    let mut heads = SmallVec::new(parser.heap());
+    let mut heads = parser.empty_small_list();
     loop {
         let head = read_head(parser, limits)?;
         parser.push_small(&mut heads, head)?;

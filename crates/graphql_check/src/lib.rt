@@ -7,11 +7,16 @@
 //! Users name `graphql_parser`, which gives these calls out.
 #![tactic(auto)]
 
-ghost use Rattle.std.specs.Prelude.{◌≡◌, ◌≢◌, List, [], map, Err};
+ghost use Rattle.std.specs.Prelude.{◌≡◌, ◌≢◌, ◌≤◌, ◌<◌, ◌⊎◌, ◌+◌, List, [], map, length, Err};
 ghost use Rattle.graphql_check.specs.Checking.{checked};
 ghost use Rattle.graphql_check.specs.RequestHeads.{head_of, in_heads};
-ghost use Rattle.graphql_memory.specs.Memory.{Refused};
-ghost use Rattle.graphql_tokens.specs.tokens.Token.{left};
+ghost use Rattle.graphql_memory.specs.Refusals.{HeapRefused};
+ghost use Rattle.graphql_grammar.specs.answers.Memory.{most_taken, message_bytes};
+ghost use Rattle.graphql_reading.specs.reading.Worth.{worth};
+ghost use Rattle.graphql_check.specs.HeadFunds.{heads_owed};
+ghost use Rattle.graphql_check.specs.OneDefinition.{FirstStandsAlone};
+ghost use Rattle.graphql_tokens.specs.tokens.Cuts.{IsCutInto};
+ghost use Rattle.graphql_tokens.specs.tokens.Token.{Token as SpecToken, left};
 ghost use Rattle.graphql_grammar.specs.answers.Reads.{ReadsText, ReadsTokens};
 ghost use Rattle.graphql_grammar.specs.declared.error.Error.TheVariants.{OutOfMemory};
 ghost use Rattle.graphql_reading.specs.grammar.Limits.{default_limits};
@@ -59,6 +64,10 @@ impl<'a> Kept<'a> for KeptHeads<'a> {
 
     ghost kept = { λ kept. in_heads kept.items };
 
+    ghost Costs = { λ limits ts most. (most ≡ worth ts) ⊎ (FirstStandsAlone limits ts × (most ≡ 0)) };
+
+    ghost owes = { λ kept. heads_owed kept.items.items };
+
     ghost language = { checked requests };
 
     ghost reader = { definitions_at };
@@ -101,11 +110,19 @@ pub fn check_query_limited(alloc: Global, text: &str, limits: Limits) -> Result<
     check_query_within(&mut Memory::new(alloc), text, limits)
 }
 
-/// As [`check_query_limited`], with who takes memory, as a budget bounds it. `OutOfMemory` is answered only where
-/// memory was refused: where more was wanted than was left, or the heap had no more.
+/// As [`check_query_limited`], with who takes memory, as a budget bounds it. A text of n bytes takes at most
+/// 1,105 n + 1,161 of them, and 57 where nothing but its end stands after its first definition. `OutOfMemory` is answered
+/// only where the heap refused a request, or less than that was left.
 pub fn check_query_within(memory: &mut Memory, text: &str, limits: Limits) -> Result<()>
     ensures reads { ReadsText (checked requests) limits text.now result }
-    ensures refused { result ≡ Err OutOfMemory → Refused memory.new }
+    ensures taken { memory.old.left ≤ memory.new.left + most_taken (length text.now) }
+    ensures lent { memory.new.left ≤ memory.old.left }
+    ensures refused { result ≡ Err OutOfMemory → HeapRefused memory.old memory.new
+        ⊎ (memory.old.left < most_taken (length text.now)) }
+    // One definition takes memory for a message alone.
+    ensures alone { (ts : List SpecToken) → IsCutInto text.now ts → FirstStandsAlone limits ts →
+        (memory.old.left ≤ memory.new.left + message_bytes) ×
+        (result ≡ Err OutOfMemory → HeapRefused memory.old memory.new ⊎ (memory.old.left < message_bytes)) }
 {
     let mut tokens = Tokens::new(text);
     read_document::<KeptHeads>(memory, &mut tokens, limits)

@@ -2,7 +2,7 @@
 //!
 //! The caller of a reader that repeats owes that each phrase takes a token at least: the loop ends by that.
 ghost use Rattle.std.specs.Prelude.{◌≡◌};
-ghost use Rattle.graphql_check.specs.Checked.{Checks};
+ghost use Rattle.graphql_check.specs.Checked.{Checks, Calm};
 ghost use Rattle.graphql_reading.specs.grammar.Limits.{Limits as Budgets};
 ghost use Rattle.graphql_reading.specs.grammar.Tests.{Test};
 ghost use Rattle.graphql_reading.specs.reading.Outcome.{Reader, Takes, many_at, plus_at, opt_at, between_at};
@@ -29,14 +29,16 @@ pub trait Phrase {
 
     /// Reads a phrase.
     fn check(parser: &mut Parser, limits: Limits) -> Reading<()>
-        ensures { Checks result parser.old parser.new (Self.reader limits) };
+        ensures checks { Checks result parser.old parser.new (Self.reader limits) }
+        ensures calm { Calm parser.old parser.new };
 }
 
 /// Reads one phrase or more: another as long as the token in hand begins one.
 #[inline(always)]
 pub fn check_one_or_more<P: Phrase>(parser: &mut Parser, limits: Limits) -> Reading<()>
     requires { Takes (P.reader limits) }
-    ensures { Checks result parser.old parser.new (plus_at P.first (P.reader limits)) }
+    ensures checks { Checks result parser.old parser.new (plus_at P.first (P.reader limits)) }
+    ensures calm { Calm parser.old parser.new }
 {
     loop {
         P::check(parser, limits)?;
@@ -50,7 +52,8 @@ pub fn check_one_or_more<P: Phrase>(parser: &mut Parser, limits: Limits) -> Read
 #[inline(always)]
 pub fn check_any_number<P: Phrase>(parser: &mut Parser, limits: Limits) -> Reading<()>
     requires { Takes (P.reader limits) }
-    ensures { Checks result parser.old parser.new (many_at P.first (P.reader limits)) }
+    ensures checks { Checks result parser.old parser.new (many_at P.first (P.reader limits)) }
+    ensures calm { Calm parser.old parser.new }
 {
     if !P::is_next(parser) {
         return Ok(());
@@ -68,9 +71,10 @@ pub fn check_maybe_bracketed<P: Phrase>(
     limits: Limits,
 ) -> Reading<()>
     requires { Takes (P.reader limits) }
-    ensures { Checks result parser.old parser.new
+    ensures checks { Checks result parser.old parser.new
         (opt_at (punct_of opening.now) (between_at (punct_of opening.now)
         (plus_at P.first (P.reader limits)) (punct_of closing.now))) }
+    ensures calm { Calm parser.old parser.new }
 {
     if !parser.take_punct(opening) {
         return Ok(());

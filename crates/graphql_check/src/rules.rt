@@ -1,7 +1,8 @@
 //! The rules that the definitions of a request keep, by their heads. Names are found by their order, so none take
 //! longer than others of their length.
-ghost use Rattle.std.specs.Prelude.{◌≡◌, ◌≢◌, List, [], ◌∷◌, Some, None, Err, map};
-ghost use Rattle.graphql_memory.specs.Memory.{Refused};
+ghost use Rattle.std.specs.Prelude.{◌≡◌, ◌≢◌, ◌+◌, length, List, [], ◌∷◌, Some, None, Err, map};
+ghost use Rattle.graphql_memory.specs.Memory.{Refused, Takes};
+ghost use Rattle.graphql_check.specs.HeadFunds.{name_bytes, heads_owed};
 ghost use Rattle.graphql_grammar.specs.declared.error.Error.TheVariants.{OutOfMemory};
 ghost use Rattle.graphql_check.specs.Checking.{checked};
 ghost use Rattle.graphql_check.specs.RequestHeads.{operation_head, fragment_head, head_tree};
@@ -62,6 +63,7 @@ impl<'a> Sorted<'a> {
     fn add_operation(&mut self, memory: &mut Memory, name: &'a str, place: Pos) -> Result<()>
         ensures added { (ds : List SpecDefinition) → IsSorted ds self.old →
             IsAdded ds (operation_head (Some name.now) place) result self.new }
+        ensures takes { Takes (72 + length name.now) memory.old memory.new }
         ensures refused { result ≡ Err OutOfMemory → Refused memory.new }
     {
         if let Some(anonymous) = self.anonymous {
@@ -87,6 +89,7 @@ impl<'a> Sorted<'a> {
     fn add_fragment(&mut self, memory: &mut Memory, name: &'a str, place: Pos) -> Result<()>
         ensures added { (ds : List SpecDefinition) → IsSorted ds self.old →
             IsAdded ds (fragment_head name.now place) result self.new }
+        ensures takes { Takes (72 + length name.now) memory.old memory.new }
         ensures refused { result ≡ Err OutOfMemory → Refused memory.new }
     {
         match memory.insert_ordered(&mut self.fragments, name, place)? {
@@ -102,6 +105,7 @@ impl<'a> Sorted<'a> {
     fn add(&mut self, memory: &mut Memory, head: Head<'a>) -> Result<()>
         ensures added { (ds : List SpecDefinition) → IsSorted ds self.old →
             IsAdded ds (head_tree head.entry) result self.new }
+        ensures takes { Takes (72 + name_bytes head.entry) memory.old memory.new }
         ensures refused { result ≡ Err OutOfMemory → Refused memory.new }
     {
         match head {
@@ -139,10 +143,11 @@ fn judge_one(head: Head) -> Result<()>
 /// Two heads or more take memory.
 pub fn judge(memory: &mut Memory, heads: &[Head]) -> Result<()>
     ensures document { IsDocumentOf (checked requests) (map head_tree heads.now) result }
+    ensures takes { Takes (heads_owed heads.now) memory.old memory.new }
     ensures refused { result ≡ Err OutOfMemory → Refused memory.new }
 {
-    if let [head] = heads {
-        return judge_one(*head);
+    if heads.len() == 1 {
+        return judge_one(heads[0]);
     }
     let mut sorted = Sorted::new(memory.heap());
     for head in heads {

@@ -1,9 +1,10 @@
 //! Schema files, checked without a tree (GraphQL October 2021, section 3).
-ghost use Rattle.std.specs.Prelude.{◌≡◌, ◌≢◌, Option, [], Err};
-ghost use Rattle.graphql_memory.specs.Memory.{Refused};
+ghost use Rattle.std.specs.Prelude.{◌≡◌, ◌≢◌, ◌≤◌, ◌<◌, ◌⊎◌, ◌+◌, Option, [], Err};
+ghost use Rattle.graphql_memory.specs.Refusals.{HeapRefused};
 ghost use Rattle.graphql_tokens.specs.tokens.Token.{left};
 ghost use Rattle.graphql_check.specs.Checking.{checked};
 ghost use Rattle.graphql_check.specs.SchemaRules.{first_breach};
+ghost use Rattle.graphql_grammar.specs.answers.Memory.{message_bytes};
 ghost use Rattle.graphql_grammar.specs.answers.Reads.{ReadsText, ReadsTokens};
 ghost use Rattle.graphql_grammar.specs.declared.error.Error.{Error as SpecError};
 ghost use Rattle.graphql_grammar.specs.declared.error.Error.TheVariants.{OutOfMemory};
@@ -48,6 +49,10 @@ impl<'a> Kept<'a> for FirstBreach {
 
     ghost kept = { λ kept. kept.breach };
 
+    ghost Costs = { λ _ _ most. most ≡ 0 };
+
+    ghost owes = { λ _. 0 };
+
     ghost language = { checked schemas };
 
     ghost reader = { definitions_at };
@@ -87,12 +92,16 @@ pub fn check_schema_limited(alloc: Global, text: &str, limits: Limits) -> Result
     check_schema_within(&mut Memory::new(alloc), text, limits)
 }
 
-/// As [`check_schema_limited`], with who takes memory, as a budget bounds it. `OutOfMemory` is answered only where
-/// memory was refused: where more was wanted than was left, or the heap had no more.
+/// As [`check_schema_limited`], with who takes memory, as a budget bounds it. A message's 57 bytes are all that it takes.
+/// `OutOfMemory` is answered only where the heap refused a request, or less than that was left.
 pub fn check_schema_within(memory: &mut Memory, text: &str, limits: Limits) -> Result<()>
     ensures reads { ReadsText (checked schemas) limits text.now result }
     ensures former_schemas { FormerDescribesNoSchema limits }
-    ensures refused { result ≡ Err OutOfMemory → Refused memory.new }
+    // It takes memory for a message alone, of 57 bytes at most.
+    ensures taken { memory.old.left ≤ memory.new.left + message_bytes }
+    ensures lent { memory.new.left ≤ memory.old.left }
+    ensures refused { result ≡ Err OutOfMemory → HeapRefused memory.old memory.new
+        ⊎ (memory.old.left < message_bytes) }
 {
     let mut tokens = Tokens::new(text);
     read_document::<FirstBreach>(memory, &mut tokens, limits)

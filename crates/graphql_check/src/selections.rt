@@ -1,6 +1,8 @@
 //! Readers of selection sets that make no tree: one loop that counts the sets that are open.
 ghost use Rattle.std.specs.Prelude.{◌≡◌, ◌||◌};
-ghost use Rattle.graphql_check.specs.Checked.{Checks};
+ghost use Rattle.graphql_reading.specs.reading.Funds.{Pays};
+ghost use Rattle.graphql_reading.specs.reading.Worth.{per_token};
+ghost use Rattle.graphql_check.specs.Checked.{Checks, Calm};
 ghost use Rattle.graphql_requests.specs.reading.Request.{own_set_at};
 ghost use Rattle.graphql_requests.specs.reading.Selections.{selection_first};
 
@@ -24,7 +26,9 @@ fn is_at_head(parser: &Parser, is_wanted: bool) -> bool
 ///
 /// `SelectionSet : '{' Selection+ '}'` (GraphQL October 2021, section 2.4)
 pub fn check_selection_set(parser: &mut Parser, limits: Limits) -> Reading<()>
-    ensures { Checks result parser.old parser.new (own_set_at limits) }
+    ensures checks { Checks result parser.old parser.new (own_set_at limits) }
+    ensures calm { Calm parser.old parser.new }
+    ensures pays { Pays per_token result parser.old parser.new }
 {
     parser.expect_punct("{")?;
     // How many sets are open around the innermost one, and whether a selection has to follow in that.

@@ -1,5 +1,5 @@
 //! The reader of phrases with a mark between each two of them, that makes no tree.
-ghost use Rattle.graphql_check.specs.Checked.{Checks};
+ghost use Rattle.graphql_check.specs.Checked.{Checks, Calm};
 ghost use Rattle.graphql_reading.specs.reading.Outcome.{Takes, separated_at};
 ghost use Rattle.graphql_reading.specs.reading.Spelled.{punct_of};
 
@@ -13,8 +13,9 @@ use graphql_reading::parser::{Parser, Reading};
 #[inline(always)]
 pub fn check_separated<P: Phrase>(parser: &mut Parser, mark: &str, limits: Limits) -> Reading<()>
     requires { Takes (P.reader limits) }
-    ensures { Checks result parser.old parser.new
+    ensures checks { Checks result parser.old parser.new
         (separated_at (punct_of mark.now) (P.reader limits)) }
+    ensures calm { Calm parser.old parser.new }
 {
     parser.take_punct(mark);
     loop {

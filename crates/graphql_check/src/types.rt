@@ -1,5 +1,5 @@
 //! The reader of type references that makes no tree, by GraphQL October 2021, section 2.11.
-ghost use Rattle.graphql_check.specs.Checked.{Checks};
+ghost use Rattle.graphql_check.specs.Checked.{Checks, Calm};
 ghost use Rattle.graphql_grammar.specs.reading.Types.{type_at};
 
 use graphql_grammar::types::open_lists;
@@ -11,7 +11,8 @@ use graphql_reading::parser::{Parser, Reading};
 ///
 /// `Type : Name '!'? | '[' Type ']' '!'?`
 pub fn check_type(parser: &mut Parser, limits: Limits) -> Reading<()>
-    ensures { Checks result parser.old parser.new (type_at limits.types) }
+    ensures checks { Checks result parser.old parser.new (type_at limits.types) }
+    ensures calm { Calm parser.old parser.new }
 {
     let opened = open_lists(parser, limits)?;
     parser.expect_name()?;

@@ -1,7 +1,7 @@
 //! Values: one loop over the lists and objects that are open, of which only the kind is kept.
 ghost use Rattle.std.specs.Prelude.{◌≡◌, ◌+◌, ◌<◌, ◌≤◌, pred, [], ◌∷◌, ◌++◌, length, option_map, IfNone};
 ghost use Rattle.std.specs.Option.{option_to_list};
-ghost use Rattle.graphql_check.specs.Checked.{Checks};
+ghost use Rattle.graphql_check.specs.Checked.{Checks, Calm};
 ghost use Rattle.graphql_check.specs.Levels.{opens, end_at, met, step_at};
 ghost use Rattle.graphql_grammar.specs.reading.OpenValues.{enter_at, open_rest};
 ghost use Rattle.graphql_grammar.specs.reading.Values.{value_at};
@@ -72,7 +72,8 @@ impl Levels {
 ///
 /// `('[' | '{')?`
 fn enter(parser: &mut Parser, left: usize) -> Reading<Option<bool>>
-    ensures { Gives (option_map opens) result parser.old parser.new (enter_at left) }
+    ensures gives { Gives (option_map opens) result parser.old parser.new (enter_at left) }
+    ensures calm { Calm parser.old parser.new }
 {
     let list = parser.is_at_punct("[");
     let object = !list && parser.is_at_punct("{");
@@ -90,7 +91,8 @@ fn enter(parser: &mut Parser, left: usize) -> Reading<Option<bool>>
 ///
 /// `']' | '}' | (Name ':')?`
 fn ends(parser: &mut Parser, object: bool) -> Reading<bool>
-    ensures { Gives (λ ended. ended) result parser.old parser.new (end_at object) }
+    ensures gives { Gives (λ ended. ended) result parser.old parser.new (end_at object) }
+    ensures calm { Calm parser.old parser.new }
 {
     if !object {
         return Ok(parser.take_punct("]"));
@@ -105,7 +107,8 @@ fn ends(parser: &mut Parser, object: bool) -> Reading<bool>
 
 /// One step inside a list or an object, where so many levels are left.
 fn step_in(parser: &mut Parser, vars: bool, object: bool, left: usize) -> Reading<Step>
-    ensures { Gives met result parser.old parser.new (step_at vars left object) }
+    ensures gives { Gives met result parser.old parser.new (step_at vars left object) }
+    ensures calm { Calm parser.old parser.new }
 {
     if ends(parser, object)? {
         return Ok(Step::Closed);
@@ -123,7 +126,8 @@ fn step_in(parser: &mut Parser, vars: bool, object: bool, left: usize) -> Readin
 fn check_open(parser: &mut Parser, vars: bool, first: bool, limit: usize) -> Reading<()>
     requires some { 0 < limit }
     requires few { limit ≤ 256 }
-    ensures { Checks result parser.old parser.new (open_rest vars (pred limit) (opens first)) }
+    ensures checks { Checks result parser.old parser.new (open_rest vars (pred limit) (opens first)) }
+    ensures calm { Calm parser.old parser.new }
 {
     let mut levels = Levels::new(first, limit);
     while let Some(object) = levels.pop() {
@@ -144,7 +148,8 @@ fn check_open(parser: &mut Parser, vars: bool, first: bool, limit: usize) -> Rea
 /// `Value : Variable | IntValue | FloatValue | StringValue | BooleanValue | NullValue | EnumValue | ListValue |
 /// ObjectValue`
 pub fn check_value(parser: &mut Parser, vars: bool, limits: Limits) -> Reading<()>
-    ensures { Checks result parser.old parser.new (value_at vars limits.values) }
+    ensures checks { Checks result parser.old parser.new (value_at vars limits.values) }
+    ensures calm { Calm parser.old parser.new }
 {
     let limit = limits.values();
     match enter(parser, limit)? {

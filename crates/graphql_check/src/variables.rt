@@ -1,5 +1,5 @@
 //! Readers of variable definitions that make no tree, by GraphQL October 2021, section 2.10.
-ghost use Rattle.graphql_check.specs.Checked.{Checks};
+ghost use Rattle.graphql_check.specs.Checked.{Checks, Calm};
 ghost use Rattle.graphql_tokens.specs.declared.pos.Positioned.{Positioned};
 ghost use Rattle.graphql_request_trees.specs.trees.Request.{VariableDefinition};
 ghost use Rattle.graphql_reading.specs.grammar.Tests.{punct};
@@ -16,7 +16,8 @@ use graphql_reading::parser::{Parser, Reading};
 ///
 /// `DefaultValue? Directives? | Directives DefaultValue`
 fn check_default_and_directives(parser: &mut Parser, limits: Limits) -> Reading<()>
-    ensures { Checks result parser.old parser.new (default_and_directives_at limits.values) }
+    ensures checks { Checks result parser.old parser.new (default_and_directives_at limits.values) }
+    ensures calm { Calm parser.old parser.new }
 {
     if parser.is_at_punct("=") {
         check_maybe_default(parser, limits)?;
@@ -54,8 +55,9 @@ impl Phrase for VariablePhrase {
 ///
 /// `VariableDefinitions? : ('(' VariableDefinition+ ')')?` (GraphQL October 2021, section 2.10)
 pub fn check_maybe_variable_definitions(parser: &mut Parser, limits: Limits) -> Reading<()>
-    ensures { Checks result parser.old parser.new
+    ensures checks { Checks result parser.old parser.new
         (opt_at (punct "(") (variable_definitions_at limits.values limits.types)) }
+    ensures calm { Calm parser.old parser.new }
 {
     check_maybe_bracketed::<VariablePhrase>(parser, "(", ")", limits)
 }

@@ -1,6 +1,7 @@
 //! Checking texts: whether each is good.
-ghost use Rattle.std.specs.Prelude.{◌≡◌, ◌≤◌, ◌↔◌, IfOk, OnErr, map, Ok, None};
-ghost use Rattle.graphql_parser.specs.Memory.{Refused};
+ghost use Rattle.std.specs.Prelude.{◌≡◌, ◌≤◌, ◌<◌, ◌⊎◌, ◌↔◌, IfOk, OnErr, length, map, Ok, None};
+ghost use Rattle.graphql_parser.specs.Refusals.{HeapRefused};
+ghost use Rattle.graphql_parser.specs.answers.Memory.{most_taken};
 ghost use Rattle.graphql_commands.specs.checked.Good.{IsGoodText, IsGood, GiveGoodTexts};
 ghost use Rattle.graphql_commands.specs.declared.check.Found.TheVariants.{Good};
 
@@ -60,7 +61,8 @@ pub fn error_of(
 ) -> Result<Option<Error>, AllocError>
     ensures good { (result ≡ Ok None) →
         IsGoodText takes_fragments source.now.language source.now.limits source.now.text.now }
-    ensures refused { OnErr result (Refused memory.new) }
+    ensures refused { OnErr result (HeapRefused memory.old memory.new
+        ⊎ (memory.old.left < most_taken (length source.now.text.now))) }
 {
     let Source { limits, text, .. } = *source;
     let error = match source.language {

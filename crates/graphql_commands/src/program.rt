@@ -33,7 +33,8 @@ Options:
   --schema         the texts are schema files. Without either a file named *.graphqls, *.gqls or *.sdl is a schema
                    file, and another one is what its first word tells
   --limits S,V,T   how deep selection sets, values and list types may nest; 64,64,64 without it, 256 at most
-  --memory BYTES   check: how much memory the check of a file may take; one that needs more counts as not read
+  --memory BYTES   check: how much memory the check of a file may take; one that needs more counts as not read. No request
+                   of N bytes needs more than 1105 N + 1161, and no schema file more than 57
   --executable     check: a request needs an operation; without it fragments alone are good, as --fragments says
   --format FORMAT  check: text for people, which is so without it; json, a line for each finding, which has its file,
                    severity, status and message, and line, column, endLine and endColumn where they are known; or

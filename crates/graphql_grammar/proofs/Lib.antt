@@ -9,10 +9,12 @@ pub mod ValueProductions
 pub mod ValueFrames
 pub mod ValueContents
 pub mod ValueLoop
+pub mod OpenFrames
 pub mod ValuePlaces
 pub mod ArgumentProductions
 pub mod Former
 pub mod Languages
+pub mod Bounds
 pub mod Answering
 pub mod Made
 pub mod OperationKinds

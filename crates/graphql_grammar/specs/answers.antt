@@ -2,4 +2,5 @@
 pub mod Answers
 pub mod Breaches
 pub mod Language
+pub mod Memory
 pub mod Reads

@@ -6,7 +6,9 @@ pub mod ErrorPlaces
 pub mod ReadBy
 pub mod Errors
 pub mod Fields
+pub mod Funds
 pub mod OpenValues
+pub mod OpenFunds
 pub mod Operations
 pub mod TypeSteps
 pub mod Types

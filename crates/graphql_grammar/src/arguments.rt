@@ -9,6 +9,7 @@ ghost use Rattle.graphql_grammar.specs.reading.ArgumentViews.{in_argument};
 ghost use Rattle.graphql_grammar.specs.reading.Arguments.{argument_at, maybe_arguments_at, directive_at, directives_at, maybe_default_at};
 ghost use Rattle.graphql_reading.specs.grammar.Relations.{given};
 ghost use Rattle.graphql_reading.specs.grammar.Tests.{any_name, punct};
+ghost use Rattle.graphql_reading.specs.reading.Funds.{Pays};
 ghost use Rattle.graphql_reading.specs.reading.Given.{Gives, trees_in};
 ghost use Rattle.graphql_reading.specs.reading.Outcome.{mapped_at};
 
@@ -67,6 +68,8 @@ impl<V: Literal> Production for ArgumentPhrase<V> {
 
     ghost first = { any_name };
 
+    ghost spare = { 512 };
+
     ghost reader = { λ limits. argument_at V.VARIABLES limits.values };
 
     const ROOM: usize = 2;
@@ -91,8 +94,9 @@ impl<V: Literal> Production for ArgumentPhrase<V> {
 #[tactic(auto, unfolding(graphql_reading::specs::reading::Outcome::opt_at))]
 #[inline(always)]
 pub fn read_arguments<V: Literal>(parser: &mut Parser, limits: Limits) -> Reading<Arguments<V>>
-    ensures { Gives (trees_in (in_argument V.tree)) result parser.old parser.new
+    ensures gives { Gives (trees_in (in_argument V.tree)) result parser.old parser.new
         (mapped_at given (maybe_arguments_at V.VARIABLES limits.values)) }
+    ensures pays { Pays 0 result parser.old parser.new }
 {
     if !parser.is_at_punct("(") {
         return Ok(parser.empty_list());
@@ -111,6 +115,8 @@ impl<D: DirectiveNode<V>, V: Literal> Production for DirectivePhrase<D, V> {
     ghost tree = { placed D.tree };
 
     ghost first = { punct "@" };
+
+    ghost spare = { 512 };
 
     ghost reader = { λ limits. directive_at V.VARIABLES limits.values };
 
@@ -133,8 +139,9 @@ impl<D: DirectiveNode<V>, V: Literal> Production for DirectivePhrase<D, V> {
 /// `Directives? : Directive*` (GraphQL October 2021, section 2.12)
 #[inline(always)]
 pub fn read_directives(parser: &mut Parser, limits: Limits) -> Reading<Vec<Positioned<Directive>>>
-    ensures { Gives (trees_in (placed directive_tree)) result parser.old parser.new
+    ensures gives { Gives (trees_in (placed directive_tree)) result parser.old parser.new
         (directives_at true limits.values) }
+    ensures pays { Pays 0 result parser.old parser.new }
 {
     any_number::<DirectivePhrase<Directive, Value>>(parser, limits)
 }
@@ -144,8 +151,9 @@ pub fn read_const_directives(
     parser: &mut Parser,
     limits: Limits,
 ) -> Reading<Vec<Positioned<ConstDirective>>>
-    ensures { Gives (trees_in (placed const_directive_tree)) result parser.old parser.new
+    ensures gives { Gives (trees_in (placed const_directive_tree)) result parser.old parser.new
         (directives_at false limits.values) }
+    ensures pays { Pays 0 result parser.old parser.new }
 {
     any_number::<DirectivePhrase<ConstDirective, ConstValue>>(parser, limits)
 }
@@ -158,8 +166,9 @@ pub fn read_maybe_default(
     parser: &mut Parser,
     limits: Limits,
 ) -> Reading<Option<Positioned<ConstValue>>>
-    ensures { Gives (option_map (placed const_tree)) result parser.old parser.new
+    ensures gives { Gives (option_map (placed const_tree)) result parser.old parser.new
         (maybe_default_at limits.values) }
+    ensures pays { Pays 0 result parser.old parser.new }
 {
     if !parser.take_punct("=") {
         return Ok(None);

@@ -1,6 +1,7 @@
 //! The error that a refusal of the readers becomes.
 ghost use Rattle.std.specs.Prelude.{◌≡◌, IfOk, OnErr, string_bytes};
-ghost use Rattle.graphql_memory.specs.Memory.{Refused};
+ghost use Rattle.graphql_memory.specs.Memory.{Refused, Takes};
+ghost use Rattle.graphql_grammar.specs.answers.Memory.{message_bytes};
 ghost use Rattle.graphql_reading.specs.declared.parser.Refusal.TheVariants as refusals;
 ghost use Rattle.graphql_grammar.specs.declared.error.Error.TheVariants.{OutOfMemory};
 ghost use Rattle.graphql_grammar.specs.errors.Errors.{syntax_message};
@@ -18,6 +19,7 @@ const LONGEST: &str = "syntax error at 18446744073709551615:18446744073709551615
 
 fn message_of(memory: &mut Memory, start: Pos) -> Result<String, AllocError>
     ensures text { IfOk result (λ message. string_bytes message ≡ syntax_message start) }
+    ensures takes { Takes message_bytes memory.old memory.new }
     ensures refused { OnErr result (Refused memory.new) }
 {
     let mut number = Buffer::new();
@@ -33,6 +35,7 @@ fn message_of(memory: &mut Memory, start: Pos) -> Result<String, AllocError>
 #[inline(never)]
 pub fn syntax_error(memory: &mut Memory, start: Pos) -> Error
     ensures error { IsErrorOf refusals.Syntax start result }
+    ensures takes { Takes message_bytes memory.old memory.new }
     ensures refused { result ≡ OutOfMemory → Refused memory.new }
 {
     match message_of(memory, start) {
@@ -49,6 +52,7 @@ pub fn syntax_error(memory: &mut Memory, start: Pos) -> Error
 pub fn error_of(memory: &mut Memory, refusal: Refusal, place: Pos) -> Error
     requires { refusal ≡ refusals.Memory → Refused memory.old }
     ensures error { IsErrorOf refusal place result }
+    ensures takes { Takes message_bytes memory.old memory.new }
     ensures refused { result ≡ OutOfMemory → Refused memory.new }
 {
     match refusal {

@@ -1,7 +1,9 @@
 //! Readers of strings and block strings, by GraphQL October 2021, section 2.9.4.
-ghost use Rattle.std.specs.Prelude.{◌≡◌, string_bytes};
+ghost use Rattle.std.specs.Prelude.{◌≡◌, ◌≤◌, length, string_bytes};
 ghost use Rattle.graphql_grammar.specs.grammar.Values as grammar;
 ghost use Rattle.graphql_grammar.specs.reading.Values.{string_value_at, block_value_at};
+ghost use Rattle.graphql_reading.specs.reading.Funds.{Pays};
+ghost use Rattle.graphql_reading.specs.reading.Worth.{per_token};
 ghost use Rattle.graphql_reading.specs.reading.Given.{Gives};
 ghost use Rattle.graphql_reading.specs.reading.Spelled.{IsQuoted};
 
@@ -10,7 +12,8 @@ use graphql_reading::parser::{Parser, Reading, Refusal};
 /// What stands between so many quotes.
 fn inside(text: &str, quotes: usize) -> &str
     requires { IsQuoted quotes text.now }
-    ensures { result.now ≡ grammar.inside quotes text.now }
+    ensures inside { result.now ≡ grammar.inside quotes text.now }
+    ensures fits { length result.now ≤ length text.now }
 {
     let front = &text[..text.len() - quotes];
     &front[quotes..]
@@ -20,7 +23,8 @@ fn inside(text: &str, quotes: usize) -> &str
 ///
 /// `StringValue` between single quotes (GraphQL October 2021, section 2.9.4)
 pub fn read_string(parser: &mut Parser) -> Reading<String>
-    ensures { Gives string_bytes result parser.old parser.new string_value_at }
+    ensures gives { Gives string_bytes result parser.old parser.new string_value_at }
+    ensures pays { Pays per_token result parser.old parser.new }
 {
     let token = parser.hand();
     if !token.kind.is_string() {
@@ -37,7 +41,8 @@ pub fn read_string(parser: &mut Parser) -> Reading<String>
 ///
 /// `StringValue` between triple quotes (GraphQL October 2021, section 2.9.4)
 pub fn read_block(parser: &mut Parser) -> Reading<String>
-    ensures { Gives string_bytes result parser.old parser.new block_value_at }
+    ensures gives { Gives string_bytes result parser.old parser.new block_value_at }
+    ensures pays { Pays per_token result parser.old parser.new }
 {
     let token = parser.hand();
     if !token.kind.is_block() {

@@ -1,6 +1,9 @@
 //! Readers of type references, by GraphQL October 2021, section 2.11.
+ghost use Rattle.std.specs.Prelude.{◌≡◌, ◌-◌};
 ghost use Rattle.graphql_syntax.specs.trees.Parts.{placed};
 ghost use Rattle.graphql_syntax.specs.trees.TypeTree.{type_tree};
+ghost use Rattle.graphql_reading.specs.reading.Funds.{Pays, Spares};
+ghost use Rattle.graphql_reading.specs.reading.Worth.{per_token};
 ghost use Rattle.graphql_reading.specs.reading.Given.{Gives};
 ghost use Rattle.graphql_grammar.specs.reading.TypeSteps.{opens_at};
 ghost use Rattle.graphql_grammar.specs.reading.Types.{type_at};
@@ -15,7 +18,10 @@ use graphql_syntax::types::{BaseType, Type};
 /// `'['*`, as many as the limit allows
 #[inline(always)]
 pub fn open_lists(parser: &mut Parser, limits: Limits) -> Reading<usize>
-    ensures { Gives (λ opened. opened) result parser.old parser.new (opens_at 0 limits.types) }
+    ensures gives { Gives (λ opened. opened) result parser.old parser.new (opens_at 0 limits.types) }
+    ensures pays { Pays 0 result parser.old parser.new }
+    ensures saves { Spares 0 parser.old parser.new }
+    ensures memory { parser.new.memory ≡ parser.old.memory }
 {
     let limit = limits.types();
     let mut opened = 0;
@@ -34,7 +40,8 @@ pub fn open_lists(parser: &mut Parser, limits: Limits) -> Reading<usize>
 ///
 /// `Type : Name '!'? | '[' Type ']' '!'?`
 pub fn read_type(parser: &mut Parser, limits: Limits) -> Reading<Positioned<Type>>
-    ensures { Gives (placed type_tree) result parser.old parser.new (type_at limits.types) }
+    ensures gives { Gives (placed type_tree) result parser.old parser.new (type_at limits.types) }
+    ensures pays { Pays (per_token - 24) result parser.old parser.new }
 {
     let pos = parser.hand().pos;
     let opened = open_lists(parser, limits)?;

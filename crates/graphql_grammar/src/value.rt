@@ -1,5 +1,8 @@
 //! The reader of values: one loop over the lists and objects that are open.
+ghost use Rattle.std.specs.Prelude.{◌-◌};
 ghost use Rattle.graphql_syntax.specs.trees.Parts.{placed};
+ghost use Rattle.graphql_reading.specs.reading.Funds.{Pays};
+ghost use Rattle.graphql_reading.specs.reading.Worth.{per_token};
 ghost use Rattle.graphql_reading.specs.reading.Given.{Gives};
 ghost use Rattle.graphql_grammar.specs.reading.Values.{value_at};
 
@@ -23,8 +26,9 @@ use smallvec::SmallVec;
 /// `Value : Variable | IntValue | FloatValue | StringValue | BooleanValue | NullValue | EnumValue | ListValue |
 /// ObjectValue`
 pub fn read_value<V: Literal>(parser: &mut Parser, limits: Limits) -> Reading<Positioned<V>>
-    ensures { Gives (placed V.tree) result parser.old parser.new
+    ensures gives { Gives (placed V.tree) result parser.old parser.new
         (value_at V.VARIABLES limits.values) }
+    ensures pays { Pays (per_token - 24) result parser.old parser.new }
 {
     let pos = parser.hand().pos;
     let limit = limits.values();
@@ -32,7 +36,7 @@ pub fn read_value<V: Literal>(parser: &mut Parser, limits: Limits) -> Reading<Po
         return Ok(Positioned::new(read_simple(parser)?, pos));
     };
     // The lists and objects around the one that is read: two of them take no block.
-    let mut outer: SmallVec<Frame<V>, 2> = SmallVec::new(parser.heap());
+    let mut outer: SmallVec<Frame<V>, 2> = parser.empty_small_list();
     let mut innermost = first;
     loop {
         // So many levels may open inside the one that is read.

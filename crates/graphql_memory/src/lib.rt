@@ -1,12 +1,12 @@
 //! Who takes memory for a parser, and what it means that it was refused.
 //!
-//! Proved of it: each call fails only where memory was refused, and makes what the call of the library makes that it
-//! stands for. No call takes a number of places that its caller is free to choose: room is asked for as many as a slice
-//! or a text has, for at most eight, or for one more. So want of memory can't be had by asking for too much.
+//! Proved of it: each call takes what it grants off the budget, to the byte, and fails only where the heap refused a request
+//! or one was for more than was left; and it makes what the call of the library makes that it stands for.
 #![tactic(auto)]
 
-ghost use Rattle.std.specs.Prelude.{◌≡◌, ◌<◌, ◌+◌, ◌^◌, OnOk, OnErr};
-ghost use Rattle.graphql_memory.specs.Memory.{Refused};
+ghost use Rattle.std.specs.Prelude.{◌≡◌, ◌≢◌, ◌≤◌, ◌<◌, ◌⊎◌, ◌↔◌, ◌+◌, ◌*◌, ◌^◌, OnOk, OnErr, true};
+ghost use Rattle.graphql_memory.specs.Memory.{Refused, Takes, Took, Denied, bytes};
+ghost use Rattle.graphql_memory.specs.Refusals.{HeapRefused};
 
 mod lists;
 mod maps;
@@ -15,7 +15,8 @@ mod texts;
 use std::alloc::{AllocError, Global};
 use std::mem::size_of;
 
-/// Takes memory from the heap, up to so many bytes.
+/// Takes memory from the heap, up to so many bytes, and tells whether the heap refused a request or one was for more than
+/// was left.
 ///
 /// What it counts is the bytes of each block that is asked for, and where a list or a text grows the bytes that are
 /// added; for a map, at each insertion, those of the key and the value and sixteen more. What is given back isn't
@@ -25,13 +26,17 @@ pub struct Memory {
     heap: Global,
     // The bytes that may still be taken.
     left: usize,
-    // Whether a request was refused: more was asked for than was left, or the heap had no more.
-    is_refused: bool,
+    // The bytes of the last request that was for more than was left; 0 if there was none.
+    lacking: usize,
+    // How often the heap refused a request, counted round.
+    refusals: u64,
 }
 
 // The bytes of one value.
 #[inline(always)]
-pub(crate) fn size_of_one<T>() -> usize {
+pub(crate) fn size_of_one<T>() -> usize
+    ensures { result ≡ bytes T.row }
+{
     size_of::<T>()
 }
 
@@ -40,6 +45,7 @@ impl Memory {
     #[inline(always)]
     pub fn new(heap: Global) -> Memory
         ensures left { result.left + 1 ≡ 2 ^ 64 }
+        ensures lacking { result.lacking ≡ 0 }
         ensures granted { ¬ (Refused result) }
     {
         Memory::with_budget(heap, usize::MAX)
@@ -49,12 +55,14 @@ impl Memory {
     #[inline(always)]
     pub fn with_budget(heap: Global, bytes: usize) -> Memory
         ensures left { result.left ≡ bytes }
+        ensures lacking { result.lacking ≡ 0 }
         ensures granted { ¬ (Refused result) }
     {
         Memory {
             heap,
             left: bytes,
-            is_refused: false,
+            lacking: 0,
+            refusals: 0,
         }
     }
 
@@ -64,28 +72,101 @@ impl Memory {
         self.heap
     }
 
+    /// As much memory as is left, for one call, which gives it back to [`settle`](Memory::settle).
+    #[inline(always)]
+    pub fn lend(&self) -> Memory
+        ensures left { result.left ≡ self.now.left }
+        ensures lacking { result.lacking ≡ 0 }
+        ensures granted { ¬ (Refused result) }
+    {
+        Memory::with_budget(self.heap, self.left)
+    }
+
+    /// What was lent is given back: what of it was taken is gone, and what the heap refused is kept.
+    #[inline(always)]
+    pub fn settle(&mut self, lent: Memory)
+        requires { lent.left ≤ self.old.left }
+        ensures left { self.new.left ≡ lent.left }
+        ensures refused { Refused lent → HeapRefused self.old self.new ⊎ (lent.left < lent.lacking) }
+    {
+        self.left = lent.left;
+        if lent.refusals > 0 {
+            self.refuse();
+        }
+    }
+
+    /// The bytes that may still be taken.
+    #[inline(always)]
+    pub fn left(&self) -> usize
+        ensures { result ≡ self.now.left }
+    {
+        self.left
+    }
+
+    /// Whether the heap has refused a request.
+    #[inline(always)]
+    pub fn heap_refused(&self) -> bool
+        ensures { (result ≡ true) ↔ (self.now.refusals ≢ 0) }
+    {
+        self.refusals != 0
+    }
+
     // Takes so many bytes off the budget.
     #[inline]
     fn spend(&mut self, bytes: usize) -> Result<(), AllocError>
-        ensures budget { OnErr result (self.old.left < bytes) }
-        ensures taken { OnOk result (self.new.left + bytes ≡ self.old.left) }
+        ensures takes { Takes bytes self.old self.new }
+        ensures took { OnOk result (Took bytes self.old self.new) }
+        ensures denied { OnErr result (Denied bytes self.old self.new) }
         ensures refused { OnErr result (Refused self.new) }
-        ensures granted { OnOk result (Refused self.new → Refused self.old) }
     {
         if self.left < bytes {
-            return Err(self.refuse());
+            self.lacking = bytes;
+            return Err(AllocError);
         }
         self.left -= bytes;
         Ok(())
     }
 
-    // Keeps that a request was refused.
+    // Takes the bytes of so many values off the budget.
+    #[inline(always)]
+    fn spend_for<T>(&mut self, places: usize) -> Result<(), AllocError>
+        ensures takes { Takes (bytes T.row * places) self.old self.new }
+        ensures took { OnOk result (Took (bytes T.row * places) self.old self.new) }
+        ensures denied { OnErr result (Denied (bytes T.row * places) self.old self.new) }
+        ensures refused { OnErr result (Refused self.new) }
+    {
+        match size_of_one::<T>().checked_mul(places) {
+            Some(cost) => self.spend(cost),
+            None => Err(self.refuse_more_than_any()),
+        }
+    }
+
+    // A request for more bytes than can be counted: no budget has them, and no heap.
+    #[cold]
+    #[inline(never)]
+    fn refuse_more_than_any(&mut self) -> AllocError
+        ensures refused { Refused self.new }
+        ensures left { self.new.left ≡ self.old.left }
+        ensures lacking { self.new.lacking + 1 ≡ 2 ^ 64 }
+    {
+        self.lacking = usize::MAX;
+        self.refuse()
+    }
+
+    // The heap refused a request, which is counted. The number after the largest is 1, since 0 says that there was none.
     #[cold]
     #[inline(never)]
     fn refuse(&mut self) -> AllocError
-        ensures { Refused self.new }
+        ensures refused { Refused self.new }
+        ensures counted { HeapRefused self.old self.new }
+        ensures left { self.new.left ≡ self.old.left }
+        ensures lacking { self.new.lacking ≡ self.old.lacking }
     {
-        self.is_refused = true;
+        self.refusals = if self.refusals == u64::MAX {
+            1
+        } else {
+            self.refusals + 1
+        };
         AllocError
     }
 
@@ -94,7 +175,10 @@ impl Memory {
     fn told<T>(&mut self, answer: Result<T, AllocError>) -> Result<T, AllocError>
         ensures same { result ≡ answer }
         ensures refused { OnErr result (Refused self.new) }
+        ensures counted { OnErr result (HeapRefused self.old self.new) }
         ensures granted { OnOk result (self.new ≡ self.old) }
+        ensures left { self.new.left ≡ self.old.left }
+        ensures lacking { self.new.lacking ≡ self.old.lacking }
     {
         match answer {
             Ok(made) => Ok(made),

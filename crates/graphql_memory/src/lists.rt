@@ -1,102 +1,91 @@
 //! Lists and boxes.
-ghost use Rattle.std.specs.Prelude.{◌≡◌, ◌≤◌, ◌<◌, ◌++◌, ◌∷◌, [], length, take, drop, IfOk, OnOk, OnErr, vec_len, vec_capacity};
-ghost use Rattle.smallvec.specs.SmallVec.{HasRoomFor};
-ghost use Rattle.graphql_memory.specs.Memory.{Refused};
+ghost use Rattle.std.specs.Prelude.{◌≡◌, ◌≤◌, ◌<◌, ◌+◌, ◌-◌, ◌*◌, ◌++◌, ◌∷◌, [], length, take, drop, IfOk, OnOk, OnErr, vec_len, vec_capacity};
+ghost use Rattle.smallvec.specs.SmallVec.{HasRoomFor, small_vec_len};
+ghost use Rattle.graphql_memory.specs.Memory.{Refused, Takes, Took, Denied, Blames, bytes, price, credit, small_places, small_credit};
 
 use crate::{Memory, size_of_one};
 use smallvec::SmallVec;
 use std::alloc::{AllocError, Global};
 use std::default::MadeWith;
 
-// The bytes of so many places, or all there are where they would be more.
-#[inline(always)]
-fn bytes_of<T>(places: usize) -> usize {
-    places.saturating_mul(size_of_one::<T>())
-}
+// So many places has a list that grows for the first time, where its caller asks for no fewer.
+const FIRST: usize = 4;
 
-// The bytes of the largest item of which a list is given room before it holds one. A caller chooses the type, so room for
-// larger ones would be a number that it is free to choose.
-const LARGEST: usize = 1 << 16;
-
-// How many places a full list of so many is made larger by: it doubles, and has eight places for bytes, four for what
-// is of at most 1,024 bytes, and else one.
+// How many places a full list of so many is made larger by: it doubles, once it has four. An empty one has room for so many
+// as its caller asks for first. Items of more than 1,024 bytes have one place first.
 #[inline(always)]
-fn growth_of<T>(capacity: usize) -> usize {
-    let size = size_of_one::<T>();
-    let least = if size <= 1 {
-        8
-    } else if size <= 1024 {
-        4
-    } else {
-        1
-    };
-    if capacity < least {
-        least - capacity
+fn growth_of<T>(capacity: usize, first: usize) -> usize
+    requires some { 0 < first }
+    requires few { first ≤ 4 }
+    ensures some { 0 < result }
+    ensures most { capacity + result ≤ 4 * (capacity + 1) }
+{
+    let is_large = size_of_one::<T>() > 1024;
+    if capacity == 0 {
+        return if is_large { 1 } else { first };
+    }
+    if capacity < FIRST && !is_large {
+        FIRST - capacity
     } else {
         capacity
     }
+}
+
+// The places of a small list's block.
+#[inline(always)]
+fn places_of<T: MadeWith<Global> + Drop, const N: usize>(list: &SmallVec<T, N>) -> usize
+    ensures places { result ≡ small_places N list.now }
+    ensures most { result ≤ list.now.capacity }
+{
+    let capacity = list.capacity();
+    if N < capacity { capacity } else { 0 }
 }
 
 impl Memory {
     /// An empty list. It takes no memory.
     #[inline(always)]
     pub fn empty_list<T>(&self) -> Vec<T>
-        ensures { result.items ≡ [] }
+        ensures items { result.items ≡ [] }
+        ensures free { credit T.row result ≡ 0 }
     {
         Vec::new(self.heap)
     }
 
-    // An empty list with room for so many, if they aren't too large.
-    #[inline(always)]
-    fn list_of<T>(&mut self, room: usize) -> Result<Vec<T>, AllocError>
-        ensures items { IfOk result (λ list. list.items ≡ []) }
-        ensures refused { OnErr result (Refused self.new) }
-        ensures granted { OnOk result (Refused self.new → Refused self.old) }
-    {
-        if size_of_one::<T>() > LARGEST {
-            return Ok(self.empty_list());
-        }
-        self.spend(bytes_of::<T>(room))?;
-        let made = Vec::with_capacity(self.heap, room);
-        self.told(made)
-    }
-
-    /// An empty list with room for so many, at most eight, of at most 64 KiB each; with none for larger ones.
-    #[inline(always)]
-    pub fn list_with_room<T>(&mut self, room: usize) -> Result<Vec<T>, AllocError>
-        requires { room ≤ 8 }
-        ensures items { IfOk result (λ list. list.items ≡ []) }
-        ensures refused { OnErr result (Refused self.new) }
-        ensures granted { OnOk result (Refused self.new → Refused self.old) }
-    {
-        self.list_of(room)
-    }
-
-    /// An empty list with room for as many as the slice has, of at most 64 KiB each; with none for larger ones, or if the
-    /// slice's items take no memory.
+    /// An empty list with room for as many as the slice has.
     #[inline(always)]
     pub fn list_for<T, U>(&mut self, items: &[U]) -> Result<Vec<T>, AllocError>
         ensures items { IfOk result (λ list. list.items ≡ []) }
+        ensures room { IfOk result (λ list. vec_capacity list ≡ length items.now) }
+        ensures takes { Takes (bytes T.row * length items.now) self.old self.new }
+        ensures took { OnOk result (Took (bytes T.row * length items.now) self.old self.new) }
+        ensures denied { OnErr result (Denied (bytes T.row * length items.now) self.old self.new) }
         ensures refused { OnErr result (Refused self.new) }
-        ensures granted { OnOk result (Refused self.new → Refused self.old) }
     {
-        if size_of_one::<U>() == 0 {
-            return Ok(self.empty_list());
-        }
-        self.list_of(items.len())
+        self.spend_for::<T>(items.len())?;
+        let made = Vec::with_capacity(self.heap, items.len());
+        self.told(made)
     }
 
     // Makes room in a full list.
     #[cold]
     #[inline(never)]
-    fn grow<T>(&mut self, list: &mut Vec<T>) -> Result<(), AllocError>
+    fn grow<T>(&mut self, list: &mut Vec<T>, first: usize) -> Result<(), AllocError>
+        requires full { vec_len list.old ≡ vec_capacity list.old }
+        requires some { 0 < first }
+        requires few { first ≤ 4 }
         ensures items { list.new.items ≡ list.old.items }
+        ensures len { vec_len list.new ≡ vec_len list.old }
         ensures room { OnOk result (vec_len list.new < vec_capacity list.new) }
+        ensures most { vec_capacity list.new ≤ 4 * (vec_len list.new + 1) }
+        ensures takes { Takes (price T.row * (vec_len list.old + 1) - bytes T.row * vec_capacity list.old) self.old self.new }
+        ensures took { OnOk result (Took (bytes T.row * (vec_capacity list.new - vec_capacity list.old)) self.old self.new) }
+        ensures same { OnErr result (vec_capacity list.new ≡ vec_capacity list.old) }
+        ensures blames { OnErr result (Blames (bytes T.row) self.old self.new) }
         ensures refused { OnErr result (Refused self.new) }
-        ensures granted { OnOk result (Refused self.new → Refused self.old) }
     {
-        self.spend(bytes_of::<T>(growth_of::<T>(list.capacity())))?;
-        let grown = list.reserve(1);
+        let growth = growth_of::<T>(list.capacity(), first);
+        self.spend_for::<T>(growth)?;
+        let grown = list.reserve_exact(growth);
         self.told(grown)
     }
 
@@ -104,30 +93,47 @@ impl Memory {
     #[inline(always)]
     pub fn push<T: Drop>(&mut self, list: &mut Vec<T>, item: T) -> Result<(), AllocError>
         ensures items { OnOk result (list.new.items ≡ list.old.items ++ item ∷ []) }
+        ensures len { OnOk result (vec_len list.new ≡ vec_len list.old + 1) }
         ensures kept { OnErr result (list.new.items ≡ list.old.items) }
+        ensures takes { Takes (credit T.row list.old + price T.row) self.old self.new }
+        ensures pays { OnOk result (self.old.left + self.new.lacking + credit T.row list.new ≤
+            self.new.left + self.old.lacking + credit T.row list.old + price T.row) }
+        ensures room { vec_len list.old < vec_capacity list.old →
+            (self.new ≡ self.old) × (vec_capacity list.new ≡ vec_capacity list.old) }
+        ensures took { OnOk result (Took (bytes T.row * (vec_capacity list.new - vec_capacity list.old)) self.old self.new) }
+        ensures blames { OnErr result (Blames (bytes T.row) self.old self.new) }
         ensures refused { OnErr result (Refused self.new) }
-        ensures granted { OnOk result (Refused self.new → Refused self.old) }
+    {
+        self.push_with_room(list, item, FIRST)
+    }
+
+    /// The same; an empty list has room for so many items first, four at most.
+    #[inline(always)]
+    pub fn push_with_room<T: Drop>(
+        &mut self,
+        list: &mut Vec<T>,
+        item: T,
+        first: usize,
+    ) -> Result<(), AllocError>
+        requires some { 0 < first }
+        requires few { first ≤ 4 }
+        ensures items { OnOk result (list.new.items ≡ list.old.items ++ item ∷ []) }
+        ensures len { OnOk result (vec_len list.new ≡ vec_len list.old + 1) }
+        ensures kept { OnErr result (list.new.items ≡ list.old.items) }
+        ensures takes { Takes (credit T.row list.old + price T.row) self.old self.new }
+        ensures pays { OnOk result (self.old.left + self.new.lacking + credit T.row list.new ≤
+            self.new.left + self.old.lacking + credit T.row list.old + price T.row) }
+        ensures room { vec_len list.old < vec_capacity list.old →
+            (self.new ≡ self.old) × (vec_capacity list.new ≡ vec_capacity list.old) }
+        ensures took { OnOk result (Took (bytes T.row * (vec_capacity list.new - vec_capacity list.old)) self.old self.new) }
+        ensures blames { OnErr result (Blames (bytes T.row) self.old self.new) }
+        ensures refused { OnErr result (Refused self.new) }
     {
         if list.len() == list.capacity() {
-            self.grow(list)?;
+            self.grow(list, first)?;
         }
         list.push_reserved(item);
         Ok(())
-    }
-
-    /// Gives an empty list room for one item alone, where it has none.
-    #[inline(always)]
-    pub fn give_one_place<T>(&mut self, list: &mut Vec<T>) -> Result<(), AllocError>
-        ensures items { list.new.items ≡ list.old.items }
-        ensures refused { OnErr result (Refused self.new) }
-        ensures granted { OnOk result (Refused self.new → Refused self.old) }
-    {
-        if list.capacity() > 0 || size_of_one::<T>() > LARGEST {
-            return Ok(());
-        }
-        self.spend(bytes_of::<T>(1))?;
-        let grown = list.reserve_exact(1);
-        self.told(grown)
     }
 
     /// Cuts the items from `at` on off a list, into a list of their own.
@@ -136,10 +142,14 @@ impl Memory {
         requires { at ≤ vec_len list.old }
         ensures rest { OnOk result (list.new.items ≡ take at list.old.items) }
         ensures own { IfOk result (λ own. own.items ≡ drop at list.old.items) }
+        ensures len { OnOk result (vec_len list.new ≡ at) }
+        ensures capacity { vec_capacity list.new ≡ vec_capacity list.old }
+        ensures takes { Takes (bytes T.row * (vec_len list.old - at)) self.old self.new }
+        ensures took { OnOk result (Took (bytes T.row * (vec_len list.old - at)) self.old self.new) }
+        ensures denied { OnErr result (Denied (bytes T.row * (vec_len list.old - at)) self.old self.new) }
         ensures refused { OnErr result (Refused self.new) }
-        ensures granted { OnOk result (Refused self.new → Refused self.old) }
     {
-        self.spend(bytes_of::<T>(list.len() - at))?;
+        self.spend_for::<T>(list.len() - at)?;
         let own = list.split_off(at);
         self.told(own)
     }
@@ -148,31 +158,53 @@ impl Memory {
     #[inline(always)]
     pub fn boxed<T: Drop>(&mut self, item: T) -> Result<Box<T>, AllocError>
         ensures item { IfOk result (λ b. b.value ≡ item) }
+        ensures takes { Takes (bytes T.row) self.old self.new }
+        ensures took { OnOk result (Took (bytes T.row) self.old self.new) }
+        ensures denied { OnErr result (Denied (bytes T.row) self.old self.new) }
         ensures refused { OnErr result (Refused self.new) }
-        ensures granted { OnOk result (Refused self.new → Refused self.old) }
     {
-        self.spend(bytes_of::<T>(1))?;
+        self.spend(size_of_one::<T>())?;
         match Box::new(self.heap, item) {
             Ok(made) => Ok(made),
             Err(_) => Err(self.refuse()),
         }
     }
 
-    // Makes room in a full small list.
+    /// An empty small list. It takes no memory.
+    #[inline(always)]
+    pub fn empty_small_list<T: MadeWith<Global> + Drop, const N: usize>(&self) -> SmallVec<T, N>
+        ensures items { result.items ≡ [] }
+        ensures free { small_credit N T.row result ≡ 0 }
+        ensures room { result.capacity ≡ N }
+    {
+        SmallVec::new(self.heap)
+    }
+
+    // Makes room in a full small list. Its first block has room for the items that lay in it, too.
     #[cold]
     #[inline(never)]
     fn grow_small<T: MadeWith<Global> + Drop, const N: usize>(
         &mut self,
         list: &mut SmallVec<T, N>,
     ) -> Result<(), AllocError>
+        requires { small_vec_len list.old ≡ list.old.capacity }
         ensures items { list.new.items ≡ list.old.items }
         ensures room { OnOk result (HasRoomFor list.new 1) }
+        ensures places { OnOk result (small_places N list.old ≤ small_places N list.new) }
+        ensures most { OnOk result (small_places N list.new ≤ 4 * (small_vec_len list.old + 1)) }
+        ensures takes { Takes (price T.row * (small_vec_len list.old + 1) - bytes T.row * small_places N list.old) self.old self.new }
+        ensures took { OnOk result (Took (bytes T.row * (small_places N list.new - small_places N list.old)) self.old self.new) }
         ensures refused { OnErr result (Refused self.new) }
-        ensures granted { OnOk result (Refused self.new → Refused self.old) }
     {
-        self.spend(bytes_of::<T>(growth_of::<T>(list.capacity())))?;
-        let grown = list.reserve(1);
-        self.told(grown)
+        let growth = growth_of::<T>(list.capacity(), FIRST);
+        let Some(room) = list.capacity().checked_add(growth) else {
+            return Err(self.refuse());
+        };
+        self.spend_for::<T>(room - places_of(list))?;
+        match list.reserve_exact(growth) {
+            Ok(()) => Ok(()),
+            Err(_) => Err(self.refuse()),
+        }
     }
 
     /// Puts an item after the others of a small list. Where a full one can't grow, the item is gone.
@@ -184,8 +216,12 @@ impl Memory {
     ) -> Result<(), AllocError>
         ensures items { OnOk result (list.new.items ≡ list.old.items ++ item ∷ []) }
         ensures kept { OnErr result (list.new.items ≡ list.old.items) }
+        ensures takes { Takes (small_credit N T.row list.old + price T.row) self.old self.new }
+        ensures pays { OnOk result (self.old.left + self.new.lacking + small_credit N T.row list.new ≤
+            self.new.left + self.old.lacking + small_credit N T.row list.old + price T.row) }
+        ensures room { small_vec_len list.old < list.old.capacity → (self.new ≡ self.old) × OnErr result ⊥ }
+        ensures took { OnOk result (Took (bytes T.row * (small_places N list.new - small_places N list.old)) self.old self.new) }
         ensures refused { OnErr result (Refused self.new) }
-        ensures granted { OnOk result (Refused self.new → Refused self.old) }
     {
         if list.len() == list.capacity() {
             self.grow_small(list)?;

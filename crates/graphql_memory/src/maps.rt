@@ -2,7 +2,7 @@
 ghost use Rattle.std.specs.Prelude.{◌≡◌, ◌+◌, is_some, if◌then◌else◌, IfOk, OnOk, OnErr, Some};
 ghost use Rattle.std.specs.BTreeMap as ordered;
 ghost use Rattle.indexmap.specs.IndexMap as indexed;
-ghost use Rattle.graphql_memory.specs.Memory.{Refused};
+ghost use Rattle.graphql_memory.specs.Memory.{Refused, Takes, Took, Denied, pair_bytes};
 
 use crate::{Memory, size_of_one};
 use indexmap::IndexMap;
@@ -10,15 +10,22 @@ use std::alloc::AllocError;
 use std::collections::BTreeMap;
 use std::hash::{BuildHasher, Hash};
 
-// What is counted for one pair of a map: its key, its value, and two words.
-#[inline(always)]
-fn pair_bytes<K, V>() -> usize {
-    size_of_one::<K>()
-        .saturating_add(size_of_one::<V>())
-        .saturating_add(16)
-}
-
 impl Memory {
+    // Takes what is counted for a pair of a map off the budget: its key, its value, and two words.
+    #[inline(always)]
+    fn spend_for_pair<K, V>(&mut self) -> Result<(), AllocError>
+        ensures takes { Takes (pair_bytes K.row V.row) self.old self.new }
+        ensures took { OnOk result (Took (pair_bytes K.row V.row) self.old self.new) }
+        ensures denied { OnErr result (Denied (pair_bytes K.row V.row) self.old self.new) }
+        ensures refused { OnErr result (Refused self.new) }
+    {
+        let pair = size_of_one::<K>().checked_add(size_of_one::<V>());
+        match pair.and_then(|both| both.checked_add(16)) {
+            Some(cost) => self.spend(cost),
+            None => Err(self.refuse_more_than_any()),
+        }
+    }
+
     /// Inserts a pair into a map that keeps its order. Where there is no memory, the pair is gone.
     pub fn insert_indexed<K: Eq + Hash + Drop, V: Drop, S: BuildHasher>(
         &mut self,
@@ -32,10 +39,12 @@ impl Memory {
             indexed.insert_entry K.eq map.old.entries key value) }
         ensures len { IfOk result (λ old. indexed.index_map_len map.new ≡
             indexed.index_map_len map.old + (if is_some old then 0 else 1)) }
+        ensures takes { Takes (pair_bytes K.row V.row) self.old self.new }
+        ensures took { OnOk result (Took (pair_bytes K.row V.row) self.old self.new) }
+        ensures denied { OnErr result (Denied (pair_bytes K.row V.row) self.old self.new) }
         ensures refused { OnErr result (Refused self.new) }
-        ensures granted { OnOk result (Refused self.new → Refused self.old) }
     {
-        self.spend(pair_bytes::<K, V>())?;
+        self.spend_for_pair::<K, V>()?;
         match map.insert(key, value) {
             Ok(old) => Ok(old),
             Err(_) => Err(self.refuse()),
@@ -55,10 +64,12 @@ impl Memory {
             ordered.insert_entry K.cmp map.old.entries key value) }
         ensures len { IfOk result (λ old. ordered.btree_map_len map.new ≡
             ordered.btree_map_len map.old + (if is_some old then 0 else 1)) }
+        ensures takes { Takes (pair_bytes K.row V.row) self.old self.new }
+        ensures took { OnOk result (Took (pair_bytes K.row V.row) self.old self.new) }
+        ensures denied { OnErr result (Denied (pair_bytes K.row V.row) self.old self.new) }
         ensures refused { OnErr result (Refused self.new) }
-        ensures granted { OnOk result (Refused self.new → Refused self.old) }
     {
-        self.spend(pair_bytes::<K, V>())?;
+        self.spend_for_pair::<K, V>()?;
         match map.insert(key, value) {
             Ok(old) => Ok(old),
             Err(_) => Err(self.refuse()),

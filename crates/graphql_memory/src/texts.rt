@@ -1,7 +1,7 @@
 //! Texts.
-ghost use Rattle.std.specs.Prelude.{◌≡◌, ◌≤◌, ◌<◌, ◌++◌, ◌∷◌, [], length, IfOk, OnOk, OnErr, string_bytes, encode_utf8};
+ghost use Rattle.std.specs.Prelude.{◌≡◌, ◌≤◌, ◌<◌, ◌+◌, ◌++◌, ◌∷◌, [], length, IfOk, OnOk, OnErr, string_bytes, encode_utf8};
 ghost use Rattle.std.specs.String.{string_capacity};
-ghost use Rattle.graphql_memory.specs.Memory.{Refused};
+ghost use Rattle.graphql_memory.specs.Memory.{Refused, Takes, Took, Denied};
 
 use crate::Memory;
 use std::alloc::AllocError;
@@ -24,8 +24,10 @@ impl Memory {
     #[inline(always)]
     pub fn text_of(&mut self, text: &str) -> Result<String, AllocError>
         ensures text { IfOk result (λ s. string_bytes s ≡ text.now) }
+        ensures takes { Takes (length text.now) self.old self.new }
+        ensures took { OnOk result (Took (length text.now) self.old self.new) }
+        ensures denied { OnErr result (Denied (length text.now) self.old self.new) }
         ensures refused { OnErr result (Refused self.new) }
-        ensures granted { OnOk result (Refused self.new → Refused self.old) }
     {
         self.spend(text.len())?;
         let made = String::from_str(self.heap, text);
@@ -37,20 +39,24 @@ impl Memory {
     pub fn text_with_room(&mut self, text: &str) -> Result<String, AllocError>
         ensures text { IfOk result (λ s. string_bytes s ≡ []) }
         ensures room { IfOk result (λ s. length text.now ≤ string_capacity s) }
+        ensures takes { Takes (length text.now) self.old self.new }
+        ensures took { OnOk result (Took (length text.now) self.old self.new) }
+        ensures denied { OnErr result (Denied (length text.now) self.old self.new) }
         ensures refused { OnErr result (Refused self.new) }
-        ensures granted { OnOk result (Refused self.new → Refused self.old) }
     {
         self.spend(text.len())?;
         let made = String::with_capacity(self.heap, text.len());
         self.told(made)
     }
 
-    /// Puts a text after another.
+    /// Puts a text after another. Where there is room for it, it takes no memory.
     #[inline(always)]
     pub fn push_text(&mut self, text: &mut String, more: &str) -> Result<(), AllocError>
         ensures text { OnOk result (string_bytes text.new ≡ string_bytes text.old ++ more.now) }
+        ensures capacity { string_capacity text.old ≤ string_capacity text.new }
+        ensures room { length (string_bytes text.old) + length more.now ≤ string_capacity text.old →
+            self.new ≡ self.old }
         ensures refused { OnErr result (Refused self.new) }
-        ensures granted { OnOk result (Refused self.new → Refused self.old) }
     {
         if text.capacity() - text.len() < more.len() {
             self.spend(growth_for(text.capacity(), more.len()))?;
@@ -59,14 +65,17 @@ impl Memory {
         self.told(pushed)
     }
 
-    /// Puts a character after a text.
+    /// Puts a character after a text. Where there is room for it, it takes no memory.
     #[inline(always)]
     pub fn push_char(&mut self, text: &mut String, c: char) -> Result<(), AllocError>
         ensures text { OnOk result (string_bytes text.new ≡ string_bytes text.old ++
             encode_utf8 c) }
+        ensures capacity { string_capacity text.old ≤ string_capacity text.new }
+        ensures room { length (string_bytes text.old) + length (encode_utf8 c) ≤ string_capacity text.old →
+            self.new ≡ self.old }
+        ensures few { length (encode_utf8 c) ≤ 4 }
         ensures ascii { c < 128 → encode_utf8 c ≡ c ∷ [] }
         ensures refused { OnErr result (Refused self.new) }
-        ensures granted { OnOk result (Refused self.new → Refused self.old) }
     {
         if text.capacity() - text.len() < c.len_utf8() {
             self.spend(growth_for(text.capacity(), 4))?;

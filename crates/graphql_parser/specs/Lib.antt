@@ -2,7 +2,7 @@
 pub mod trees
 pub mod calls
 pub mod types
-pub use Rattle.graphql_memory.specs.Memory
+pub use Rattle.graphql_memory.specs.Refusals
 pub use Rattle.graphql_tokens.specs.tokens
 pub use Rattle.graphql_reading.specs.grammar as notation
 pub use Rattle.graphql_grammar.specs.grammar
@@ -11,3 +11,4 @@ pub use Rattle.graphql_grammar.specs.errors
 pub use Rattle.graphql_requests.specs.grammar as requests
 pub use Rattle.graphql_schemas.specs.grammar as schemas
 pub use Rattle.graphql_check.specs.Checking
+pub use Rattle.graphql_check.specs.OneDefinition

@@ -1,11 +1,12 @@
 -- What a call in C tells of a text: a status, and up to two places.
 -- Source: this project's choice.
-use Rattle.std.specs.Prelude.{◌≡◌, ◌⊎◌, ◌↔◌, ℕ, List, [], ◌∷◌, Option, Some, None, Result, Ok, Err}
+use Rattle.std.specs.Prelude.{◌≡◌, ◌≤◌, ◌⊎◌, ◌↔◌, ◌+◌, ℕ, List, [], ◌∷◌, Option, Some, None, Result, Ok, Err}
 use Rattle.std.specs.Str.{IsUtf8}
 use Rattle.graphql_tokens.specs.declared.pos.Pos.{Pos}
 use Rattle.graphql_grammar.specs.declared.error.Error.{Error}
 use Rattle.graphql_parser.specs.answers.Answers.{Answers}
 use Rattle.graphql_parser.specs.answers.Language.{Language}
+use Rattle.graphql_parser.specs.answers.Memory.{most_taken}
 use Rattle.graphql_parser.specs.errors.Errors.{error_places}
 use Rattle.graphql_parser.specs.notation.Limits.{Limits, IsAllowed}
 use Rattle.graphql_parser.specs.tokens.Cuts.{IsCutInto}
@@ -51,6 +52,10 @@ places_of (Err error) = first_two (error_places error)
 -- the text is the caller's again, and what is told is told where there was room for it
 abbrev pub IsBack : Text → Room → Told → Type 0
 IsBack text room told = (told.life ≡ text.life) × (told.at ≡ room.at)
+
+-- the parser took nothing beyond its budget, and no more than its text costs
+abbrev pub IsWithin : ℕ → ℕ → ℕ → Type 0
+IsWithin budget bytes left = (left ≤ budget) × (budget ≤ left + most_taken bytes)
 
 -- ---- what is told
 

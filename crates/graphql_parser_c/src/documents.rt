@@ -1,5 +1,5 @@
 //! What the calls of both languages share.
-ghost use Rattle.std.specs.Prelude.{◌≡◌, IfOk};
+ghost use Rattle.std.specs.Prelude.{◌≡◌, length, IfOk};
 ghost use Rattle.graphql_json.specs.nodes.Nodes.{json_text};
 ghost use Rattle.graphql_parser.specs.answers.Language.{Language as DocumentLanguage};
 ghost use Rattle.graphql_parser.specs.Checking.{checked};
@@ -8,7 +8,7 @@ ghost use Rattle.graphql_parser.specs.requests.Requests.{requests};
 ghost use Rattle.graphql_parser.specs.schemas.SchemaFile.{Definition as SchemaDefinition};
 ghost use Rattle.graphql_parser.specs.schemas.Schemas.{schemas};
 ghost use Rattle.graphql_parser_c.specs.Documents.{executable_bytes, executable_value, service_bytes, service_value};
-ghost use Rattle.graphql_parser_c.specs.Telling.{AnswersText};
+ghost use Rattle.graphql_parser_c.specs.Telling.{AnswersText, IsWithin};
 
 use graphql_json::{Places, request_json, schema_json};
 use graphql_packed::{packed_request, packed_schema};
@@ -42,11 +42,13 @@ pub trait Document: Drop {
 
     /// Reads a text.
     fn read(memory: &mut Memory, text: &str, limits: Limits) -> Result<Self>
-        ensures { AnswersText Self.language limits text.now result };
+        ensures answers { AnswersText Self.language limits text.now result }
+        ensures within { IsWithin memory.old.left (length text.now) memory.new.left };
 
     /// Checks a text: the same, without a tree.
     fn check(memory: &mut Memory, text: &str, limits: Limits) -> Result<()>
-        ensures { AnswersText (checked Self.language) limits text.now result };
+        ensures answers { AnswersText (checked Self.language) limits text.now result }
+        ensures within { IsWithin memory.old.left (length text.now) memory.new.left };
 
     /// The tree as JSON.
     fn json(&self, alloc: Global, places: Places) -> std::result::Result<Vec<u8>, AllocError>

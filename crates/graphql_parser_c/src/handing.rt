@@ -1,12 +1,12 @@
 //! What is handed over of a text, beside what is told of it.
-ghost use Rattle.std.specs.Prelude.{◌≡◌, ◌⊎◌, List, ℕ, Err, IfOk, IsErr, Result as SpecResult};
+ghost use Rattle.std.specs.Prelude.{◌≡◌, ◌⊎◌, List, ℕ, length, Err, IfOk, IsErr, Result as SpecResult};
 ghost use Rattle.graphql_grammar.specs.declared.error.Error.{Error as SpecError};
 ghost use Rattle.graphql_grammar.specs.declared.error.Error.TheVariants.{OutOfMemory};
 ghost use Rattle.graphql_parser.specs.answers.Language.{Language};
 ghost use Rattle.graphql_parser.specs.Checking.{checked};
 ghost use Rattle.graphql_parser_c.specs.Handing.{HandsOver, IsHanded, IsNothing};
 ghost use Rattle.graphql_parser_c.specs.Statuses.{number_of, status_of};
-ghost use Rattle.graphql_parser_c.specs.Telling.{AnswersText, IsTold, limits_of, places_of};
+ghost use Rattle.graphql_parser_c.specs.Telling.{AnswersText, IsTold, IsWithin, limits_of, places_of};
 ghost use Rattle.graphql_parser_c.specs.declared.block.Block.{Block as SpecBlock};
 
 use crate::block::Block;
@@ -34,7 +34,8 @@ pub trait Handing<D: Document> {
 
     /// Reads a text.
     fn read(memory: &mut Memory, text: &str, limits: Limits) -> Result<Self::Kept>
-        ensures { AnswersText Self.language limits text.now result };
+        ensures answers { AnswersText Self.language limits text.now result }
+        ensures within { IsWithin memory.old.left (length text.now) memory.new.left };
 
     /// Makes what is handed over of the answer for a text.
     fn make(&self, alloc: Global, text: &str, limits: Limits, answer: &Result<Self::Kept>) -> Made
@@ -100,7 +101,7 @@ fn hand_over<T>(answer: &Result<T>, made: Made, places: &mut Places, block: &mut
 /// Reads a text, tells the answer, and hands over what is made of it; or tells why the text can't be read, and hands over
 /// nothing.
 pub fn answer<D: Document, H: Handing<D>>(
-    alloc: Global,
+    memory: &mut Memory,
     question: &Question<'_>,
     handing: &H,
     places: &mut Places,
@@ -112,6 +113,7 @@ pub fn answer<D: Document, H: Handing<D>>(
     ensures handed { HandsOver H.language (H.Hands handing.now question.now.text.now)
         (limits_of question.now.bounds.0 question.now.bounds.1 question.now.bounds.2)
         question.now.text.now result handed.new }
+    ensures within { IsWithin memory.old.left (length question.now.text.now) memory.new.left }
 {
     let ReadableText { text, limits } = match question.readable() {
         Ok(readable) => readable,
@@ -121,8 +123,7 @@ pub fn answer<D: Document, H: Handing<D>>(
             return status.number();
         }
     };
-    let mut memory = Memory::with_budget(alloc, question.bounds.3);
-    let answer = H::read(&mut memory, text, limits);
-    let made = made_of::<D, H>(alloc, handing, text, limits, &answer);
+    let answer = H::read(memory, text, limits);
+    let made = made_of::<D, H>(memory.heap(), handing, text, limits, &answer);
     hand_over(&answer, made, places, handed).number()
 }

@@ -53,13 +53,14 @@ impl Model for Room {
 }
 
 /// What a call tells: the number of a status, and places, where there was room for them; and with that, the text is the
-/// caller's own again.
+/// caller's own again. `left` is what the parser left of the bytes that it may take.
 #[repr(C)]
 pub struct Told {
     pub number: u32,
     pub ghost life: { ℕ },
     pub ghost at: { Ptr },
     pub ghost places: { Places },
+    pub ghost left: { ℕ },
 }
 
 impl Model for Told {
@@ -100,9 +101,9 @@ impl Lent {
 
 impl Told {
     /// Writes the places where there is room for them, and gives back what was lent.
-    pub fn of(number: u32, places: Places, room: Room, lent: Lent) -> Told
+    pub fn of(number: u32, places: Places, room: Room, lent: Lent, _left: usize) -> Told
         ensures { (result.number ≡ number) × (result.places ≡ places) × (result.at ≡ room.at) ×
-            (result.life ≡ lent.life) }
+            (result.life ≡ lent.life) × (result.left ≡ _left) }
     {
         let Lent { start: _ } = lent;
         let Room { at } = room;

@@ -19,7 +19,7 @@
 //! `bindings/check.sh`.
 #![tactic(auto)]
 
-ghost use Rattle.std.specs.Prelude.{◌≡◌};
+ghost use Rattle.std.specs.Prelude.{◌≡◌, length};
 ghost use Rattle.graphql_parser.specs.Checking.{checked};
 ghost use Rattle.graphql_parser.specs.requests.Requests.{requests};
 ghost use Rattle.graphql_parser.specs.schemas.Schemas.{schemas};
@@ -27,7 +27,7 @@ ghost use Rattle.graphql_parser_c.specs.Documents.{executable_bytes, executable_
 ghost use Rattle.graphql_parser_c.specs.Explaining.{IsExplained};
 ghost use Rattle.graphql_parser_c.specs.Handing.{IsAnswered, places_asked};
 ghost use Rattle.graphql_parser_c.specs.Packing.{IsPacked};
-ghost use Rattle.graphql_parser_c.specs.Telling.{IsBack, IsTold, limits_of};
+ghost use Rattle.graphql_parser_c.specs.Telling.{IsBack, IsTold, IsWithin, limits_of};
 
 mod block;
 mod calls;
@@ -116,6 +116,7 @@ pub extern "C" fn graphql_parser_check_query_within(
     ensures told { IsTold (checked requests) (limits_of selections values types) text.bytes
         result.number result.places }
     ensures back { IsBack text places result }
+    ensures within { IsWithin memory (length text.bytes) result.left }
 {
     let bounds = Bounds(selections, values, types, memory);
     check::<ExecutableDocument>(alloc, text, bounds, places)
@@ -135,6 +136,7 @@ pub extern "C" fn graphql_parser_check_schema_within(
     ensures told { IsTold (checked schemas) (limits_of selections values types) text.bytes
         result.number result.places }
     ensures back { IsBack text places result }
+    ensures within { IsWithin memory (length text.bytes) result.left }
 {
     let bounds = Bounds(selections, values, types, memory);
     check::<ServiceDocument>(alloc, text, bounds, places)
@@ -209,6 +211,7 @@ pub extern "C" fn graphql_parser_parse_query_within(
     ensures handed { IsAnswered requests (executable_value (places_asked with_places))
         (limits_of selections values types) text.bytes result.number json.new }
     ensures back { IsBack text places result }
+    ensures within { IsWithin memory (length text.bytes) result.left }
 {
     let bounds = Bounds(selections, values, types, memory);
     call::<ExecutableDocument, Json>(alloc, text, bounds, &Json { with_places }, places, json)
@@ -232,6 +235,7 @@ pub extern "C" fn graphql_parser_parse_schema_within(
     ensures handed { IsAnswered schemas (service_value (places_asked with_places))
         (limits_of selections values types) text.bytes result.number json.new }
     ensures back { IsBack text places result }
+    ensures within { IsWithin memory (length text.bytes) result.left }
 {
     let bounds = Bounds(selections, values, types, memory);
     call::<ServiceDocument, Json>(alloc, text, bounds, &Json { with_places }, places, json)

@@ -5,6 +5,7 @@ pub mod TokenTests
 pub mod ReadsExactly
 pub mod IgnoresPlaces
 pub mod Extra
+pub mod Funds
 pub mod Whole
 pub mod Loop
 pub mod Loops

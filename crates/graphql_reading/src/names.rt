@@ -1,8 +1,10 @@
 //! Readers of names.
-ghost use Rattle.std.specs.Prelude.{◌≡◌, ℕ, List, IfOk};
+ghost use Rattle.std.specs.Prelude.{◌≡◌, ◌-◌, ℕ, List, IfOk};
 ghost use Rattle.graphql_tokens.specs.declared.pos.Positioned as model;
 ghost use Rattle.graphql_reading.specs.grammar.Places.{name_of};
 ghost use Rattle.graphql_reading.specs.grammar.Tests.{any_name};
+ghost use Rattle.graphql_reading.specs.reading.Funds.{Pays};
+ghost use Rattle.graphql_reading.specs.reading.Worth.{per_token};
 ghost use Rattle.graphql_reading.specs.reading.Given.{Gives};
 ghost use Rattle.graphql_reading.specs.reading.Outcome.{one_at, mapped_at};
 
@@ -19,6 +21,7 @@ use graphql_tokens::pos::Positioned;
 pub fn read_name(parser: &mut Parser) -> Reading<Positioned<Name>>
     ensures token { Gives (λ _. parser.old.hand) result parser.old parser.new (one_at any_name) }
     ensures name { IfOk result (λ name. name ≡ name_of parser.old.hand) }
+    ensures pays { Pays (per_token - 24) result parser.old parser.new }
 {
     let token = parser.expect_name()?;
     let name = parser.name(token)?;
@@ -36,6 +39,8 @@ impl Production for NamePhrase {
     ghost tree = { λ name. name };
 
     ghost first = { any_name };
+
+    ghost spare = { per_token - 24 };
 
     ghost reader = { λ _. mapped_at name_of (one_at any_name) };
 

@@ -1,6 +1,6 @@
 //! Reading a text token by token, with one token in hand.
-ghost use Rattle.std.specs.Prelude.{◌≡◌, ◌≢◌, ◌≤◌, ◌+◌, length, ◌&&◌, false, ◌++◌, ◌∷◌, [], Ok, IfOk, OnOk, OnErr, vec_len};
-ghost use Rattle.graphql_memory.specs.Memory.{Refused};
+ghost use Rattle.std.specs.Prelude.{◌≡◌, ◌≢◌, ◌≤◌, ◌+◌, length, ◌&&◌, true, false, ◌++◌, ◌∷◌, [], Ok, IfOk, OnOk, OnErr, vec_len};
+ghost use Rattle.graphql_memory.specs.Memory.{Refused, Takes};
 ghost use Rattle.graphql_tokens.specs.tokens.Cuts.{is_last, EndsOnce};
 ghost use Rattle.graphql_tokens.specs.tokens.Proper.{AreProperButFaults, IsProper};
 ghost use Rattle.graphql_tokens.specs.tokens.Seen.{seen};
@@ -10,6 +10,8 @@ ghost use Rattle.graphql_tokens.specs.tokens.Within.{StandsIn};
 ghost use Rattle.graphql_reading.specs.declared.parser.Refusal.TheVariants.{Memory};
 ghost use Rattle.graphql_reading.specs.grammar.Tests as tests;
 ghost use Rattle.graphql_reading.specs.reading.Ahead.{Ahead, tokens as ahead, Stays};
+ghost use Rattle.graphql_reading.specs.reading.Funds.{Spares, Pays};
+ghost use Rattle.graphql_reading.specs.reading.Worth.{per_token};
 ghost use Rattle.graphql_reading.specs.reading.Given.{Gives, GivesWhole};
 ghost use Rattle.graphql_reading.specs.reading.Outcome.{one_at, take_at};
 ghost use Rattle.graphql_reading.specs.reading.Parser.{mark, shown, IsWellCut};
@@ -84,6 +86,7 @@ impl<'a> Parser<'a> {
         ensures taken { result.taken ≡ tokens.entry.taken + 1 }
         ensures ends { EndsOnce (left tokens.entry) }
         ensures proper { AreProperButFaults (left tokens.entry) }
+        ensures memory { result.memory ≡ memory }
     {
         let hand = tokens.next_token();
         let mark = mark_of(hand.kind, hand.text);
@@ -117,6 +120,7 @@ impl<'a> Parser<'a> {
         ensures whole { self.new.whole ≡ self.old.whole }
         ensures text { self.new.text ≡ self.old.text }
         ensures memory { self.new.memory ≡ self.old.memory }
+        ensures pays { Spares (per_token + length self.old.hand.bare.spelling) self.old self.new }
     {
         let next = self.tokens.next_token();
         self.hand.kind = next.kind;
@@ -141,6 +145,7 @@ impl<'a> Parser<'a> {
     pub fn name(&mut self, token: Token) -> Result<Name, AllocError>
         requires { StandsIn self.old.text (seen token) }
         ensures name { IfOk result (λ name. name ≡ token.entry.text.now) }
+        ensures takes { Takes (24 + length token.entry.text.now) self.old.memory self.new.memory }
         ensures refused { OnErr result (Refused self.new.memory) }
         ensures stays { Stays self.old self.new }
     {
@@ -158,6 +163,7 @@ impl<'a> Parser<'a> {
         requires number { IsNumber token.text.now }
         requires stands { StandsIn self.old.text (seen token) }
         ensures number { IfOk result (λ number. number ≡ token.entry.text.now) }
+        ensures takes { Takes (24 + length token.entry.text.now) self.old.memory self.new.memory }
         ensures refused { OnErr result (Refused self.new.memory) }
         ensures stays { Stays self.old self.new }
     {
@@ -178,6 +184,7 @@ impl<'a> Parser<'a> {
         ensures taken { self.new.taken ≡ self.old.taken + 1 }
         ensures whole { self.new.whole ≡ self.old.whole }
         ensures memory { self.new.memory ≡ self.old.memory }
+        ensures pays { Spares (per_token + length result.text.now) self.old self.new }
         ensures stands { StandsIn self.new.text (seen result) }
     {
         let token = self.hand;
@@ -216,8 +223,11 @@ impl<'a> Parser<'a> {
     /// Uses up this punctuator, where it is in hand, and tells whether it was.
     #[inline(always)]
     pub fn take_punct(&mut self, text: &str) -> bool
-        ensures { Gives (λ taken. taken) (Ok result) self.old self.new
+        ensures gives { Gives (λ taken. taken) (Ok result) self.old self.new
             (take_at (punct_of text.now)) }
+        ensures saves { Spares 0 self.old self.new }
+        ensures pays { result ≡ true → Spares per_token self.old self.new }
+        ensures memory { self.new.memory ≡ self.old.memory }
     {
         let is_there = self.is_at_punct(text);
         if is_there {
@@ -229,7 +239,10 @@ impl<'a> Parser<'a> {
     /// Uses up this punctuator and gives it; anything else in hand is refused with `Syntax`.
     #[inline(always)]
     pub fn expect_punct(&mut self, text: &str) -> Reading<Token<'a>>
-        ensures { Gives seen result self.old self.new (one_at (punct_of text.now)) }
+        ensures gives { Gives seen result self.old self.new (one_at (punct_of text.now)) }
+        ensures pays { Pays per_token result self.old self.new }
+        ensures saves { Spares 0 self.old self.new }
+        ensures memory { self.new.memory ≡ self.old.memory }
     {
         if !self.is_at_punct(text) {
             return Err(Refusal::Syntax);
@@ -241,6 +254,9 @@ impl<'a> Parser<'a> {
     #[inline(always)]
     pub fn expect_name(&mut self) -> Reading<Token<'a>>
         ensures name { Gives seen result self.old self.new (one_at tests.any_name) }
+        ensures saves { Spares 0 self.old self.new }
+        ensures pays { IfOk result (λ token. Spares (per_token + length token.text.now) self.old self.new) }
+        ensures memory { self.new.memory ≡ self.old.memory }
         ensures stands { IfOk result (λ token. StandsIn self.new.text (seen token)) }
     {
         if !self.is_at_name() {
@@ -252,7 +268,10 @@ impl<'a> Parser<'a> {
     /// Uses up this keyword and gives it; anything else in hand is refused with `Syntax`.
     #[inline(always)]
     pub fn expect_keyword(&mut self, word: &str) -> Reading<Token<'a>>
-        ensures { Gives seen result self.old self.new (one_at (keyword_of word.now)) }
+        ensures gives { Gives seen result self.old self.new (one_at (keyword_of word.now)) }
+        ensures pays { Pays per_token result self.old self.new }
+        ensures saves { Spares 0 self.old self.new }
+        ensures memory { self.new.memory ≡ self.old.memory }
     {
         if !self.is_at_keyword(word) {
             return Err(Refusal::Syntax);

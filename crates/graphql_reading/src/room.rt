@@ -1,8 +1,9 @@
 //! Memory for what is read. Each call hands on to the parser's memory, and fails only where that was refused; the tokens
 //! stay.
-ghost use Rattle.std.specs.Prelude.{◌≡◌, ◌≤◌, ◌+◌, ◌++◌, ◌∷◌, [], take, drop, chars, string_bytes, Some, is_some, if◌then◌else◌, IfOk, IfSome, IfNone, OnOk, OnErr, vec_len};
+ghost use Rattle.std.specs.Prelude.{◌≡◌, ◌≤◌, ◌<◌, ◌+◌, ◌-◌, ◌*◌, ◌++◌, ◌∷◌, [], take, drop, chars, string_bytes, Some, is_some, if◌then◌else◌, IfOk, IfSome, IfNone, OnOk, OnErr, length, vec_len, vec_capacity};
 ghost use Rattle.std.specs.BTreeMap as ordered;
-ghost use Rattle.graphql_memory.specs.Memory.{Refused};
+ghost use Rattle.graphql_memory.specs.Memory.{Refused, Takes, bytes, price, pair_bytes, credit, small_credit};
+ghost use Rattle.smallvec.specs.SmallVec.{small_vec_len};
 ghost use Rattle.graphql_reading.specs.reading.Ahead.{Stays};
 ghost use Rattle.graphql_tokens.specs.tokens.BlockText.{block_value};
 ghost use Rattle.graphql_tokens.specs.tokens.Edition.{Current};
@@ -25,26 +26,28 @@ impl Parser<'_> {
     /// An empty list. It takes no memory.
     #[inline(always)]
     pub fn empty_list<T>(&self) -> Vec<T>
-        ensures { result.items ≡ [] }
+        ensures items { result.items ≡ [] }
+        ensures free { credit T.row result ≡ 0 }
     {
         self.memory.empty_list()
     }
 
-    /// An empty list with room for so many, at most eight.
+    /// An empty small list. It takes no memory.
     #[inline(always)]
-    pub fn list_with_room<T>(&mut self, room: usize) -> Result<Vec<T>, AllocError>
-        requires { room ≤ 8 }
-        ensures items { IfOk result (λ list. list.items ≡ []) }
-        ensures refused { OnErr result (Refused self.new.memory) }
-        ensures stays { Stays self.old self.new }
+    pub fn empty_small_list<T: MadeWith<Global> + Drop, const N: usize>(&self) -> SmallVec<T, N>
+        ensures items { result.items ≡ [] }
+        ensures free { small_credit N T.row result ≡ 0 }
+        ensures room { result.capacity ≡ N }
     {
-        self.memory.list_with_room(room)
+        self.memory.empty_small_list()
     }
 
     /// An empty list with room for as many as the slice has.
     #[inline(always)]
     pub fn list_for<T, U>(&mut self, items: &[U]) -> Result<Vec<T>, AllocError>
         ensures items { IfOk result (λ list. list.items ≡ []) }
+        ensures room { IfOk result (λ list. vec_capacity list ≡ length items.now) }
+        ensures takes { Takes (bytes T.row * length items.now) self.old.memory self.new.memory }
         ensures refused { OnErr result (Refused self.new.memory) }
         ensures stays { Stays self.old self.new }
     {
@@ -55,21 +58,41 @@ impl Parser<'_> {
     #[inline(always)]
     pub fn push<T: Drop>(&mut self, list: &mut Vec<T>, item: T) -> Result<(), AllocError>
         ensures items { OnOk result (list.new.items ≡ list.old.items ++ item ∷ []) }
+        ensures len { OnOk result (vec_len list.new ≡ vec_len list.old + 1) }
         ensures kept { OnErr result (list.new.items ≡ list.old.items) }
+        ensures takes { Takes (credit T.row list.old + price T.row) self.old.memory self.new.memory }
+        ensures pays { OnOk result (self.old.memory.left + self.new.memory.lacking + credit T.row list.new ≤
+            self.new.memory.left + self.old.memory.lacking + credit T.row list.old + price T.row) }
+        ensures room { vec_len list.old < vec_capacity list.old →
+            (self.new.memory ≡ self.old.memory) × (vec_capacity list.new ≡ vec_capacity list.old) }
         ensures refused { OnErr result (Refused self.new.memory) }
         ensures stays { Stays self.old self.new }
     {
         self.memory.push(list, item)
     }
 
-    /// Gives an empty list room for one item alone, where it has none.
+    /// The same; a list that never had room has it for so many items first, four at most.
     #[inline(always)]
-    pub fn give_one_place<T>(&mut self, list: &mut Vec<T>) -> Result<(), AllocError>
-        ensures items { list.new.items ≡ list.old.items }
+    pub fn push_with_room<T: Drop>(
+        &mut self,
+        list: &mut Vec<T>,
+        item: T,
+        first: usize,
+    ) -> Result<(), AllocError>
+        requires some { 0 < first }
+        requires few { first ≤ 4 }
+        ensures items { OnOk result (list.new.items ≡ list.old.items ++ item ∷ []) }
+        ensures len { OnOk result (vec_len list.new ≡ vec_len list.old + 1) }
+        ensures kept { OnErr result (list.new.items ≡ list.old.items) }
+        ensures takes { Takes (credit T.row list.old + price T.row) self.old.memory self.new.memory }
+        ensures pays { OnOk result (self.old.memory.left + self.new.memory.lacking + credit T.row list.new ≤
+            self.new.memory.left + self.old.memory.lacking + credit T.row list.old + price T.row) }
+        ensures room { vec_len list.old < vec_capacity list.old →
+            (self.new.memory ≡ self.old.memory) × (vec_capacity list.new ≡ vec_capacity list.old) }
         ensures refused { OnErr result (Refused self.new.memory) }
         ensures stays { Stays self.old self.new }
     {
-        self.memory.give_one_place(list)
+        self.memory.push_with_room(list, item, first)
     }
 
     /// Cuts the items from `at` on off a list, into a list of their own.
@@ -78,6 +101,9 @@ impl Parser<'_> {
         requires { at ≤ vec_len list.old }
         ensures rest { OnOk result (list.new.items ≡ take at list.old.items) }
         ensures own { IfOk result (λ own. own.items ≡ drop at list.old.items) }
+        ensures len { OnOk result (vec_len list.new ≡ at) }
+        ensures capacity { vec_capacity list.new ≡ vec_capacity list.old }
+        ensures takes { Takes (bytes T.row * (vec_len list.old - at)) self.old.memory self.new.memory }
         ensures refused { OnErr result (Refused self.new.memory) }
         ensures stays { Stays self.old self.new }
     {
@@ -88,6 +114,7 @@ impl Parser<'_> {
     #[inline(always)]
     pub fn boxed<T: Drop>(&mut self, item: T) -> Result<Box<T>, AllocError>
         ensures item { IfOk result (λ b. b.value ≡ item) }
+        ensures takes { Takes (bytes T.row) self.old.memory self.new.memory }
         ensures refused { OnErr result (Refused self.new.memory) }
         ensures stays { Stays self.old self.new }
     {
@@ -103,6 +130,11 @@ impl Parser<'_> {
     ) -> Result<(), AllocError>
         ensures items { OnOk result (list.new.items ≡ list.old.items ++ item ∷ []) }
         ensures kept { OnErr result (list.new.items ≡ list.old.items) }
+        ensures takes { Takes (small_credit N T.row list.old + price T.row) self.old.memory self.new.memory }
+        ensures pays { OnOk result (self.old.memory.left + self.new.memory.lacking + small_credit N T.row list.new ≤
+            self.new.memory.left + self.old.memory.lacking + small_credit N T.row list.old + price T.row) }
+        ensures room { small_vec_len list.old < list.old.capacity →
+            (self.new.memory ≡ self.old.memory) × OnErr result ⊥ }
         ensures refused { OnErr result (Refused self.new.memory) }
         ensures stays { Stays self.old self.new }
     {
@@ -123,6 +155,7 @@ impl Parser<'_> {
             ordered.insert_entry K.cmp map.old.entries key value) }
         ensures len { IfOk result (λ old. ordered.btree_map_len map.new ≡
             ordered.btree_map_len map.old + (if is_some old then 0 else 1)) }
+        ensures takes { Takes (pair_bytes K.row V.row) self.old.memory self.new.memory }
         ensures refused { OnErr result (Refused self.new.memory) }
         ensures stays { Stays self.old self.new }
     {
@@ -135,6 +168,7 @@ impl Parser<'_> {
             IfSome value (λ s. StringMeans Current (chars content.now) (chars (string_bytes s)))) }
         ensures none { IfOk result (λ value.
             IfNone value (¬ IsContent Current (chars content.now))) }
+        ensures takes { Takes (length content.now) self.old.memory self.new.memory }
         ensures refused { OnErr result (Refused self.new.memory) }
         ensures stays { Stays self.old self.new }
     {
@@ -145,6 +179,7 @@ impl Parser<'_> {
     pub fn block_string_value(&mut self, raw: &str) -> Result<String, AllocError>
         ensures value { IfOk result (λ value. chars (string_bytes value) ≡
             block_value (chars raw.now)) }
+        ensures takes { Takes (length raw.now) self.old.memory self.new.memory }
         ensures refused { OnErr result (Refused self.new.memory) }
         ensures stays { Stays self.old self.new }
     {

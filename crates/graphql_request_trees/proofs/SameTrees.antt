@@ -2,7 +2,7 @@
 use Rattle.std.proofs.Common.{◌≡◌, List, map}
 use Rattle.std.specs.List.{AllZip}
 use Rattle.graphql_tokens.specs.declared.pos.Positioned.{Positioned}
-use Rattle.graphql_syntax.specs.trees.Parts.{Name, placed}
+use Rattle.graphql_syntax.specs.trees.Parts.{Name}
 use Rattle.graphql_syntax.specs.trees.PartViews.{directive_tree}
 use Rattle.graphql_syntax.specs.trees.TypeTree.{type_tree}
 use Rattle.graphql_syntax.specs.trees.ValueViews.{const_tree}

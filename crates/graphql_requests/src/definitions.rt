@@ -1,11 +1,13 @@
 //! Readers of operations, fragments and requests.
-ghost use Rattle.std.specs.Prelude.{◌≡◌, IfOk, option_map};
+ghost use Rattle.std.specs.Prelude.{◌≡◌, ◌-◌, IfOk, option_map};
 ghost use Rattle.graphql_requests.specs.grammar.Selections.{fragment_name};
 ghost use Rattle.graphql_reading.specs.grammar.Places.{name_of};
 ghost use Rattle.graphql_reading.specs.reading.Outcome.{one_at};
 ghost use Rattle.graphql_requests.specs.grammar.Request.{Definition as SpecDefinition};
 ghost use Rattle.graphql_requests.specs.reading.Definitions.{definition_tree, maybe_name_at, worded_at};
 ghost use Rattle.graphql_requests.specs.reading.Seeds.{name_in};
+ghost use Rattle.graphql_reading.specs.reading.Funds.{Pays};
+ghost use Rattle.graphql_reading.specs.reading.Worth.{per_token};
 ghost use Rattle.graphql_reading.specs.reading.Given.{Gives};
 ghost use Rattle.graphql_requests.specs.reading.Request.{short_operation_at, fragment_at, definition_first, definition_at};
 
@@ -48,6 +50,7 @@ impl Definition {
 /// `FragmentName : Name but not 'on'` (GraphQL October 2021, section 2.8)
 fn read_fragment_name(parser: &mut Parser) -> Reading<Positioned<Name>>
     ensures token { Gives (λ _. parser.old.hand) result parser.old parser.new (one_at fragment_name) }
+    ensures pays { Pays (per_token - 24) result parser.old parser.new }
     ensures name { IfOk result (λ name. name ≡ name_of parser.old.hand) }
 {
     if !is_at_fragment_name(parser) {
@@ -60,7 +63,8 @@ fn read_fragment_name(parser: &mut Parser) -> Reading<Positioned<Name>>
 ///
 /// `OperationDefinition : SelectionSet` (GraphQL October 2021, section 2.3)
 fn read_short_operation(parser: &mut Parser, limits: Limits) -> Reading<Definition>
-    ensures { Gives definition_tree result parser.old parser.new (short_operation_at limits) }
+    ensures gives { Gives definition_tree result parser.old parser.new (short_operation_at limits) }
+    ensures pays { Pays per_token result parser.old parser.new }
 {
     let selection_set = read_selection_set(parser, limits)?;
     let pos = selection_set.pos;
@@ -74,7 +78,8 @@ fn read_short_operation(parser: &mut Parser, limits: Limits) -> Reading<Definiti
 }
 
 fn read_maybe_name(parser: &mut Parser) -> Reading<Option<Name>>
-    ensures { Gives (λ name. name) result parser.old parser.new maybe_name_at }
+    ensures gives { Gives (λ name. name) result parser.old parser.new maybe_name_at }
+    ensures pays { Pays 0 result parser.old parser.new }
 {
     if !parser.is_at_name() {
         return Ok(None);
@@ -89,7 +94,8 @@ fn read_maybe_name(parser: &mut Parser) -> Reading<Option<Name>>
 /// `OperationDefinition : OperationType Name? VariableDefinitions? Directives? SelectionSet` (GraphQL October 2021,
 /// section 2.3)
 fn read_operation(parser: &mut Parser, limits: Limits) -> Reading<Definition>
-    ensures { Gives definition_tree result parser.old parser.new (worded_at limits) }
+    ensures gives { Gives definition_tree result parser.old parser.new (worded_at limits) }
+    ensures pays { Pays per_token result parser.old parser.new }
 {
     let (word, ty) = read_operation_type(parser)?;
     let name = read_maybe_name(parser)?;
@@ -105,7 +111,8 @@ fn read_operation(parser: &mut Parser, limits: Limits) -> Reading<Definition>
 /// `FragmentDefinition : 'fragment' FragmentName TypeCondition Directives? SelectionSet` (GraphQL October 2021,
 /// section 2.8)
 fn read_fragment(parser: &mut Parser, limits: Limits) -> Reading<Definition>
-    ensures { Gives definition_tree result parser.old parser.new (fragment_at limits) }
+    ensures gives { Gives definition_tree result parser.old parser.new (fragment_at limits) }
+    ensures pays { Pays per_token result parser.old parser.new }
 {
     let word = parser.expect_keyword("fragment")?;
     let name = read_fragment_name(parser)?;
@@ -125,6 +132,8 @@ impl Production for Definition {
     ghost tree = { definition_tree };
 
     ghost first = { definition_first };
+
+    ghost spare = { per_token };
 
     ghost reader = { definition_at };
 

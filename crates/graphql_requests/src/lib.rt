@@ -11,9 +11,10 @@
 //! inner.
 #![tactic(auto)]
 
-ghost use Rattle.std.specs.Prelude.{◌≡◌, ◌≢◌, [], Err, IfOk};
-ghost use Rattle.graphql_memory.specs.Memory.{Refused};
+ghost use Rattle.std.specs.Prelude.{◌≡◌, ◌≢◌, ◌≤◌, ◌<◌, ◌⊎◌, ◌+◌, [], Err, IfOk, length};
+ghost use Rattle.graphql_memory.specs.Refusals.{HeapRefused};
 ghost use Rattle.graphql_tokens.specs.tokens.Token.{left};
+ghost use Rattle.graphql_grammar.specs.answers.Memory.{most_taken};
 ghost use Rattle.graphql_grammar.specs.answers.Reads.{ReadsText, ReadsTokens};
 ghost use Rattle.graphql_grammar.specs.declared.error.Error.TheVariants.{OutOfMemory};
 ghost use Rattle.graphql_reading.specs.grammar.Limits.{default_limits};
@@ -66,8 +67,9 @@ pub fn parse_query_limited(alloc: Global, text: &str, limits: Limits) -> Result<
     parse_query_within(&mut Memory::new(alloc), text, limits)
 }
 
-/// As [`parse_query_limited`], with who takes memory, as a budget bounds it (this project's own call). `OutOfMemory` is
-/// answered only where memory was refused: where more was wanted than was left, or the heap had no more.
+/// As [`parse_query_limited`], with who takes memory, as a budget bounds it (this project's own call). A text of n bytes
+/// takes at most 1,105 n + 1,161 of them. `OutOfMemory` is answered only where the heap refused a request, or less than
+/// that was left.
 pub fn parse_query_within(
     memory: &mut Memory,
     text: &str,
@@ -75,7 +77,10 @@ pub fn parse_query_within(
 ) -> Result<ExecutableDocument>
     ensures reads { ReadsText requests limits text.now result }
     ensures lawful { IfOk result (λ document. IsLawful (document_tree document)) }
-    ensures refused { result ≡ Err OutOfMemory → Refused memory.new }
+    ensures taken { memory.old.left ≤ memory.new.left + most_taken (length text.now) }
+    ensures lent { memory.new.left ≤ memory.old.left }
+    ensures refused { result ≡ Err OutOfMemory → HeapRefused memory.old memory.new
+        ⊎ (memory.old.left < most_taken (length text.now)) }
 {
     let mut tokens = Tokens::new(text);
     read_document::<KeptDefinitions>(memory, &mut tokens, limits)

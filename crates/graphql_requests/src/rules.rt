@@ -1,6 +1,8 @@
 //! The definitions of a request, the rules that they keep, and the document that they make.
-ghost use Rattle.std.specs.Prelude.{◌≡◌, ◌≢◌, List, Some, None, Err, option_map};
-ghost use Rattle.graphql_memory.specs.Memory.{Refused};
+ghost use Rattle.std.specs.Prelude.{◌≡◌, ◌≢◌, ◌*◌, vec_len, List, Some, None, Err, option_map};
+ghost use Rattle.graphql_memory.specs.Memory.{Refused, Takes};
+ghost use Rattle.graphql_requests.specs.reading.SelectionFunds.{definition_bytes};
+ghost use Rattle.graphql_reading.specs.reading.Worth.{worth};
 ghost use Rattle.graphql_grammar.specs.declared.error.Error.TheVariants.{OutOfMemory};
 ghost use Rattle.graphql_request_trees.specs.trees.RequestViews.{operation_tree, fragment_tree};
 ghost use Rattle.graphql_syntax.specs.trees.Parts.{placed};
@@ -90,6 +92,7 @@ impl Sorted {
         ensures added { (ds : List SpecDefinition) → IsSorted ds self.old →
             IsAdded ds (an_operation (Some name) (placed operation_tree operation)) result
             self.new }
+        ensures takes { Takes definition_bytes memory.old memory.new }
         ensures refused { result ≡ Err OutOfMemory → Refused memory.new }
     {
         let second = operation.pos;
@@ -119,6 +122,7 @@ impl Sorted {
     ) -> Result<()>
         ensures added { (ds : List SpecDefinition) → IsSorted ds self.old →
             IsAdded ds (a_fragment name (placed fragment_tree fragment)) result self.new }
+        ensures takes { Takes definition_bytes memory.old memory.new }
         ensures refused { result ≡ Err OutOfMemory → Refused memory.new }
     {
         if let Some(first) = self.fragments.get(&name) {
@@ -151,6 +155,10 @@ impl<'a> Kept<'a> for KeptDefinitions {
     ghost kept = { λ kept. definition_trees kept.items.items };
 
     ghost language = { requests };
+
+    ghost Costs = { λ _ ts most. most ≡ worth ts };
+
+    ghost owes = { λ kept. definition_bytes * vec_len kept.items };
 
     ghost reader = { definitions_at };
 

@@ -1,10 +1,13 @@
 //! Readers of selection sets: one loop over the sets that are open.
-ghost use Rattle.std.specs.Prelude.{◌≡◌, ◌≤◌, take, IfOk, OnErr};
+ghost use Rattle.std.specs.Prelude.{◌≡◌, ◌≤◌, ◌-◌, ◌*◌, take, IfOk, OnOk, OnErr, vec_capacity};
 ghost use Rattle.std.specs.Vec.{vec_len};
-ghost use Rattle.graphql_memory.specs.Memory.{Refused};
+ghost use Rattle.graphql_memory.specs.Memory.{Refused, Takes, bytes, credit};
 ghost use Rattle.graphql_syntax.specs.trees.Parts.{placed};
 ghost use Rattle.graphql_request_trees.specs.trees.RequestViews.{selection_trees, selection_set_tree};
 ghost use Rattle.graphql_reading.specs.reading.Ahead.{Stays};
+ghost use Rattle.graphql_reading.specs.reading.Funds.{Pays};
+ghost use Rattle.graphql_reading.specs.reading.Worth.{per_token};
+ghost use Rattle.graphql_requests.specs.reading.SelectionFunds.{selection_row};
 ghost use Rattle.graphql_reading.specs.reading.Given.{Gives};
 ghost use Rattle.graphql_requests.specs.reading.OpenSets.{part};
 ghost use Rattle.graphql_requests.specs.reading.Request.{own_set_at};
@@ -43,6 +46,10 @@ impl OpenSet {
             closed (part self.now (selection_trees items.old.items))) }
         ensures rest { IfOk result (λ _. selection_trees items.new.items ≡
             take self.now.first (selection_trees items.old.items)) }
+        ensures takes { Takes (bytes selection_row * (vec_len items.old - self.now.first)) parser.old.memory parser.new.memory }
+        ensures len { OnOk result (vec_len items.new ≡ self.now.first) }
+        ensures fewer { OnOk result (vec_len items.new ≤ vec_len items.old) }
+        ensures credit { OnOk result (credit selection_row items.new ≤ credit selection_row items.old) }
         ensures refused { OnErr result (Refused parser.new.memory) }
         ensures stays { Stays parser.old parser.new }
     {
@@ -58,8 +65,10 @@ impl OpenSet {
 
 /// Gives the last selection its set.
 fn fill_last(items: &mut Vec<Positioned<Selection>>, set: Positioned<SelectionSet>)
-    ensures { selection_trees items.new.items ≡
+    ensures trees { selection_trees items.new.items ≡
         fill_last (selection_trees items.old.items) (placed selection_set_tree set) }
+    ensures len { vec_len items.new ≡ vec_len items.old }
+    ensures capacity { vec_capacity items.new ≡ vec_capacity items.old }
 {
     if let Some(last) = items.last_mut() {
         match &mut last.node {
@@ -74,14 +83,15 @@ fn fill_last(items: &mut Vec<Positioned<Selection>>, set: Positioned<SelectionSe
 ///
 /// `SelectionSet : '{' Selection+ '}'` (GraphQL October 2021, section 2.4)
 pub fn read_selection_set(parser: &mut Parser, limits: Limits) -> Reading<Positioned<SelectionSet>>
-    ensures { Gives (placed selection_set_tree) result parser.old parser.new (own_set_at limits) }
+    ensures gives { Gives (placed selection_set_tree) result parser.old parser.new (own_set_at limits) }
+    ensures pays { Pays per_token result parser.old parser.new }
 {
     let brace = parser.expect_punct("{")?;
     // The selections of all sets that are open, the innermost set's last.
     let mut items = parser.empty_list();
     // The sets around the one that is read, the outermost first: the last selection of each waits for its set. Up to
     // eight take no block.
-    let mut outer: SmallVec<OpenSet, 8> = SmallVec::new(parser.heap());
+    let mut outer: SmallVec<OpenSet, 8> = parser.empty_small_list();
     let mut own = OpenSet {
         place: brace.pos,
         first: 0,

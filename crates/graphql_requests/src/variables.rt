@@ -7,6 +7,8 @@ ghost use Rattle.graphql_syntax.specs.trees.PartViews.{directive_tree};
 ghost use Rattle.graphql_request_trees.specs.trees.RequestViews.{variable_definition_tree};
 ghost use Rattle.graphql_syntax.specs.trees.ValueViews.{const_tree};
 ghost use Rattle.graphql_reading.specs.grammar.Tests.{punct};
+ghost use Rattle.graphql_reading.specs.reading.Funds.{Pays};
+ghost use Rattle.graphql_reading.specs.reading.Worth.{per_token};
 ghost use Rattle.graphql_reading.specs.reading.Given.{Gives, trees_in};
 ghost use Rattle.graphql_requests.specs.reading.Variables.{default_and_directives_at, variable_definition_at};
 
@@ -28,9 +30,10 @@ fn read_default_and_directives(
     parser: &mut Parser,
     limits: Limits,
 ) -> Reading<(Option<Positioned<ConstValue>>, Vec<Positioned<Directive>>)>
-    ensures { Gives (λ both.
+    ensures gives { Gives (λ both.
         (option_map (placed const_tree) both.0, trees_in (placed directive_tree) both.1)) result
         parser.old parser.new (default_and_directives_at limits.values) }
+    ensures pays { Pays 0 result parser.old parser.new }
 {
     if parser.is_at_punct("=") {
         let default_value = read_maybe_default(parser, limits)?;
@@ -54,6 +57,8 @@ impl Production for VariablePhrase {
     ghost tree = { placed variable_definition_tree };
 
     ghost first = { punct "$" };
+
+    ghost spare = { per_token };
 
     ghost reader = { λ limits. variable_definition_at limits.values limits.types };
 

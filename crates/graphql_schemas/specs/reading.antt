@@ -4,6 +4,7 @@ pub mod Descriptions
 pub mod Directives
 pub mod Fields
 pub mod Finished
+pub mod Funds
 pub mod InputValues
 pub mod Members
 pub mod Schema

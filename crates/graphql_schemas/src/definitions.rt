@@ -1,5 +1,7 @@
 //! Readers of definitions and of schema files, by GraphQL October 2021, section 3.1.
 ghost use Rattle.std.specs.Prelude.{◌≡◌};
+ghost use Rattle.graphql_reading.specs.reading.Funds.{Pays};
+ghost use Rattle.graphql_reading.specs.reading.Worth.{per_token};
 ghost use Rattle.graphql_reading.specs.reading.Given.{Gives};
 ghost use Rattle.graphql_schemas.specs.grammar.SchemaFile.{Definition as SpecDefinition};
 ghost use Rattle.graphql_schemas.specs.reading.SchemaFile.{described_at, extension_at, definition_first, definition_at};
@@ -39,7 +41,8 @@ pub fn is_at_definition(parser: &Parser) -> bool
 
 /// `TypeSystemExtension : SchemaExtension | TypeExtension`
 fn read_extension(parser: &mut Parser, limits: Limits) -> Reading<Definition>
-    ensures { Gives definition_tree result parser.old parser.new (extension_at limits) }
+    ensures gives { Gives definition_tree result parser.old parser.new (extension_at limits) }
+    ensures pays { Pays per_token result parser.old parser.new }
 {
     let extend = parser.expect_keyword("extend")?;
     if parser.is_at_keyword("schema") {
@@ -53,7 +56,8 @@ fn read_extension(parser: &mut Parser, limits: Limits) -> Reading<Definition>
 
 /// `TypeSystemDefinition : SchemaDefinition | TypeDefinition | DirectiveDefinition`: each may have a description.
 fn read_described(parser: &mut Parser, limits: Limits) -> Reading<Definition>
-    ensures { Gives definition_tree result parser.old parser.new (described_at limits) }
+    ensures gives { Gives definition_tree result parser.old parser.new (described_at limits) }
+    ensures pays { Pays per_token result parser.old parser.new }
 {
     let description = read_maybe_description(parser)?;
     if parser.is_at_keyword("schema") {
@@ -85,6 +89,8 @@ impl Production for Definition {
     ghost tree = { definition_tree };
 
     ghost first = { definition_first };
+
+    ghost spare = { per_token };
 
     ghost reader = { definition_at };
 

@@ -2,6 +2,8 @@
 ghost use Rattle.std.specs.Prelude.{◌≡◌, string_bytes};
 ghost use Rattle.graphql_syntax.specs.trees.Parts.{placed};
 ghost use Rattle.graphql_schema_trees.specs.trees.SchemaViews.{description_tree};
+ghost use Rattle.graphql_reading.specs.reading.Funds.{Pays};
+ghost use Rattle.graphql_reading.specs.reading.Worth.{per_token};
 ghost use Rattle.graphql_reading.specs.reading.Given.{Gives};
 ghost use Rattle.graphql_schemas.specs.grammar.Descriptions as grammar;
 ghost use Rattle.graphql_schemas.specs.reading.Descriptions.{is_text, description_at, maybe_description_at};
@@ -21,7 +23,8 @@ pub fn is_at_description(parser: &Parser) -> bool
 
 /// `Description : StringValue`
 fn read_description(parser: &mut Parser) -> Reading<Positioned<String>>
-    ensures { Gives (placed string_bytes) result parser.old parser.new description_at }
+    ensures gives { Gives (placed string_bytes) result parser.old parser.new description_at }
+    ensures pays { Pays per_token result parser.old parser.new }
 {
     let quote = parser.hand();
     let text = if quote.kind.is_string() {
@@ -38,7 +41,8 @@ fn read_description(parser: &mut Parser) -> Reading<Positioned<String>>
 #[tactic(auto, unfolding(graphql_reading::specs::reading::Outcome::opt_at))]
 #[inline(always)]
 pub fn read_maybe_description(parser: &mut Parser) -> Reading<Option<Positioned<String>>>
-    ensures { Gives description_tree result parser.old parser.new maybe_description_at }
+    ensures gives { Gives description_tree result parser.old parser.new maybe_description_at }
+    ensures pays { Pays 0 result parser.old parser.new }
 {
     if !is_at_description(parser) {
         return Ok(None);

@@ -5,6 +5,8 @@ ghost use Rattle.graphql_schema_trees.specs.declared.service.DirectiveLocation.{
 ghost use Rattle.graphql_syntax.specs.trees.Parts.{placed};
 ghost use Rattle.graphql_schema_trees.specs.trees.SchemaViews.{description_tree, directive_definition_tree};
 ghost use Rattle.graphql_reading.specs.grammar.Tests.{any_name};
+ghost use Rattle.graphql_reading.specs.reading.Funds.{Pays, Spares};
+ghost use Rattle.graphql_reading.specs.reading.Worth.{per_token};
 ghost use Rattle.graphql_reading.specs.reading.Given.{Gives};
 ghost use Rattle.graphql_reading.specs.reading.Outcome.{mapped_at};
 ghost use Rattle.graphql_schemas.specs.grammar.Directives as grammar;
@@ -59,6 +61,8 @@ impl Production for LocationPhrase {
 
     ghost first = { any_name };
 
+    ghost spare = { per_token };
+
     ghost reader = { λ _. location_at };
 
     const ROOM: usize = 4;
@@ -86,7 +90,8 @@ fn read_locations(
     parser: &mut Parser,
     limits: Limits,
 ) -> Reading<Vec<Positioned<DirectiveLocation>>>
-    ensures { Gives (λ locations. locations.items) result parser.old parser.new locations_at }
+    ensures gives { Gives (λ locations. locations.items) result parser.old parser.new locations_at }
+    ensures pays { Pays 0 result parser.old parser.new }
 {
     parser.expect_keyword("on")?;
     separated::<LocationPhrase>(parser, "|", limits)
@@ -97,8 +102,9 @@ fn read_locations(
 /// `'repeatable'?`
 #[tactic(auto, unfolding(graphql_reading::specs::reading::Outcome::opt_at))]
 fn read_is_repeatable(parser: &mut Parser) -> bool
-    ensures { Gives (λ is_repeatable. is_repeatable) (Ok result) parser.old parser.new
+    ensures gives { Gives (λ is_repeatable. is_repeatable) (Ok result) parser.old parser.new
         repeatable_at }
+    ensures pays { Spares 0 parser.old parser.new }
 {
     let is_repeatable = parser.is_at_keyword("repeatable");
     if is_repeatable {
@@ -116,9 +122,10 @@ pub fn read_directive_definition(
     limits: Limits,
     description: Option<Positioned<String>>,
 ) -> Reading<Positioned<DirectiveDefinition>>
-    ensures { Gives (placed directive_definition_tree) result parser.old parser.new
+    ensures gives { Gives (placed directive_definition_tree) result parser.old parser.new
         (mapped_at (λ rest. grammar.directive_definition_of (description_tree description, rest))
         (directive_rest_at limits)) }
+    ensures pays { Pays per_token result parser.old parser.new }
 {
     let word = parser.expect_keyword("directive")?;
     let pos = place_of(&description, word.pos);

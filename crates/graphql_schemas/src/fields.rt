@@ -1,4 +1,5 @@
 //! Readers of the fields of object types and interfaces, by GraphQL October 2021, section 3.6.
+ghost use Rattle.graphql_reading.specs.reading.Worth.{per_token};
 ghost use Rattle.graphql_tokens.specs.declared.pos.Positioned.{Positioned};
 ghost use Rattle.graphql_syntax.specs.trees.Parts.{placed};
 ghost use Rattle.graphql_schema_trees.specs.trees.Schema as trees;
@@ -28,6 +29,8 @@ impl Production for FieldPhrase {
     ghost tree = { placed field_definition_tree };
 
     ghost first = { member_first };
+
+    ghost spare = { per_token };
 
     ghost reader = { field_definition_at };
 

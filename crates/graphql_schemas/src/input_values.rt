@@ -5,6 +5,8 @@ ghost use Rattle.graphql_tokens.specs.declared.pos.Positioned.{Positioned};
 ghost use Rattle.graphql_syntax.specs.trees.Parts.{placed};
 ghost use Rattle.graphql_schema_trees.specs.trees.Schema as trees;
 ghost use Rattle.graphql_schema_trees.specs.trees.SchemaViews.{input_value_tree};
+ghost use Rattle.graphql_reading.specs.reading.Funds.{Pays};
+ghost use Rattle.graphql_reading.specs.reading.Worth.{per_token};
 ghost use Rattle.graphql_reading.specs.reading.Given.{Gives, trees_in};
 ghost use Rattle.graphql_schemas.specs.reading.InputValues.{member_first, input_value_at, given_arguments_at};
 
@@ -37,6 +39,8 @@ impl Production for InputValuePhrase {
     ghost tree = { placed input_value_tree };
 
     ghost first = { member_first };
+
+    ghost spare = { per_token };
 
     ghost reader = { input_value_at };
 
@@ -75,8 +79,9 @@ pub fn read_maybe_arguments_definition(
     parser: &mut Parser,
     limits: Limits,
 ) -> Reading<Vec<Positioned<InputValueDefinition>>>
-    ensures { Gives (trees_in (placed input_value_tree)) result parser.old parser.new
+    ensures gives { Gives (trees_in (placed input_value_tree)) result parser.old parser.new
         (given_arguments_at limits) }
+    ensures pays { Pays 0 result parser.old parser.new }
 {
     if !parser.is_at_punct("(") {
         return Ok(parser.empty_list());

@@ -11,10 +11,14 @@
 //! inner. Modules are `pub` for `graphql_check` alone, which reads the same keywords and tells the same tokens.
 #![tactic(auto)]
 
-ghost use Rattle.std.specs.Prelude.{◌≡◌, ◌≢◌, List, [], Err, IfOk};
-ghost use Rattle.graphql_memory.specs.Memory.{Refused};
+ghost use Rattle.std.specs.Prelude.{◌≡◌, ◌≢◌, ◌≤◌, ◌<◌, ◌⊎◌, ◌+◌, ◌*◌, List, [], Err, IfOk, length, vec_len};
+ghost use Rattle.graphql_memory.specs.Memory.{bytes};
+ghost use Rattle.graphql_memory.specs.Refusals.{HeapRefused};
+ghost use Rattle.graphql_schemas.specs.reading.Funds.{definition_row};
+ghost use Rattle.graphql_reading.specs.reading.Worth.{worth};
 ghost use Rattle.graphql_tokens.specs.tokens.Token.{left};
 ghost use Rattle.graphql_schema_trees.specs.trees.SchemaViews.{schema_document_tree};
+ghost use Rattle.graphql_grammar.specs.answers.Memory.{most_taken};
 ghost use Rattle.graphql_grammar.specs.answers.Reads.{ReadsText, ReadsTokens};
 ghost use Rattle.graphql_grammar.specs.declared.error.Error.TheVariants.{OutOfMemory};
 ghost use Rattle.graphql_reading.specs.grammar.Limits.{default_limits};
@@ -65,6 +69,10 @@ impl<'a> Kept<'a> for KeptDefinitions {
 
     ghost language = { schemas };
 
+    ghost Costs = { λ _ ts most. most ≡ worth ts };
+
+    ghost owes = { λ kept. bytes definition_row * vec_len kept.items };
+
     ghost reader = { definitions_at };
 
     /// `TypeSystemExtensionDocument : TypeSystemDefinitionOrExtension+` (GraphQL October 2021, section 3.1)
@@ -112,8 +120,9 @@ pub fn parse_schema_limited(alloc: Global, text: &str, limits: Limits) -> Result
     parse_schema_within(&mut Memory::new(alloc), text, limits)
 }
 
-/// As [`parse_schema_limited`], with who takes memory, as a budget bounds it (this project's own call). `OutOfMemory` is
-/// answered only where memory was refused: where more was wanted than was left, or the heap had no more.
+/// As [`parse_schema_limited`], with who takes memory, as a budget bounds it (this project's own call). A text of n bytes
+/// takes at most 1,105 n + 1,161 of them. `OutOfMemory` is answered only where the heap refused a request, or less than
+/// that was left.
 pub fn parse_schema_within(
     memory: &mut Memory,
     text: &str,
@@ -122,7 +131,10 @@ pub fn parse_schema_within(
     ensures reads { ReadsText schemas limits text.now result }
     ensures former_schemas { FormerDescribesNoSchema limits }
     ensures lawful { IfOk result (λ document. IsLawful (schema_document_tree document)) }
-    ensures refused { result ≡ Err OutOfMemory → Refused memory.new }
+    ensures taken { memory.old.left ≤ memory.new.left + most_taken (length text.now) }
+    ensures lent { memory.new.left ≤ memory.old.left }
+    ensures refused { result ≡ Err OutOfMemory → HeapRefused memory.old memory.new
+        ⊎ (memory.old.left < most_taken (length text.now)) }
 {
     let mut tokens = Tokens::new(text);
     read_document::<KeptDefinitions>(memory, &mut tokens, limits)

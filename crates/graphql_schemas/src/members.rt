@@ -1,6 +1,6 @@
 //! Readers of the interfaces of a type, the types of a union and the values of an enum, by GraphQL October 2021,
 //! sections 3.6, 3.8 and 3.9.
-ghost use Rattle.std.specs.Prelude.{◌≡◌, IfOk};
+ghost use Rattle.std.specs.Prelude.{◌≡◌, ◌+◌, ◌-◌, length, IfOk};
 ghost use Rattle.graphql_tokens.specs.declared.pos.Positioned.{Positioned};
 ghost use Rattle.graphql_tokens.specs.tokens.Seen.{seen};
 ghost use Rattle.graphql_tokens.specs.tokens.Within.{StandsIn};
@@ -8,6 +8,8 @@ ghost use Rattle.graphql_syntax.specs.trees.Parts.{placed};
 ghost use Rattle.graphql_schema_trees.specs.trees.Schema as trees;
 ghost use Rattle.graphql_schema_trees.specs.trees.SchemaViews.{enum_value_tree};
 ghost use Rattle.graphql_reading.specs.grammar.Places.{name_of};
+ghost use Rattle.graphql_reading.specs.reading.Funds.{Pays, Spares};
+ghost use Rattle.graphql_reading.specs.reading.Worth.{per_token};
 ghost use Rattle.graphql_reading.specs.reading.Given.{Gives};
 ghost use Rattle.graphql_reading.specs.reading.Outcome.{one_at};
 ghost use Rattle.graphql_schemas.specs.grammar.Members.{enum_name};
@@ -29,7 +31,8 @@ use graphql_syntax::value::Name;
 /// `ImplementsInterfaces? : ('implements' '&'? Name ('&' Name)*)?` (GraphQL October 2021, section 3.6)
 #[tactic(auto, unfolding(graphql_reading::specs::reading::Outcome::opt_at))]
 pub fn read_maybe_implements(parser: &mut Parser, limits: Limits) -> Reading<Vec<Positioned<Name>>>
-    ensures { Gives (λ names. names.items) result parser.old parser.new given_implements_at }
+    ensures gives { Gives (λ names. names.items) result parser.old parser.new given_implements_at }
+    ensures pays { Pays 0 result parser.old parser.new }
 {
     if !parser.is_at_keyword("implements") {
         return Ok(parser.empty_list());
@@ -44,7 +47,8 @@ pub fn read_maybe_implements(parser: &mut Parser, limits: Limits) -> Reading<Vec
 /// `UnionMemberTypes? : ('=' '|'? Name ('|' Name)*)?` (GraphQL October 2021, section 3.8)
 #[tactic(auto, unfolding(graphql_reading::specs::reading::Outcome::opt_at))]
 pub fn read_maybe_members(parser: &mut Parser, limits: Limits) -> Reading<Vec<Positioned<Name>>>
-    ensures { Gives (λ names. names.items) result parser.old parser.new given_members_at }
+    ensures gives { Gives (λ names. names.items) result parser.old parser.new given_members_at }
+    ensures pays { Pays 0 result parser.old parser.new }
 {
     if !parser.is_at_punct("=") {
         return Ok(parser.empty_list());
@@ -67,6 +71,9 @@ pub fn is_at_enum_name(parser: &Parser) -> bool
 /// `EnumValue : a Name other than 'true', 'false', 'null'`
 pub fn expect_enum_name<'a>(parser: &mut Parser<'a>) -> Reading<Token<'a>>
     ensures name { Gives seen result parser.old parser.new (one_at enum_name) }
+    ensures saves { Spares 0 parser.old parser.new }
+    ensures memory { parser.new.memory ≡ parser.old.memory }
+    ensures pays { IfOk result (λ token. Spares (per_token + length token.text.now) parser.old parser.new) }
     ensures stands { IfOk result (λ token. StandsIn parser.new.text (seen token)) }
 {
     if !is_at_enum_name(parser) {
@@ -81,6 +88,7 @@ pub fn expect_enum_name<'a>(parser: &mut Parser<'a>) -> Reading<Token<'a>>
 #[inline(always)]
 fn read_enum_name(parser: &mut Parser) -> Reading<Positioned<Name>>
     ensures token { Gives (λ _. parser.old.hand) result parser.old parser.new (one_at enum_name) }
+    ensures pays { Pays (per_token - 24) result parser.old parser.new }
     ensures name { IfOk result (λ name. name ≡ name_of parser.old.hand) }
 {
     let token = expect_enum_name(parser)?;
@@ -99,6 +107,8 @@ impl Production for EnumValuePhrase {
     ghost tree = { placed enum_value_tree };
 
     ghost first = { enum_value_first };
+
+    ghost spare = { per_token - 24 };
 
     ghost reader = { enum_value_at };
 

@@ -1,6 +1,7 @@
 //! The rules that the definitions of a schema file keep, and the document that they make.
-ghost use Rattle.std.specs.Prelude.{◌≡◌, ◌≢◌, [], List, Err};
-ghost use Rattle.graphql_memory.specs.Memory.{Refused};
+ghost use Rattle.std.specs.Prelude.{◌≡◌, ◌≢◌, ◌*◌, [], List, Err, vec_len};
+ghost use Rattle.graphql_memory.specs.Memory.{Refused, Takes, bytes};
+ghost use Rattle.graphql_schemas.specs.reading.Funds.{definition_row};
 ghost use Rattle.graphql_grammar.specs.declared.error.Error.TheVariants.{OutOfMemory};
 ghost use Rattle.graphql_syntax.specs.trees.Parts.{placed};
 ghost use Rattle.graphql_schemas.specs.grammar.Schema.{Root as SpecRoot};
@@ -123,6 +124,7 @@ fn finish(definition: Definition) -> Result<TypeSystemDefinition>
 /// The document of a schema file's definitions, or the first of the rules that they break, in source order.
 pub fn document_of(memory: &mut Memory, definitions: Vec<Definition>) -> Result<ServiceDocument>
     ensures document { IsDocumentOf schemas (definition_trees definitions.items) result }
+    ensures takes { Takes (bytes definition_row * vec_len definitions) memory.old memory.new }
     ensures refused { result ≡ Err OutOfMemory → Refused memory.new }
 {
     let mut finished = memory.list_for(&definitions)?;

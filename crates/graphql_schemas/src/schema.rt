@@ -3,6 +3,8 @@ ghost use Rattle.graphql_tokens.specs.declared.pos.Positioned.{Positioned};
 ghost use Rattle.graphql_tokens.specs.tokens.Seen.{seen};
 ghost use Rattle.graphql_syntax.specs.trees.Parts.{placed};
 ghost use Rattle.graphql_syntax.specs.trees.PartViews.{const_directives_tree};
+ghost use Rattle.graphql_reading.specs.reading.Funds.{Pays};
+ghost use Rattle.graphql_reading.specs.reading.Worth.{per_token};
 ghost use Rattle.graphql_reading.specs.reading.Given.{Gives, trees_in};
 ghost use Rattle.graphql_reading.specs.reading.Outcome.{mapped_at};
 ghost use Rattle.graphql_schemas.specs.grammar.Schema as grammar;
@@ -60,6 +62,8 @@ impl Production for RootPhrase {
 
     ghost first = { root_first };
 
+    ghost spare = { per_token };
+
     ghost reader = { λ _. root_at };
 
     const ROOM: usize = 2;
@@ -87,8 +91,9 @@ impl Production for RootPhrase {
 /// `SchemaDefinition : Description? 'schema' Directives[Const]? '{' RootOperationTypeDefinition+ '}'` (GraphQL October
 /// 2021, section 3.3)
 pub fn read_schema<'a>(parser: &mut Parser<'a>, limits: Limits) -> Reading<Parts<'a>>
-    ensures { Gives (λ x. (seen x.0, (const_directives_tree x.1.0.items, trees_in root_tree x.1.1)))
+    ensures gives { Gives (λ x. (seen x.0, (const_directives_tree x.1.0.items, trees_in root_tree x.1.1)))
         result parser.old parser.new (schema_rest_at limits) }
+    ensures pays { Pays per_token result parser.old parser.new }
 {
     let word = parser.expect_keyword("schema")?;
     let directives = read_const_directives(parser, limits)?;
@@ -107,9 +112,10 @@ pub fn read_schema_extension(
     limits: Limits,
     extend: Token,
 ) -> Reading<Positioned<Schema>>
-    ensures { Gives (placed schema_tree) result parser.old parser.new
+    ensures gives { Gives (placed schema_tree) result parser.old parser.new
         (mapped_at (λ rest. grammar.schema_extension_of (seen extend.entry, rest))
         (extended_schema_at limits)) }
+    ensures pays { Pays per_token result parser.old parser.new }
 {
     parser.expect_keyword("schema")?;
     let (directives, roots) = read_braced::<RootPhrase>(parser, limits, true)?;

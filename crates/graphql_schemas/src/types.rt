@@ -1,11 +1,14 @@
 //! Readers of definitions and extensions of types, by GraphQL October 2021, sections 3.4 to 3.10.
-ghost use Rattle.std.specs.Prelude.{◌≡◌, false, true, cond, not, ◌&&◌, MatchResult};
+ghost use Rattle.std.specs.Prelude.{◌≡◌, ◌≤◌, false, true, cond, not, ◌&&◌, MatchResult};
 ghost use Rattle.graphql_reading.specs.declared.parser.Refusal.TheVariants.{Syntax};
 ghost use Rattle.graphql_tokens.specs.tokens.Seen.{seen};
 ghost use Rattle.graphql_syntax.specs.trees.PartViews.{const_directives_tree};
 ghost use Rattle.graphql_schema_trees.specs.trees.Schema.{object, interface};
 ghost use Rattle.graphql_schema_trees.specs.trees.SchemaViews.{description_tree, type_definition_tree};
 ghost use Rattle.graphql_reading.specs.grammar.Tests.{punct};
+ghost use Rattle.graphql_reading.specs.reading.Funds.{Pays, Spares};
+ghost use Rattle.graphql_reading.specs.reading.Worth.{per_token};
+ghost use Rattle.graphql_memory.specs.Memory.{price};
 ghost use Rattle.graphql_reading.specs.reading.Given.{Gives, trees_in};
 ghost use Rattle.graphql_reading.specs.reading.Outcome.{Takes, plus_at, between_at};
 ghost use Rattle.graphql_schemas.specs.grammar.Types as grammar;
@@ -82,7 +85,10 @@ pub(crate) fn word_in_hand(parser: &Parser) -> Option<Word>
 
 /// `'scalar' | 'type' | 'interface' | 'union' | 'enum' | 'input'`
 pub fn read_word<'a>(parser: &mut Parser<'a>) -> Reading<(Token<'a>, Word)>
-    ensures { Gives (λ x. (seen x.0, x.1)) result parser.old parser.new word_at }
+    ensures gives { Gives (λ x. (seen x.0, x.1)) result parser.old parser.new word_at }
+    ensures pays { Pays per_token result parser.old parser.new }
+    ensures saves { Spares 0 parser.old parser.new }
+    ensures memory { parser.new.memory ≡ parser.old.memory }
 {
     let Some(word) = word_in_hand(parser) else {
         return Err(Refusal::Syntax);
@@ -105,7 +111,8 @@ pub fn expect_part(extend: bool, is_there: bool) -> Reading<()>
 
 /// `ImplementsInterfaces? Directives[Const]? FieldsDefinition?`
 fn read_members(parser: &mut Parser, limits: Limits) -> Reading<Members>
-    ensures { Gives in_members result parser.old parser.new (members_by_part_at limits) }
+    ensures gives { Gives in_members result parser.old parser.new (members_by_part_at limits) }
+    ensures pays { Pays 0 result parser.old parser.new }
 {
     let implements = read_maybe_implements(parser, limits)?;
     let directives = read_const_directives(parser, limits)?;
@@ -120,8 +127,9 @@ fn read_fields_rest(
     is_interface: bool,
     extend: bool,
 ) -> Reading<Rest>
-    ensures { Gives in_rest result parser.old parser.new
+    ensures gives { Gives in_rest result parser.old parser.new
         (fields_rest_at (cond is_interface interface object) extend limits) }
+    ensures pays { Pays 0 result parser.old parser.new }
 {
     let is_there = parser.is_at_keyword("implements")
         || parser.is_at_punct("@")
@@ -143,10 +151,12 @@ pub(crate) fn read_braced<P: Production>(
     limits: Limits,
     extend: bool,
 ) -> Reading<(Directives, Vec<P::Node>)>
-    requires { Takes (P.reader limits) }
-    ensures { Gives (λ x. (const_directives_tree x.0.items, trees_in P.tree x.1)) result parser.old
+    requires takes { Takes (P.reader limits) }
+    requires fits { price P.Node.row ≤ P.spare }
+    ensures gives { Gives (λ x. (const_directives_tree x.0.items, trees_in P.tree x.1)) result parser.old
         parser.new (some_parts_at extend limits (punct "{")
         (between_at (punct "{") (plus_at P.first (P.reader limits)) (punct "}"))) }
+    ensures pays { Pays 0 result parser.old parser.new }
 {
     let is_there = parser.is_at_punct("@") || parser.is_at_punct("{");
     expect_part(extend, is_there)?;
@@ -157,7 +167,8 @@ pub(crate) fn read_braced<P: Production>(
 
 /// What stands after the name, by the keyword; an extension has at least one of the optional parts.
 fn read_rest(parser: &mut Parser, limits: Limits, word: Word, extend: bool) -> Reading<Rest>
-    ensures { Gives in_rest result parser.old parser.new (rest_at extend limits word) }
+    ensures gives { Gives in_rest result parser.old parser.new (rest_at extend limits word) }
+    ensures pays { Pays 0 result parser.old parser.new }
 {
     match word {
         Word::Scalar => {
@@ -199,7 +210,8 @@ fn read_rest(parser: &mut Parser, limits: Limits, word: Word, extend: bool) -> R
 /// ```
 /// In an extension at least one of the optional parts is there.
 fn read_body<'a>(parser: &mut Parser<'a>, limits: Limits, extend: bool) -> Reading<Body<'a>>
-    ensures { Gives in_body result parser.old parser.new (body_by_word_at extend limits) }
+    ensures gives { Gives in_body result parser.old parser.new (body_by_word_at extend limits) }
+    ensures pays { Pays per_token result parser.old parser.new }
 {
     let (token, word) = read_word(parser)?;
     let name = read_name(parser)?;
@@ -244,7 +256,8 @@ pub(crate) fn read_type_body<'a>(
     limits: Limits,
     extend: bool,
 ) -> Reading<Body<'a>>
-    ensures { Gives in_body result parser.old parser.new (body_at extend limits) }
+    ensures gives { Gives in_body result parser.old parser.new (body_at extend limits) }
+    ensures pays { Pays per_token result parser.old parser.new }
 {
     read_body(parser, limits, extend)
 }

@@ -1,3 +1,4 @@
 -- Inner: what the code keeps and finds, on the way to the public definitions.
 pub mod TreeLaws
 pub mod TypeLaws
+pub mod Rows

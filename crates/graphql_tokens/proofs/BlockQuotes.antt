@@ -1,5 +1,5 @@
 -- `\"""` in raw text.
-use Rattle.std.proofs.Common.{◌≡◌, ℕ, zero, suc, ◌+◌, ◌-◌, ◌≤◌, ◌<◌, true, false, cond, ◌⊎◌, List, [], ◌∷◌, ◌++◌, length, take, drop, get_or, refl, sym, ap, ◌∙◌, subst, inl, inr, arith, append_assoc}
+use Rattle.std.proofs.Common.{◌≡◌, ℕ, zero, suc, ◌+◌, ◌-◌, ◌≤◌, ◌<◌, Bool, true, false, cond, ◌⊎◌, List, [], ◌∷◌, ◌++◌, length, take, drop, get_or, refl, sym, ap, ◌∙◌, subst, inl, inr, arith, append_assoc}
 use Rattle.std.proofs.lemmas.Bool.{cases_lt}
 use Rattle.std.proofs.lemmas.Bool.Decides.{nat_tests}
 use Rattle.std.proofs.lemmas.List.{append-nil, drop-drop, drop_all}
@@ -55,3 +55,12 @@ push_run bs old value new run at end h none l r n =
 -- at the end nothing is left
 pub push_end : (bs old new : List ℕ) (end : ℕ) → new ++ unquoted (drop end bs) ≡ old → length bs ≤ end → new ≡ old
 push_end bs old new end h l = sym (append-nil new) ∙ ap (λ x. new ++ unquoted x) (sym (drop_all end bs l)) ∙ h
+
+-- quotes without their backslash are no longer
+pub unquoted_fits : (cs : List ℕ) → length (unquoted cs) ≤ length cs
+unquoted_fits [] = omega arith
+unquoted_fits (c ∷ cs) = by (begins_quotes (c ∷ cs)) (unquoted_fits cs)
+  where
+    by : (b : Bool) → length (unquoted cs) ≤ length cs → length (cond b (unquoted cs) (c ∷ unquoted cs)) ≤ length (c ∷ cs)
+    by true h = omega (arith, h)
+    by false h = omega (arith, h)

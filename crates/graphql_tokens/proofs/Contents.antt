@@ -305,3 +305,23 @@ pub past_push : (bs old new : List ℕ) (i c n : ℕ) → IsUtf8 bs → IsUtf8 o
     → Some (c, n) ≡ escape_at (take (length bs - i) (drop i bs)) → new ≡ old ++ encode_utf8 c → Escaped bs (i + n) new
 past_push bs old new i c n u v b m e is =
     rw is (past_escape bs old i c n u v b m (ap escape_at (sym (take_rest bs i)) ∙ sym e))
+
+-- an escape has four characters at least, or stands for an ASCII character, which has one byte
+pub escape_wide : (text : List ℕ) (c n : ℕ) → escape_at text ≡ Some (c, n) → (c < 128) ⊎ (4 ≤ n)
+escape_wide text c n e = let f = escape_found text c n e in by f.unit f.means (sym f.long)
+  where
+    letter : (x y : ℕ) → Escape x y → y < 128
+    letter _ _ quote = omega arith
+    letter _ _ backslash = omega arith
+    letter _ _ slash = omega arith
+    letter _ _ backspace = omega arith
+    letter _ _ form_feed = omega arith
+    letter _ _ line_feed = omega arith
+    letter _ _ carriage_return = omega arith
+    letter _ _ tab = omega arith
+
+    by : (unit : List ℕ) → EscapeMeans unit c → n ≡ length unit → (c < 128) ⊎ (4 ≤ n)
+    by unit (inl w) long = inl (letter w.0 c w.2)
+    by unit (inr (inl w)) long = inr (omega (arith, long, ap length w.0.1, w.0.2))
+    by unit (inr (inr (inl w))) long = inr (omega (arith, long, ap length w.1, length-append w.0 (125 ∷ []), w.2))
+    by unit (inr (inr (inr w))) long = inr (omega (arith, long, ap length w.4, length-append w.0 w.1, ap length w.5.1, w.5.2))

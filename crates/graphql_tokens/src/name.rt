@@ -35,8 +35,8 @@ impl Model for Name {
 }
 
 impl Name {
-    ghost use Rattle.std.specs.Prelude.{◌≤◌, length, IsOk, IfSome, IsSome, OnErr};
-    ghost use Rattle.graphql_memory.specs.Memory.{Refused};
+    ghost use Rattle.std.specs.Prelude.{◌≤◌, ◌+◌, length, IsOk, IfSome, IsSome, OnErr};
+    ghost use Rattle.graphql_memory.specs.Memory.{Refused, Takes};
     ghost use Rattle.graphql_tokens.specs.tokens.Within.{StandsAt};
 
     /// The name with this text, if it is at most 22 bytes long, and so takes no memory; None where it is longer.
@@ -65,6 +65,7 @@ impl Name {
     pub fn new_in(memory: &mut Memory, text: &str) -> Result<Name, AllocError>
         ensures name { IfOk result (λ name. name ≡ text.now) }
         ensures short { length text.now ≤ 22 → IsOk result }
+        ensures takes { Takes (24 + length text.now) memory.old memory.new }
         ensures refused { OnErr result (Refused memory.new) }
     {
         Ok(Name(SmallText::new(memory, text)?))
@@ -82,6 +83,7 @@ impl Name {
         requires { StandsAt text.now whole.now start }
         ensures name { IfOk result (λ name. name ≡ text.now) }
         ensures short { length text.now ≤ 22 → IsOk result }
+        ensures takes { Takes (24 + length text.now) memory.old memory.new }
         ensures refused { OnErr result (Refused memory.new) }
     {
         Ok(Name(SmallText::new_within(memory, text, whole, start)?))

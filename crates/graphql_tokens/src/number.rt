@@ -1,6 +1,6 @@
 //! Number literals, as they were written.
-ghost use Rattle.std.specs.Prelude.{◌≡◌, ◌↔◌, ◌≤◌, ◌^◌, ℕ, ℤ, pos, length, Ok, Some, None, IfOk, IfSome, IfNone, IsOk, IsTrue, OnErr, FitsSigned, nat_eq};
-ghost use Rattle.graphql_memory.specs.Memory.{Refused};
+ghost use Rattle.std.specs.Prelude.{◌≡◌, ◌↔◌, ◌≤◌, ◌+◌, ◌^◌, ℕ, ℤ, pos, length, Ok, Some, None, IfOk, IfSome, IfNone, IsOk, IsTrue, OnErr, FitsSigned, nat_eq};
+ghost use Rattle.graphql_memory.specs.Memory.{Refused, Takes};
 ghost use Rattle.std.specs.Int.{w64};
 ghost use Rattle.std.specs.Fmt.{styled_text};
 ghost use Rattle.std.specs.Option.{SomeIff};
@@ -89,6 +89,7 @@ impl Number {
         requires stands { StandsAt literal.now whole.now start }
         ensures number { IfOk result (λ number. number ≡ literal.now) }
         ensures short { length literal.now ≤ 22 → IsOk result }
+        ensures takes { Takes (24 + length literal.now) memory.old memory.new }
         ensures refused { OnErr result (Refused memory.new) }
     {
         Ok(Number(SmallText::new_within(memory, literal, whole, start)?))

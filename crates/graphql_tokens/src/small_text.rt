@@ -1,6 +1,6 @@
 //! Short texts in place, long ones in a block of their own.
-ghost use Rattle.std.specs.Prelude.{◌≡◌, ◌≤◌, length, take, IfOk, IfSome, IsOk, IsSome, OnErr};
-ghost use Rattle.graphql_memory.specs.Memory.{Refused};
+ghost use Rattle.std.specs.Prelude.{◌≡◌, ◌≤◌, ◌+◌, length, take, IfOk, IfSome, IsOk, IsSome, OnErr};
+ghost use Rattle.graphql_memory.specs.Memory.{Refused, Takes};
 ghost use Rattle.graphql_tokens.specs.tokens.Within.{StandsAt};
 
 use graphql_memory::Memory;
@@ -67,6 +67,7 @@ impl SmallText {
     pub fn new(memory: &mut Memory, text: &str) -> Result<SmallText, AllocError>
         ensures text { IfOk result (λ small. small ≡ text.now) }
         ensures short { length text.now ≤ 22 → IsOk result }
+        ensures takes { Takes (24 + length text.now) memory.old memory.new }
         ensures refused { OnErr result (Refused memory.new) }
     {
         match SmallText::in_place(text) {
@@ -90,6 +91,7 @@ impl SmallText {
         requires { StandsAt text.now whole.now start }
         ensures text { IfOk result (λ small. small ≡ text.now) }
         ensures short { length text.now ≤ 22 → IsOk result }
+        ensures takes { Takes (24 + length text.now) memory.old memory.new }
         ensures refused { OnErr result (Refused memory.new) }
     {
         if text.len() <= ROOM

@@ -3,7 +3,7 @@
 ghost use Rattle.std.specs.Prelude.{◌≡◌, ◌≤◌, ◌<◌, Bool, ◌+◌, [], drop, length, slice_index, IfOk, IfSome, IfNone, IsOk, OnErr, Some, List, ℕ, string_bytes};
 ghost use Rattle.std.specs.List.{prefix_len};
 ghost use Rattle.std.specs.Str.{chars};
-ghost use Rattle.graphql_memory.specs.Memory.{Refused};
+ghost use Rattle.graphql_memory.specs.Memory.{Refused, Takes};
 ghost use Rattle.graphql_tokens.specs.calls.Contents.{content_value};
 ghost use Rattle.graphql_tokens.specs.tokens.BlockText.{block_value};
 ghost use Rattle.graphql_tokens.specs.tokens.Edition.{Former, Current};
@@ -106,6 +106,7 @@ pub fn string_value_in(memory: &mut Memory, content: &str) -> Result<Option<Stri
     // What a content meant in the former edition, it means now.
     ensures former { (value : List ℕ) → StringMeans Former (chars content.now) value →
         StringMeans Current (chars content.now) value }
+    ensures takes { Takes (length content.now) memory.old memory.new }
     ensures refused { OnErr result (Refused memory.new) }
 {
     let bytes = content.as_bytes();
@@ -151,6 +152,7 @@ pub fn block_string_value_in(memory: &mut Memory, raw: &str) -> Result<String, A
         block_value (chars raw.now)) }
     // An empty value, as that of white space alone, takes no memory.
     ensures empty { block_value (chars raw.now) ≡ [] → IsOk result }
+    ensures takes { Takes (length raw.now) memory.old memory.new }
     ensures refused { OnErr result (Refused memory.new) }
 {
     let Some(first) = first_text(raw.as_bytes()) else {

@@ -2,8 +2,8 @@
 use super::answers::Parser;
 use super::errors::shown;
 use graphql_parser::{
-    Limits, Memory, Result as Answer, check_query_within, check_schema_within, parse_query_within,
-    parse_schema_within,
+    Error, Limits, Memory, Result as Answer, check_query_within, check_schema_within,
+    parse_query_within, parse_schema_within,
 };
 use std::alloc::{AllocError, Global};
 
@@ -12,7 +12,8 @@ const STEPS: usize = 1024;
 
 const STEP: usize = 64;
 
-/// The different answers of a parser in budgets from none to 64 KiB, in turn; and then those of its check.
+/// The different answers of a parser in budgets from none to 64 KiB, in turn; and then those of its check. An answer is told
+/// so that takes more than is promised, that runs out of as much, or that blames the heap.
 pub fn answers(alloc: Global, parser: Parser, text: &str) -> Result<String, AllocError> {
     let parsed = in_turn(alloc, parser, false, text)?;
     let checked = in_turn(alloc, parser, true, text)?;
@@ -28,7 +29,9 @@ fn in_turn(
     let mut all = String::new(alloc);
     let mut last = String::new(alloc);
     for step in 0..=STEPS {
-        let answer = told(alloc, &answered(alloc, parser, is_check, step * STEP, text))?;
+        let mut memory = Memory::with_budget(alloc, step * STEP);
+        let answer = answered(&mut memory, parser, is_check, text);
+        let answer = told(alloc, &memory, step * STEP, text, &answer)?;
         if answer.as_str() != last.as_str() {
             all.push_str(if step == 0 { "" } else { ", then " })?;
             all.push_str(&answer)?;
@@ -38,14 +41,7 @@ fn in_turn(
     Ok(all)
 }
 
-fn answered(
-    alloc: Global,
-    parser: Parser,
-    is_check: bool,
-    budget: usize,
-    text: &str,
-) -> Answer<()> {
-    let memory = &mut Memory::with_budget(alloc, budget);
+fn answered(memory: &mut Memory, parser: Parser, is_check: bool, text: &str) -> Answer<()> {
     let limits = Limits::default();
     match parser {
         Parser::Query if is_check => check_query_within(memory, text, limits),
@@ -61,10 +57,26 @@ fn answered(
     }
 }
 
-// The word `accepted`, or the error.
-fn told(alloc: Global, answer: &Answer<()>) -> Result<String, AllocError> {
+// The word `accepted`, or the error, or which promise is broken.
+fn told(
+    alloc: Global,
+    memory: &Memory,
+    budget: usize,
+    text: &str,
+    answer: &Answer<()>,
+) -> Result<String, AllocError> {
+    let promised = text.len().saturating_mul(1105).saturating_add(1161);
+    if budget.saturating_sub(memory.left()) > promised {
+        return String::from_str(alloc, "too much taken");
+    }
+    if memory.heap_refused() {
+        return String::from_str(alloc, "the heap blamed");
+    }
     match answer {
         Ok(()) => String::from_str(alloc, "accepted"),
+        Err(Error::OutOfMemory) if promised <= budget => {
+            String::from_str(alloc, "enough is too little")
+        }
         Err(error) => shown(alloc, true, error),
     }
 }

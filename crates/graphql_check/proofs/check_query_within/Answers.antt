@@ -1,4 +1,6 @@
-use Rattle.std.proofs.Common.{refl}
+use Rattle.std.proofs.Common.{refl, arith, inl, inr, subst}
+use Rattle.graphql_check.specs.OneDefinition.{FirstStandsAlone}
+use Rattle.graphql_grammar.proofs.Bounds.{text-bound}
 use Rattle.graphql_tokens.specs.tokens.Token.{left}
 use Rattle.graphql_grammar.proofs.Languages.{reads-text}
 use Rattle.graphql_requests.specs.grammar.Requests.{requests}
@@ -12,3 +14,14 @@ read_document-requires c k = ((refl, tt), (ends-some (left c.new-tokens.result) 
 
 pub returns-clause-reads : goal.returns-clause-reads
 returns-clause-reads c = reads-text (checked requests) definitions_at checks-are-read c.args.limits c.args.text.now c.new-tokens.result _ _ c.new-tokens.ensures.only c.new-tokens.ensures.former c.read_document.ensures.reads
+
+pub returns-clause-taken : goal.returns-clause-taken
+returns-clause-taken c = omega (arith, c.read_document.ensures.taken _ (inl refl), text-bound c.args.text.now _ c.utf8.text c.new-tokens.ensures.cut)
+
+pub returns-clause-refused : goal.returns-clause-refused
+returns-clause-refused c is = elim (c.read_document.ensures.refused _ (inl refl) is) [ inl heap ↦ inl heap | inr less ↦ inr (omega (arith, less, text-bound c.args.text.now _ c.utf8.text c.new-tokens.ensures.cut)) ]
+
+pub returns-clause-alone : goal.returns-clause-alone
+returns-clause-alone c ts cut alone =
+    let stands = subst (FirstStandsAlone c.args.limits) (c.new-tokens.ensures.only ts cut) alone in
+    (omega (arith, c.read_document.ensures.taken 0 (inr (stands, refl))), λ is. elim (c.read_document.ensures.refused 0 (inr (stands, refl)) is) [ inl heap ↦ inl heap | inr less ↦ inr (omega (arith, less)) ])

@@ -1,4 +1,5 @@
 //! The check of definitions and of schema files, by GraphQL October 2021, section 3.1.
+ghost use Rattle.graphql_check.specs.Checked.{Calm};
 ghost use Rattle.std.specs.Prelude.{[]};
 ghost use Rattle.graphql_check.specs.SchemaRules.{first_breach};
 ghost use Rattle.graphql_reading.specs.reading.Given.{Gives};
@@ -17,8 +18,9 @@ use graphql_schemas::definitions::is_at_definition;
 
 /// `TypeSystemExtension : SchemaExtension | TypeExtension`: the rule that it breaks, if it breaks one.
 fn check_extension(parser: &mut Parser, limits: Limits) -> Reading<Option<Error>>
-    ensures { Gives (λ breach. breach) result parser.old parser.new
+    ensures gives { Gives (λ breach. breach) result parser.old parser.new
         (mapped_at (breach_of []) (extension_at limits)) }
+    ensures calm { Calm parser.old parser.new }
 {
     let extend = parser.expect_keyword("extend")?;
     if parser.is_at_keyword("schema") {
@@ -32,8 +34,9 @@ fn check_extension(parser: &mut Parser, limits: Limits) -> Reading<Option<Error>
 /// `TypeSystemDefinition : SchemaDefinition | TypeDefinition | DirectiveDefinition`, each of which may have a
 /// description: the rule that it breaks, if it breaks one.
 fn check_described(parser: &mut Parser, limits: Limits) -> Reading<Option<Error>>
-    ensures { Gives (λ breach. breach) result parser.old parser.new
+    ensures gives { Gives (λ breach. breach) result parser.old parser.new
         (mapped_at (breach_of []) (described_at limits)) }
+    ensures calm { Calm parser.old parser.new }
 {
     let pos = parser.hand().pos;
     check_maybe_description(parser)?;
@@ -52,8 +55,9 @@ fn check_described(parser: &mut Parser, limits: Limits) -> Reading<Option<Error>
 /// `TypeSystemDefinitionOrExtension : TypeSystemDefinition | TypeSystemExtension`: the rule that it breaks, if it
 /// breaks one.
 fn check_definition(parser: &mut Parser, limits: Limits) -> Reading<Option<Error>>
-    ensures { Gives (λ breach. breach) result parser.old parser.new
+    ensures gives { Gives (λ breach. breach) result parser.old parser.new
         (mapped_at (breach_of []) (definition_at limits)) }
+    ensures calm { Calm parser.old parser.new }
 {
     if parser.is_at_keyword("extend") {
         return check_extension(parser, limits);
@@ -64,8 +68,9 @@ fn check_definition(parser: &mut Parser, limits: Limits) -> Reading<Option<Error
 /// `TypeSystemExtensionDocument : TypeSystemDefinitionOrExtension+` (GraphQL October 2021, section 3.1): the first rule
 /// that one of them breaks, if one breaks a rule.
 pub fn check_definitions(parser: &mut Parser, limits: Limits) -> Reading<Option<Error>>
-    ensures { Gives (λ breach. breach) result parser.old parser.new
+    ensures gives { Gives (λ breach. breach) result parser.old parser.new
         (mapped_at first_breach (definitions_at limits)) }
+    ensures calm { Calm parser.old parser.new }
 {
     let mut first: Option<Error> = None;
     loop {

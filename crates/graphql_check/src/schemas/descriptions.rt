@@ -1,5 +1,5 @@
 //! The reader of descriptions that makes no tree, by GraphQL October 2021, section 3.2.
-ghost use Rattle.graphql_check.specs.Checked.{Checks};
+ghost use Rattle.graphql_check.specs.Checked.{Checks, Calm};
 ghost use Rattle.graphql_schemas.specs.reading.Descriptions.{description_at, maybe_description_at};
 
 use crate::value::simple::{check_block, check_string};
@@ -8,7 +8,8 @@ use graphql_schemas::descriptions::is_at_description;
 
 /// `Description : StringValue`
 fn check_description(parser: &mut Parser) -> Reading<()>
-    ensures { Checks result parser.old parser.new description_at }
+    ensures checks { Checks result parser.old parser.new description_at }
+    ensures calm { Calm parser.old parser.new }
 {
     if parser.hand().kind.is_string() {
         return check_string(parser);
@@ -20,7 +21,8 @@ fn check_description(parser: &mut Parser) -> Reading<()>
 #[tactic(auto, unfolding(graphql_reading::specs::reading::Outcome::opt_at))]
 #[inline(always)]
 pub fn check_maybe_description(parser: &mut Parser) -> Reading<()>
-    ensures { Checks result parser.old parser.new maybe_description_at }
+    ensures checks { Checks result parser.old parser.new maybe_description_at }
+    ensures calm { Calm parser.old parser.new }
 {
     if !is_at_description(parser) {
         return Ok(());

@@ -2,7 +2,7 @@
 ghost use Rattle.std.specs.Prelude.{Ok};
 ghost use Rattle.graphql_tokens.specs.declared.pos.Positioned.{Positioned};
 ghost use Rattle.graphql_schema_trees.specs.declared.service.DirectiveLocation.{DirectiveLocation};
-ghost use Rattle.graphql_check.specs.Checked.{Checks};
+ghost use Rattle.graphql_check.specs.Checked.{Checks, Calm};
 ghost use Rattle.graphql_reading.specs.grammar.Tests.{any_name, keyword};
 ghost use Rattle.graphql_reading.specs.reading.Outcome.{opt_at, one_at};
 ghost use Rattle.graphql_schemas.specs.reading.Directives.{location_at, locations_at, directive_rest_at};
@@ -40,7 +40,8 @@ impl Phrase for LocationPhrase {
 
 /// `'on' DirectiveLocations`, where `DirectiveLocations : '|'? DirectiveLocation ('|' DirectiveLocation)*`
 fn check_locations(parser: &mut Parser, limits: Limits) -> Reading<()>
-    ensures { Checks result parser.old parser.new locations_at }
+    ensures checks { Checks result parser.old parser.new locations_at }
+    ensures calm { Calm parser.old parser.new }
 {
     parser.expect_keyword("on")?;
     check_separated::<LocationPhrase>(parser, "|", limits)
@@ -49,8 +50,9 @@ fn check_locations(parser: &mut Parser, limits: Limits) -> Reading<()>
 /// `'repeatable'?`
 #[tactic(auto, unfolding(graphql_reading::specs::reading::Outcome::opt_at))]
 fn pass_repeatable(parser: &mut Parser)
-    ensures { Checks (Ok result) parser.old parser.new
+    ensures checks { Checks (Ok result) parser.old parser.new
         (opt_at (keyword "repeatable") (one_at (keyword "repeatable"))) }
+    ensures calm { Calm parser.old parser.new }
 {
     if parser.is_at_keyword("repeatable") {
         parser.advance();
@@ -61,7 +63,8 @@ fn pass_repeatable(parser: &mut Parser)
 /// `'directive' '@' Name ArgumentsDefinition? 'repeatable'? 'on' DirectiveLocations`
 /// (GraphQL October 2021, section 3.13)
 pub fn check_directive_definition(parser: &mut Parser, limits: Limits) -> Reading<()>
-    ensures { Checks result parser.old parser.new (directive_rest_at limits) }
+    ensures checks { Checks result parser.old parser.new (directive_rest_at limits) }
+    ensures calm { Calm parser.old parser.new }
 {
     parser.expect_keyword("directive")?;
     parser.expect_punct("@")?;

@@ -1,7 +1,7 @@
 //! The check of input values, by GraphQL October 2021, sections 3.6.1 and 3.10.
 ghost use Rattle.graphql_tokens.specs.declared.pos.Positioned.{Positioned};
 ghost use Rattle.graphql_schema_trees.specs.trees.Schema as trees;
-ghost use Rattle.graphql_check.specs.Checked.{Checks};
+ghost use Rattle.graphql_check.specs.Checked.{Checks, Calm};
 ghost use Rattle.graphql_reading.specs.grammar.Tests.{punct};
 ghost use Rattle.graphql_reading.specs.reading.Outcome.{opt_at};
 ghost use Rattle.graphql_schemas.specs.reading.InputValues.{member_first, input_value_at, arguments_definition_at};
@@ -40,8 +40,9 @@ impl Phrase for InputValuePhrase {
 
 /// `ArgumentsDefinition? : ('(' InputValueDefinition+ ')')?` (GraphQL October 2021, section 3.6.1)
 pub fn check_maybe_arguments_definition(parser: &mut Parser, limits: Limits) -> Reading<()>
-    ensures { Checks result parser.old parser.new
+    ensures checks { Checks result parser.old parser.new
         (opt_at (punct "(") (arguments_definition_at limits)) }
+    ensures calm { Calm parser.old parser.new }
 {
     check_maybe_bracketed::<InputValuePhrase>(parser, "(", ")", limits)
 }

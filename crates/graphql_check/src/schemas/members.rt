@@ -3,7 +3,7 @@
 ghost use Rattle.std.specs.Prelude.{ℕ, List};
 ghost use Rattle.graphql_tokens.specs.declared.pos.Positioned.{Positioned};
 ghost use Rattle.graphql_schema_trees.specs.trees.Schema as trees;
-ghost use Rattle.graphql_check.specs.Checked.{Checks};
+ghost use Rattle.graphql_check.specs.Checked.{Checks, Calm};
 ghost use Rattle.graphql_reading.specs.grammar.Tests.{any_name, keyword, punct};
 ghost use Rattle.graphql_reading.specs.reading.Outcome.{opt_at};
 ghost use Rattle.graphql_schemas.specs.reading.Members.{name_at, implements_at, members_at, enum_value_first, enum_value_at};
@@ -40,7 +40,8 @@ impl Phrase for NamePhrase {
 /// `ImplementsInterfaces? : ('implements' '&'? Name ('&' Name)*)?` (GraphQL October 2021, section 3.6)
 #[tactic(auto, unfolding(graphql_reading::specs::reading::Outcome::opt_at))]
 pub fn check_maybe_implements(parser: &mut Parser, limits: Limits) -> Reading<()>
-    ensures { Checks result parser.old parser.new (opt_at (keyword "implements") implements_at) }
+    ensures checks { Checks result parser.old parser.new (opt_at (keyword "implements") implements_at) }
+    ensures calm { Calm parser.old parser.new }
 {
     if !parser.is_at_keyword("implements") {
         return Ok(());
@@ -53,7 +54,8 @@ pub fn check_maybe_implements(parser: &mut Parser, limits: Limits) -> Reading<()
 /// `UnionMemberTypes? : ('=' '|'? Name ('|' Name)*)?` (GraphQL October 2021, section 3.8)
 #[tactic(auto, unfolding(graphql_reading::specs::reading::Outcome::opt_at))]
 pub fn check_maybe_members(parser: &mut Parser, limits: Limits) -> Reading<()>
-    ensures { Checks result parser.old parser.new (opt_at (punct "=") members_at) }
+    ensures checks { Checks result parser.old parser.new (opt_at (punct "=") members_at) }
+    ensures calm { Calm parser.old parser.new }
 {
     if !parser.is_at_punct("=") {
         return Ok(());

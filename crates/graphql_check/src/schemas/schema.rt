@@ -1,4 +1,5 @@
 //! The check of definitions and extensions of schemas, by GraphQL October 2021, section 3.3.
+ghost use Rattle.graphql_check.specs.Checked.{Calm};
 ghost use Rattle.std.specs.Prelude.{◌≡◌};
 ghost use Rattle.graphql_check.specs.SchemaRules.{head_of, roots_of};
 ghost use Rattle.graphql_reading.specs.grammar.Relations.{given};
@@ -23,7 +24,8 @@ fn is_at_root(parser: &Parser) -> bool
 
 /// `RootOperationTypeDefinition : OperationType ':' Name`
 fn check_root(parser: &mut Parser) -> Reading<Root>
-    ensures { Gives (λ root. root) result parser.old parser.new (mapped_at head_of root_at) }
+    ensures gives { Gives (λ root. root) result parser.old parser.new (mapped_at head_of root_at) }
+    ensures calm { Calm parser.old parser.new }
 {
     let (word, kind) = read_operation_type(parser)?;
     parser.expect_punct(":")?;
@@ -36,8 +38,9 @@ fn check_root(parser: &mut Parser) -> Reading<Root>
 
 /// `RootOperationTypeDefinition+`
 fn check_root_list(parser: &mut Parser) -> Reading<Roots>
-    ensures { Gives (λ roots. roots) result parser.old parser.new
+    ensures gives { Gives (λ roots. roots) result parser.old parser.new
         (mapped_at roots_of (plus_at root_first root_at)) }
+    ensures calm { Calm parser.old parser.new }
 {
     let mut roots = Roots::new();
     loop {
@@ -50,7 +53,8 @@ fn check_root_list(parser: &mut Parser) -> Reading<Roots>
 
 /// `Roots : '{' RootOperationTypeDefinition+ '}'`
 fn check_roots(parser: &mut Parser) -> Reading<Roots>
-    ensures { Gives (λ roots. roots) result parser.old parser.new (mapped_at roots_of roots_at) }
+    ensures gives { Gives (λ roots. roots) result parser.old parser.new (mapped_at roots_of roots_at) }
+    ensures calm { Calm parser.old parser.new }
 {
     parser.expect_punct("{")?;
     let roots = check_root_list(parser)?;
@@ -61,8 +65,9 @@ fn check_roots(parser: &mut Parser) -> Reading<Roots>
 /// `Roots?`
 #[tactic(auto, unfolding(graphql_reading::specs::reading::Outcome::opt_at))]
 fn check_maybe_roots(parser: &mut Parser) -> Reading<Roots>
-    ensures { Gives (λ roots. roots) result parser.old parser.new
+    ensures gives { Gives (λ roots. roots) result parser.old parser.new
         (mapped_at (λ roots. roots_of (given roots)) (opt_at (punct "{") roots_at)) }
+    ensures calm { Calm parser.old parser.new }
 {
     if !parser.is_at_punct("{") {
         return Ok(Roots::new());
@@ -73,8 +78,9 @@ fn check_maybe_roots(parser: &mut Parser) -> Reading<Roots>
 /// A definition of a schema after its description: `'schema' Directives[Const]? Roots` (GraphQL October 2021, section
 /// 3.3)
 pub fn check_schema_definition(parser: &mut Parser, limits: Limits) -> Reading<Roots>
-    ensures { Gives (λ roots. roots) result parser.old parser.new
+    ensures gives { Gives (λ roots. roots) result parser.old parser.new
         (mapped_at (λ rest. roots_of rest.1.1) (schema_rest_at limits)) }
+    ensures calm { Calm parser.old parser.new }
 {
     parser.expect_keyword("schema")?;
     check_const_directives(parser, limits)?;
@@ -84,8 +90,9 @@ pub fn check_schema_definition(parser: &mut Parser, limits: Limits) -> Reading<R
 /// An extension of a schema after its `extend`: `'schema' Directives[Const] Roots? | 'schema' Roots` (GraphQL October
 /// 2021, section 3.3.2)
 pub fn check_schema_extension(parser: &mut Parser, limits: Limits) -> Reading<Roots>
-    ensures { Gives (λ roots. roots) result parser.old parser.new
+    ensures gives { Gives (λ roots. roots) result parser.old parser.new
         (mapped_at (λ rest. roots_of rest.1.1) (extended_schema_at limits)) }
+    ensures calm { Calm parser.old parser.new }
 {
     parser.expect_keyword("schema")?;
     if !(parser.is_at_punct("@") || parser.is_at_punct("{")) {

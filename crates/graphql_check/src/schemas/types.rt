@@ -1,6 +1,6 @@
 //! The check of definitions and extensions of types, by GraphQL October 2021, sections 3.4 to 3.10.
 ghost use Rattle.std.specs.Prelude.{◌≡◌};
-ghost use Rattle.graphql_check.specs.Checked.{Checks};
+ghost use Rattle.graphql_check.specs.Checked.{Checks, Calm};
 ghost use Rattle.graphql_reading.specs.grammar.Tests.{punct};
 ghost use Rattle.graphql_reading.specs.reading.Outcome.{Takes, plus_at, between_at};
 ghost use Rattle.graphql_reading.specs.reading.Spelled.{punct_of};
@@ -19,7 +19,8 @@ use graphql_schemas::types::{Word, expect_part, read_word};
 
 /// `Directives[Const]?`; an extension has them.
 fn check_scalar_rest(parser: &mut Parser, limits: Limits, extend: bool) -> Reading<()>
-    ensures { Checks result parser.old parser.new (scalar_rest_at extend limits) }
+    ensures checks { Checks result parser.old parser.new (scalar_rest_at extend limits) }
+    ensures calm { Calm parser.old parser.new }
 {
     let is_there = parser.is_at_punct("@");
     expect_part(extend, is_there)?;
@@ -28,7 +29,8 @@ fn check_scalar_rest(parser: &mut Parser, limits: Limits, extend: bool) -> Readi
 
 /// `ImplementsInterfaces? Directives[Const]? FieldsDefinition?`
 fn check_field_parts(parser: &mut Parser, limits: Limits) -> Reading<()>
-    ensures { Checks result parser.old parser.new (field_parts_at limits) }
+    ensures checks { Checks result parser.old parser.new (field_parts_at limits) }
+    ensures calm { Calm parser.old parser.new }
 {
     check_maybe_implements(parser, limits)?;
     check_const_directives(parser, limits)?;
@@ -37,7 +39,8 @@ fn check_field_parts(parser: &mut Parser, limits: Limits) -> Reading<()>
 
 /// The same; an extension has at least one of them.
 fn check_object_rest(parser: &mut Parser, limits: Limits, extend: bool) -> Reading<()>
-    ensures { Checks result parser.old parser.new (some_field_parts_at extend limits) }
+    ensures checks { Checks result parser.old parser.new (some_field_parts_at extend limits) }
+    ensures calm { Calm parser.old parser.new }
 {
     let is_there = parser.is_at_keyword("implements")
         || parser.is_at_punct("@")
@@ -55,8 +58,9 @@ fn is_at_part(parser: &Parser, opening: &str) -> bool
 
 /// `Directives[Const]? UnionMemberTypes?`; an extension has at least one of them.
 fn check_union_rest(parser: &mut Parser, limits: Limits, extend: bool) -> Reading<()>
-    ensures { Checks result parser.old parser.new
+    ensures checks { Checks result parser.old parser.new
         (some_parts_at extend limits (punct "=") members_at) }
+    ensures calm { Calm parser.old parser.new }
 {
     expect_part(extend, is_at_part(parser, "="))?;
     check_const_directives(parser, limits)?;
@@ -66,8 +70,9 @@ fn check_union_rest(parser: &mut Parser, limits: Limits, extend: bool) -> Readin
 /// `Directives[Const]? ('{' Phrase+ '}')?`; an extension has at least one of them.
 fn check_braced<P: Phrase>(parser: &mut Parser, limits: Limits, extend: bool) -> Reading<()>
     requires { Takes (P.reader limits) }
-    ensures { Checks result parser.old parser.new (some_parts_at extend limits (punct "{")
+    ensures checks { Checks result parser.old parser.new (some_parts_at extend limits (punct "{")
         (between_at (punct "{") (plus_at P.first (P.reader limits)) (punct "}"))) }
+    ensures calm { Calm parser.old parser.new }
 {
     expect_part(extend, is_at_part(parser, "{"))?;
     check_const_directives(parser, limits)?;
@@ -76,7 +81,8 @@ fn check_braced<P: Phrase>(parser: &mut Parser, limits: Limits, extend: bool) ->
 
 /// What stands after the name, by the keyword.
 fn check_rest(parser: &mut Parser, limits: Limits, word: Word, extend: bool) -> Reading<()>
-    ensures { Checks result parser.old parser.new (rest_at extend limits word) }
+    ensures checks { Checks result parser.old parser.new (rest_at extend limits word) }
+    ensures calm { Calm parser.old parser.new }
 {
     match word {
         Word::Scalar => check_scalar_rest(parser, limits, extend),
@@ -99,7 +105,8 @@ fn check_rest(parser: &mut Parser, limits: Limits, word: Word, extend: bool) -> 
 /// ```
 /// In an extension at least one of the optional parts is there (GraphQL October 2021, sections 3.4 and 3.4.3).
 pub fn check_body(parser: &mut Parser, limits: Limits, extend: bool) -> Reading<()>
-    ensures { Checks result parser.old parser.new (body_by_word_at extend limits) }
+    ensures checks { Checks result parser.old parser.new (body_by_word_at extend limits) }
+    ensures calm { Calm parser.old parser.new }
 {
     let (_, word) = read_word(parser)?;
     parser.expect_name()?;

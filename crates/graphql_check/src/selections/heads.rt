@@ -1,6 +1,6 @@
 //! Readers of selections up to their sets, that make no tree.
 ghost use Rattle.std.specs.Prelude.{is_some};
-ghost use Rattle.graphql_check.specs.Checked.{Checks};
+ghost use Rattle.graphql_check.specs.Checked.{Checks, Calm};
 ghost use Rattle.graphql_check.specs.Heads.{entered_at};
 ghost use Rattle.graphql_reading.specs.grammar.Places.{nowhere};
 ghost use Rattle.graphql_reading.specs.reading.Given.{Gives};
@@ -18,7 +18,8 @@ use graphql_requests::selections::{is_at_fragment_name, is_at_inline};
 /// `Alias? Name`, where `Alias : Name ':'`
 #[inline(always)]
 fn check_names(parser: &mut Parser) -> Reading<()>
-    ensures { Checks result parser.old parser.new names_at }
+    ensures checks { Checks result parser.old parser.new names_at }
+    ensures calm { Calm parser.old parser.new }
 {
     parser.expect_name()?;
     if !parser.is_at_punct(":") {
@@ -32,8 +33,9 @@ fn check_names(parser: &mut Parser) -> Reading<()>
 /// The `{` of a set, if one follows.
 #[inline(always)]
 fn take_brace(parser: &mut Parser, nests: bool) -> Reading<bool>
-    ensures { Gives (λ follows. follows) result parser.old parser.new
+    ensures gives { Gives (λ follows. follows) result parser.old parser.new
         (mapped_at is_some (maybe_brace_at nests)) }
+    ensures calm { Calm parser.old parser.new }
 {
     if !parser.is_at_punct("{") {
         return Ok(false);
@@ -49,8 +51,9 @@ fn take_brace(parser: &mut Parser, nests: bool) -> Reading<bool>
 ///
 /// `Field : Alias? Name Arguments? Directives? SelectionSet?` (GraphQL October 2021, section 2.5)
 fn check_field(parser: &mut Parser, limits: Limits, nests: bool) -> Reading<bool>
-    ensures { Gives (λ follows. follows) result parser.old parser.new
+    ensures gives { Gives (λ follows. follows) result parser.old parser.new
         (entered_at (field_head_at limits.values nests)) }
+    ensures calm { Calm parser.old parser.new }
 {
     check_names(parser)?;
     check_maybe_arguments(parser, limits)?;
@@ -62,7 +65,8 @@ fn check_field(parser: &mut Parser, limits: Limits, nests: bool) -> Reading<bool
 ///
 /// `TypeCondition : 'on' Name` (GraphQL October 2021, section 2.8)
 pub fn check_type_condition(parser: &mut Parser) -> Reading<()>
-    ensures { Checks result parser.old parser.new type_condition_at }
+    ensures checks { Checks result parser.old parser.new type_condition_at }
+    ensures calm { Calm parser.old parser.new }
 {
     parser.expect_keyword("on")?;
     parser.expect_name()?;
@@ -71,7 +75,8 @@ pub fn check_type_condition(parser: &mut Parser) -> Reading<()>
 
 /// `TypeCondition?`
 fn check_maybe_condition(parser: &mut Parser) -> Reading<()>
-    ensures { Checks result parser.old parser.new maybe_condition_at }
+    ensures checks { Checks result parser.old parser.new maybe_condition_at }
+    ensures calm { Calm parser.old parser.new }
 {
     if !parser.is_at_keyword("on") {
         return Ok(());
@@ -83,7 +88,8 @@ fn check_maybe_condition(parser: &mut Parser) -> Reading<()>
 ///
 /// `InlineFragment : '...' TypeCondition? Directives? SelectionSet` (GraphQL October 2021, section 2.8)
 fn check_inline(parser: &mut Parser, limits: Limits) -> Reading<()>
-    ensures { Checks result parser.old parser.new (inline_head_at limits.values nowhere) }
+    ensures checks { Checks result parser.old parser.new (inline_head_at limits.values nowhere) }
+    ensures calm { Calm parser.old parser.new }
 {
     check_maybe_condition(parser)?;
     check_directives(parser, limits)?;
@@ -95,8 +101,9 @@ fn check_inline(parser: &mut Parser, limits: Limits) -> Reading<()>
 ///
 /// `FragmentName Directives? | TypeCondition? Directives? SelectionSet`
 fn check_after_dots(parser: &mut Parser, limits: Limits, nests: bool) -> Reading<bool>
-    ensures { Gives (λ follows. follows) result parser.old parser.new
+    ensures gives { Gives (λ follows. follows) result parser.old parser.new
         (entered_at (after_dots_at limits.values nests nowhere)) }
+    ensures calm { Calm parser.old parser.new }
 {
     if is_at_fragment_name(parser) {
         parser.advance();
@@ -118,8 +125,9 @@ fn check_after_dots(parser: &mut Parser, limits: Limits, nests: bool) -> Reading
 ///
 /// `Selection : Field | FragmentSpread | InlineFragment` (GraphQL October 2021, section 2.4)
 pub(super) fn check_head(parser: &mut Parser, limits: Limits, nests: bool) -> Reading<bool>
-    ensures { Gives (λ follows. follows) result parser.old parser.new
+    ensures gives { Gives (λ follows. follows) result parser.old parser.new
         (entered_at (head_at limits.values nests)) }
+    ensures calm { Calm parser.old parser.new }
 {
     if parser.is_at_punct("...") {
         parser.advance();

@@ -1,5 +1,5 @@
 //! Values that are neither lists nor objects.
-ghost use Rattle.graphql_check.specs.Checked.{Checks};
+ghost use Rattle.graphql_check.specs.Checked.{Checks, Calm};
 ghost use Rattle.graphql_grammar.specs.reading.Values.{simple_at, word_at, number_at, string_at, block_at, variable_at};
 
 use graphql_reading::parser::{Parser, Reading, Refusal};
@@ -7,7 +7,8 @@ use graphql_syntax::lexer::TokenKind;
 
 /// `'true' | 'false' | 'null' | EnumValue` (GraphQL October 2021, sections 2.9.3, 2.9.5 and 2.9.6)
 fn check_word(parser: &mut Parser) -> Reading<()>
-    ensures { Checks result parser.old parser.new word_at }
+    ensures checks { Checks result parser.old parser.new word_at }
+    ensures calm { Calm parser.old parser.new }
 {
     parser.expect_name()?;
     Ok(())
@@ -15,7 +16,8 @@ fn check_word(parser: &mut Parser) -> Reading<()>
 
 /// `IntValue | FloatValue` (GraphQL October 2021, sections 2.9.1 and 2.9.2)
 fn check_number(parser: &mut Parser) -> Reading<()>
-    ensures { Checks result parser.old parser.new number_at }
+    ensures checks { Checks result parser.old parser.new number_at }
+    ensures calm { Calm parser.old parser.new }
 {
     if !parser.hand().kind.is_number() {
         return Err(Refusal::Syntax);
@@ -28,7 +30,8 @@ fn check_number(parser: &mut Parser) -> Reading<()>
 ///
 /// `StringValue` between single quotes (GraphQL October 2021, section 2.9.4)
 pub fn check_string(parser: &mut Parser) -> Reading<()>
-    ensures { Checks result parser.old parser.new string_at }
+    ensures checks { Checks result parser.old parser.new string_at }
+    ensures calm { Calm parser.old parser.new }
 {
     let token = parser.hand();
     if !token.kind.is_string() {
@@ -42,7 +45,8 @@ pub fn check_string(parser: &mut Parser) -> Reading<()>
 ///
 /// `StringValue` between triple quotes, a block string (GraphQL October 2021, section 2.9.4)
 pub fn check_block(parser: &mut Parser) -> Reading<()>
-    ensures { Checks result parser.old parser.new block_at }
+    ensures checks { Checks result parser.old parser.new block_at }
+    ensures calm { Calm parser.old parser.new }
 {
     if !parser.hand().kind.is_block() {
         return Err(Refusal::Syntax);
@@ -53,7 +57,8 @@ pub fn check_block(parser: &mut Parser) -> Reading<()>
 
 /// `Variable : '$' Name` (GraphQL October 2021, section 2.10)
 fn check_variable(parser: &mut Parser, vars: bool) -> Reading<()>
-    ensures { Checks result parser.old parser.new (variable_at vars) }
+    ensures checks { Checks result parser.old parser.new (variable_at vars) }
+    ensures calm { Calm parser.old parser.new }
 {
     if !(parser.is_at_punct("$") && vars) {
         return Err(Refusal::Syntax);
@@ -67,7 +72,8 @@ fn check_variable(parser: &mut Parser, vars: bool) -> Reading<()>
 ///
 /// `Variable | IntValue | FloatValue | StringValue | BooleanValue | NullValue | EnumValue`
 pub fn check_simple(parser: &mut Parser, vars: bool) -> Reading<()>
-    ensures { Checks result parser.old parser.new (simple_at vars) }
+    ensures checks { Checks result parser.old parser.new (simple_at vars) }
+    ensures calm { Calm parser.old parser.new }
 {
     match parser.hand().kind {
         TokenKind::Name => check_word(parser),

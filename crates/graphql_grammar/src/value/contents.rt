@@ -1,6 +1,8 @@
 //! What lists and objects contain, read up to their end or to a list or an object inside them.
 ghost use Rattle.std.specs.Prelude.{map, option_map};
 ghost use Rattle.graphql_grammar.specs.reading.OpenValues.{field_tree, opened, met, enter_at, list_rest, object_rest, Meets};
+ghost use Rattle.graphql_memory.specs.Memory.{credit};
+ghost use Rattle.graphql_grammar.specs.reading.OpenFunds.{Enters, Stops, object_credit};
 ghost use Rattle.graphql_reading.specs.reading.Given.{Gives};
 
 use super::fields::merge;
@@ -13,7 +15,8 @@ use graphql_syntax::value::{Literal, Name};
 ///
 /// `('[' | '{')?`
 pub fn enter<V: Literal>(parser: &mut Parser, left: usize) -> Reading<Option<Open<V>>>
-    ensures { Gives (option_map (opened V.tree)) result parser.old parser.new (enter_at left) }
+    ensures gives { Gives (option_map (opened V.tree)) result parser.old parser.new (enter_at left) }
+    ensures pays { Enters V.row result parser.old parser.new }
 {
     let opening = if parser.is_at_punct("[") {
         Open::List(parser.empty_list())
@@ -37,8 +40,9 @@ pub fn read_items<V: Literal>(
     mut items: Vec<V>,
     left: usize,
 ) -> Reading<Stop<V>>
-    ensures { Meets V.VARIABLES left (met V.tree) result parser.old parser.new
+    ensures gives { Meets V.VARIABLES left (met V.tree) result parser.old parser.new
         (list_rest V.VARIABLES left (map V.tree items.items)) }
+    ensures pays { Stops V.row (credit V.row items) result parser.old parser.new }
 {
     while !parser.take_punct("]") {
         if let Some(inner) = enter(parser, left)? {
@@ -58,8 +62,9 @@ pub fn read_fields<V: Literal>(
     mut fields: Vec<(Name, V)>,
     left: usize,
 ) -> Reading<Stop<V>>
-    ensures { Meets V.VARIABLES left (met V.tree) result parser.old parser.new
+    ensures gives { Meets V.VARIABLES left (met V.tree) result parser.old parser.new
         (object_rest V.VARIABLES left (map (field_tree V.tree) fields.items)) }
+    ensures pays { Stops V.row (object_credit V.row fields) result parser.old parser.new }
 {
     while !parser.take_punct("}") {
         let token = parser.expect_name()?;

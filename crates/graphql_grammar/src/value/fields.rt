@@ -1,6 +1,7 @@
 //! The fields of an object.
-ghost use Rattle.std.specs.Prelude.{◌≡◌, IfOk, OnOk, OnErr, []};
-ghost use Rattle.graphql_memory.specs.Memory.{Refused};
+ghost use Rattle.std.specs.Prelude.{◌≡◌, ◌≤◌, ◌<◌, ◌+◌, ◌*◌, length, vec_len, vec_capacity, IfOk, OnOk, OnErr, []};
+ghost use Rattle.graphql_memory.specs.Memory.{Refused, Takes};
+ghost use Rattle.graphql_syntax.specs.inner.Rows.{merging};
 ghost use Rattle.graphql_reading.specs.reading.Ahead.{Stays};
 ghost use Rattle.graphql_grammar.specs.grammar.Merged as grammar;
 ghost use Rattle.graphql_grammar.specs.reading.Fields.{are_distinct as distinct, place_among, places, put};
@@ -32,6 +33,7 @@ fn are_distinct<V>(fields: &[(Name, V)]) -> bool
 /// For each field the place of its name among the names, each named once, where it comes first.
 fn places_of<V>(parser: &mut Parser, fields: &[(Name, V)]) -> Result<Vec<usize>, AllocError>
     ensures places { IfOk result (λ found. found.items ≡ places [] fields.now) }
+    ensures takes { Takes (40 * length fields.now) parser.old.memory parser.new.memory }
     ensures refused { OnErr result (Refused parser.new.memory) }
     ensures stays { Stays parser.old parser.new }
 {
@@ -58,8 +60,12 @@ fn put_at<V: Drop>(
     place: usize,
     field: (Name, V),
 ) -> Result<(), AllocError>
-    requires { place ≡ place_among merged.old.items field.0 }
+    requires place { place ≡ place_among merged.old.items field.0 }
+    requires room { vec_len merged.old < vec_capacity merged.old }
     ensures put { OnOk result (merged.new.items ≡ put merged.old.items field) }
+    ensures len { vec_len merged.new ≤ vec_len merged.old + 1 }
+    ensures capacity { vec_capacity merged.new ≡ vec_capacity merged.old }
+    ensures free { parser.new.memory ≡ parser.old.memory }
     ensures refused { OnErr result (Refused parser.new.memory) }
     ensures stays { Stays parser.old parser.new }
 {
@@ -76,6 +82,7 @@ pub fn merge<V: Drop>(
     fields: Vec<(Name, V)>,
 ) -> Result<Vec<(Name, V)>, AllocError>
     ensures merged { IfOk result (λ merged. merged.items ≡ grammar.merged fields.items) }
+    ensures takes { Takes (merging V.row * vec_len fields) parser.old.memory parser.new.memory }
     ensures refused { OnErr result (Refused parser.new.memory) }
     ensures stays { Stays parser.old parser.new }
 {

@@ -1,6 +1,6 @@
 //! Lists and objects that are open while a value inside them is read.
-ghost use Rattle.std.specs.Prelude.{◌≡◌, IfOk, OnErr};
-ghost use Rattle.graphql_memory.specs.Memory.{Refused};
+ghost use Rattle.std.specs.Prelude.{◌≡◌, ◌≤◌, ◌+◌, IfOk, OnErr};
+ghost use Rattle.graphql_memory.specs.Memory.{Refused, Takes};
 ghost use Rattle.graphql_reading.specs.reading.Ahead.{Stays};
 
 use graphql_reading::parser::Parser;
@@ -36,39 +36,29 @@ impl<V> MadeWith<Global> for Frame<V> {
     }
 }
 
-// Makes room in an empty list for one node alone: most lists and objects that hold a list or an object hold nothing else.
-#[inline(always)]
-fn make_room<T: Drop>(parser: &mut Parser, nodes: &mut Vec<T>) -> Result<(), AllocError>
-    ensures items { nodes.new.items ≡ nodes.old.items }
-    ensures refused { OnErr result (Refused parser.new.memory) }
-    ensures stays { Stays parser.old parser.new }
-{
-    if nodes.is_empty() {
-        parser.give_one_place(nodes)?;
-    }
-    Ok(())
-}
-
 impl<V: Literal> Frame<V> {
+    ghost use Rattle.graphql_grammar.specs.reading.OpenFunds.{open_credit, frame_credit};
     ghost use Rattle.graphql_grammar.specs.reading.OpenValues.{opened, waiting, add};
 
-    /// With the value for which it waits.
+    /// With the value for which it waits. Most lists and objects that hold a list or an object hold nothing else: one that is
+    /// empty gets room for that one alone.
     #[inline(always)]
     pub fn fill(self, parser: &mut Parser, value: V) -> Result<Open<V>, AllocError>
         ensures filled { IfOk result (λ o. opened V.tree o ≡
             add (waiting V.tree self) (V.tree value)) }
+        ensures takes { Takes (frame_credit V.row self + 512) parser.old.memory parser.new.memory }
+        ensures pays { IfOk result (λ o. parser.old.memory.left + parser.new.memory.lacking + open_credit V.row o ≤
+            parser.new.memory.left + parser.old.memory.lacking + frame_credit V.row self + 512) }
         ensures refused { OnErr result (Refused parser.new.memory) }
         ensures stays { Stays parser.old parser.new }
     {
         match self {
             Frame::List(mut items) => {
-                make_room(parser, &mut items)?;
-                parser.push(&mut items, value)?;
+                parser.push_with_room(&mut items, value, 1)?;
                 Ok(Open::List(items))
             }
             Frame::Object(mut fields, name) => {
-                make_room(parser, &mut fields)?;
-                parser.push(&mut fields, (name, value))?;
+                parser.push_with_room(&mut fields, (name, value), 1)?;
                 Ok(Open::Object(fields))
             }
         }

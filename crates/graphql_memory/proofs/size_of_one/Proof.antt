@@ -11,7 +11,7 @@ use prog.Wp.{Env}
 use contract.BorrowLft.{◌⊑◌}
 use contract.Monad.{fact}
 use contract.Running.{tables}
-use types.Kit.{‵, raw, ◌⊛◌, ◌$◌, ◌∵◌, !, qed, by, move, drop, split, fjoin, feq_i, flt_i}
+use types.Kit.{‵, raw, ◌⊛◌, ◌$◌, ◌∵◌, !, qed, move, drop, split, join, keep, done, suffices, fjoin, feq_i, flt_i}
 use types.Run.{size_word, of_opd, returns, enter}
 use types.ByLocal.{alloc_all, pass_all, free_all, look_at, sets, env}
 use denote.RattleType.{owns}
@@ -19,8 +19,8 @@ use denote.Param.{layout, layouts}
 use denote.Signature.{types_at}
 use denote.Steps.{nothing, heard}
 use denote.Triple.Entry.{alive}
-use denote.Triple.Walked.{Stays, walk_of}
-use Rattle.std.proofs.raw_atomic.Walks.{proved_at, leaves}
+use denote.Triple.Walked.{Stays, ends_at, says, walk_of}
+use Rattle.std.proofs.raw_atomic.Walks.{proved_at}
 use Rattle.graphql_memory.specs.contracts.size_of_one.{ended, clauses}
 use Rattle.graphql_memory.specs.contracts.size_of_one.Key.{name as #self}
 use Rattle.graphql_memory.proofs.size_of_one.Statement.{statement}
@@ -50,6 +50,6 @@ size_of_one_spec 𝓤 𝓛 𝓜 𝓡 wired T L =
     alloc_all ! (λ l. pass_all ! refl tt $ let En : Env 𝓤 𝓛.H = env fn.locals l in
     sets ! (of_opd ! (size_word !)) refl (tt, record { fits = capped_fits (size τ) }) $
     returns ! (look_at ! 0 refl) $ free_all ! refl $
+    suffices ! _ (ends_at 𝓛 En₀ hs c z (vint w64 n) n tt tt) $ says ! refl $
     flt_i ! n (2 ^ 64) (capped_fits (size τ)) $ feq_i ! (List Val) (vint w64 n ∷ []) (vint w64 n ∷ []) refl $ fjoin ! $
-    nothing ! $ nothing ! $ move ! (3 ∷ 0 ∷ 2 ∷ 1 ∷ []) $
-    by ! (leaves 𝓛 En₀ hs c z (vint w64 n) n tt tt))))
+    nothing ! $ join ! $ move ! (1 ∷ 0 ∷ []) $ join ! $ keep ! (0 ∷ []) $ done !)))

@@ -1,4 +1,5 @@
-use Rattle.std.proofs.Common.{rules, refl}
+use Rattle.std.proofs.Common.{rules, refl, arith, inl, inr}
+use Rattle.graphql_grammar.proofs.Bounds.{text-bound}
 use Rattle.graphql_tokens.specs.tokens.Token.{left}
 use Rattle.graphql_grammar.proofs.Languages.{reads-text}
 use Rattle.graphql_requests.specs.grammar.Requests.{requests}
@@ -15,3 +16,9 @@ returns-clause-reads c = reads-text requests definitions_at requests-are-read c.
 
 pub returns-clause-lawful : goal.returns-clause-lawful
 returns-clause-lawful c = lawful-answer c.args.limits (left c.new-tokens.result) _ c.read_document.ensures.reads.answer
+
+pub returns-clause-taken : goal.returns-clause-taken
+returns-clause-taken c = omega (arith, c.read_document.ensures.taken _ refl, text-bound c.args.text.now _ c.utf8.text c.new-tokens.ensures.cut)
+
+pub returns-clause-refused : goal.returns-clause-refused
+returns-clause-refused c is = elim (c.read_document.ensures.refused _ refl is) [ inl heap ↦ inl heap | inr less ↦ inr (omega (arith, less, text-bound c.args.text.now _ c.utf8.text c.new-tokens.ensures.cut)) ]

@@ -1,9 +1,12 @@
 //! Readers of selections up to their sets.
-ghost use Rattle.std.specs.Prelude.{◌≡◌, Some, option_map};
+ghost use Rattle.std.specs.Prelude.{◌≡◌, ◌-◌, Some, option_map};
 ghost use Rattle.graphql_syntax.specs.trees.Parts.{placed};
 ghost use Rattle.graphql_request_trees.specs.trees.RequestViews.{selection_trees, type_condition_tree};
 ghost use Rattle.graphql_requests.specs.grammar.Selections.{fragment_name};
 ghost use Rattle.graphql_requests.specs.reading.SelectionSteps.{names_at, onto, field_head_at, spread_at, inline_head_at, maybe_condition_at, head_at};
+ghost use Rattle.graphql_reading.specs.reading.Funds.{Pays};
+ghost use Rattle.graphql_reading.specs.reading.Worth.{per_token};
+ghost use Rattle.graphql_requests.specs.reading.SelectionFunds.{PaysOnto, PaysInline};
 ghost use Rattle.graphql_reading.specs.reading.Given.{Gives};
 ghost use Rattle.graphql_requests.specs.reading.Selections.{type_condition_at, inline_first, selection_first};
 
@@ -53,7 +56,8 @@ pub fn is_at_selection(parser: &Parser) -> bool
 /// `Alias? Name`, where `Alias : Name ':'`
 #[inline(always)]
 fn read_names(parser: &mut Parser) -> Reading<Names>
-    ensures { Gives (λ names. names) result parser.old parser.new names_at }
+    ensures gives { Gives (λ names. names) result parser.old parser.new names_at }
+    ensures pays { Pays (per_token - 24) result parser.old parser.new }
 {
     let first = read_name(parser)?;
     if !parser.is_at_punct(":") {
@@ -73,8 +77,9 @@ fn read_field(
     nests: bool,
     items: &mut Selections,
 ) -> Reading<Option<Pos>>
-    ensures { Gives (λ place. (selection_trees items.new.items, place)) result parser.old parser.new
+    ensures gives { Gives (λ place. (selection_trees items.new.items, place)) result parser.old parser.new
         (onto (selection_trees items.old.items) (field_head_at limits.values nests)) }
+    ensures pays { PaysOnto items.old items.new result parser.old parser.new }
 {
     let pos = parser.hand().pos;
     let (alias, name) = read_names(parser)?;
@@ -110,8 +115,9 @@ fn read_spread(
     dots: Pos,
     items: &mut Selections,
 ) -> Reading<Option<Pos>>
-    ensures { Gives (λ place. (selection_trees items.new.items, place)) result parser.old parser.new
+    ensures gives { Gives (λ place. (selection_trees items.new.items, place)) result parser.old parser.new
         (onto (selection_trees items.old.items) (spread_at limits.values dots)) }
+    ensures pays { PaysOnto items.old items.new result parser.old parser.new }
 {
     let fragment_name = read_name(parser)?;
     let directives = read_directives(parser, limits)?;
@@ -128,7 +134,8 @@ fn read_spread(
 ///
 /// `TypeCondition : 'on' Name` (GraphQL October 2021, section 2.8)
 pub fn read_type_condition(parser: &mut Parser) -> Reading<Positioned<TypeCondition>>
-    ensures { Gives (placed type_condition_tree) result parser.old parser.new type_condition_at }
+    ensures gives { Gives (placed type_condition_tree) result parser.old parser.new type_condition_at }
+    ensures pays { Pays per_token result parser.old parser.new }
 {
     let word = parser.expect_keyword("on")?;
     let on = read_name(parser)?;
@@ -137,8 +144,9 @@ pub fn read_type_condition(parser: &mut Parser) -> Reading<Positioned<TypeCondit
 
 /// `TypeCondition?`
 fn read_maybe_condition(parser: &mut Parser) -> Reading<Option<Positioned<TypeCondition>>>
-    ensures { Gives (option_map (placed type_condition_tree)) result parser.old parser.new
+    ensures gives { Gives (option_map (placed type_condition_tree)) result parser.old parser.new
         maybe_condition_at }
+    ensures pays { Pays 0 result parser.old parser.new }
 {
     if !parser.is_at_keyword("on") {
         return Ok(None);
@@ -156,8 +164,9 @@ fn read_inline(
     dots: Pos,
     items: &mut Selections,
 ) -> Reading<Pos>
-    ensures { Gives (λ place. (selection_trees items.new.items, Some place)) result parser.old
+    ensures gives { Gives (λ place. (selection_trees items.new.items, Some place)) result parser.old
         parser.new (onto (selection_trees items.old.items) (inline_head_at limits.values dots)) }
+    ensures pays { PaysInline items.old items.new result parser.old parser.new }
 {
     let no_set = SelectionSet {
         items: parser.empty_list(),
@@ -183,8 +192,9 @@ pub(super) fn read_head(
     nests: bool,
     items: &mut Selections,
 ) -> Reading<Option<Pos>>
-    ensures { Gives (λ place. (selection_trees items.new.items, place)) result parser.old parser.new
+    ensures gives { Gives (λ place. (selection_trees items.new.items, place)) result parser.old parser.new
         (onto (selection_trees items.old.items) (head_at limits.values nests)) }
+    ensures pays { PaysOnto items.old items.new result parser.old parser.new }
 {
     if !parser.is_at_punct("...") {
         return read_field(parser, limits, nests, items);

@@ -1,6 +1,9 @@
 //! What a reader of values needs of the type that it makes.
-ghost use Rattle.std.specs.Prelude.{◌≡◌, MatchOption, map, string_bytes, true, false, Bool};
+ghost use Rattle.std.specs.Prelude.{◌≡◌, ◌≤◌, ◌+◌, MatchOption, map, string_bytes, true, false, Bool};
 ghost use Rattle.graphql_syntax.specs.trees.ValueTree.{Tree, variable, null, number, string, boolean, enumeration, list, object, trees_of, fields_of};
+ghost use Rattle.graphql_memory.specs.Memory.{price};
+ghost use Rattle.graphql_syntax.specs.inner.Rows.{field_row, argument_row, merging};
+ghost use Rattle.std.proofs.Common.{arith};
 ghost use Rattle.graphql_syntax.specs.trees.ValueViews.{const_tree, value_tree, trees_by, fields_by};
 
 use super::{ConstValue, Name, Number, Value};
@@ -52,9 +55,23 @@ pub trait Literal: Sized + Drop {
     fn variable(n: Name) -> Option<Self>
         ensures { MatchOption result (VARIABLES ≡ false)
             (λ v. (VARIABLES ≡ true) × (tree v ≡ variable n)) };
+
+    // What a list pays for a value of this type, for a field with one, with what it takes to merge it, and for an argument with
+    // one.
+    ghost value_fits: { price Self.row ≤ 512 };
+
+    ghost field_fits: { price (field_row Self.row) + merging Self.row ≤ 512 };
+
+    ghost argument_fits: { price (argument_row Self.row) ≤ 512 };
 }
 
 impl Literal for ConstValue {
+    ghost value_fits = { Prim.omega arith };
+
+    ghost field_fits = { Prim.omega arith };
+
+    ghost argument_fits = { Prim.omega arith };
+
     ghost tree = { const_tree };
 
     ghost VARIABLES = { false };
@@ -99,6 +116,12 @@ impl Literal for ConstValue {
 }
 
 impl Literal for Value {
+    ghost value_fits = { Prim.omega arith };
+
+    ghost field_fits = { Prim.omega arith };
+
+    ghost argument_fits = { Prim.omega arith };
+
     ghost tree = { value_tree };
 
     ghost VARIABLES = { true };

@@ -2,6 +2,7 @@
 
 ghost use Rattle.std.specs.Prelude.{◌≡◌, ◌≤◌, ◌<◌, ◌+◌, ◌-◌, ◌++◌, ◌∷◌, [], false, true, nat_lt, min, if◌then◌else◌, take, drop, length, slice_index, IfSome, MatchOption, OnOk, OnErr, string_bytes};
 ghost use Rattle.graphql_memory.specs.Memory.{Refused};
+ghost use Rattle.std.specs.String.{string_capacity};
 ghost use Rattle.std.specs.List.{prefix_len};
 ghost use Rattle.std.specs.Str.{IsUtf8, IsCharBoundary};
 ghost use Rattle.graphql_tokens.specs.tokens.Place as place;
@@ -55,6 +56,7 @@ fn past_blanks(bytes: &[u8], start: usize) -> usize
 fn next_line(bytes: &[u8], end: usize) -> usize
     requires { end < length bytes.now }
     ensures value { result ≡ end + end_len (drop end bytes.now) }
+    ensures after { end < result }
     ensures within { result ≤ length bytes.now }
 {
     if bytes[end] == b'\r' && byte(bytes, end + 1) == b'\n' {
@@ -156,8 +158,11 @@ fn next_quotes(bytes: &[u8], start: usize) -> usize
 
 // Adds the text, with each `\"""` as `"""`.
 fn push_unquoted(memory: &mut Memory, value: &mut String, text: &str) -> Result<(), AllocError>
+    requires { length (string_bytes value.old) + length text.now ≤ string_capacity value.old }
     ensures value { OnOk result (string_bytes value.new ≡ string_bytes value.old ++
         spec.unquoted text.now) }
+    ensures capacity { string_capacity value.old ≤ string_capacity value.new }
+    ensures free { memory.new ≡ memory.old }
     ensures refused { OnErr result (Refused memory.new) }
 {
     let bytes = text.as_bytes();
@@ -174,7 +179,8 @@ fn push_unquoted(memory: &mut Memory, value: &mut String, text: &str) -> Result<
 
 // The line without its indent: at most so many tabs and spaces. A shorter line stays as it is.
 fn dedented(line: &str, indent: usize) -> &str
-    ensures { result.now ≡ trimmed indent line.now }
+    ensures trimmed { result.now ≡ trimmed indent line.now }
+    ensures fits { length result.now ≤ length line.now }
 {
     if line.len() < indent {
         return line;
@@ -185,8 +191,9 @@ fn dedented(line: &str, indent: usize) -> &str
 // The value of the text, if it is one line in which no backslash stands, and not blank. Its indent goes where
 // `loses_indent` says so.
 pub fn one_line(text: &str, loses_indent: bool) -> Option<&str>
-    ensures { IfSome result (λ line.
+    ensures line { IfSome result (λ line.
         IsOneLine loses_indent text.now line.now) }
+    ensures fits { IfSome result (λ line. length line.now ≤ length text.now) }
 {
     let bytes = text.as_bytes();
     let blanks = past_blanks(bytes, 0);
@@ -225,9 +232,12 @@ fn push_line(
     requires starts { IsCharBoundary text.now from }
     requires ends { end < length text.now → place.is_in_line (slice_index text.now end) ≡ false }
     requires plain { is_plain ≡ true → IsPlainBetween text.now 0 (length text.now) }
+    requires room { length (string_bytes value.old) + (length text.now - from) ≤ string_capacity value.old }
     ensures value { OnOk result (string_bytes value.new ≡ string_bytes value.old ++
         (spec.unquoted (take (end - from) (drop from text.now)) ++
         (if nat_lt end (length text.now) then 10 ∷ [] else []))) }
+    ensures capacity { string_capacity value.old ≤ string_capacity value.new }
+    ensures free { memory.new ≡ memory.old }
     ensures refused { OnErr result (Refused memory.new) }
 {
     let bytes = text.as_bytes();
@@ -254,9 +264,11 @@ pub fn push_lines(
     indent: usize,
     is_plain: bool,
 ) -> Result<(), AllocError>
-    requires { is_plain ≡ true → IsPlainBetween text.now 0 (length text.now) }
+    requires plain { is_plain ≡ true → IsPlainBetween text.now 0 (length text.now) }
+    requires room { length (string_bytes value.old) + length text.now ≤ string_capacity value.old }
     ensures value { OnOk result (string_bytes value.new ≡ string_bytes value.old ++
         written first_indent indent (spec.lines_of text.now)) }
+    ensures free { memory.new ≡ memory.old }
     ensures refused { OnErr result (Refused memory.new) }
 {
     let bytes = text.as_bytes();

@@ -1,4 +1,5 @@
 //! A third type of values, beside those of the crates.
+ghost use Rattle.std.proofs.Common.{arith};
 ghost use Rattle.std.specs.Prelude.{◌≡◌, map, string_bytes, true, false};
 ghost use Rattle.graphql_syntax.specs.trees.ValueTree.{Tree, null, number, string, boolean, enumeration, list, object, trees_of, fields_of};
 ghost use Rattle.rows.specs.declared.trees.plain.Plain.{fold-Plain};
@@ -20,6 +21,12 @@ pub enum Plain {
 }
 
 impl Literal for Plain {
+    ghost value_fits = { Prim.omega arith };
+
+    ghost field_fits = { Prim.omega arith };
+
+    ghost argument_fits = { Prim.omega arith };
+
     ghost tree = { fold-Plain Tree (λ l. elim l [ Plain-F.Null ↦ null | Plain-F.Number n ↦ number n | Plain-F.Text s ↦ string (string_bytes s) | Plain-F.Yes ↦ boolean true | Plain-F.No ↦ boolean false | Plain-F.Enum n ↦ enumeration n | Plain-F.List v ↦ list (trees_of v.items) | Plain-F.Object v ↦ object (fields_of v.items) ]) };
 
     ghost VARIABLES = { false };

@@ -6,8 +6,8 @@ use Rattle.graphql_check.specs.Checked.{rest_of}
 use Rattle.graphql_check.proofs.Loops.{there}
 use Rattle.graphql_check.proofs.production.check_any_number.Goals as goal
 
-pub returns-then-not-is_next : goal.returns-then-not-is_next
-returns-then-not-is_next g c = (ap rest_of (many-stops g.P.Phrase.first (g.P.Phrase.reader c.args.limits) c.args.parser.now.hand c.args.parser.now.after (sym c.is_next.ensures ∙ c.if-not-is_next.true)), stays c.args.parser.now)
+pub returns-then-not-is_next-clause-checks : goal.returns-then-not-is_next-clause-checks
+returns-then-not-is_next-clause-checks g c = (ap rest_of (many-stops g.P.Phrase.first (g.P.Phrase.reader c.args.limits) c.args.parser.now.hand c.args.parser.now.after (sym c.is_next.ensures ∙ c.if-not-is_next.true)), stays c.args.parser.now)
 
-pub returns : goal.returns
-returns g c = there c.check_one_or_more.result c.args.parser.now c.check_one_or_more.new.parser (plus_at g.P.Phrase.first (g.P.Phrase.reader c.args.limits)) (many_at g.P.Phrase.first (g.P.Phrase.reader c.args.limits)) (sym (many-plus g.P.Phrase.first (g.P.Phrase.reader c.args.limits) c.requires c.args.parser.now.hand c.args.parser.now.after (sym c.is_next.ensures ∙ c.if-not-is_next.false))) c.check_one_or_more.ensures
+pub returns-clause-checks : goal.returns-clause-checks
+returns-clause-checks g c = there c.check_one_or_more.result c.args.parser.now c.check_one_or_more.new.parser (plus_at g.P.Phrase.first (g.P.Phrase.reader c.args.limits)) (many_at g.P.Phrase.first (g.P.Phrase.reader c.args.limits)) (sym (many-plus g.P.Phrase.first (g.P.Phrase.reader c.args.limits) c.requires c.args.parser.now.hand c.args.parser.now.after (sym c.is_next.ensures ∙ c.if-not-is_next.false))) c.check_one_or_more.ensures.checks

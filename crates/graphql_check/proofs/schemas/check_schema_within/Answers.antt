@@ -1,4 +1,4 @@
-use Rattle.std.proofs.Common.{rules, refl}
+use Rattle.std.proofs.Common.{rules, refl, arith, inl, inr}
 use Rattle.graphql_grammar.proofs.Languages.{reads-text}
 use Rattle.graphql_schemas.specs.grammar.Schemas.{schemas}
 use Rattle.graphql_schemas.specs.reading.SchemaFile.{definitions_at}
@@ -15,3 +15,9 @@ returns-clause-reads c = reads-text (checked schemas) definitions_at schema-chec
 
 pub returns-clause-former_schemas : goal.returns-clause-former_schemas
 returns-clause-former_schemas c = none-described c.args.limits
+
+pub returns-clause-taken : goal.returns-clause-taken
+returns-clause-taken c = omega (arith, c.read_document.ensures.taken 0 refl)
+
+pub returns-clause-refused : goal.returns-clause-refused
+returns-clause-refused c is = elim (c.read_document.ensures.refused 0 refl is) [ inl heap ↦ inl heap | inr less ↦ inr (omega (arith, less)) ]

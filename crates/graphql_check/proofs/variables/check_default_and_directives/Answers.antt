@@ -13,8 +13,8 @@ use Rattle.graphql_check.proofs.variables.check_default_and_directives.Goals as 
 default-first : (values : ℕ) (t : Token) (ts mid : List Token) → punct "=" t.bare ≡ true → rest_of (maybe_default_at values (t ∷ ts)) ≡ Some mid → ended (default_and_directives_at values (t ∷ ts)) ≡ ended (directives_at true values mid)
 default-first values t ts mid e h = rw e (past (maybe_default_at values) (directives_at true values) (t ∷ ts) mid h)
 
-pub returns-then-is_at_punct : goal.returns-then-is_at_punct
-returns-then-is_at_punct c =
+pub returns-then-is_at_punct-clause-checks : goal.returns-then-is_at_punct-clause-checks
+returns-then-is_at_punct-clause-checks c =
     goes-as c.check_directives.result c.args.parser.now c.check_maybe_default.new.parser c.check_directives.new.parser (default_and_directives_at c.args.limits.values) (directives_at true c.args.limits.values)
-    (default-first c.args.limits.values c.args.parser.now.hand c.args.parser.now.after (tokens c.check_maybe_default.new.parser) (sym c.is_at_punct.ensures ∙ c.if-is_at_punct.true) c.in_ok-check_maybe_default.ensures.0)
-    c.in_ok-check_maybe_default.ensures.1 c.check_directives.ensures
+    (default-first c.args.limits.values c.args.parser.now.hand c.args.parser.now.after (tokens c.check_maybe_default.new.parser) (sym c.is_at_punct.ensures ∙ c.if-is_at_punct.true) c.in_ok-check_maybe_default.ensures.checks.0)
+    c.in_ok-check_maybe_default.ensures.checks.1 c.check_directives.ensures.checks

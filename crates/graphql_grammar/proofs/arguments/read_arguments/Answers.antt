@@ -1,5 +1,5 @@
 use Rattle.graphql_grammar.proofs.ArgumentProductions.{takes-argument}
 use Rattle.graphql_grammar.proofs.arguments.read_arguments.Goals as goal
 
-pub maybe_bracketed-requires : goal.maybe_bracketed-requires
-maybe_bracketed-requires g c = takes-argument g.V.Literal.VARIABLES c.args.limits.values
+pub maybe_bracketed-requires-clause-takes : goal.maybe_bracketed-requires-clause-takes
+maybe_bracketed-requires-clause-takes g c = takes-argument g.V.Literal.VARIABLES c.args.limits.values

@@ -1,7 +1,8 @@
-use Rattle.std.proofs.Common.{rules}
+use Rattle.std.proofs.Common.{arith, inl}
 use Rattle.graphql_memory.specs.Memory.{Refused}
 use Rattle.graphql_memory.proofs.Memory.refuse.Goals as goal
+use Rattle.graphql_memory.proofs.Memory.refuse.Goals.{then-self, else-self}
 
-pub returns : goal.returns
+pub returns-clause-refused : goal.returns-clause-refused
 unfolding Refused
-returns c = search rules
+returns-clause-refused c = inl (elim c.if-self.branch [ then-self w ↦ rw w.self-is (omega arith) | else-self w ↦ rw w.self-is (omega arith) ])

@@ -16,7 +16,7 @@ returns-clause-handed g c =
     let told = c.hand_over.ensures.told in
     let read = λ (tokens : List Token) (cut : IsCutInto c.args.question.now.text.now tokens).
     subst (λ limits. Answers g.H.Handing.language limits tokens c.read-answer.result) c.in-Ok.ensures.1
-    (c.read-answer.ensures tokens (subst (λ t. IsCutInto t tokens) (sym c.in-Ok.ensures.0) cut)) in
+    (c.read-answer.ensures.answers tokens (subst (λ t. IsCutInto t tokens) (sym c.in-Ok.ensures.0) cut)) in
     let made = subst (λ (text : List ℕ). IfOk c.made_of-made.result (λ block. Hands text c.read-answer.result block)) c.in-Ok.ensures.0 c.made_of-made.ensures.made in
     record {
       nothing = handed.0;

@@ -1,22 +1,39 @@
-use Rattle.std.proofs.Common.{sym, ◌∙◌}
+use Rattle.std.proofs.Common.{◌≡◌, ◌+◌, ◌-◌, arith, ap, sym, ◌∙◌, length, vec_len}
 use Rattle.std.proofs.lemmas.Result.{err_from_is_err_and}
+use Rattle.graphql_memory.specs.Memory.{price}
+use Rattle.graphql_reading.proofs.Funds.{each-more, each-none}
 use Rattle.graphql_reading.specs.reading.Given.{trees_in}
-use Rattle.graphql_reading.proofs.Loops.{begins-stays, stops, goes, ends, shorter, given-stays}
+use Rattle.graphql_reading.proofs.Loops.{begins, stops, goes, ends, shorter, given-stays}
 use Rattle.graphql_reading.proofs.production.one_or_more.Goals as goal
 
-pub returns-in_err-node : goal.returns-in_err-node
-returns-in_err-node g c =
-    let p = err_from_is_err_and c.from_residual-in_err-node.result c.from_residual-in_err-node.ensures.1 in
-    rw (p.1, p.2) (stops g.P.Production.tree (trees_in g.P.Production.tree) g.P.Production.first (g.P.Production.reader c.args.limits) c.args.parser.now c.loop-nodes.parser c.read.new.parser _ _ c.loop-nodes.invariant c.in_err-node.ensures)
+pub returns-in_err-node-clause-gives : goal.returns-in_err-node-clause-gives
+returns-in_err-node-clause-gives g c =
+    let p = err_from_is_err_and c.from_residual.result c.from_residual.ensures.1 in
+    rw (p.1, p.2) (stops g.P.Production.tree (trees_in g.P.Production.tree) g.P.Production.first (g.P.Production.reader c.args.limits) c.args.parser.now c.loop-nodes.parser c.read.new.parser _ _ c.loop-nodes.invariant.0 c.in_err-node.ensures.gives)
 
 pub loop-nodes-init : goal.loop-nodes-init
-loop-nodes-init g c = rw c.in_ok-nodes.ensures.items (begins-stays g.P.Production.first (g.P.Production.reader c.args.limits) c.args.parser.now c.list_with_room.new.self c.list_with_room.ensures.stays)
+loop-nodes-init g c =
+    let none : vec_len c.empty_list-nodes.result ≡ 0 = omega (arith, ap length c.empty_list-nodes.ensures.items, c.empty_list-nodes.result.ok) in (
+      rw c.empty_list-nodes.ensures.items (begins g.P.Production.first (g.P.Production.reader c.args.limits) c.args.parser.now),
+      (omega (arith, each-none (g.P.Production.spare - price g.row.P-Node) _ none), omega arith),
+    )
 
-pub returns-then-not-is_next : goal.returns-then-not-is_next
-returns-then-not-is_next g c = ends g.P.Production.tree g.P.Production.first (g.P.Production.reader c.args.limits) c.args.parser.now c.loop-nodes.parser c.push.new.self _ _ _ c.loop-nodes.invariant (given-stays g.P.Production.tree _ c.loop-nodes.parser c.read.new.parser c.push.new.self (g.P.Production.reader c.args.limits) c.in_ok-node.ensures c.push.ensures.stays) (sym c.is_next.ensures ∙ c.if-not-is_next.true) c.in_ok-push.ensures.items
+pub returns-then-not-is_next-clause-gives : goal.returns-then-not-is_next-clause-gives
+returns-then-not-is_next-clause-gives g c = ends g.P.Production.tree g.P.Production.first (g.P.Production.reader c.args.limits) c.args.parser.now c.loop-nodes.parser c.push_with_room.new.self _ _ _ c.loop-nodes.invariant.0 (given-stays g.P.Production.tree _ c.loop-nodes.parser c.read.new.parser c.push_with_room.new.self (g.P.Production.reader c.args.limits) c.in_ok-node.ensures.gives c.push_with_room.ensures.stays) (sym c.is_next.ensures ∙ c.if-not-is_next.true) c.in_ok-push_with_room.ensures.items
 
 pub loop-nodes-smaller : goal.loop-nodes-smaller
-loop-nodes-smaller g c = shorter g.P.Production.tree (g.P.Production.reader c.args.limits) c.loop-nodes.parser c.push.new.self _ c.requires (given-stays g.P.Production.tree _ c.loop-nodes.parser c.read.new.parser c.push.new.self (g.P.Production.reader c.args.limits) c.in_ok-node.ensures c.push.ensures.stays)
+loop-nodes-smaller g c = shorter g.P.Production.tree (g.P.Production.reader c.args.limits) c.loop-nodes.parser c.push_with_room.new.self _ c.requires.takes (given-stays g.P.Production.tree _ c.loop-nodes.parser c.read.new.parser c.push_with_room.new.self (g.P.Production.reader c.args.limits) c.in_ok-node.ensures.gives c.push_with_room.ensures.stays)
 
 pub loop-nodes-preserved : goal.loop-nodes-preserved
-loop-nodes-preserved g c = goes g.P.Production.tree g.P.Production.first (g.P.Production.reader c.args.limits) c.args.parser.now c.loop-nodes.parser c.push.new.self _ _ _ c.requires c.loop-nodes.invariant (given-stays g.P.Production.tree _ c.loop-nodes.parser c.read.new.parser c.push.new.self (g.P.Production.reader c.args.limits) c.in_ok-node.ensures c.push.ensures.stays) (sym c.is_next.ensures ∙ c.if-not-is_next.false) c.in_ok-push.ensures.items
+loop-nodes-preserved g c =
+    let longer : vec_len c.push_with_room.new.list ≡ vec_len c.loop-nodes.nodes + 1 = omega (arith, c.in_ok-push_with_room.ensures.len) in
+    let more = each-more (g.P.Production.spare - price g.row.P-Node) _ _ longer in (
+      goes g.P.Production.tree g.P.Production.first (g.P.Production.reader c.args.limits) c.args.parser.now c.loop-nodes.parser c.push_with_room.new.self _ _ _ c.requires.takes c.loop-nodes.invariant.0 (given-stays g.P.Production.tree _ c.loop-nodes.parser c.read.new.parser c.push_with_room.new.self (g.P.Production.reader c.args.limits) c.in_ok-node.ensures.gives c.push_with_room.ensures.stays) (sym c.is_next.ensures ∙ c.if-not-is_next.false) c.in_ok-push_with_room.ensures.items,
+      (omega (arith, more, c.in_ok-node.ensures.pays, c.in_ok-push_with_room.ensures.pays), omega (arith, c.in_ok-node.ensures.pays)),
+    )
+
+pub returns-then-not-is_next-clause-pays : goal.returns-then-not-is_next-clause-pays
+returns-then-not-is_next-clause-pays g c =
+    let longer : vec_len c.push_with_room.new.list ≡ vec_len c.loop-nodes.nodes + 1 = omega (arith, c.in_ok-push_with_room.ensures.len) in
+    let more = each-more (g.P.Production.spare - price g.row.P-Node) _ _ longer in
+    (omega (arith, more, c.in_ok-node.ensures.pays, c.in_ok-push_with_room.ensures.pays), omega (arith, c.in_ok-node.ensures.pays))

@@ -1,5 +1,5 @@
 use Rattle.graphql_requests.proofs.VariableProductions.{takes-variable_definition}
 use Rattle.graphql_requests.proofs.definitions.read_operation.Goals as goal
 
-pub maybe_bracketed-requires : goal.maybe_bracketed-requires
-maybe_bracketed-requires c = takes-variable_definition c.args.limits.values c.args.limits.types
+pub maybe_bracketed-requires-clause-takes : goal.maybe_bracketed-requires-clause-takes
+maybe_bracketed-requires-clause-takes c = takes-variable_definition c.args.limits.values c.args.limits.types

@@ -20,17 +20,17 @@ size items some = omega (arith, some, items.ok.0)
 abbrev with : Positioned SelectionSet → Selection → request.Selection
 with set selection = with_set (placed selection_set_tree set) (selection_tree selection)
 
-pub returns-in-Field : goal.returns-in-Field
-returns-in-Field c =
+pub returns-in-Field-clause-trees : goal.returns-in-Field-clause-trees
+returns-in-Field-clause-trees c =
     last-with c.args.items.now.items _ c.in-Some.last.now _ _ (size c.args.items.now (c.in-Some.ensures.variant.0 refl)) c.in-Some.ensures.value
     (field-with c.in-Field.field c.args.set ∙ ap (with c.args.set) (sym c.in-Field.is))
 
-pub returns-in-InlineFragment : goal.returns-in-InlineFragment
-returns-in-InlineFragment c =
+pub returns-in-InlineFragment-clause-trees : goal.returns-in-InlineFragment-clause-trees
+returns-in-InlineFragment-clause-trees c =
     last-with c.args.items.now.items _ c.in-Some.last.now _ _ (size c.args.items.now (c.in-Some.ensures.variant.0 refl)) c.in-Some.ensures.value
     (inline-with c.in-InlineFragment.fragment c.args.set ∙ ap (with c.args.set) (sym c.in-InlineFragment.is))
 
-pub returns-in-FragmentSpread : goal.returns-in-FragmentSpread
-returns-in-FragmentSpread c =
+pub returns-in-FragmentSpread-clause-trees : goal.returns-in-FragmentSpread-clause-trees
+returns-in-FragmentSpread-clause-trees c =
     last-with c.args.items.now.items _ c.in-Some.last.now _ _ (size c.args.items.now (c.in-Some.ensures.variant.0 refl)) c.in-Some.ensures.value
     (ap selection_tree c.in-FragmentSpread.is ∙ spread-with c.in-FragmentSpread.field-0 (placed selection_set_tree c.args.set) ∙ ap (with c.args.set) (sym c.in-FragmentSpread.is))

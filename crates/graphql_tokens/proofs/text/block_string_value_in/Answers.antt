@@ -63,7 +63,7 @@ returns-in-Some-one_line-clause-value c =
     (c.range-text.ensures.value ∙ whole c.last_text.result c.range_from-text.result.now) refl refl in
     let new = string_bytes c.push_text.new.text in
     let is : new ≡ line = c.in_ok-push_text.ensures.text ∙ ap (λ x. x ++ line) c.in_ok-value.ensures.text in
-    value_chars raw new c.utf8.raw (IsUtf8-string_bytes c.push_text.new.text) (is ∙ c.in-Some-one_line.ensures ∙ sym v)
+    value_chars raw new c.utf8.raw (IsUtf8-string_bytes c.push_text.new.text) (is ∙ c.in-Some-one_line.ensures.line ∙ sym v)
 
 pub returns-in_err-value-clause-empty : goal.returns-in_err-value-clause-empty
 returns-in_err-value-clause-empty c = λ empty.
@@ -73,5 +73,5 @@ pub returns-in_err-push_text-clause-empty : goal.returns-in_err-push_text-clause
 returns-in_err-push_text-clause-empty c = λ empty.
     absurd (some_value c.args.raw.now c.as_bytes.result.now c.in-Some.first c.as_bytes.ensures.value c.in-Some.ensures (no_bytes c.args.raw.now c.utf8.raw empty))
 
-pub push_lines-requires : goal.push_lines-requires
-push_lines-requires c = λ is. subst (λ (x : List ℕ). IsPlainBetween x 0 (length x)) c.as_bytes-4.ensures.value (c.is_plain-is_plain.ensures is)
+pub push_lines-requires-clause-plain : goal.push_lines-requires-clause-plain
+push_lines-requires-clause-plain c = λ is. subst (λ (x : List ℕ). IsPlainBetween x 0 (length x)) c.as_bytes-4.ensures.value (c.is_plain-is_plain.ensures is)

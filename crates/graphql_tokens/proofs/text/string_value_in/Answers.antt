@@ -1,14 +1,20 @@
-use Rattle.std.proofs.Common.{◌≡◌, ◌<◌, ◌+◌, ◌-◌, ◌++◌, [], None, take, drop, length, sym, ap, ◌∙◌, refl, arith}
+use Rattle.std.proofs.Common.{◌≡◌, ◌≤◌, ◌<◌, ◌+◌, ◌-◌, ◌++◌, ◌∷◌, ℕ, List, [], Some, None, take, drop, length, length-append, length-drop, length-take, sym, ap, ◌∙◌, refl, inl, inr, arith}
 use Rattle.std.specs.Str.{chars}
-use Rattle.std.specs.Prelude.{string_bytes}
+use Rattle.std.specs.Prelude.{string_bytes, encode_utf8}
 use Rattle.std.proofs.lemmas.List.{take_all, take_rest}
 use Rattle.std.proofs.lemmas.Str.{IsUtf8-string_bytes, IsUtf8-nil, IsCharBoundary-start}
 use Rattle.graphql_tokens.specs.tokens.Edition.{Current}
 use Rattle.graphql_tokens.specs.tokens.Strings.{StringMeans}
 use Rattle.graphql_tokens.specs.calls.Escapes.{escape_at}
-use Rattle.graphql_tokens.proofs.Contents.{past_run, past_push, no_content, means_once, all_plain, nothing, escape_some}
+use Rattle.graphql_tokens.proofs.Contents.{past_run, past_push, no_content, means_once, all_plain, nothing, escape_some, escape_wide}
 use Rattle.graphql_tokens.proofs.Meanings.{means_content}
 use Rattle.graphql_tokens.proofs.text.string_value_in.Goals as goal
+
+-- the character of an escape has no more bytes than the escape
+char_fits : (c n : ℕ) (text : List ℕ) → Some (c, n) ≡ escape_at text → length (encode_utf8 c) ≤ 4 → (c < 128 → encode_utf8 c ≡ c ∷ []) → length (encode_utf8 c) ≤ n
+char_fits c n text e few ascii =
+    let some = escape_some text c n (sym e) in
+    elim (escape_wide text c n (sym e)) [ inl low ↦ omega (arith, ap length (ascii low), some.0) | inr wide ↦ omega (arith, few, wide) ]
 
 -- ---- a content without escapes
 
@@ -41,7 +47,20 @@ loop-at-init c =
     let run : c.range.result.now ≡ take (n - 0) (drop 0 bs) = c.range.ensures.value ∙ ap (λ x. take (n - 0) (drop 0 x)) (sym c.as_bytes-bytes.ensures.value) in
     let p = past_run bs [] c.range.result.now 0 n u IsUtf8-nil (IsCharBoundary-start bs u) nothing c.past_plain-at.ensures.value run in
     let is : string_bytes c.push_text.new.text ≡ c.range.result.now = c.in_ok-push_text.ensures.text ∙ ap (λ x. x ++ c.range.result.now) c.in_ok-value.ensures.text in
-    record { means = rw is p.means; boundary = p.boundary; stops = p.stops }
+    let long : length c.range.result.now ≤ n = omega (arith, ap length run, length-take (n - 0) (drop 0 bs)) in
+    let same = ap length c.as_bytes-bytes.ensures.value in
+    let within = c.past_plain-at.ensures.within in
+    let empty = ap length c.in_ok-value.ensures.text in
+    let free = c.push_text.ensures.room (omega (arith, long, same, within, empty, c.in_ok-value.ensures.room)) in
+    record {
+      means = rw is p.means;
+      boundary = p.boundary;
+      fits = rw is long;
+      within = within;
+      room = omega (arith, same, c.in_ok-value.ensures.room, c.push_text.ensures.capacity);
+      takes = rw free c.text_with_room.ensures.takes;
+      stops = p.stops;
+    }
 
 -- ---- no escape
 
@@ -98,7 +117,54 @@ loop-at-preserved c =
     let run : c.range-in-loop-at.result.now ≡ take (j - i) (drop i bs) = c.range-in-loop-at.ensures.value ∙ ap (λ x. take (j - i) (drop i x)) (sym c.as_bytes-bytes.ensures.value) in
     let p = past_run bs (string_bytes c.push_char.new.text) c.range-in-loop-at.result.now i j c.as_bytes-bytes.ensures.utf8 (IsUtf8-string_bytes c.push_char.new.text)
     e.boundary e.means c.past_plain-at-in-loop-at.ensures.value run in
-    record { means = rw c.in_ok-push_text-2.ensures.text p.means; boundary = p.boundary; stops = p.stops }
+    let inv = c.loop-at.invariant in
+    let ch = char_fits c.in-Some.c c.in-Some.len _ c.in-Some.ensures c.push_char.ensures.few c.push_char.ensures.ascii in
+    let value = ap length c.in_ok-push_char.ensures.text ∙ length-append (string_bytes c.loop-at.value) (encode_utf8 c.in-Some.c) in
+    let long : length c.range-in-loop-at.result.now ≤ j - i = omega (arith, ap length run, length-take (j - i) (drop i bs)) in
+    let within = c.past_plain-at-in-loop-at.ensures.within in
+    let from : i ≤ j = omega (arith, c.past_plain-at-in-loop-at.ensures.value) in
+    let kept = c.push_char.ensures.room (omega (arith, ch, inv.fits, inv.room, from, within)) in
+    let free = c.push_text-in-loop-at.ensures.room (omega (arith, ch, value, long, inv.fits, inv.room, from, within, c.push_char.ensures.capacity)) in
+    record {
+      means = rw c.in_ok-push_text-2.ensures.text p.means;
+      boundary = p.boundary;
+      fits = rw (ap length c.in_ok-push_text-2.ensures.text, length-append (string_bytes c.push_char.new.text) c.range-in-loop-at.result.now) (omega (arith, ch, value, long, inv.fits, from));
+      within = within;
+      room = omega (arith, inv.room, c.push_char.ensures.capacity, c.push_text-in-loop-at.ensures.capacity);
+      takes = rw (free, kept) inv.takes;
+      stops = p.stops;
+    }
+
+-- ---- what is taken
+
+pub returns-in_default-clause-takes : goal.returns-in_default-clause-takes
+returns-in_default-clause-takes c = c.loop-at.invariant.takes
+
+pub returns-clause-takes : goal.returns-clause-takes
+returns-clause-takes c = c.loop-at.invariant.takes
+
+pub returns-in_err-push_char-clause-takes : goal.returns-in_err-push_char-clause-takes
+returns-in_err-push_char-clause-takes c =
+    let inv = c.loop-at.invariant in
+    let ch = char_fits c.in-Some.c c.in-Some.len _ c.in-Some.ensures c.push_char.ensures.few c.push_char.ensures.ascii in
+    let some = escape_some _ c.in-Some.c c.in-Some.len (sym c.in-Some.ensures) in
+    rw (c.push_char.ensures.room (omega (arith, ch, inv.fits, inv.room, inv.within, some.1, length-drop c.loop-at.at c.as_bytes-bytes.result.now))) inv.takes
+
+pub returns-in_err-push_text-2-clause-takes : goal.returns-in_err-push_text-2-clause-takes
+returns-in_err-push_text-2-clause-takes c =
+    let bs = c.as_bytes-bytes.result.now in
+    let i = c.loop-at.at + c.in-Some.len in
+    let j = c.past_plain-at-in-loop-at.result in
+    let run : c.range-in-loop-at.result.now ≡ take (j - i) (drop i bs) = c.range-in-loop-at.ensures.value ∙ ap (λ x. take (j - i) (drop i x)) (sym c.as_bytes-bytes.ensures.value) in
+    let inv = c.loop-at.invariant in
+    let ch = char_fits c.in-Some.c c.in-Some.len _ c.in-Some.ensures c.push_char.ensures.few c.push_char.ensures.ascii in
+    let value = ap length c.in_ok-push_char.ensures.text ∙ length-append (string_bytes c.loop-at.value) (encode_utf8 c.in-Some.c) in
+    let long : length c.range-in-loop-at.result.now ≤ j - i = omega (arith, ap length run, length-take (j - i) (drop i bs)) in
+    let within = c.past_plain-at-in-loop-at.ensures.within in
+    let from : i ≤ j = omega (arith, c.past_plain-at-in-loop-at.ensures.value) in
+    let kept = c.push_char.ensures.room (omega (arith, ch, inv.fits, inv.room, from, within)) in
+    let free = c.push_text-in-loop-at.ensures.room (omega (arith, ch, value, long, inv.fits, inv.room, from, within, c.push_char.ensures.capacity)) in
+    rw (free, kept) inv.takes
 
 -- ---- the end
 

@@ -2,6 +2,6 @@ use Rattle.std.proofs.Common.{rules}
 use Rattle.graphql_reading.specs.reading.Outcome.{opt_at}
 use Rattle.graphql_check.proofs.schemas.members.check_maybe_implements.Goals as goal
 
-pub returns-in_err-check_separated : goal.returns-in_err-check_separated
+pub returns-in_err-check_separated-clause-checks : goal.returns-in_err-check_separated-clause-checks
 unfolding opt_at
-returns-in_err-check_separated c = search rules
+returns-in_err-check_separated-clause-checks c = search rules

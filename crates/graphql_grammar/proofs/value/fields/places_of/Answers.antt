@@ -1,7 +1,8 @@
-use Rattle.std.proofs.Common.{◌+◌, ℕ, List, Some, cond, is_some, is_eq, length, Option, if◌then◌else◌, Bor, BTreeMap, refl, sym, ap, ◌∙◌, subst}
+use Rattle.std.proofs.Common.{arith, ◌+◌, ◌*◌, ℕ, List, Some, cond, is_some, is_eq, length, Option, if◌then◌else◌, Bor, BTreeMap, refl, sym, ap, ◌∙◌, subst}
 use Rattle.std.specs.Cmp.Lexicographic.{slice_cmp}
 use Rattle.std.specs.Option.{option_copied}
 use Rattle.std.specs.Ordering.{nat_cmp}
+use Rattle.graphql_memory.specs.Memory.{Takes}
 use Rattle.graphql_reading.specs.reading.Ahead.{Stays}
 use Rattle.graphql_reading.proofs.Loops.{still}
 use Rattle.graphql_grammar.specs.reading.Fields.{found_at}
@@ -36,4 +37,11 @@ loop-name-preserved g c =
       | in-Some w ↦ rw w.parser-is c.loop-name.invariant.4
       | in-None+in_ok-insert_ordered-in-None w ↦ rw w.parser-is (still c.args.parser.now c.loop-name.parser w.insert_ordered.new.self c.loop-name.invariant.4 w.insert_ordered.ensures.stays)
     ] in
-    (now.0, now.1, now.2, refl, still c.args.parser.now c.match-get.parser c.push.new.self asked c.push.ensures.stays)
+    let free = c.push.ensures.room (omega (arith, c.loop-name.invariant.5, c.loop-name.invariant.6, c.loop-name-test.true)) in
+    let taken : Takes (8 * length fields + 32 * (i + 1)) c.args.parser.now.memory c.match-get.parser.memory = elim c.match-get.branch [
+      | in-Some w ↦ rw w.parser-is (omega (arith, c.loop-name.invariant.7), c.loop-name.invariant.7.1)
+      | in-None+in_ok-insert_ordered-in-None w ↦
+          let inserted : Takes 32 c.loop-name.parser.memory w.insert_ordered.new.self.memory = w.insert_ordered.ensures.takes in
+          rw w.parser-is (omega (arith, c.loop-name.invariant.7, inserted), omega (arith, c.loop-name.invariant.7, inserted))
+    ] in
+    (now.0, now.1, now.2, refl, still c.args.parser.now c.match-get.parser c.push.new.self asked c.push.ensures.stays, omega (arith, c.in_ok-push.ensures.len, c.loop-name.invariant.5), free.1 ∙ c.loop-name.invariant.6, rw free.0 taken)

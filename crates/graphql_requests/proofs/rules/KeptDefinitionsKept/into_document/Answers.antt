@@ -1,6 +1,8 @@
-use Rattle.std.proofs.Common.{rules, ◌≡◌, Bool, IsTrue, false, List, [], ◌∷◌, length, ap, sym, ◌∙◌, ◌++◌, subst, append_assoc, inr}
+use Rattle.std.proofs.Common.{rules, arith, length-append, ◌≡◌, Bool, IsTrue, false, List, [], ◌∷◌, length, ap, sym, ◌∙◌, ◌++◌, subst, append_assoc, inr}
 use Rattle.std.proofs.lemmas.List.{append-nil, nil_from_length}
 use Rattle.std.proofs.lemmas.Result.{err_from_is_err_and}
+use Rattle.graphql_memory.specs.Memory.{Takes}
+use Rattle.graphql_requests.specs.reading.SelectionFunds.{definition_bytes}
 use Rattle.graphql_requests.specs.reading.Definitions.{definition_tree}
 use Rattle.graphql_requests.specs.reading.Sorting.{definition_trees, IsSorted, IsAdded}
 use Rattle.graphql_requests.proofs.OneMore.{map-last}
@@ -11,7 +13,7 @@ use Rattle.graphql_requests.proofs.rules.KeptDefinitionsKept.into_document.Goals
 use Rattle.graphql_requests.proofs.rules.KeptDefinitionsKept.into_document.Goals.{After-branch-added, in-Operation+in-Some-name, in-Operation+in-None-name, in-Fragment, in-Some-anonymous, in-None-2}
 
 pub loop-definition-init : goal.loop-definition-init
-loop-definition-init c = (tt, tt, search rules, sorted-none _ c.none_of-sorted.ensures.anonymous c.none_of-sorted.ensures.operations c.none_of-sorted.ensures.fragments)
+loop-definition-init c = (tt, tt, search rules, sorted-none _ c.none_of-sorted.ensures.anonymous c.none_of-sorted.ensures.operations c.none_of-sorted.ensures.fragments, (omega arith, omega arith))
 
 -- a definition is added by what it is
 added : (c : After-branch-added) → IsAdded (definition_trees c.loop-definition.yielded) (definition_tree c.in-Some.definition) c.match-definition.added c.match-definition.sorted
@@ -19,14 +21,21 @@ added c =
     let kept = c.loop-definition.invariant.3 in
     elim c.match-definition.branch [ in-Operation+in-Some-name w ↦ rw (w.added-is, w.sorted-is, w.in-Operation.is, w.in-Some-name.is) (w.add_operation.ensures.added _ kept) | in-Operation+in-None-name w ↦ rw (w.added-is, w.sorted-is, w.in-Operation.is, w.in-None-name.is) (w.add_anonymous.ensures.added _ kept) | in-Fragment w ↦ rw (w.added-is, w.sorted-is, w.in-Fragment.is) (w.add_fragment-added.ensures.added _ kept) ]
 
+-- what it takes
+asked : (c : After-branch-added) → Takes definition_bytes c.loop-definition.memory c.match-definition.memory
+asked c = elim c.match-definition.branch [ in-Operation+in-Some-name w ↦ rw w.memory-is w.add_operation.ensures.takes | in-Operation+in-None-name w ↦ rw w.memory-is (omega arith, omega arith) | in-Fragment w ↦ rw w.memory-is w.add_fragment-added.ensures.takes ]
+
 pub loop-definition-preserved : goal.loop-definition-preserved
 loop-definition-preserved c =
     let kept = c.loop-definition.invariant in
-    let front = c.loop-definition.yielded in (
+    let front = c.loop-definition.yielded in
+    let longer = length-append front (c.in-Some.definition ∷ []) in
+    let more = asked (goal.at.loop-definition-preserved c).After-branch-added in (
       tt,
       tt,
       kept.2 ∙ ap (λ l. front ++ l) c.in-Some.ensures.steps.0 ∙ sym (append_assoc front (c.in-Some.definition ∷ []) _),
       subst (λ ds. IsSorted ds c.match-definition.sorted) (sym (map-last definition_tree front c.in-Some.definition)) (rw c.in_ok-added.was at (added (goal.at.loop-definition-preserved c).After-branch-added)),
+      (omega (arith, longer, kept.4, more), omega (arith, kept.4, more)),
     )
 
 pub returns-in_err-added-clause-document : goal.returns-in_err-added-clause-document

@@ -6,8 +6,8 @@ use Rattle.graphql_tokens.proofs.BlockOneLine.{is_unquoted, one-line}
 use Rattle.graphql_tokens.proofs.text.block.one_line.Goals as goal
 use Rattle.graphql_tokens.proofs.text.block.one_line.Goals.{then-loses_indent, else-loses_indent}
 
-pub returns : goal.returns
-returns c =
+pub returns-clause-line : goal.returns-clause-line
+returns-clause-line c =
     let bytes : List ℕ = c.as_bytes-bytes.result.now in
     let blanks : ℕ = c.past_blanks-blanks.result in
     let n : ℕ = c.if-loses_indent.dedented in
@@ -21,4 +21,4 @@ returns c =
       | else-loses_indent w ↦ w.dedented-is ∙ ap (λ b. cond b blanks 0) (sym w.if-loses_indent.false)
     ] in
     subst (λ (x : List ℕ). IsOneLine loses x c.dedented.result.now) c.as_bytes-bytes.ensures.value
-    (one-line loses bytes c.dedented.result.now blanks n all is some cut (c.dedented.ensures ∙ ap (trimmed n) (sym c.as_bytes-bytes.ensures.value)))
+    (one-line loses bytes c.dedented.result.now blanks n all is some cut (c.dedented.ensures.trimmed ∙ ap (trimmed n) (sym c.as_bytes-bytes.ensures.value)))

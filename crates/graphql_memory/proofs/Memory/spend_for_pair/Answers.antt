@@ -1,0 +1,5 @@
+use Rattle.std.proofs.Common.{arith, inr}
+use Rattle.graphql_memory.proofs.Memory.spend_for_pair.Goals as goal
+
+pub returns-in-None-clause-denied : goal.returns-in-None-clause-denied
+returns-in-None-clause-denied g c = inr (omega arith, inr (grind (arith, c.in-None.ensures), omega arith))
