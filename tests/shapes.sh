@@ -5,6 +5,10 @@
 #   tests/shapes.sh                has crates/bench read each shape with 100,000 and with 200,000 parts, and prints a
 #                                  line for each: the shape, both times in milliseconds, and the second over the first
 #
+#   tests/shapes.sh memory         has it read each shape with 100,000 parts, and prints a line for each: the shape, how
+#                                  many bytes a parse takes of a budget for each byte of the text, and how many a check
+#                                  takes in all
+#
 # The program has to be built: `rt run` in crates/bench does that.
 set -eu
 bench=$(dirname -- "$(readlink -f -- "$0")")/../crates/bench/out/bench
@@ -75,6 +79,22 @@ fastest() {
         END { if (!least) exit 1; print least }'
 }
 
+# The bytes that a call takes for the text of a line.
+taken() {
+    text "$1" 100000 | "$bench" "$2" memory | awk '{ print $2 }'
+}
+
+if [ "$*" = memory ]; then
+    shapes | while IFS= read -r line; do
+        reader=${line#*;}
+        reader=${reader%%;*}
+        check=check
+        [ "$reader" = query ] || check=check-schema
+        awk -v name="${line%%;*}" -v bytes="$(text "$line" 100000 | wc -c)" -v parse="$(taken "$line" "$reader")" \
+            -v check="$(taken "$line" "$check")" 'BEGIN { printf "| %s | %.0f | %d |\n", name, parse / bytes, check }'
+    done
+    exit 0
+fi
 if [ $# -eq 2 ]; then
     line=$(shapes | grep -F -- "$1;" | head -n 1)
     text "$line" "$2"

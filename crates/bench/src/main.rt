@@ -2,11 +2,15 @@
 //! again and again, and prints a line for each round: `lex NANOSECONDS COUNT`, the count being that of
 //! the tokens. `bench query` reads it as a request, and `bench schema` as a schema file; they drop the tree, and
 //! print `parse NANOSECONDS ANSWER` for each round, the answer being `accepted` or `refused`. `bench check` and
-//! `bench check-schema` make no tree, and print the same.
+//! `bench check-schema` make no tree, and print the same. With `memory` after one of these four it is read once, and
+//! `memory BYTES ANSWER` is printed, the bytes being those that it takes of a budget.
 #![tactic(auto)]
 
 use graphql_parser::lexer::{Token, Tokens};
-use graphql_parser::{check_query, check_schema, parse_query, parse_schema};
+use graphql_parser::{
+    Limits, Memory, check_query, check_query_within, check_schema, check_schema_within,
+    parse_query, parse_query_within, parse_schema, parse_schema_within,
+};
 use std::alloc::Global;
 use std::time::Instant;
 use std::{env, io};
@@ -15,19 +19,26 @@ use std::{env, io};
 // rounds find the machine cold.
 const BYTES: usize = 10_000_000;
 
-const USAGE: &str = "usage: bench tokens|query|check|schema|check-schema < TEXT";
+const USAGE: &str =
+    "usage: bench tokens < TEXT, or bench query|check|schema|check-schema [memory] < TEXT";
 
 fn main(rt: HostRuntime) -> io::Result<()> {
     let mut words = env::args(&rt)?;
     words.next();
     let mode = words.next();
-    match mode.as_ref().map(|word| word.as_str()) {
-        Some("tokens") => time_tokens(&rt),
-        Some("query") => time_parser(&rt, Parser::Query),
-        Some("check") => time_parser(&rt, Parser::Check),
-        Some("schema") => time_parser(&rt, Parser::Schema),
-        Some("check-schema") => time_parser(&rt, Parser::CheckSchema),
-        _ => println!(rt; "{USAGE}"),
+    let measured = words.next();
+    let parser = match mode.as_ref().map(|word| word.as_str()) {
+        Some("tokens") => return time_tokens(&rt),
+        Some("query") => Parser::Query,
+        Some("check") => Parser::Check,
+        Some("schema") => Parser::Schema,
+        Some("check-schema") => Parser::CheckSchema,
+        _ => return println!(rt; "{USAGE}"),
+    };
+    match measured.as_ref().map(|word| word.as_str()) {
+        None => time_parser(&rt, parser),
+        Some("memory") => count_memory(&rt, parser),
+        Some(_) => println!(rt; "{USAGE}"),
     }
 }
 
@@ -69,6 +80,30 @@ impl Parser {
             Parser::CheckSchema => check_schema(alloc, text).is_ok(),
         }
     }
+
+    // The same, within a budget.
+    fn accepts_within(self, memory: &mut Memory, text: &str) -> bool {
+        let limits = Limits::default();
+        match self {
+            Parser::Query => parse_query_within(memory, text, limits).is_ok(),
+            Parser::Check => check_query_within(memory, text, limits).is_ok(),
+            Parser::Schema => parse_schema_within(memory, text, limits).is_ok(),
+            Parser::CheckSchema => check_schema_within(memory, text, limits).is_ok(),
+        }
+    }
+}
+
+fn told(is_accepted: bool) -> &'static str {
+    if is_accepted { "accepted" } else { "refused" }
+}
+
+fn count_memory(rt: &HostRuntime, parser: Parser) -> io::Result<()> {
+    let text = io::read_to_string(rt.alloc(), rt.stdin())?;
+    let mut memory = Memory::new(rt.alloc());
+    let before = memory.left();
+    let answer = told(parser.accepts_within(&mut memory, text.as_str()));
+    let taken = before.wrapping_sub(memory.left());
+    println!(rt; "memory {taken} {answer}")
 }
 
 fn time_parser(rt: &HostRuntime, parser: Parser) -> io::Result<()> {
@@ -77,7 +112,7 @@ fn time_parser(rt: &HostRuntime, parser: Parser) -> io::Result<()> {
         let start = Instant::now(rt)?;
         let is_accepted = parser.accepts(rt.alloc(), text.as_str());
         let time = start.elapsed(rt)?.as_nanos();
-        let answer = if is_accepted { "accepted" } else { "refused" };
+        let answer = told(is_accepted);
         println!(rt; "parse {time} {answer}")?;
     }
     Ok(())
