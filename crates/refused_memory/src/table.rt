@@ -410,7 +410,7 @@ schema{query:Q}␊extend type Q@k␊directive @d on FIELD ⇒ file (schema 1:1 q
 
 const SCHEMA_LIMITED: &str = r"
 type A{a:[B]} ⇒ file (type 1:1 A@1:6 (field 1:8 a@1:8 [B]@1:10))
-type A{a:[[B]]} ⇒ recursion limit exceeded.
+type A{a:B b:[[B]]} ⇒ recursion limit exceeded.
 ";
 
 const SCHEMA_FROM: &str = r"
