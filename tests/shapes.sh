@@ -79,19 +79,22 @@ fastest() {
         END { if (!least) exit 1; print least }'
 }
 
-# The bytes that a call takes for the text of a line.
+# The bytes that a call takes for the text in a file.
 taken() {
-    text "$1" 100000 | "$bench" "$2" memory | awk '{ print $2 }'
+    "$bench" "$1" memory <"$2" | awk '{ print $2 }'
 }
 
 if [ "$*" = memory ]; then
+    made=$(mktemp)
+    trap 'rm -f "$made"' EXIT
     shapes | while IFS= read -r line; do
         reader=${line#*;}
         reader=${reader%%;*}
         check=check
         [ "$reader" = query ] || check=check-schema
-        awk -v name="${line%%;*}" -v bytes="$(text "$line" 100000 | wc -c)" -v parse="$(taken "$line" "$reader")" \
-            -v check="$(taken "$line" "$check")" 'BEGIN { printf "| %s | %.0f | %d |\n", name, parse / bytes, check }'
+        text "$line" 100000 >"$made"
+        awk -v name="${line%%;*}" -v bytes="$(wc -c <"$made")" -v parse="$(taken "$reader" "$made")" \
+            -v check="$(taken "$check" "$made")" 'BEGIN { printf "| %s | %.0f | %d |\n", name, parse / bytes, check }'
     done
     exit 0
 fi
