@@ -10,3 +10,10 @@ pub mod Copies
 pub mod Words
 pub mod Runs
 pub mod Sheets
+pub mod ReadBack
+pub mod PlaceOrder
+pub mod TokenPlaces
+pub mod PhrasePlaces
+pub mod Definitions
+pub mod RequestOrder
+pub mod FileOrder

@@ -4,3 +4,4 @@ pub mod Values
 pub mod Requests
 pub mod Schemas
 pub mod Errors
+pub mod SourceOrder

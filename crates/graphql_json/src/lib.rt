@@ -14,7 +14,9 @@
 //! - an object has each field once, with the value that stands last.
 //!
 //! Proved of it, on every tree and every error, also those that no text has: what a call gives is the text of the one JSON
-//! value that `specs/nodes` defines for the tree or the error, member by member; or it tells that memory ran out.
+//! value that `specs/nodes` defines for the tree or the error, member by member, and reads back as that value; or it tells
+//! that memory ran out. The JSON of a text's tree is in source order, unless a carriage return without a line feed stands
+//! in the text.
 #![tactic(auto)]
 
 ghost use Rattle.std.specs.Prelude.{◌≡◌, IfOk};
@@ -23,9 +25,10 @@ ghost use Rattle.graphql_parser.specs.errors.Errors.{error_text, error_places};
 ghost use Rattle.graphql_parser.specs.trees.RequestViews.{document_tree};
 ghost use Rattle.graphql_parser.specs.trees.SchemaViews.{schema_document_tree};
 ghost use Rattle.graphql_json.specs.nodes.Errors.{error_value};
-ghost use Rattle.graphql_json.specs.nodes.Nodes.{json_text, no_place};
+ghost use Rattle.graphql_json.specs.nodes.Nodes.{json_text, no_place, ReadsBack};
 ghost use Rattle.graphql_json.specs.nodes.Requests.{request_value};
 ghost use Rattle.graphql_json.specs.nodes.Schemas.{schema_value};
+ghost use Rattle.graphql_json.specs.nodes.SourceOrder.{IsInSourceOrder, IsFileInSourceOrder};
 
 mod buffer;
 mod error;
@@ -60,6 +63,10 @@ pub fn request_json(
     ensures text { IfOk result (λ json. json.items ≡
         json_text (request_value places (document_tree document.now))) }
     ensures utf8 { IfOk result (λ json. IsUtf8 json.items) }
+    ensures reads_back { IfOk result (λ json.
+        ReadsBack json.items (request_value places (document_tree document.now))) }
+    ensures source_order { IfOk result (λ json.
+        IsInSourceOrder places document.now json.items) }
 {
     tree_json(alloc, document, places)
 }
@@ -78,6 +85,10 @@ pub fn schema_json(
     ensures text { IfOk result (λ json. json.items ≡
         json_text (schema_value places (schema_document_tree document.now))) }
     ensures utf8 { IfOk result (λ json. IsUtf8 json.items) }
+    ensures reads_back { IfOk result (λ json.
+        ReadsBack json.items (schema_value places (schema_document_tree document.now))) }
+    ensures source_order { IfOk result (λ json.
+        IsFileInSourceOrder places document.now json.items) }
 {
     tree_json(alloc, document, places)
 }
@@ -87,6 +98,8 @@ fn tree_json<N: Node>(alloc: Global, tree: &N, places: Places) -> Result<Vec<u8>
     ensures text { IfOk result (λ json. json.items ≡
         json_text (N.form.json (no_place places) (N.form.tree tree.now))) }
     ensures utf8 { IfOk result (λ json. IsUtf8 json.items) }
+    ensures reads_back { IfOk result (λ json.
+        ReadsBack json.items (N.form.json (no_place places) (N.form.tree tree.now))) }
 {
     let mut sheet = Sheet::new(alloc);
     tree.write(&mut sheet, Place { places, pos: None })?;
@@ -102,6 +115,8 @@ pub fn error_json(alloc: Global, error: &Error) -> Result<Vec<u8>, AllocError>
     ensures text { IfOk result (λ json. json.items ≡
         json_text (error_value (error_text error.now) (error_places error.now))) }
     ensures utf8 { IfOk result (λ json. IsUtf8 json.items) }
+    ensures reads_back { IfOk result (λ json.
+        ReadsBack json.items (error_value (error_text error.now) (error_places error.now))) }
 {
     let mut sheet = Sheet::new(alloc);
     error::write_error(alloc, &mut sheet, error)?;

@@ -6,6 +6,7 @@ ghost use Rattle.graphql_json.specs.inner.Words.{IsWord};
 ghost use Rattle.graphql_json.specs.inner.Written.{Adds, pos_tokens, opening, member_tokens, optional_tokens};
 ghost use Rattle.graphql_json.specs.nodes.Nodes.{optional, placed_json, placed_list};
 ghost use Rattle.json.specs.Json.{string, boolean, member, no_members};
+ghost use Rattle.json.specs.Lex.{tokens};
 ghost use Rattle.json.specs.Print.{print, token_text};
 ghost use Rattle.json.specs.Token.{begin_object, end_object, begin_array, end_array, key as key_token, string as string_token, number as number_token, boolean as boolean_token};
 ghost use Rattle.json.specs.Tree.{json_tokens, members_tokens};
@@ -70,6 +71,7 @@ impl Sheet {
     /// The whole text.
     pub fn finish(self) -> Vec<u8>
         ensures text { result.items ≡ print self }
+        ensures tokens { tokens result.items ≡ self }
         ensures utf8 { IsUtf8 result.items }
     {
         let Sheet { text, .. } = self;

@@ -1,14 +1,15 @@
 -- What a node is in JSON: an object with its kind first, then its place where that is written, and then its members.
 -- Source: the syntax trees of GraphQL.js, version 16. That a place is the members `line` and `column` is this project's choice.
-use Rattle.std.specs.Prelude.{ℕ, List, [], ◌∷◌, Bool, ◌||◌, ◌&&◌, ◌==◌, nat_lt, Option, Some, None, if◌then◌else◌, codes, decimal}
+use Rattle.std.specs.Prelude.{◌≡◌, ℕ, ◌≤◌, List, [], ◌∷◌, Bool, ◌||◌, ◌&&◌, ◌==◌, nat_lt, Option, Some, None, if◌then◌else◌, codes, decimal}
 use Rattle.graphql_parser.specs.types.Pos.{Pos}
 use Rattle.graphql_parser.specs.types.Positioned.{Positioned}
 use Rattle.graphql_json.specs.declared.place.Place.{Place}
 use Rattle.graphql_json.specs.declared.place.Places.{Places}
 use Rattle.graphql_json.specs.declared.place.Places.TheVariants.{LeftOut, Written}
-use Rattle.json.specs.Json.{Json, number, string, array, object, Items, no_items, item, Members, member}
+use Rattle.json.specs.Json.{Json, number, string, array, object, Items, no_items, item, Members, no_members, member, value, max_depth, document}
+use Rattle.json.specs.Lex.{tokens}
 use Rattle.json.specs.Print.{print}
-use Rattle.json.specs.Tree.{json_tokens}
+use Rattle.json.specs.Tree.{json_tokens, depth}
 
 -- ---- places
 
@@ -61,8 +62,19 @@ placed_json json place part = json (at place part.pos) part.node
 abbrev pub placed_list : {A : Type 0} → (Place → A → Json) → Place → List (Positioned A) → Json
 placed_list json place parts = array (items_of (placed_json json place) parts)
 
+-- a document of these definitions
+abbrev pub document_node : Place → Items → Json
+document_node place definitions = node (codes "Document") place (member (codes "definitions") (array definitions) no_members)
+
 -- ---- texts
 
 -- the text of a value, without blanks
 abbrev pub json_text : Json → List ℕ
 json_text value = print (json_tokens value)
+
+-- Whatever reads this text by the grammar of JSON finds the tokens of the value, and no others; and the value itself,
+-- if it allows lists and objects to nest as deep.
+pub record ReadsBack (text : List ℕ) (json : Json) : Type 0 where
+  pub in_tokens : tokens text ≡ json_tokens json
+  pub in_value : (limit : ℕ) → depth json ≤ limit → value limit (tokens text) ≡ Some (json, [])
+  pub in_document : depth json ≤ max_depth → document text ≡ Some json

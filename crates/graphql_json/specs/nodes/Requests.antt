@@ -8,7 +8,7 @@ use Rattle.graphql_parser.specs.types.Pos.{Pos}
 use Rattle.graphql_parser.specs.types.Positioned.{Positioned}
 use Rattle.graphql_json.specs.declared.place.Place.{Place}
 use Rattle.graphql_json.specs.declared.place.Places.{Places}
-use Rattle.graphql_json.specs.nodes.Nodes.{at, nowhere, no_place, node, optional, items_of, placed_json, placed_list, stands_before}
+use Rattle.graphql_json.specs.nodes.Nodes.{at, nowhere, no_place, node, document_node, optional, items_of, placed_json, placed_list, stands_before}
 use Rattle.graphql_json.specs.nodes.Values.{name_json, arguments_json, directives_json, named_type_json, typed_members}
 use Rattle.json.specs.Json.{Json, string, array, Items, no_items, item, no_members, member}
 
@@ -107,7 +107,7 @@ definitions_json place [] fragments = items_of (fragment_json place) fragments
 definitions_json place (operation ∷ operations) fragments = after_fragments place operation.1.pos (operation_json place operation) (definitions_json place operations) fragments
 
 abbrev pub document_json : Place → Document → Json
-document_json place document = node (codes "Document") place (member (codes "definitions") (array (definitions_json place (operations_of document.operations) document.fragments)) no_members)
+document_json place document = document_node place (definitions_json place (operations_of document.operations) document.fragments)
 
 -- a request, with or without the places of its nodes
 abbrev pub request_value : Places → Document → Json

@@ -11,7 +11,7 @@ use Rattle.graphql_parser.specs.types.OperationType.TheVariants.{Query, Mutation
 use Rattle.graphql_parser.specs.types.Positioned.{Positioned}
 use Rattle.graphql_json.specs.declared.place.Place.{Place}
 use Rattle.graphql_json.specs.declared.place.Places.{Places}
-use Rattle.graphql_json.specs.nodes.Nodes.{nowhere, no_place, node, optional, items_of, placed_json, placed_list, stands_before}
+use Rattle.graphql_json.specs.nodes.Nodes.{nowhere, no_place, node, document_node, optional, items_of, placed_json, placed_list, stands_before}
 use Rattle.graphql_json.specs.nodes.Values.{text_json, name_json, string_json, directives_json, named_type_json, type_json, typed_members}
 use Rattle.json.specs.Json as json
 use Rattle.json.specs.Json.{Json, Members, no_members, member}
@@ -121,12 +121,16 @@ abbrev pub schema_word : Bool → List ℕ
 schema_word false = codes "SchemaDefinition"
 schema_word true = codes "SchemaExtension"
 
-abbrev pub schema_definition_json : Place → SchemaDefinition → Json
-schema_definition_json place definition =
+-- a schema with its roots in this order
+abbrev pub schema_node : Place → SchemaDefinition → List Root → Json
+schema_node place definition roots =
     node (schema_word definition.extend) place
     (optional (codes "description") (placed_json string_json place) definition.description
     (member (codes "directives") (directives_json place definition.directives)
-    (member (codes "operationTypes") (json.array (items_of (root_json place) (roots_of definition))) no_members)))
+    (member (codes "operationTypes") (json.array (items_of (root_json place) roots)) no_members)))
+
+abbrev pub schema_definition_json : Place → SchemaDefinition → Json
+schema_definition_json place definition = schema_node place definition (roots_of definition)
 
 -- ---- directives
 
@@ -150,7 +154,7 @@ definition_json place (type_def definition) = placed_json type_definition_json p
 definition_json place (directive definition) = placed_json directive_definition_json place definition
 
 abbrev pub document_json : Place → Document → Json
-document_json place document = node (codes "Document") place (member (codes "definitions") (json.array (items_of (definition_json place) document)) no_members)
+document_json place document = document_node place (items_of (definition_json place) document)
 
 -- a schema file, with or without the places of its nodes
 abbrev pub schema_value : Places → Document → Json
