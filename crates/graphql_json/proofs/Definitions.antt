@@ -4,12 +4,12 @@ use Rattle.graphql_grammar.proofs.Breaches.{none-first, none-second}
 use Rattle.graphql_parser.specs.answers.Answers.{AreUnbroken}
 use Rattle.graphql_parser.specs.answers.Breaches.{or_else}
 use Rattle.graphql_parser.specs.answers.Language.{Language}
-use Rattle.graphql_parser.specs.requests.Documents.{named_operations, operations_beside, document_of}
+use Rattle.graphql_parser.specs.requests.Documents.{named_operations, document_of}
 use Rattle.graphql_parser.specs.requests.Request.{Definition, operation, fragment}
 use Rattle.graphql_parser.specs.requests.Requests.{requests}
 use Rattle.graphql_parser.specs.requests.Rules.{first_operation, first_anonymous}
 use Rattle.graphql_parser.specs.trees.Request.{OperationDefinition, operations_of}
-use Rattle.graphql_parser.specs.types.Error.TheVariants.{MultipleOperations, OperationDuplicated}
+use Rattle.graphql_parser.specs.types.Error.TheVariants.{MultipleOperations}
 use Rattle.graphql_parser.specs.types.Pos.{Pos}
 use Rattle.graphql_parser.specs.types.Positioned.{Positioned}
 use Rattle.graphql_json.specs.nodes.Requests.{Operation}

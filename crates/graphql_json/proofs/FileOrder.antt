@@ -1,11 +1,9 @@
 -- The JSON of a schema file is in source order, where the places of the roots of each schema grow.
-use Rattle.std.proofs.Common.{◌≡◌, ℕ, ◌⊎◌, inl, inr, Bool, true, false, cond, ◌||◌, Option, Some, None, option_map, is_some, List, [], ◌∷◌, ◌++◌, map, chars, refl, sym, ap, ap₂, ◌∙◌, subst, if◌then◌else◌}
+use Rattle.std.proofs.Common.{◌≡◌, ℕ, Bool, true, false, cond, ◌||◌, Option, Some, None, option_map, is_some, List, [], ◌∷◌, ◌++◌, map, refl, sym, ap, ap₂, ◌∙◌, subst, if◌then◌else◌}
 use Rattle.std.specs.List.{AllByRecursion}
 use Rattle.graphql_parser.specs.answers.Answers.{IsDocument}
-use Rattle.graphql_parser.specs.answers.Breaches.{or_else}
-use Rattle.graphql_parser.specs.answers.Language.{grammar}
 use Rattle.graphql_parser.specs.notation.Limits.{Limits}
-use Rattle.graphql_parser.specs.notation.Relations.{Rel, opt, given, between_of, plus}
+use Rattle.graphql_parser.specs.notation.Relations.{opt, given, between_of}
 use Rattle.graphql_parser.specs.notation.Tests.{any_name}
 use Rattle.graphql_parser.specs.schemas.Documents.{root_name, schema_tree_of, tree_of, document_of}
 use Rattle.graphql_parser.specs.schemas.Rules.{same_kind, first_of_kind, first_repeated, breach_of, repeats_a_root, lacks_a_query}
@@ -15,7 +13,7 @@ use Rattle.graphql_parser.specs.schemas.Schemas.{schemas}
 use Rattle.graphql_parser.specs.schemas.Types.{parts_of, list_alone, some_parts}
 use Rattle.graphql_parser.specs.tokens.Edition.{Edition, Current}
 use Rattle.graphql_parser.specs.tokens.Token.{Token}
-use Rattle.graphql_parser.specs.trees.Parts.{Name, Directives, placed}
+use Rattle.graphql_parser.specs.trees.Parts.{Name}
 use Rattle.graphql_parser.specs.trees.SchemaViews.{schema_document_tree}
 use Rattle.graphql_parser.specs.types.OperationType.{OperationType}
 use Rattle.graphql_parser.specs.types.OperationType.TheVariants.{Query, Mutation, Subscription}
@@ -28,7 +26,7 @@ use Rattle.graphql_json.specs.nodes.Nodes.{no_place, at, document_node, items_of
 use Rattle.graphql_json.specs.nodes.Schemas.{Root as JsonRoot, put_root, with_root, roots_of, schema_node, definition_json, schema_value}
 use Rattle.graphql_json.specs.nodes.SourceOrder.{AreGrowing, AreOfText, IsFileInSourceOrder, root_places, root_of, file_definition_in_order, file_in_order}
 use Rattle.graphql_json.proofs.Definitions.{AreKept, kept}
-use Rattle.graphql_json.proofs.PhrasePlaces.{Picks, EachPicks, ArePicked, picks_one, picks_mapped, picks_either, picks_first, picks_second, picks_plus, each_plus, picked_grow}
+use Rattle.graphql_json.proofs.PhrasePlaces.{Picks, EachPicks, picks_one, picks_mapped, picks_either, picks_first, picks_second, picks_plus, each_plus, picked_grow}
 use Rattle.graphql_json.proofs.PlaceOrder.{AllAfter, Grow, grow, first_grow, not_after, places_of}
 use Rattle.graphql_json.proofs.TokenPlaces.{places_grow}
 use Rattle.graphql_grammar.proofs.Breaches.{none-first}

@@ -1,10 +1,10 @@
 -- The places that the trees of phrases keep are some of those of their tokens, in the same order.
-use Rattle.std.proofs.Common.{◌≡◌, ◌⊎◌, inl, inr, true, Option, Some, None, List, [], ◌∷◌, ◌++◌, map, refl, sym, ap, ◌∙◌, subst, append-nil}
+use Rattle.std.proofs.Common.{◌≡◌, ◌⊎◌, inl, inr, true, List, [], ◌∷◌, ◌++◌, map, refl, sym, ap, ◌∙◌, subst, append-nil}
 use Rattle.std.specs.List.{AllByRecursion}
 use Rattle.std.proofs.lemmas.List.{map-append}
 use Rattle.graphql_tokens.specs.declared.pos.Pos.{Pos}
 use Rattle.graphql_tokens.specs.tokens.Token.{Token}
-use Rattle.graphql_parser.specs.notation.Relations.{Rel, one, ◌⨾◌, ◌∪◌, mapped, opt, star, cons, plus, between}
+use Rattle.graphql_parser.specs.notation.Relations.{Rel, one, ◌⨾◌, ◌∪◌, mapped, star, cons, plus}
 use Rattle.graphql_parser.specs.notation.Tests.{Test}
 use Rattle.graphql_json.specs.nodes.Nodes.{stands_before}
 use Rattle.graphql_json.proofs.PlaceOrder.{AllAfter, Grow, places_of}

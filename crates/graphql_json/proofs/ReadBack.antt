@@ -1,5 +1,5 @@
 -- What reads the text of a value finds the value again.
-use Rattle.std.proofs.Common.{◌≡◌, ℕ, ◌≤◌, List, [], ◌++◌, Some, option_and_then, sym, ap, ◌∙◌, append-nil}
+use Rattle.std.proofs.Common.{◌≡◌, ℕ, ◌≤◌, List, [], option_and_then, sym, ap, ◌∙◌, append-nil}
 use Rattle.graphql_json.specs.nodes.Nodes.{ReadsBack}
 use Rattle.json.specs.Json.{Json, value, if_last, max_depth}
 use Rattle.json.specs.Lex.{tokens}

@@ -1,10 +1,9 @@
 -- The JSON of a request is in source order, where the places of its definitions grow.
-use Rattle.std.proofs.Common.{◌≡◌, ℕ, zero, suc, true, chars, List, [], ◌∷◌, map, refl, sym, ap, ◌∙◌}
+use Rattle.std.proofs.Common.{◌≡◌, ℕ, zero, suc, true, List, [], ◌∷◌, map, refl, ap, ◌∙◌}
 use Rattle.std.specs.List.{AllByRecursion}
 use Rattle.graphql_parser.specs.answers.Answers.{IsDocument}
 use Rattle.graphql_parser.specs.answers.Language.{grammar}
 use Rattle.graphql_parser.specs.grammar.Operations.{kind_of, operation_type}
-use Rattle.graphql_parser.specs.notation.Fronts.{unlimited}
 use Rattle.graphql_parser.specs.notation.Limits.{Limits}
 use Rattle.graphql_parser.specs.notation.Tests.{punct, keyword}
 use Rattle.graphql_parser.specs.requests.Documents.{fragments}
@@ -12,7 +11,6 @@ use Rattle.graphql_parser.specs.requests.Request.{Definition, operation, fragmen
 use Rattle.graphql_parser.specs.requests.Requests.{requests}
 use Rattle.graphql_parser.specs.requests.Selections.{selection_set_of, selection_set}
 use Rattle.graphql_parser.specs.tokens.Edition.{Edition, Current}
-use Rattle.graphql_parser.specs.tokens.Token.{Token}
 use Rattle.graphql_parser.specs.trees.RequestViews.{document_tree}
 use Rattle.graphql_parser.specs.types.ExecutableDocument.{ExecutableDocument}
 use Rattle.graphql_parser.specs.types.OperationType.TheVariants.{Query, Mutation, Subscription}
@@ -24,7 +22,7 @@ use Rattle.graphql_json.specs.nodes.Requests.{Operation, Fragment, operation_jso
 use Rattle.graphql_json.specs.nodes.SourceOrder.{AreOfText, IsInSourceOrder, place_of, definition_in_order, request_in_order}
 use Rattle.graphql_json.proofs.Definitions.{operations_in, all_operations}
 use Rattle.graphql_json.proofs.Fragments.{after_earlier, before_later}
-use Rattle.graphql_json.proofs.PhrasePlaces.{Picks, ArePicked, picks_one, picks_mapped, picks_either, picks_first, picks_plus, picked_grow}
+use Rattle.graphql_json.proofs.PhrasePlaces.{Picks, picks_one, picks_mapped, picks_either, picks_first, picks_plus, picked_grow}
 use Rattle.graphql_json.proofs.PlaceOrder.{AllAfter, Grow, grow, not_after, places_of}
 use Rattle.graphql_json.proofs.TokenPlaces.{places_grow}
 use Rattle.json.specs.Json.{Json, Items, item}

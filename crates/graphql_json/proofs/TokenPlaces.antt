@@ -1,12 +1,11 @@
 -- The places of a text's tokens grow, where a line feed comes after each carriage return.
-use Rattle.std.proofs.Common.{◌≡◌, ◌≢◌, ℕ, ◌+◌, ◌<◌, ◌≤◌, ◌⊎◌, inl, inr, Bool, true, false, cond, eqb, List, [], ◌∷◌, ◌++◌, length, map, chars, refl, sym, ap, ◌∙◌, subst, arith, append_assoc, append-nil}
-use Rattle.std.specs.List.{AllByRecursion, concat}
+use Rattle.std.proofs.Common.{◌≡◌, ◌≢◌, ℕ, ◌+◌, ◌≤◌, ◌⊎◌, inl, inr, Bool, true, false, cond, eqb, List, [], ◌∷◌, ◌++◌, length, chars, refl, sym, ap, ◌∙◌, subst, arith, append_assoc, append-nil}
+use Rattle.std.specs.List.{concat}
 use Rattle.std.proofs.lemmas.Bool.{or_parts, not_from_false, cases_Bool, or_cases, eqb-true}
-use Rattle.std.proofs.lemmas.Bool.Decides.{nat_tests}
 use Rattle.graphql_parser.specs.answers.Language.{Language}
 use Rattle.graphql_tokens.specs.declared.pos.Pos.{Pos}
 use Rattle.graphql_tokens.specs.tokens.Classes.{is_ignored}
-use Rattle.graphql_tokens.specs.tokens.Cuts.{Cuts, TokenStands, EndStands, FaultStands, GoesOn}
+use Rattle.graphql_tokens.specs.tokens.Cuts.{Cuts, TokenStands, GoesOn}
 use Rattle.graphql_tokens.specs.tokens.Edition.{Edition, Current}
 use Rattle.graphql_tokens.specs.tokens.Place.{place_after, is_line_feed, is_line_end, is_in_line}
 use Rattle.graphql_tokens.specs.tokens.Token.{Token}
