@@ -3,3 +3,4 @@ pub mod Bytes
 pub mod Values
 pub mod Requests
 pub mod Schemas
+pub mod OuterPlaces

@@ -73,7 +73,7 @@ impl Buffer {
     }
 
     #[inline(always)]
-    #[tactic(auto, unfolding(crate::specs::packed::Bytes::number_bytes))]
+    #[tactic(auto, using(crate::proofs::Numbers::number_is))]
     pub fn number(&mut self, number: usize) -> Outcome
         ensures { Adds result self.old self.new (number_bytes number) }
     {
@@ -82,7 +82,6 @@ impl Buffer {
     }
 
     #[inline(always)]
-    #[tactic(auto, unfolding(crate::specs::packed::Bytes::number_bytes))]
     pub fn text(&mut self, text: &str) -> Outcome
         ensures { Adds result self.old self.new (text_bytes text.now) }
     {
@@ -98,7 +97,6 @@ impl Buffer {
     // The same where room has to be made.
     #[cold]
     #[inline(never)]
-    #[tactic(auto, unfolding(crate::specs::packed::Bytes::number_bytes))]
     fn text_growing(&mut self, text: &str) -> Outcome
         ensures { Adds result self.old self.new (text_bytes text.now) }
     {

@@ -11,13 +11,18 @@
 //! Nothing else reads it, and it may change with any version.
 //!
 //! Proved of it, on every tree, also those that no text has: what a call gives is the bytes that `specs/packed` defines for
-//! the tree, part by part; or it tells that memory ran out. How they are read is tested, by trees in Rust that are made of
-//! them and held against the JSON of the same texts.
+//! the tree, part by part; or it tells that memory ran out. These bytes determine the tree, except for the outer places of
+//! selections: the bytes of another tree are neither these nor a front of them. How they are read is tested, by trees in
+//! Rust that are made of them and held against the JSON of the same texts.
 #![tactic(auto)]
 
-ghost use Rattle.std.specs.Prelude.{◌≡◌, IfOk};
+ghost use Rattle.std.specs.Prelude.{◌≡◌, [], ◌++◌, IfOk};
+ghost use Rattle.graphql_parser.specs.trees.Request.{Document as RequestTree};
 ghost use Rattle.graphql_parser.specs.trees.RequestViews.{document_tree};
+ghost use Rattle.graphql_parser.specs.trees.Schema.{Document as SchemaTree};
 ghost use Rattle.graphql_parser.specs.trees.SchemaViews.{schema_document_tree};
+ghost use Rattle.graphql_packed.specs.packed.Bytes.{Bytes};
+ghost use Rattle.graphql_packed.specs.packed.OuterPlaces.{without_outer_places};
 ghost use Rattle.graphql_packed.specs.packed.Requests.{request_bytes};
 ghost use Rattle.graphql_packed.specs.packed.Schemas.{schema_bytes};
 
@@ -32,7 +37,12 @@ use std::alloc::{AllocError, Global};
 
 /// The tree of a request as bytes. It fails only where memory runs out.
 pub fn packed_request(alloc: Global, document: &ExecutableDocument) -> Result<Vec<u8>, AllocError>
-    ensures { IfOk result (λ packed. packed.items ≡ request_bytes (document_tree document.now)) }
+    ensures bytes { IfOk result (λ packed. packed.items ≡
+        request_bytes (document_tree document.now)) }
+    // No other tree has these bytes, or a front of them, but for the outer places of selections.
+    ensures determines { IfOk result (λ packed. (other : RequestTree) (more : Bytes) →
+        packed.items ≡ request_bytes other ++ more →
+        (without_outer_places other ≡ without_outer_places (document_tree document.now)) × (more ≡ [])) }
 {
     let mut buffer = Buffer::new(alloc);
     request::pack_document(&mut buffer, document)?;
@@ -41,8 +51,12 @@ pub fn packed_request(alloc: Global, document: &ExecutableDocument) -> Result<Ve
 
 /// The tree of a schema file as bytes. It fails only where memory runs out.
 pub fn packed_schema(alloc: Global, document: &ServiceDocument) -> Result<Vec<u8>, AllocError>
-    ensures { IfOk result (λ packed. packed.items ≡
+    ensures bytes { IfOk result (λ packed. packed.items ≡
         schema_bytes (schema_document_tree document.now)) }
+    // No other tree has these bytes, or a front of them.
+    ensures determines { IfOk result (λ packed. (other : SchemaTree) (more : Bytes) →
+        packed.items ≡ schema_bytes other ++ more →
+        (other ≡ schema_document_tree document.now) × (more ≡ [])) }
 {
     let mut buffer = Buffer::new(alloc);
     schema::pack_document(&mut buffer, document)?;

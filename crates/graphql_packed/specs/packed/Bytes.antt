@@ -1,16 +1,17 @@
 -- The bytes of numbers, choices, texts and places, of nodes, of parts that may be missing, and of lists.
 -- Source: this project's choice.
-use Rattle.std.specs.Prelude.{ℕ, List, [], ◌∷◌, ◌++◌, length, Bool, true, false, Option, Some, None}
-use Rattle.std.specs.Int.{w64, to_le_bytes}
+use Rattle.std.specs.Prelude.{ℕ, ◌/◌, ◌^◌, List, [], ◌∷◌, ◌++◌, length, Bool, true, false, Option, Some, None}
+use Rattle.std.specs.Int.{bytes_low_first}
 use Rattle.graphql_parser.specs.types.Pos.{Pos}
 use Rattle.graphql_parser.specs.types.Positioned.{Positioned}
 
 abbrev pub Bytes : Type 0
 Bytes = List ℕ
 
--- a number: eight bytes, the lowest first
+-- A number: eight bytes, the lowest first. The last is what is left of it above the others, a byte too below 2 ^ 64, as
+-- each number in memory is.
 unfoldable pub number_bytes : ℕ → Bytes
-number_bytes number = to_le_bytes w64 number
+number_bytes number = bytes_low_first 0 7 number ++ number / 256 ^ 7 ∷ []
 
 -- a choice: one byte
 abbrev pub choice : ℕ → Bytes

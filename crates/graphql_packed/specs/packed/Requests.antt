@@ -1,7 +1,6 @@
 -- The bytes of requests.
 -- Source: this project's choice.
-use Rattle.std.specs.Prelude.{ℕ, suc, List, [], ◌∷◌, ◌++◌, Option}
-use Rattle.graphql_parser.specs.trees.Parts.{Name}
+use Rattle.std.specs.Prelude.{ℕ, suc, [], ◌++◌}
 use Rattle.graphql_parser.specs.trees.Request.{Document, operations_of, OperationDefinition, FragmentDefinition, VariableDefinition, TypeCondition, FragmentSpread, Selection, field, fragment_spread, inline_fragment, SelectionSet, no_selections, selection_and}
 use Rattle.graphql_parser.specs.types.OperationType.{OperationType}
 use Rattle.graphql_parser.specs.types.OperationType.TheVariants.{Query, Mutation, Subscription}
