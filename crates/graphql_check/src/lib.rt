@@ -2,15 +2,16 @@
 //!
 //! Proved of `check_query` and `check_schema`, and of their `_limited` and `_from` forms: the clauses of the parses of
 //! `graphql_requests` and `graphql_schemas`, over the same grammar and the same rules, of a language that makes nothing
-//! of its documents (`specs/Checking`).
+//! of its documents (`specs/Checking`); and that each answers as the parse does (`as_parsed`).
 //!
 //! Users name `graphql_parser`, which gives these calls out.
 #![tactic(auto)]
 
 ghost use Rattle.std.specs.Prelude.{◌≡◌, ◌≢◌, ◌≤◌, ◌<◌, ◌⊎◌, ◌+◌, List, [], map, length, Err};
-ghost use Rattle.graphql_check.specs.Checking.{checked};
+ghost use Rattle.graphql_check.specs.Checking.{checked, IsAsParsed, IsAsParsedText};
 ghost use Rattle.graphql_check.specs.RequestHeads.{head_of, in_heads};
 ghost use Rattle.graphql_memory.specs.Refusals.{HeapRefused};
+ghost use Rattle.graphql_grammar.specs.answers.Answers.{TokenFor};
 ghost use Rattle.graphql_grammar.specs.answers.Memory.{most_taken, message_bytes};
 ghost use Rattle.graphql_reading.specs.reading.Worth.{worth};
 ghost use Rattle.graphql_check.specs.HeadFunds.{heads_owed};
@@ -41,9 +42,11 @@ use graphql_grammar::error::Result;
 use graphql_memory::Memory;
 use graphql_reading::limits::Limits;
 use graphql_reading::parser::{Parser, Reading};
-use graphql_tokens::lexer::Tokens;
+use graphql_tokens::lexer::{Token, Tokens};
 use rules::judge;
-pub use schemas::{check_schema, check_schema_from, check_schema_limited, check_schema_within};
+pub use schemas::{
+    check_schema, check_schema_from, check_schema_limited, check_schema_to, check_schema_within,
+};
 use smallvec::SmallVec;
 use std::alloc::Global;
 
@@ -98,14 +101,17 @@ impl<'a> Kept<'a> for KeptHeads<'a> {
 ///   `FragmentDuplicated` for a name given twice; and `MissingOperation` for fragments alone;
 /// - `OutOfMemory` where memory was refused.
 pub fn check_query(alloc: Global, text: &str) -> Result<()>
-    ensures { ReadsText (checked requests) default_limits text.now result }
+    ensures reads { ReadsText (checked requests) default_limits text.now result }
+    // It says what a parse of the text says, unless memory runs out.
+    ensures as_parsed { IsAsParsedText requests default_limits text.now result }
 {
     check_query_limited(alloc, text, Limits::default())
 }
 
 /// As [`check_query`], with limits that the caller chooses.
 pub fn check_query_limited(alloc: Global, text: &str, limits: Limits) -> Result<()>
-    ensures { ReadsText (checked requests) limits text.now result }
+    ensures reads { ReadsText (checked requests) limits text.now result }
+    ensures as_parsed { IsAsParsedText requests limits text.now result }
 {
     check_query_within(&mut Memory::new(alloc), text, limits)
 }
@@ -115,6 +121,7 @@ pub fn check_query_limited(alloc: Global, text: &str, limits: Limits) -> Result<
 /// only where the heap refused a request, or less than that was left.
 pub fn check_query_within(memory: &mut Memory, text: &str, limits: Limits) -> Result<()>
     ensures reads { ReadsText (checked requests) limits text.now result }
+    ensures as_parsed { IsAsParsedText requests limits text.now result }
     ensures taken { memory.old.left ≤ memory.new.left + most_taken (length text.now) }
     ensures lent { memory.new.left ≤ memory.old.left }
     ensures refused { result ≡ Err OutOfMemory → HeapRefused memory.old memory.new
@@ -124,8 +131,32 @@ pub fn check_query_within(memory: &mut Memory, text: &str, limits: Limits) -> Re
         (memory.old.left ≤ memory.new.left + message_bytes) ×
         (result ≡ Err OutOfMemory → HeapRefused memory.old memory.new ⊎ (memory.old.left < message_bytes)) }
 {
+    check_query_to(memory, text, limits).0
+}
+
+/// As [`check_query_within`], and the token at which the text is refused, if it is refused at one.
+pub fn check_query_to<'a>(
+    memory: &mut Memory,
+    text: &'a str,
+    limits: Limits,
+) -> (Result<()>, Option<Token<'a>>)
+    ensures reads { ReadsText (checked requests) limits text.entry.now result.0 }
+    ensures as_parsed { IsAsParsedText requests limits text.entry.now result.0 }
+    ensures token { (ts : List SpecToken) → IsCutInto text.entry.now ts →
+        TokenFor (checked requests) limits ts result.0 result.1 }
+    ensures taken { memory.old.left ≤ memory.new.left + most_taken (length text.entry.now) }
+    ensures lent { memory.new.left ≤ memory.old.left }
+    ensures refused { result.0 ≡ Err OutOfMemory → HeapRefused memory.old memory.new
+        ⊎ (memory.old.left < most_taken (length text.entry.now)) }
+    // One definition takes memory for a message alone.
+    ensures alone { (ts : List SpecToken) → IsCutInto text.entry.now ts → FirstStandsAlone limits ts →
+        (memory.old.left ≤ memory.new.left + message_bytes) ×
+        (result.0 ≡ Err OutOfMemory → HeapRefused memory.old memory.new ⊎ (memory.old.left < message_bytes)) }
+{
     let mut tokens = Tokens::new(text);
-    read_document::<KeptHeads>(memory, &mut tokens, limits)
+    let mut refused = None;
+    let answer = read_document::<KeptHeads>(memory, &mut tokens, limits, &mut refused);
+    (answer, refused)
 }
 
 /// As [`check_query`], over the tokens that are not yet taken, with the places that they have in the whole
@@ -136,7 +167,9 @@ pub fn check_query_within(memory: &mut Memory, text: &str, limits: Limits) -> Re
 /// left. What `tokens` then gives is the rest of the same list.
 pub fn check_query_from(alloc: Global, tokens: &mut Tokens<'_>) -> Result<()>
     requires { left tokens.old ≢ [] }
-    ensures { ReadsTokens (checked requests) default_limits tokens.old tokens.new result }
+    ensures reads { ReadsTokens (checked requests) default_limits tokens.old tokens.new result }
+    ensures as_parsed { IsAsParsed requests default_limits (left tokens.old) result }
 {
-    read_document::<KeptHeads>(&mut Memory::new(alloc), tokens, Limits::default())
+    let memory = &mut Memory::new(alloc);
+    read_document::<KeptHeads>(memory, tokens, Limits::default(), &mut None)
 }

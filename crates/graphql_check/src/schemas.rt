@@ -1,9 +1,11 @@
 //! Schema files, checked without a tree (GraphQL October 2021, section 3).
-ghost use Rattle.std.specs.Prelude.{◌≡◌, ◌≢◌, ◌≤◌, ◌<◌, ◌⊎◌, ◌+◌, Option, [], Err};
+ghost use Rattle.std.specs.Prelude.{◌≡◌, ◌≢◌, ◌≤◌, ◌<◌, ◌⊎◌, ◌+◌, Option, List, [], Err};
 ghost use Rattle.graphql_memory.specs.Refusals.{HeapRefused};
-ghost use Rattle.graphql_tokens.specs.tokens.Token.{left};
-ghost use Rattle.graphql_check.specs.Checking.{checked};
+ghost use Rattle.graphql_tokens.specs.tokens.Cuts.{IsCutInto};
+ghost use Rattle.graphql_tokens.specs.tokens.Token.{Token as SpecToken, left};
+ghost use Rattle.graphql_check.specs.Checking.{checked, IsAsParsed, IsAsParsedText};
 ghost use Rattle.graphql_check.specs.SchemaRules.{first_breach};
+ghost use Rattle.graphql_grammar.specs.answers.Answers.{TokenFor};
 ghost use Rattle.graphql_grammar.specs.answers.Memory.{message_bytes};
 ghost use Rattle.graphql_grammar.specs.answers.Reads.{ReadsText, ReadsTokens};
 ghost use Rattle.graphql_grammar.specs.declared.error.Error.{Error as SpecError};
@@ -29,7 +31,7 @@ use graphql_grammar::error::{Error, Result};
 use graphql_memory::Memory;
 use graphql_reading::limits::Limits;
 use graphql_reading::parser::{Parser, Reading};
-use graphql_tokens::lexer::Tokens;
+use graphql_tokens::lexer::{Token, Tokens};
 use std::alloc::Global;
 
 /// What is kept of the definitions of a schema file: the first rule that one of them breaks.
@@ -77,6 +79,8 @@ impl<'a> Kept<'a> for FirstBreach {
 /// Errors: as `parse_schema`'s.
 pub fn check_schema(alloc: Global, text: &str) -> Result<()>
     ensures reads { ReadsText (checked schemas) default_limits text.now result }
+    // It says what a parse of the text says, unless memory runs out.
+    ensures as_parsed { IsAsParsedText schemas default_limits text.now result }
     // No schema of a former tree has a description.
     ensures former_schemas { FormerDescribesNoSchema default_limits }
 {
@@ -87,6 +91,7 @@ pub fn check_schema(alloc: Global, text: &str) -> Result<()>
 /// selection sets.
 pub fn check_schema_limited(alloc: Global, text: &str, limits: Limits) -> Result<()>
     ensures reads { ReadsText (checked schemas) limits text.now result }
+    ensures as_parsed { IsAsParsedText schemas limits text.now result }
     ensures former_schemas { FormerDescribesNoSchema limits }
 {
     check_schema_within(&mut Memory::new(alloc), text, limits)
@@ -96,6 +101,7 @@ pub fn check_schema_limited(alloc: Global, text: &str, limits: Limits) -> Result
 /// `OutOfMemory` is answered only where the heap refused a request, or less than that was left.
 pub fn check_schema_within(memory: &mut Memory, text: &str, limits: Limits) -> Result<()>
     ensures reads { ReadsText (checked schemas) limits text.now result }
+    ensures as_parsed { IsAsParsedText schemas limits text.now result }
     ensures former_schemas { FormerDescribesNoSchema limits }
     // It takes memory for a message alone, of 57 bytes at most.
     ensures taken { memory.old.left ≤ memory.new.left + message_bytes }
@@ -103,8 +109,29 @@ pub fn check_schema_within(memory: &mut Memory, text: &str, limits: Limits) -> R
     ensures refused { result ≡ Err OutOfMemory → HeapRefused memory.old memory.new
         ⊎ (memory.old.left < message_bytes) }
 {
+    check_schema_to(memory, text, limits).0
+}
+
+/// As [`check_schema_within`], and the token at which the text is refused, if it is refused at one.
+pub fn check_schema_to<'a>(
+    memory: &mut Memory,
+    text: &'a str,
+    limits: Limits,
+) -> (Result<()>, Option<Token<'a>>)
+    ensures reads { ReadsText (checked schemas) limits text.entry.now result.0 }
+    ensures as_parsed { IsAsParsedText schemas limits text.entry.now result.0 }
+    ensures token { (ts : List SpecToken) → IsCutInto text.entry.now ts →
+        TokenFor (checked schemas) limits ts result.0 result.1 }
+    ensures former_schemas { FormerDescribesNoSchema limits }
+    ensures taken { memory.old.left ≤ memory.new.left + message_bytes }
+    ensures lent { memory.new.left ≤ memory.old.left }
+    ensures refused { result.0 ≡ Err OutOfMemory → HeapRefused memory.old memory.new
+        ⊎ (memory.old.left < message_bytes) }
+{
     let mut tokens = Tokens::new(text);
-    read_document::<FirstBreach>(memory, &mut tokens, limits)
+    let mut refused = None;
+    let answer = read_document::<FirstBreach>(memory, &mut tokens, limits, &mut refused);
+    (answer, refused)
 }
 
 /// As [`check_schema`], over the tokens that are not yet taken, with the places that they have in the whole text. The
@@ -115,7 +142,9 @@ pub fn check_schema_within(memory: &mut Memory, text: &str, limits: Limits) -> R
 /// left. What `tokens` then gives is the rest of the same list.
 pub fn check_schema_from(alloc: Global, tokens: &mut Tokens<'_>) -> Result<()>
     requires { left tokens.old ≢ [] }
-    ensures { ReadsTokens (checked schemas) default_limits tokens.old tokens.new result }
+    ensures reads { ReadsTokens (checked schemas) default_limits tokens.old tokens.new result }
+    ensures as_parsed { IsAsParsed schemas default_limits (left tokens.old) result }
 {
-    read_document::<FirstBreach>(&mut Memory::new(alloc), tokens, Limits::default())
+    let memory = &mut Memory::new(alloc);
+    read_document::<FirstBreach>(memory, tokens, Limits::default(), &mut None)
 }

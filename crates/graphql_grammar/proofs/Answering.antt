@@ -1,11 +1,13 @@
 -- The answer of a parser, and how many tokens are taken for it, from what the reader of its language tells and what
 -- the rules of the code make of the definitions. Proved once, for each language.
-use Rattle.std.proofs.Common.{◌≡◌, ℕ, suc, ◌+◌, ◌-◌, ◌≤◌, inl, Result, Ok, Err, List, [], ◌∷◌, ◌++◌, length, drop, sym, ap, ◌∙◌, subst, length-drop, length-append, arith}
+use Rattle.std.proofs.Common.{◌≡◌, ℕ, suc, ◌+◌, ◌-◌, ◌≤◌, inl, Option, Some, None, Result, Ok, Err, List, [], ◌∷◌, ◌++◌, length, drop, sym, ap, ◌∙◌, subst, length-drop, length-append, arith}
+use Rattle.graphql_tokens.specs.declared.lexer.Token.{Token as LentToken}
 use Rattle.graphql_tokens.specs.tokens.Cuts.{EndsOnce}
 use Rattle.graphql_tokens.specs.tokens.Edition.{Current}
 use Rattle.graphql_tokens.specs.tokens.Proper.{AreProperButFaults}
+use Rattle.graphql_tokens.specs.tokens.Seen.{seen}
 use Rattle.graphql_tokens.specs.tokens.Token.{Token, Lexing, left}
-use Rattle.graphql_grammar.specs.answers.Answers.{Answers, TakenFor, AreTheDefinitions, AreUnbroken, IsDecided}
+use Rattle.graphql_grammar.specs.answers.Answers.{Answers, TakenFor, TokenFor, AreTheDefinitions, AreUnbroken, IsDecided}
 use Rattle.graphql_grammar.specs.answers.Language.{Language, grammar}
 use Rattle.graphql_grammar.specs.answers.Reads.{ReadsTokens}
 use Rattle.graphql_grammar.specs.declared.error.Error.{Error}
@@ -13,10 +15,11 @@ use Rattle.graphql_grammar.specs.declared.error.Error.TheVariants as errors
 use Rattle.graphql_grammar.specs.reading.DocumentOf.{IsDocumentOf, TellsBreach, TellsOf}
 use Rattle.graphql_grammar.specs.reading.Errors.{IsErrorOf}
 use Rattle.graphql_grammar.specs.reading.ReadBy.{RefusedHere, IsReadBy}
+use Rattle.graphql_grammar.proofs.OneAnswer.{one-answer}
 use Rattle.graphql_reading.specs.declared.parser.Refusal.{Refusal}
 use Rattle.graphql_reading.specs.grammar.Fronts.{IsRefused, Verdict, syntax, limit, whole}
 use Rattle.graphql_reading.specs.grammar.Limits.{Limits}
-use Rattle.graphql_reading.specs.reading.Ahead.{Ahead, tokens}
+use Rattle.graphql_reading.specs.reading.Ahead.{Ahead, Source, tokens}
 use Rattle.graphql_reading.specs.reading.Given.{Refuses, GoesOn}
 use Rattle.graphql_reading.specs.reading.Outcome.{Reader, Read, whole_at}
 
@@ -71,6 +74,25 @@ refusal-taken language reader read limits old new stop errors.RecursionLimitExce
 refusal-taken language reader read limits old new stop errors.OutOfMemory count long ends proper h is = omega (arith, long)
 refusal-taken language reader read limits old new stop error count long ends proper h is = absurd is
 
+-- ---- the refused token
+
+pub document-token : {D Document : Type 0} (language : Language D Document) (limits : Limits) (ts : List Token) (ds : List D) (result : Result Document Error) (given : Option LentToken) → IsDocumentOf language ds result → given ≡ None → TokenFor language limits ts result given
+document-token language limits ts ds (Ok document) given is none = none
+document-token language limits ts ds (Err (errors.Syntax message start end)) given is none = absurd is
+document-token language limits ts ds (Err errors.RecursionLimitExceeded) given is none = absurd is
+document-token language limits ts ds (Err errors.OutOfMemory) given is none = tt
+document-token language limits ts ds (Err error) given is none = none
+
+refusal-token : {D Document : Type 0} (language : Language D Document) (reader : Limits → Reader (List D)) → IsReadBy language reader → (limits : Limits) (old new : Ahead) (stop : Refusal) (error : Error) (lent : LentToken) (given : Option LentToken) → EndsOnce (tokens old) → AreProperButFaults (tokens old) → Refuses stop old new (whole_at (reader limits)) → IsErrorOf stop new.hand.pos error → given ≡ Some lent → seen lent ≡ new.hand → TokenFor language limits (tokens old) (Err error) given
+refusal-token language reader read limits old new stop (errors.Syntax message start end) lent given ends proper h is put same =
+    let m = read.refuses limits (tokens old) ends proper syntax new.hand new.after (subst (λ (s : Refusal). Refuses s old new (whole_at (reader limits))) is.0 h) in
+    (m.0, (lent, put, same ∙ sym m.1))
+refusal-token language reader read limits old new stop errors.RecursionLimitExceeded lent given ends proper h is put same =
+    let m = read.refuses limits (tokens old) ends proper limit new.hand new.after (subst (λ (s : Refusal). Refuses s old new (whole_at (reader limits))) is h) in
+    (m.0, (lent, put, same ∙ sym m.1))
+refusal-token language reader read limits old new stop errors.OutOfMemory lent given ends proper h is put same = tt
+refusal-token language reader read limits old new stop error lent given ends proper h is put same = absurd is
+
 -- ---- counts
 
 -- between two counts of tokens of one list stand as many as the one is more than the other
@@ -86,27 +108,29 @@ pub record Goes (from to : Lexing) (start stop : Ahead) : Type 0 where
   pub ends : EndsOnce (tokens start)
   pub proper : AreProperButFaults (tokens start)
   pub whole : GoesOn start stop → to.whole ≡ from.whole
+  pub text : GoesOn start stop → to.text ≡ from.text
   pub sums : GoesOn start stop → to.taken ≡ from.taken + (to.taken - from.taken)
   pub counted : GoesOn start stop → length (tokens start) ≡ (to.taken - from.taken) + length stop.after
 
-pub goes-of : (from given to : Lexing) (start stop : Ahead) → given ≡ from → tokens start ≡ left given → EndsOnce (left given) → AreProperButFaults (left given) → start.whole ≡ given.whole → start.taken ≡ given.taken + 1 → left to ≡ stop.after → to.whole ≡ stop.whole → to.taken ≡ stop.taken → to.taken ≤ length to.whole → Goes from to start stop
-goes-of from given to start stop is begins ends proper whole taken later last stopped within = record {
+pub goes-of : (from given to : Lexing) (start stop : Ahead) → given ≡ from → tokens start ≡ left given → EndsOnce (left given) → AreProperButFaults (left given) → start.source.text ≡ given.text → start.source.whole ≡ given.whole → start.taken ≡ given.taken + 1 → left to ≡ stop.after → to.text ≡ stop.source.text → to.whole ≡ stop.source.whole → to.taken ≡ stop.taken → to.taken ≤ length to.whole → Goes from to start stop
+goes-of from given to start stop is begins ends proper text whole taken later also last stopped within = record {
   same = begins ∙ ap left is;
   ends = subst EndsOnce (sym begins) ends;
   proper = subst AreProperButFaults (sym begins) proper;
-  whole = one-text;
+  whole = one-list;
+  text = λ on. also ∙ ap (λ (s : Source). s.text) on.0 ∙ text ∙ ap (λ (l : Lexing). l.text) is;
   sums = λ on. omega (arith, forward on);
   counted = λ on.
       taken-between from.whole (tokens start) stop.after from.taken to.taken
-      (begins ∙ ap left is) (sym later ∙ ap (drop to.taken) (one-text on))
-      (forward on) (subst (λ (l : List Token). to.taken ≤ length l) (one-text on) within);
+      (begins ∙ ap left is) (sym later ∙ ap (drop to.taken) (one-list on))
+      (forward on) (subst (λ (l : List Token). to.taken ≤ length l) (one-list on) within);
 }
   where
     forward : GoesOn start stop → from.taken ≤ to.taken
     forward on = let b = on.1 in let e = ap (λ (l : Lexing). l.taken) is in omega (arith, taken, b, stopped, e)
 
-    one-text : GoesOn start stop → to.whole ≡ from.whole
-    one-text on = last ∙ on.0 ∙ whole ∙ ap (λ (l : Lexing). l.whole) is
+    one-list : GoesOn start stop → to.whole ≡ from.whole
+    one-list on = last ∙ ap (λ (s : Source). s.whole) on.0 ∙ whole ∙ ap (λ (l : Lexing). l.whole) is
 
 -- all are taken where none is left
 all-taken : (from to : Lexing) (start stop : Ahead) → Goes from to start stop → GoesOn start stop → stop.after ≡ [] → to.taken - from.taken ≡ length (tokens start)
@@ -119,11 +143,13 @@ reads-tokens : {D Document : Type 0} (language : Language D Document) (reader : 
 reads-tokens language reader read limits from to start stop goes on result answers taken = record {
   answer = subst (λ ts. Answers language limits ts result) goes.same answers;
   only = λ ds h. subst (λ ts. AreTheDefinitions language limits ts ds) goes.same (read.only limits (tokens start) goes.ends goes.proper ds (subst (λ ts. grammar language Current limits ts ds) (sym goes.same) h));
+  one_answer = one-answer language limits (left from);
   one_tree = read.one_tree (left from);
   decided = subst (IsDecided language limits) goes.same (read.decided limits (tokens start) goes.ends goes.proper);
   bare = read.bare limits (left from);
   taken = (to.taken - from.taken, goes.sums on, subst (λ ts. TakenFor language limits ts result (to.taken - from.taken)) goes.same taken);
   whole = goes.whole on;
+  text = goes.text on;
 }
 
 -- where there is a tree
@@ -140,3 +166,8 @@ reads-refusal language reader read limits from to start stop goes on refusal err
     reads-tokens language reader read limits from to start stop goes on (Err error)
     (refusal-answers language reader read limits start stop refusal error goes.ends goes.proper h is)
     (refusal-taken language reader read limits start stop refusal error (to.taken - from.taken) (goes.counted on) goes.ends goes.proper h is)
+
+-- where a token is refused, it is the one in hand
+pub token-of-refusal : {D Document : Type 0} (language : Language D Document) (reader : Limits → Reader (List D)) → IsReadBy language reader → (limits : Limits) (from to : Lexing) (start stop : Ahead) → Goes from to start stop → (why : Refusal) (error : Error) (lent : LentToken) (given : Option LentToken) → Refuses why start stop (whole_at (reader limits)) → IsErrorOf why stop.hand.pos error → given ≡ Some lent → seen lent ≡ stop.hand → TokenFor language limits (left from) (Err error) given
+token-of-refusal language reader read limits from to start stop goes why error lent given h is put same =
+    subst (λ ts. TokenFor language limits ts (Err error) given) goes.same (refusal-token language reader read limits start stop why error lent given goes.ends goes.proper h is put same)

@@ -8,11 +8,12 @@ use Rattle.graphql_tokens.specs.tokens.Edition.{Former, Current}
 use Rattle.graphql_tokens.specs.tokens.Proper.{AreProperButFaults}
 use Rattle.graphql_tokens.specs.tokens.Token.{Bare, Token, Lexing, left}
 use Rattle.graphql_tokens.proofs.Editions.{former-cuts}
-use Rattle.graphql_grammar.specs.answers.Answers.{Answers, AreTheDefinitions, HasOneTree, IsDecided, RestsOnBareTokens}
+use Rattle.graphql_grammar.specs.answers.Answers.{Answers, AreTheDefinitions, HasOneTree, HasOneAnswer, IsDecided, RestsOnBareTokens}
 use Rattle.graphql_grammar.specs.answers.Language.{Language, grammar}
 use Rattle.graphql_grammar.specs.answers.Reads.{ReadsText, ReadsTokens}
 use Rattle.graphql_grammar.specs.declared.error.Error.{Error}
 use Rattle.graphql_grammar.specs.reading.ReadBy.{RefusedHere, IsReadBy}
+use Rattle.graphql_grammar.proofs.Alike.{JudgesAlike, break-alike}
 use Rattle.graphql_reading.specs.grammar.Fronts.{IsRefused, RefusedToken, Verdict, without_places, whole}
 use Rattle.graphql_reading.specs.grammar.Limits.{Limits}
 use Rattle.graphql_reading.specs.grammar.Relations.{Rel}
@@ -25,12 +26,14 @@ use Rattle.graphql_reading.proofs.TokenTests.{the_end-is}
 use Rattle.graphql_reading.proofs.Whole.{Says, whole-answers, one-tree, ignores-whole, one-refusal, refusal-bare, trees-bare}
 
 -- What is known of a language and of the reader of its definitions: each budget has a phrase, places don't matter,
--- the reader follows the current grammar exactly up to the end of the text, and the former grammar is part of it.
+-- the reader follows the current grammar exactly up to the end of the text, the former grammar is part of it, and the
+-- rules don't look at places.
 pub record IsRead {D Document : Type 0} (language : Language D Document) (reader : Limits → Reader (List D)) : Type 0 where
   pub has_phrase : HasPhrase (language.definitions Current)
   pub ignores_places : IgnoresPlaces (language.definitions Current) language.placeless
   pub reads_exactly : (b : Limits) → ReadsExactly (language.definitions Current) b the_end (reader b)
   pub includes : (b : Limits) → Includes (language.definitions Former b) (language.definitions Current b)
+  pub judges : JudgesAlike language
 
 says : {D Document : Type 0} (language : Language D Document) (reader : Limits → Reader (List D)) → IsRead language reader → (limits : Limits) (ts : List Token) (o : Outcome (List D)) → EndsOnce ts → AreProperButFaults ts → whole_at (reader limits) ts ≡ o → Says (grammar language Current) language.placeless limits ts o
 says language reader read limits ts o ends proper e =
@@ -93,6 +96,7 @@ rests-on-bare-tokens : {D Document : Type 0} (language : Language D Document) (r
 rests-on-bare-tokens language reader read limits ts = record {
   has_tree = λ us e ds h. let s = (ignores-whole read.ignores_places).by limits ts us ds h e in (s.tree, s.holds);
   same_tree = λ us e ds es h k. trees-bare read.ignores_places (read.reads_exactly limits) ts us ds es e h k;
+  same_breach = λ us e ds es h k. break-alike language read.judges ds es (trees-bare read.ignores_places (read.reads_exactly limits) ts us ds es e h k);
   same_refusal = λ us e count v r. refusal-bare (grammar language Current) limits ts us count v e r;
 }
 
@@ -132,8 +136,9 @@ is-read-by language reader read = record {
 
 -- What is read of the tokens that a lexer cuts from a text is read of the text: it cuts them in one way, and those of
 -- the former edition in the same.
-pub reads-text : {D Document : Type 0} (language : Language D Document) (reader : Limits → Reader (List D)) → IsRead language reader → (limits : Limits) (text : List ℕ) (from to : Lexing) (result : Result Document Error) → ((ts : List Token) → IsCutInto text ts → ts ≡ left from) → ((ts : List Token) → HasNoFault ts → Cuts Former [] (chars text) ts → ts ≡ left from) → ReadsTokens language limits from to result → ReadsText language limits text result
-reads-text language reader read limits text from to result only only-former reads = record {
+pub reads-text : {D Document : Type 0} (language : Language D Document) (reader : Limits → Reader (List D)) → IsRead language reader → (limits : Limits) (text : List ℕ) (from to : Lexing) (result : Result Document Error) → IsCutInto text (left from) → ((ts : List Token) → IsCutInto text ts → ts ≡ left from) → ((ts : List Token) → HasNoFault ts → Cuts Former [] (chars text) ts → ts ≡ left from) → ReadsTokens language limits from to result → ReadsText language limits text result
+reads-text language reader read limits text from to result cut only only-former reads = record {
+  cut = (left from, cut);
   answer = λ ts cut. subst (λ us. Answers language limits us result) (sym (only ts cut)) reads.answer;
   former = λ ts ds cut h.
       let now = former-tree language reader read limits ts ds h in
@@ -142,6 +147,7 @@ reads-text language reader read limits text from to result only only-former read
       let same = only ts cut_now in
       (cut_now, subst (λ us. AreTheDefinitions language limits us ds) (sym same) (reads.only ds (subst (λ us. grammar language Current limits us ds) same now)));
   former_tokens = λ ts no_fault cut. subst (λ us. Answers language limits us result) (sym (only-former ts no_fault cut)) reads.answer;
+  one_answer = λ ts cut. subst (HasOneAnswer language limits) (sym (only ts cut)) reads.one_answer;
   one_tree = λ ts cut. subst (HasOneTree language) (sym (only ts cut)) reads.one_tree;
   decided = λ ts cut. subst (IsDecided language limits) (sym (only ts cut)) reads.decided;
   bare = λ ts cut. subst (RestsOnBareTokens language limits) (sym (only ts cut)) reads.bare;

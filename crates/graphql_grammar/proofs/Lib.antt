@@ -13,6 +13,8 @@ pub mod OpenFrames
 pub mod ValuePlaces
 pub mod ArgumentProductions
 pub mod Former
+pub mod Alike
+pub mod OneAnswer
 pub mod Languages
 pub mod Bounds
 pub mod Answering

@@ -1,8 +1,9 @@
 //! Documents, whichever language they are of: the definitions are read whole before the first rule is looked at.
-ghost use Rattle.std.specs.Prelude.{◌≡◌, ◌≢◌, ◌≤◌, ◌<◌, ◌⊎◌, ◌+◌, ℕ, List, [], Err};
+ghost use Rattle.std.specs.Prelude.{◌≡◌, ◌≢◌, ◌≤◌, ◌<◌, ◌⊎◌, ◌+◌, ℕ, List, [], None, Err};
 ghost use Rattle.graphql_memory.specs.Memory.{Refused, Takes};
 ghost use Rattle.graphql_memory.specs.Refusals.{HeapRefused};
-ghost use Rattle.graphql_tokens.specs.tokens.Token.{Token, left};
+ghost use Rattle.graphql_tokens.specs.tokens.Token.{Token as SpecToken, left};
+ghost use Rattle.graphql_grammar.specs.answers.Answers.{TokenFor};
 ghost use Rattle.graphql_grammar.specs.answers.Language.{Language};
 ghost use Rattle.graphql_grammar.specs.answers.Reads.{ReadsTokens};
 ghost use Rattle.graphql_grammar.specs.declared.error.Error.TheVariants.{OutOfMemory};
@@ -20,7 +21,7 @@ use crate::refusals::error_of;
 use graphql_memory::Memory;
 use graphql_reading::limits::Limits;
 use graphql_reading::parser::{Parser, Reading};
-use graphql_tokens::lexer::Tokens;
+use graphql_tokens::lexer::{Token, Tokens};
 use std::mem;
 
 /// What is kept of the definitions of a text: all of them, to make a tree, or enough to tell the first of the rules
@@ -43,7 +44,7 @@ pub trait Kept<'a>: Drop {
     ghost language: { Language Self.Tree Self.Document };
 
     // How many bytes are taken at most where these tokens are read within these limits,
-    ghost Costs: { SpecLimits → List Token → ℕ → Type 0 };
+    ghost Costs: { SpecLimits → List SpecToken → ℕ → Type 0 };
 
     // and of these, for the document, once its definitions are read.
     ghost owes: { Self → ℕ };
@@ -68,13 +69,14 @@ pub trait Kept<'a>: Drop {
         ensures takes { Takes (Self.owes self) memory.old memory.new };
 }
 
-/// Reads the tokens that are left as a document.
+/// Reads the tokens that are left as a document. Where a token is refused, it is put in `refused`.
 // Never inlined: the readers below it then are, also where a program has several callers.
 #[inline(never)]
 pub fn read_document<'a, K: Kept<'a>>(
     memory: &mut Memory,
     tokens: &mut Tokens<'a>,
     limits: Limits,
+    refused: &mut Option<Token<'a>>,
 ) -> Result<K::Document>
     requires some { left tokens.old ≢ [] }
     requires read { IsReadBy K.language K.reader }
@@ -82,12 +84,13 @@ pub fn read_document<'a, K: Kept<'a>>(
     ensures taken { (most : ℕ) → K.Costs limits (left tokens.old) most →
         memory.old.left ≤ memory.new.left + (most + message_bytes) }
     ensures lent { memory.new.left ≤ memory.old.left }
+    ensures token { refused.old ≡ None → TokenFor K.language limits (left tokens.old) result refused.new }
     ensures refused { (most : ℕ) → K.Costs limits (left tokens.old) most → result ≡ Err OutOfMemory →
         HeapRefused memory.old memory.new ⊎ (memory.old.left < most + message_bytes) }
 {
     let mut parser = Parser::new(memory.lend(), mem::replace(tokens, Tokens::new("")));
     let read = K::read_all(&mut parser, limits);
-    let place = parser.hand().pos;
+    let hand = parser.hand();
     let (left, mut lent) = parser.into_parts();
     *tokens = left;
     match read {
@@ -97,7 +100,8 @@ pub fn read_document<'a, K: Kept<'a>>(
             answer
         }
         Err(refusal) => {
-            let error = error_of(&mut lent, refusal, place);
+            *refused = Some(hand);
+            let error = error_of(&mut lent, refusal, hand.pos);
             memory.settle(lent);
             Err(error)
         }

@@ -18,8 +18,8 @@
 pub mod types;
 
 pub use graphql_check::{
-    check_query, check_query_from, check_query_limited, check_query_within, check_schema,
-    check_schema_from, check_schema_limited, check_schema_within,
+    check_query, check_query_from, check_query_limited, check_query_to, check_query_within,
+    check_schema, check_schema_from, check_schema_limited, check_schema_to, check_schema_within,
 };
 pub use graphql_grammar::error::{Error, Result};
 pub use graphql_grammar::positions::ErrorPositions;

@@ -34,7 +34,7 @@ pub fn call<D: Document, H: Handing<D>>(
 ) -> Told
     ensures told { IsTold H.language (limits_of bounds.0 bounds.1 bounds.2) text.bytes
         result.number result.places }
-    ensures handed { HandsOver H.language (H.Hands handing.now text.bytes)
+    ensures handed { HandsOver H.language (H.Hands handing.now (limits_of bounds.0 bounds.1 bounds.2) text.bytes)
         (limits_of bounds.0 bounds.1 bounds.2) text.bytes result.number handed.new }
     ensures back { IsBack text room result }
     ensures within { IsWithin bounds.3 (length text.bytes) result.left }

@@ -9,6 +9,8 @@ ghost use Rattle.graphql_parser.specs.schemas.SchemaFile.{Definition as SchemaDe
 ghost use Rattle.graphql_parser.specs.schemas.Schemas.{schemas};
 ghost use Rattle.graphql_parser_c.specs.Documents.{executable_bytes, executable_value, service_bytes, service_value};
 ghost use Rattle.graphql_parser_c.specs.Telling.{AnswersText, IsWithin};
+ghost use Rattle.graphql_report.specs.declared.fronts.Language.{Language as ReadAs};
+ghost use Rattle.graphql_report.specs.declared.fronts.Language.TheVariants.{Requests, Schemas};
 
 use graphql_json::{Places, request_json, schema_json};
 use graphql_packed::{packed_request, packed_schema};
@@ -31,14 +33,18 @@ pub trait Document: Drop {
 
     ghost language: { DocumentLanguage Self.Tree Self };
 
-    /// The language, as reports have it.
-    const LANGUAGE: Language;
+    // The language, as reports have it.
+    ghost read_as: { ReadAs };
 
     // The JSON of a document.
     ghost value: { WrittenPlaces → Self → Json };
 
     // The bytes of a document.
     ghost bytes: { Self → Bytes };
+
+    /// The language, as reports have it.
+    fn language() -> Language
+        ensures { result ≡ Self.read_as };
 
     /// Reads a text.
     fn read(memory: &mut Memory, text: &str, limits: Limits) -> Result<Self>
@@ -64,11 +70,15 @@ impl Document for ExecutableDocument {
 
     ghost language = { requests };
 
-    const LANGUAGE: Language = Language::Requests;
+    ghost read_as = { Requests };
 
     ghost value = { executable_value };
 
     ghost bytes = { executable_bytes };
+
+    fn language() -> Language {
+        Language::Requests
+    }
 
     fn read(memory: &mut Memory, text: &str, limits: Limits) -> Result<ExecutableDocument> {
         parse_query_within(memory, text, limits)
@@ -92,11 +102,15 @@ impl Document for ServiceDocument {
 
     ghost language = { schemas };
 
-    const LANGUAGE: Language = Language::Schemas;
+    ghost read_as = { Schemas };
 
     ghost value = { service_value };
 
     ghost bytes = { service_bytes };
+
+    fn language() -> Language {
+        Language::Schemas
+    }
 
     fn read(memory: &mut Memory, text: &str, limits: Limits) -> Result<ServiceDocument> {
         parse_schema_within(memory, text, limits)

@@ -19,7 +19,7 @@ impl<D: Document> Handing<D> for Report {
 
     ghost language = { checked D.language };
 
-    ghost Hands = { λ _. Explains };
+    ghost Hands = { λ _. Explains D.read_as };
 
     fn read(memory: &mut Memory, text: &str, limits: Limits) -> Result<()> {
         D::check(memory, text, limits)
@@ -29,7 +29,7 @@ impl<D: Document> Handing<D> for Report {
         let Err(error) = answer else {
             return Ok(Block::nothing());
         };
-        let report = graphql_report::explain(alloc, D::LANGUAGE, "", text, limits, error)?;
+        let report = graphql_report::explain(alloc, D::language(), "", text, limits, error)?;
         Ok(Block::of(report.into_bytes().leak()))
     }
 }

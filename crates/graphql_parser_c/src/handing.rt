@@ -4,6 +4,7 @@ ghost use Rattle.graphql_grammar.specs.declared.error.Error.{Error as SpecError}
 ghost use Rattle.graphql_grammar.specs.declared.error.Error.TheVariants.{OutOfMemory};
 ghost use Rattle.graphql_parser.specs.answers.Language.{Language};
 ghost use Rattle.graphql_parser.specs.Checking.{checked};
+ghost use Rattle.graphql_parser.specs.notation.Limits.{Limits as SpecLimits};
 ghost use Rattle.graphql_parser_c.specs.Handing.{HandsOver, IsHanded, IsNothing};
 ghost use Rattle.graphql_parser_c.specs.Statuses.{number_of, status_of};
 ghost use Rattle.graphql_parser_c.specs.Telling.{AnswersText, IsTold, IsWithin, limits_of, places_of};
@@ -29,8 +30,8 @@ pub trait Handing<D: Document> {
 
     ghost language: { Language Self.Tree Self.Kept };
 
-    // What is handed over of the answer for a text.
-    ghost Hands: { Self → List ℕ → SpecResult Self.Kept SpecError → SpecBlock → Type 0 };
+    // What is handed over of the answer for a text, within limits.
+    ghost Hands: { Self → SpecLimits → List ℕ → SpecResult Self.Kept SpecError → SpecBlock → Type 0 };
 
     /// Reads a text.
     fn read(memory: &mut Memory, text: &str, limits: Limits) -> Result<Self::Kept>
@@ -39,7 +40,7 @@ pub trait Handing<D: Document> {
 
     /// Makes what is handed over of the answer for a text.
     fn make(&self, alloc: Global, text: &str, limits: Limits, answer: &Result<Self::Kept>) -> Made
-        ensures { IfOk result (λ made. Self.Hands self.now text.now answer.now made) };
+        ensures { IfOk result (λ made. Self.Hands self.now limits text.now answer.now made) };
 }
 
 /// Hands over nothing: the text is checked alone.
@@ -52,7 +53,7 @@ impl<D: Document> Handing<D> for Nothing {
 
     ghost language = { checked D.language };
 
-    ghost Hands = { λ _ _ _ made. IsNothing made };
+    ghost Hands = { λ _ _ _ _ made. IsNothing made };
 
     fn read(memory: &mut Memory, text: &str, limits: Limits) -> Result<()> {
         D::check(memory, text, limits)
@@ -71,7 +72,7 @@ fn made_of<D: Document, H: Handing<D>>(
     limits: Limits,
     answer: &Result<H::Kept>,
 ) -> Made
-    ensures made { IfOk result (λ made. H.Hands handing.now text.now answer.now made) }
+    ensures made { IfOk result (λ made. H.Hands handing.now limits text.now answer.now made) }
     ensures memory { answer.now ≡ Err OutOfMemory → IsErr result }
 {
     match answer {
@@ -110,7 +111,8 @@ pub fn answer<D: Document, H: Handing<D>>(
     ensures told { IsTold H.language
         (limits_of question.now.bounds.0 question.now.bounds.1 question.now.bounds.2)
         question.now.text.now result places.new }
-    ensures handed { HandsOver H.language (H.Hands handing.now question.now.text.now)
+    ensures handed { HandsOver H.language (H.Hands handing.now
+        (limits_of question.now.bounds.0 question.now.bounds.1 question.now.bounds.2) question.now.text.now)
         (limits_of question.now.bounds.0 question.now.bounds.1 question.now.bounds.2)
         question.now.text.now result handed.new }
     ensures within { IsWithin memory.old.left (length question.now.text.now) memory.new.left }

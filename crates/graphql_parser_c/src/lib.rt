@@ -25,6 +25,7 @@ ghost use Rattle.graphql_parser.specs.requests.Requests.{requests};
 ghost use Rattle.graphql_parser.specs.schemas.Schemas.{schemas};
 ghost use Rattle.graphql_parser_c.specs.Documents.{executable_bytes, executable_value, service_bytes, service_value};
 ghost use Rattle.graphql_parser_c.specs.Explaining.{IsExplained};
+ghost use Rattle.graphql_report.specs.declared.fronts.Language.TheVariants.{Requests, Schemas};
 ghost use Rattle.graphql_parser_c.specs.Handing.{IsAnswered, places_asked};
 ghost use Rattle.graphql_parser_c.specs.Packing.{IsPacked};
 ghost use Rattle.graphql_parser_c.specs.Telling.{IsBack, IsTold, IsWithin, limits_of};
@@ -259,7 +260,7 @@ pub extern "C" fn graphql_parser_explain_query(
 ) -> Told
     ensures told { IsTold (checked requests) (limits_of selections values types) text.bytes
         result.number result.places }
-    ensures handed { IsExplained (checked requests) (limits_of selections values types) text.bytes
+    ensures handed { IsExplained Requests (checked requests) (limits_of selections values types) text.bytes
         result.number report.new }
     ensures back { IsBack text places result }
 {
@@ -281,7 +282,7 @@ pub extern "C" fn graphql_parser_explain_schema(
 ) -> Told
     ensures told { IsTold (checked schemas) (limits_of selections values types) text.bytes
         result.number result.places }
-    ensures handed { IsExplained (checked schemas) (limits_of selections values types) text.bytes
+    ensures handed { IsExplained Schemas (checked schemas) (limits_of selections values types) text.bytes
         result.number report.new }
     ensures back { IsBack text places result }
 {

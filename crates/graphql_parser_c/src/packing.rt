@@ -18,7 +18,7 @@ impl<D: Document> Handing<D> for Packed {
 
     ghost language = { D.language };
 
-    ghost Hands = { λ _ _. Packs D.bytes };
+    ghost Hands = { λ _ _ _. Packs D.bytes };
 
     fn read(memory: &mut Memory, text: &str, limits: Limits) -> Result<D> {
         D::read(memory, text, limits)

@@ -40,7 +40,7 @@ impl<D: Document> Handing<D> for Json {
 
     ghost language = { D.language };
 
-    ghost Hands = { λ json _ answer made. made.text ≡
+    ghost Hands = { λ json _ _ answer made. made.text ≡
         Some (json_text (answer_value (D.value (places_asked json.with_places)) answer)) };
 
     fn read(memory: &mut Memory, text: &str, limits: Limits) -> Result<D> {

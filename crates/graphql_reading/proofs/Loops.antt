@@ -25,10 +25,10 @@ stays a = (refl, omega arith)
 -- ---- memory was asked for
 
 pub same : (now : Ahead) → Stays now now
-same now = (refl, refl, refl, refl, refl, refl)
+same now = (refl, refl, refl, refl, refl)
 
 pub still : (old now new : Ahead) → Stays old now → Stays now new → Stays old new
-still old now new h k = (k.0 ∙ h.0, k.1 ∙ h.1, k.2 ∙ h.2, k.3 ∙ h.3, k.4 ∙ h.4, k.5 ∙ h.5)
+still old now new h k = (k.0 ∙ h.0, k.1 ∙ h.1, k.2 ∙ h.2, k.3 ∙ h.3, k.4 ∙ h.4)
 
 pub ahead-stays : (now new : Ahead) → Stays now new → tokens new ≡ tokens now
 ahead-stays now new s = ap₂ (λ (t : Token) (ts : List Token). t ∷ ts) s.0 s.1

@@ -82,7 +82,8 @@ impl<'a> Parser<'a> {
     pub fn new(memory: Memory, mut tokens: Tokens<'a>) -> Parser<'a>
         requires { left tokens ≢ [] }
         ensures left { ahead result ≡ left tokens.entry }
-        ensures whole { result.whole ≡ tokens.entry.whole }
+        ensures text { result.source.text ≡ tokens.entry.text }
+        ensures whole { result.source.whole ≡ tokens.entry.whole }
         ensures taken { result.taken ≡ tokens.entry.taken + 1 }
         ensures ends { EndsOnce (left tokens.entry) }
         ensures proper { AreProperButFaults (left tokens.entry) }
@@ -101,7 +102,8 @@ impl<'a> Parser<'a> {
     /// The tokens that are still to come, after the one in hand, and who takes memory.
     pub fn into_parts(self) -> (Tokens<'a>, Memory)
         ensures left { left result.0 ≡ self.entry.after }
-        ensures whole { result.0.whole ≡ self.entry.whole }
+        ensures text { result.0.text ≡ self.entry.source.text }
+        ensures whole { result.0.whole ≡ self.entry.source.whole }
         ensures taken { result.0.taken ≡ self.entry.taken }
         ensures within { result.0.taken ≤ length result.0.whole }
         ensures memory { result.1 ≡ self.entry.memory }
@@ -117,8 +119,7 @@ impl<'a> Parser<'a> {
         requires { is_last self.old.hand.bare.kind ≡ false }
         ensures left { ahead self.new ≡ self.old.after }
         ensures taken { self.new.taken ≡ self.old.taken + 1 }
-        ensures whole { self.new.whole ≡ self.old.whole }
-        ensures text { self.new.text ≡ self.old.text }
+        ensures source { self.new.source ≡ self.old.source }
         ensures memory { self.new.memory ≡ self.old.memory }
         ensures pays { Spares (per_token + length self.old.hand.bare.spelling) self.old self.new }
     {
@@ -135,7 +136,7 @@ impl<'a> Parser<'a> {
     pub fn hand(&self) -> Token<'a>
         ensures token { seen result ≡ self.now.hand }
         ensures proper { is_last self.now.hand.bare.kind ≡ false → IsProper self.now.hand }
-        ensures stands { StandsIn self.now.text (seen result) }
+        ensures stands { StandsIn self.now.source.text (seen result) }
     {
         self.hand
     }
@@ -143,7 +144,7 @@ impl<'a> Parser<'a> {
     /// The name that a token of the text spells. Fails only where it is longer than 22 bytes and memory was refused.
     #[inline(always)]
     pub fn name(&mut self, token: Token) -> Result<Name, AllocError>
-        requires { StandsIn self.old.text (seen token) }
+        requires { StandsIn self.old.source.text (seen token) }
         ensures name { IfOk result (λ name. name ≡ token.entry.text.now) }
         ensures takes { Takes (24 + length token.entry.text.now) self.old.memory self.new.memory }
         ensures refused { OnErr result (Refused self.new.memory) }
@@ -161,7 +162,7 @@ impl<'a> Parser<'a> {
     #[inline(always)]
     pub fn number(&mut self, token: Token) -> Result<Number, AllocError>
         requires number { IsNumber token.text.now }
-        requires stands { StandsIn self.old.text (seen token) }
+        requires stands { StandsIn self.old.source.text (seen token) }
         ensures number { IfOk result (λ number. number ≡ token.entry.text.now) }
         ensures takes { Takes (24 + length token.entry.text.now) self.old.memory self.new.memory }
         ensures refused { OnErr result (Refused self.new.memory) }
@@ -182,10 +183,10 @@ impl<'a> Parser<'a> {
         ensures token { seen result ≡ self.old.hand }
         ensures left { ahead self.new ≡ self.old.after }
         ensures taken { self.new.taken ≡ self.old.taken + 1 }
-        ensures whole { self.new.whole ≡ self.old.whole }
+        ensures source { self.new.source ≡ self.old.source }
         ensures memory { self.new.memory ≡ self.old.memory }
         ensures pays { Spares (per_token + length result.text.now) self.old self.new }
-        ensures stands { StandsIn self.new.text (seen result) }
+        ensures stands { StandsIn self.new.source.text (seen result) }
     {
         let token = self.hand;
         self.advance();
@@ -257,7 +258,7 @@ impl<'a> Parser<'a> {
         ensures saves { Spares 0 self.old self.new }
         ensures pays { IfOk result (λ token. Spares (per_token + length token.text.now) self.old self.new) }
         ensures memory { self.new.memory ≡ self.old.memory }
-        ensures stands { IfOk result (λ token. StandsIn self.new.text (seen token)) }
+        ensures stands { IfOk result (λ token. StandsIn self.new.source.text (seen token)) }
     {
         if !self.is_at_name() {
             return Err(Refusal::Syntax);

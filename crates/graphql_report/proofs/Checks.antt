@@ -18,7 +18,7 @@ use Rattle.graphql_check.proofs.Checking.{checks-read}
 use Rattle.graphql_report.specs.declared.fronts.Language.{Language}
 use Rattle.graphql_report.specs.declared.fronts.Language.TheVariants.{Requests, Schemas}
 use Rattle.graphql_report.specs.fronts.Front.{LastIsLineFeed}
-use Rattle.graphql_report.specs.inner.Expected.{TellsFrontOf, TellsTreeOf}
+use Rattle.graphql_report.specs.reports.Expected.{TellsFrontOf, TellsTreeOf}
 use Rattle.graphql_report.specs.inner.Told.{ReadsAs, TellsFront, TellsTree}
 use Rattle.graphql_report.proofs.ToldFronts.{refused-right, accepted-right, right-of-checked, told-by-check}
 use Rattle.graphql_report.proofs.Trees as trees

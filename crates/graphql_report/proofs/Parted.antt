@@ -37,9 +37,8 @@ use Rattle.graphql_schemas.proofs.SchemaFileProductions as of_schemas
 use Rattle.graphql_report.specs.declared.fronts.Language.{Language}
 use Rattle.graphql_report.specs.declared.fronts.Language.TheVariants.{Requests, Schemas}
 use Rattle.graphql_report.specs.fronts.Front.{LastIsLineFeed, IsFront}
-use Rattle.graphql_report.specs.declared.samples.TheConstants.{NAME_TEXT}
 use Rattle.graphql_report.specs.inner.Parted.{definition_begins, first_passes, BeginsDefinition, IsApart}
-use Rattle.graphql_report.specs.inner.Expected.{TellsFrontOf, TellsTreeOf, HasTree, HasTreeOf, with_sample, Samples, literals, punctuators, keywords, AreTaken, AreExpected}
+use Rattle.graphql_report.specs.reports.Expected.{TellsFrontOf, TellsTreeOf, HasTree, HasTreeOf, with_sample, Samples, name_text, literals, punctuators, keywords, AreTaken, AreExpected}
 use Rattle.graphql_report.proofs.Buffers.{line-feed-utf8, pushed-line-feed}
 use Rattle.graphql_report.proofs.Listed.{AreListed, not-both, rest-has, all-has, rest-extends, all-extends}
 use Rattle.graphql_report.proofs.Joins.{join, first-stays, bares-of}
@@ -310,7 +309,7 @@ expected-names language limits whole part front names utf8 part-utf8 is apart h 
     let same : whole ++ line ≡ front ++ 10 ∷ [] = sym (append_assoc whole part (10 ∷ [])) ∙ ap (λ (l : List ℕ). l ++ 10 ∷ []) (sym is) in
     record {
       has_name = h.has_name;
-      tells_name = subst (λ (l : List ℕ). TellsFrontOf language limits (with_sample l NAME_TEXT.now) h.has_name) same (sample-after language limits whole line NAME_TEXT.now h.has_name facts h.tells_name);
+      tells_name = subst (λ (l : List ℕ). TellsFrontOf language limits (with_sample l name_text) h.has_name) same (sample-after language limits whole line name_text h.has_name facts h.tells_name);
       of_literals = h.of_literals;
       are_literals = subst (λ (l : List ℕ). AreTaken language limits l literals h.of_literals) same (taken-after language limits whole line facts literals h.of_literals h.are_literals);
       of_punctuators = h.of_punctuators;

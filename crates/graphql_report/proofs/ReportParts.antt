@@ -6,10 +6,14 @@ use Rattle.std.specs.Str.{chars, IsUtf8}
 use Rattle.std.proofs.Common.{rules}
 use Rattle.std.proofs.lemmas.Str.{chars-append, chars-IsAscii, IsUtf8-from_ascii}
 use Rattle.graphql_tokens.specs.declared.pos.Pos.{Pos}
+use Rattle.graphql_reading.specs.grammar.Limits.{Limits}
+use Rattle.graphql_report.specs.declared.fronts.Language.{Language}
+use Rattle.graphql_report.specs.declared.rests.ReadFrom.{ReadFrom}
 use Rattle.graphql_report.specs.declared.style.Style.{Style}
-use Rattle.graphql_report.specs.declared.style.Part.TheVariants.{Place}
+use Rattle.graphql_report.specs.declared.style.Part.TheVariants.{Place, Error as Word}
 use Rattle.graphql_tokens.specs.tokens.Place.{place_after}
-use Rattle.graphql_report.specs.reports.Reports.{styled, named, place_text, Tells, TellsLimit, TellsPlaces, IsPlaceIn, IsToldAt}
+use Rattle.graphql_tokens.specs.tokens.Token.{Token}
+use Rattle.graphql_report.specs.reports.Reports.{AreDetails, TellsSyntax, styled, named, place_text, Tells, TellsLimit, TellsPlaces, IsLimitAt, IsPlaceIn, IsToldAt}
 
 pub place-shown : (file : List ℕ) (place : Pos) (shown front : List ℕ) → shown ≡ front ++ (decimal place.line ++ (58 ∷ []) ++ decimal place.column ++ (58 ∷ [])) → front ≡ named file (58 ∷ []) → shown ≡ place_text file place
 place-shown file place shown front e named_front =
@@ -30,10 +34,10 @@ two-parts style file message place second first other remark report (middle, is)
 pub place-in : (text front rest : List ℕ) (place : Pos) → IsUtf8 front → text ≡ front ++ rest → place ≡ place_after (chars front) → IsPlaceIn text place
 place-in text front rest place utf8 e is = (chars front, chars rest, ap chars e ∙ chars-append front rest utf8, is)
 
--- what is told at a place in the text
-pub limit-told : {A E : Type 0} (bytes : A → List ℕ) (result : Result A E) (style : Style) (file text : List ℕ) (place : Pos) → IsPlaceIn text place → IfOk result (λ report. Tells style file place (codes "recursion limit exceeded") (bytes report)) → IfOk result (λ report. TellsLimit style file text (bytes report))
-limit-told bytes (Ok report) style file text place is told = (place, is, told)
-limit-told bytes (Err refused) style file text place is told = tt
+-- what is told at a limit
+pub limit-told : {A E : Type 0} (bytes : A → List ℕ) (result : Result A E) (style : Style) (file text : List ℕ) (is_refused : Token → Type 0) (place : Pos) → IsLimitAt is_refused text place → IfOk result (λ report. Tells style file place (codes "recursion limit exceeded") (bytes report)) → IfOk result (λ report. TellsLimit style file is_refused text (bytes report))
+limit-told bytes (Ok report) style file text is_refused place is told = (place, is, told)
+limit-told bytes (Err refused) style file text is_refused place is told = tt
 
 -- what begins with a backslash
 begun : (back : List ℕ) (c : ℕ) → Some c ≡ slice_get back 0 → c ≡ 92 → (rest : List ℕ) × (back ≡ 92 ∷ rest)
@@ -45,3 +49,13 @@ escape-in front back c start place utf8 first is at =
     let b = begun back c first is in
     let after : chars back ≡ 92 ∷ chars b.0 = ap chars b.1 ∙ chars-append (92 ∷ []) b.0 (IsUtf8-from_ascii (92 ∷ []) (search rules)) ∙ ap (λ (l : List ℕ). l ++ chars b.0) (chars-IsAscii (92 ∷ []) (search rules)) in
     inr (chars front, chars b.0, chars-append front back utf8 ∙ ap (λ (l : List ℕ). chars front ++ l) after, at)
+
+-- a message that goes on
+pub go-on : (front message more rest : List ℕ) → (front ++ message) ++ (more ++ rest) ≡ (front ++ (message ++ more)) ++ rest
+go-on front message more rest = sym (append_assoc (front ++ message) more rest) ∙ ap (λ (l : List ℕ). l ++ rest) (append_assoc front message more)
+
+-- what is told of a refused token
+pub syntax-told : {A E : Type 0} (bytes : A → List ℕ) (result : Result A E) (style : Style) (file : List ℕ) (is_refused : Token → Type 0) (language : Language) (limits : Limits) (text : List ℕ) (from : ReadFrom) (start place : Pos) (details message : List ℕ) → IsToldAt text start place → AreDetails is_refused language limits text from details
+    → message ≡ (codes "syntax " ++ styled style Word (codes "error") ++ codes ": ") ++ details → IfOk result (λ report. Tells style file place message (bytes report)) → IfOk result (λ report. TellsSyntax style file is_refused language limits text from start (bytes report))
+syntax-told bytes (Ok report) style file is_refused language limits text from start place details message at are is (rest, e) = (place, details, at, are, (rest, e ∙ ap (λ (l : List ℕ). styled style Place (place_text file place) ++ codes " " ++ l ++ rest) is))
+syntax-told bytes (Err refused) style file is_refused language limits text from start place details message at are is told = tt

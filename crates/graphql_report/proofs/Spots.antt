@@ -46,16 +46,7 @@ columns-first : (start here whole n : ℕ) → Columns start here whole n → st
 columns-first start here whole n (inl s) e = omega (arith, s.0, s.1, e)
 columns-first start here whole n (inr s) e = s.1
 
--- where a line begins after the front: a place in the whole, told in what follows
-pub to-rest : (front here : List ℕ) (first less line : ℕ) (place : Pos) → ◌≡◌ {A = Pos} (place_after front) (record { line = first; column = 1 }) → place ≡ place_after (front ++ here)
-    → less ≡ first - 1 → line ≡ place.line - less → ◌≡◌ {A = Pos} (record { line = line; column = place.column }) (place_after here)
-to-rest front here first less line place begins is fewer e =
-    let s = spot front here in
-    let at : (place_after front).line ≡ first = ap (λ (p : Pos). p.line) begins in
-    let told : place.line ≡ (place_after (front ++ here)).line = ap (λ (p : Pos). p.line) is in
-    same (place_after here) line place.column (omega (arith, s.0, at, told, fewer, e)) (ap (λ (p : Pos). p.column) is ∙ columns-first (place_after front).column (place_after here).column (place_after (front ++ here)).column (length here) s.1 (ap (λ (p : Pos). p.column) begins))
-
--- the other way round
+-- where a line begins after the front: a place in what follows, told in the whole
 pub to-text : (front here : List ℕ) (first less line : ℕ) (place : Pos) → ◌≡◌ {A = Pos} (place_after front) (record { line = first; column = 1 }) → length (front ++ here) + 1 < 2 ^ 64 → place ≡ place_after here
     → less ≡ first - 1 → line ≡ min (place.line + less) (2 ^ 64 - 1) → ◌≡◌ {A = Pos} (record { line = line; column = place.column }) (place_after (front ++ here))
 to-text front here first less line place begins few is fewer e =

@@ -10,7 +10,7 @@ use Rattle.graphql_grammar.specs.answers.Answers.{Answers, ErrorMeans}
 use Rattle.graphql_grammar.specs.answers.Language.{Language, grammar}
 use Rattle.graphql_grammar.specs.declared.error.Error.{Error}
 use Rattle.graphql_grammar.specs.declared.error.Error.TheVariants.{Syntax, MultipleRoots, MissingQueryRoot, MultipleOperations, OperationDuplicated, FragmentDuplicated, MissingOperation, RecursionLimitExceeded, OutOfMemory}
-use Rattle.graphql_report.specs.inner.Expected.{HasTree}
+use Rattle.graphql_report.specs.reports.Expected.{HasTree}
 use Rattle.graphql_report.specs.inner.Told.{TellsTree}
 
 has : {D Document : Type 0} (language : Language D Document) (limits : Limits) (ts : List Token) (ds : List D) → grammar language Current limits ts ds → (b : Bool) → b ≡ true → IsTrue b ↔ HasTree language limits ts

@@ -1,4 +1,5 @@
 -- Inner: what private clauses cite.
 pub mod Told
-pub mod Expected
 pub mod Parted
+pub mod Strings
+pub mod Escapes

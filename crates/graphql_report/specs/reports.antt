@@ -1,4 +1,8 @@
--- Public: how a report begins, and which places it tells; where a finding stands, and where the reading of a text began.
+-- Public: how a report begins, and which places it tells; where a finding stands; where the reading of a text began, and the
+-- token at which it is refused; how that token is named, and what is expected in its place.
 pub mod Reports
 pub mod Findings
 pub mod Rests
+pub mod Refused
+pub mod Words
+pub mod Expected

@@ -1,4 +1,8 @@
 //! The line of a place, with a caret under it.
+ghost use Rattle.std.specs.Prelude.{◌≡◌};
+ghost use Rattle.graphql_tokens.specs.tokens.Place.{is_line_end as ends_line};
+ghost use Rattle.graphql_report.specs.reports.Words.{shown_for, turns_text as turns_its_text};
+
 use crate::refused::{after, before};
 use crate::style::{Part, Style};
 use std::alloc::{AllocError, Global};
@@ -12,13 +16,17 @@ const COLUMNS_AFTER: usize = 48;
 // What stands where a line is cut.
 const CUT: &str = "...";
 
-// Whether a line ends with the character.
-fn is_line_end(c: char) -> bool {
+/// Whether a line ends with the character.
+pub fn is_line_end(c: char) -> bool
+    ensures { result ≡ ends_line c }
+{
     c == '\n' || c == '\r'
 }
 
 // Whether a terminal takes the character as an order to write the other way round.
-fn turns_text(c: char) -> bool {
+fn turns_text(c: char) -> bool
+    ensures { result ≡ turns_its_text c }
+{
     matches!(c, '\u{61c}' | '\u{200e}' | '\u{200f}')
         || ('\u{202a}'..='\u{202e}').contains(&c)
         || ('\u{2066}'..='\u{2069}').contains(&c)
@@ -26,7 +34,9 @@ fn turns_text(c: char) -> bool {
 
 /// What is shown for a character: a control character other than a tab would upset a terminal, as would one that turns
 /// the direction of the text.
-pub fn shown(c: char) -> char {
+pub fn shown(c: char) -> char
+    ensures { result ≡ shown_for c }
+{
     if c.is_control() && c != '\t' || turns_text(c) {
         char::REPLACEMENT_CHARACTER
     } else {

@@ -2,7 +2,7 @@
 ghost use Rattle.std.specs.Prelude.{◌≡◌, [], ◌∷◌, ◌++◌, IfOk, OnOk, string_bytes};
 ghost use Rattle.std.specs.Str.{chars};
 ghost use Rattle.graphql_tokens.specs.tokens.Place.{place_after};
-ghost use Rattle.graphql_report.specs.inner.Expected.{AreExpected, AreTaken, samples_of, texts, value_names};
+ghost use Rattle.graphql_report.specs.reports.Expected.{AreExpected, NamesAll, NamesOnly, AreTaken, samples_of, texts, value_names};
 
 use crate::apart::{is_apart, last_definition};
 use crate::fronts::{Language, end_of, is_whole};
@@ -38,6 +38,8 @@ fn taken(
 
 /// What is expected after a front: each sample such that some document within the limits begins with the front and the
 /// sample, and the end of the text where the front is a whole document. Keywords are left out where a plain name is expected.
+/// If the front has no fault, each token that can stand on the line after it is called by one of the names, and each name is
+/// that of such a token, or of the end.
 ///
 /// Where the last definition that has begun stands on a line of its own, the samples are tried after that definition
 /// alone, and one check sees that those before it are whole.
@@ -47,7 +49,9 @@ pub fn expected_after(
     front: &str,
     limits: Limits,
 ) -> Result<Vec<&'static str>, AllocError>
-    ensures { IfOk result (λ names. AreExpected language limits front.now (texts names.items)) }
+    ensures samples { IfOk result (λ names. AreExpected language limits front.now (texts names.items)) }
+    ensures all { IfOk result (λ names. NamesAll language limits front.now (texts names.items)) }
+    ensures only { IfOk result (λ names. NamesOnly language limits front.now (texts names.items)) }
 {
     let (whole, part) = last_definition(language, front);
     expected_after_parts(alloc, language, front, whole, part, limits)

@@ -1,6 +1,12 @@
 //! What is wrong where no token begins, in a person's words.
-use crate::excerpt::{push_shown, shown};
-use crate::refused::before;
+ghost use Rattle.std.specs.Prelude.{◌≡◌, ◌≤◌, ◌==◌, ℕ, List, [], ◌∷◌, ◌++◌, length, take, IfOk, IfSome, IfNone, unwrap_or};
+ghost use Rattle.std.specs.Str.{chars, IsUtf8, NonePass};
+ghost use Rattle.graphql_tokens.specs.tokens.Strings.{is_plain as is_plain_char};
+ghost use Rattle.graphql_report.specs.inner.Strings.{IsSplit, HasNoUnit, Passes, TellsAhead};
+ghost use Rattle.graphql_report.specs.inner.Escapes.{TellsEscape};
+
+use crate::excerpt::{is_line_end, push_shown, shown};
+use crate::refused::{after, before};
 use graphql_parser::text::string_value;
 use std::alloc::{AllocError, Global};
 
@@ -16,17 +22,26 @@ pub struct Fault {
 /// Says why no token begins with this text, which is not empty, where a value could stand or could not.
 ///
 /// What is told first is told: of a string the first bad escape, or else that it is not closed.
-pub fn fault_of(alloc: Global, text: &str, is_value: bool) -> Result<Fault, AllocError> {
-    let message = match text.chars().next() {
-        Some('"') => return string_fault(alloc, text),
-        Some('.') => String::from_str(alloc, dots_fault(text, is_value))?,
-        Some('-') if !is_value => String::from_str(alloc, "no name contains a minus sign")?,
-        Some('+') if is_value => String::from_str(alloc, "a number has no plus sign")?,
-        Some(c) if c == '-' || c.is_ascii_digit() => number_fault(alloc, text)?,
-        Some(c) => character_fault(alloc, c)?,
-        None => String::from_str(alloc, "no token begins here")?,
-    };
+pub fn fault_of(alloc: Global, text: &str, is_value: bool) -> Result<Fault, AllocError>
+    ensures { IfOk result (λ fault. TellsEscape (chars text.now) fault.offset) }
+{
+    if text.starts_with('"') {
+        return string_fault(alloc, text);
+    }
+    let message = other_fault(alloc, text, is_value)?;
     Ok(Fault { message, offset: 0 })
+}
+
+// What is wrong with a text that is no string.
+fn other_fault(alloc: Global, text: &str, is_value: bool) -> Result<String, AllocError> {
+    match text.chars().next() {
+        Some('.') => String::from_str(alloc, dots_fault(text, is_value)),
+        Some('-') if !is_value => String::from_str(alloc, "no name contains a minus sign"),
+        Some('+') if is_value => String::from_str(alloc, "a number has no plus sign"),
+        Some(c) if c == '-' || c.is_ascii_digit() => number_fault(alloc, text),
+        Some(c) => character_fault(alloc, c),
+        None => String::from_str(alloc, "no token begins here"),
+    }
 }
 
 fn dots_fault(text: &str, is_value: bool) -> &'static str {
@@ -113,51 +128,115 @@ fn number_fault(alloc: Global, text: &str) -> Result<String, AllocError> {
 // How many characters an escape may have, but for those in braces.
 const ESCAPE_LENGTHS: [usize; 3] = [2, 6, 12];
 
-// The first characters of a text.
-fn first_chars(text: &str, count: usize) -> &str {
-    match text.char_indices().nth(count) {
-        Some((offset, _)) => before(text, offset),
-        None => text,
+// What is ahead in a string.
+#[derive(Drop)]
+enum Ahead<'a> {
+    // A part of its content, and this after it.
+    Content(&'a str),
+    BadEscape,
+    // The end of the string or of its line.
+    End,
+}
+
+// Whether a character of a string stands for itself.
+fn is_plain(c: char) -> bool
+    ensures { result ≡ is_plain_char c }
+{
+    !(c == '"' || c == '\\' || c == '\n' || c == '\r')
+}
+
+// The first characters of a text, and the rest.
+fn split_chars(text: &str, count: usize) -> (&str, &str)
+    ensures split { IsSplit text.now result.0.now result.1.now }
+    ensures first { chars result.0.now ≡ take count (chars text.now) }
+    ensures utf8 { IsUtf8 result.1.now }
+{
+    let mut rest = text.chars();
+    for _ in 0..count {
+        rest.next();
+    }
+    text.split_at(text.len() - rest.as_str().len())
+}
+
+// The text up to the first closing brace, that one included, and the rest.
+fn split_at_brace(text: &str) -> (&str, &str)
+    ensures split { IsSplit text.now result.0.now result.1.now }
+    ensures brace { (front after : List ℕ) → NonePass (λ c. c == 125) front →
+        chars text.now ≡ front ++ 125 ∷ after → chars result.0.now ≡ front ++ 125 ∷ [] }
+    ensures some { 1 ≤ length (chars text.now) → 1 ≤ length (chars result.0.now) }
+    ensures utf8 { IsUtf8 result.1.now }
+{
+    match text.find('}') {
+        Some(at) => text.split_at(at + 1),
+        None => (text, ""),
     }
 }
 
-// The rest of a text after this front of it.
-fn without<'a>(text: &'a str, front: &str) -> &'a str {
-    text.strip_prefix(front).unwrap_or("")
-}
-
-// The escape at the front of a text, if there is a good one.
-fn good_escape<'a>(alloc: Global, text: &'a str) -> Result<Option<&'a str>, AllocError> {
+// The rest of a text after the good escape with which it begins, if there is one.
+fn after_escape<'a>(alloc: Global, text: &'a str) -> Result<Option<&'a str>, AllocError>
+    requires { (after : List ℕ) × (chars text.now ≡ 92 ∷ after) }
+    ensures some { IfOk result (λ found. IfSome found (λ rest. IsUtf8 rest.now × Passes (chars text.now) (chars rest.now))) }
+    ensures none { IfOk result (λ found. IfNone found (HasNoUnit (chars text.now))) }
+{
     for length in ESCAPE_LENGTHS {
-        let escape = first_chars(text, length);
+        let (escape, rest) = split_chars(text, length);
         if string_value(alloc, escape)?.is_some() {
-            return Ok(Some(escape));
+            return Ok(Some(rest));
         }
     }
-    let in_braces = through_brace(text);
-    let is_good = string_value(alloc, in_braces)?.is_some();
-    Ok(if is_good { Some(in_braces) } else { None })
+    let (escape, rest) = split_at_brace(text);
+    if string_value(alloc, escape)?.is_some() {
+        return Ok(Some(rest));
+    }
+    Ok(None)
 }
 
-// The text up to the first closing brace, that one included.
-fn through_brace(text: &str) -> &str {
-    match text.split_once('}') {
-        Some((front, _)) => before(text, front.len().saturating_add(1)),
-        None => text,
+// What is ahead where a text begins with a backslash.
+fn escape_ahead<'a>(alloc: Global, text: &'a str) -> Result<Ahead<'a>, AllocError>
+    requires { (after : List ℕ) × (chars text.now ≡ 92 ∷ after) }
+    ensures { IfOk result (λ ahead. TellsAhead (chars text.now) ahead) }
+{
+    let (_, after) = split_chars(text, 1);
+    let Some(next) = after.chars().next() else {
+        return Ok(Ahead::End);
+    };
+    if is_line_end(next) {
+        return Ok(Ahead::End);
     }
+    match after_escape(alloc, text)? {
+        Some(rest) => Ok(Ahead::Content(rest)),
+        None => Ok(Ahead::BadEscape),
+    }
+}
+
+// What is ahead where a string's rest is this.
+fn ahead_in<'a>(alloc: Global, text: &'a str) -> Result<Ahead<'a>, AllocError>
+    ensures { IfOk result (λ ahead. TellsAhead (chars text.now) ahead) }
+{
+    let mut rest = text.chars();
+    let Some(c) = rest.next() else {
+        return Ok(Ahead::End);
+    };
+    if c == '\\' {
+        return escape_ahead(alloc, text);
+    }
+    if is_plain(c) {
+        return Ok(Ahead::Content(rest.as_str()));
+    }
+    Ok(Ahead::End)
 }
 
 // What is shown of a bad escape.
 fn shown_escape(text: &str) -> &str {
     if text.starts_with("\\u{") {
-        first_chars(through_brace(text), 12)
+        split_chars(split_at_brace(text).0, 12).0
     } else if text.starts_with("\\u") {
-        let digits = without(text, "\\u");
+        let digits = text.strip_prefix("\\u").unwrap_or("");
         let rest = digits.trim_start_matches(|c: char| c.is_ascii_hexdigit());
         let length = digits.len().saturating_sub(rest.len()).min(4);
         before(text, length.saturating_add(2))
     } else {
-        first_chars(text, 2)
+        split_chars(text, 2).0
     }
 }
 
@@ -168,39 +247,36 @@ fn escape_fault(alloc: Global, escape: &str) -> Result<String, AllocError> {
     Ok(message)
 }
 
-fn string_fault(alloc: Global, text: &str) -> Result<Fault, AllocError> {
-    if text.starts_with("\"\"\"") {
-        let message = String::from_str(alloc, "this block string is not closed by \"\"\"")?;
-        return Ok(Fault { message, offset: 0 });
-    }
-    if let Some(bad) = bad_escape(alloc, text)? {
-        let message = escape_fault(alloc, shown_escape(bad))?;
-        let offset = text.len().saturating_sub(bad.len());
-        return Ok(Fault { message, offset });
-    }
-    let message = String::from_str(
-        alloc,
-        "this string is not closed before the end of its line",
-    )?;
-    Ok(Fault { message, offset: 0 })
-}
-
-// The text from the first bad escape of a string on, if the string has one before it or its line ends.
-fn bad_escape<'a>(alloc: Global, text: &'a str) -> Result<Option<&'a str>, AllocError> {
-    let mut rest = without(text, "\"");
-    for _ in 0..text.len() {
-        let unit = first_chars(rest, 1);
-        match unit {
-            "" | "\n" | "\r" | "\"" => return Ok(None),
-            "\\" => match first_chars(without(rest, "\\"), 1) {
-                "" | "\n" | "\r" => return Ok(None),
-                _ => match good_escape(alloc, rest)? {
-                    Some(escape) => rest = without(rest, escape),
-                    None => return Ok(Some(rest)),
-                },
-            },
-            _ => rest = without(rest, unit),
+// Where the first bad escape of a string begins, if the string has one before it or its line ends.
+fn bad_escape(alloc: Global, text: &str) -> Result<Option<usize>, AllocError>
+    ensures { IfOk result (λ found. TellsEscape (chars text.now) (unwrap_or found 0)) }
+{
+    let Some(mut rest) = text.strip_prefix('"') else {
+        return Ok(None);
+    };
+    loop {
+        match ahead_in(alloc, rest)? {
+            Ahead::Content(after) => rest = after,
+            Ahead::BadEscape => return Ok(Some(text.len() - rest.len())),
+            Ahead::End => return Ok(None),
         }
     }
-    Ok(None)
+}
+
+fn string_fault(alloc: Global, text: &str) -> Result<Fault, AllocError>
+    ensures { IfOk result (λ fault. TellsEscape (chars text.now) fault.offset) }
+{
+    if let Some(offset) = bad_escape(alloc, text)? {
+        let message = escape_fault(alloc, shown_escape(after(text, offset)))?;
+        return Ok(Fault { message, offset });
+    }
+    let message = if text.starts_with("\"\"\"") {
+        "this block string is not closed by \"\"\""
+    } else {
+        "this string is not closed before the end of its line"
+    };
+    Ok(Fault {
+        message: String::from_str(alloc, message)?,
+        offset: 0,
+    })
 }

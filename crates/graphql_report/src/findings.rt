@@ -1,11 +1,13 @@
 //! What is wrong with a text, in parts: for those who show it in a way of their own.
-ghost use Rattle.std.specs.Prelude.{◌≡◌, ◌++◌, ℕ, List, [], Some, IfOk, MatchOption};
-ghost use Rattle.graphql_grammar.specs.errors.Errors.{error_places};
-ghost use Rattle.graphql_report.specs.reports.Findings.{StandsAt, first_of};
-ghost use Rattle.std.specs.Str.{chars};
-ghost use Rattle.graphql_tokens.specs.tokens.Place.{place_after};
-ghost use Rattle.graphql_report.specs.reports.Reports.{IsToldAt, IsPlaceIn};
-ghost use Rattle.graphql_report.specs.reports.Rests.{AreCounted, BeginsAt};
+ghost use Rattle.std.specs.Prelude.{◌≡◌, ◌++◌, ℕ, List, [], Option, None, IfOk, MatchOption, String, string_bytes};
+ghost use Rattle.graphql_grammar.specs.declared.error.Error.TheVariants.{Syntax, RecursionLimitExceeded};
+ghost use Rattle.graphql_report.specs.reports.Findings.{IsFinding, status_of as status_text};
+ghost use Rattle.graphql_report.specs.inner.Told.{TellsBreach};
+ghost use Rattle.std.specs.Str.{IsCharBoundary, chars};
+ghost use Rattle.graphql_tokens.specs.tokens.Place.{place, place_after};
+ghost use Rattle.graphql_report.specs.reports.Refused.{IsKnown, IsRefusedFrom};
+ghost use Rattle.graphql_report.specs.reports.Reports.{IsPlaceIn};
+ghost use Rattle.graphql_report.specs.reports.Rests.{AreCounted, BeginsAt, top};
 
 use crate::fronts::{Language, end_of};
 use crate::refused::{before, reached_limit, split};
@@ -39,7 +41,8 @@ pub fn finding_of(
     limits: Limits,
     error: &Error,
 ) -> Result<Finding, AllocError>
-    ensures { IfOk result (λ finding. StandsAt text.now error.now finding.place) }
+    ensures { IfOk result (IsFinding (IsRefusedFrom language limits text.now top) language limits text.now
+        top error.now) }
 {
     let read = ReadUpTo::refused(alloc, language, text, limits, error)?;
     finding_from(alloc, language, text, &read, limits, error)
@@ -58,13 +61,14 @@ pub fn finding_from(
     error: &Error,
 ) -> Result<Finding, AllocError>
     requires { BeginsAt text.now read.now.from }
-    ensures { IfOk result (λ finding. StandsAt text.now error.now finding.place) }
+    ensures { IfOk result (IsFinding (IsKnown language limits text.now read.now) language limits text.now
+        read.now.from error.now) }
 {
     match error {
         Error::Syntax { start, .. } => {
-            syntax_finding(alloc, language, text, read, limits, error, *start)
+            syntax_finding(alloc, language, text, read, limits, *start)
         }
-        Error::RecursionLimitExceeded => limit_finding(alloc, language, text, read, limits, error),
+        Error::RecursionLimitExceeded => limit_finding(alloc, language, text, read, limits),
         Error::MultipleRoots { .. }
         | Error::MissingQueryRoot { .. }
         | Error::MultipleOperations { .. }
@@ -82,21 +86,26 @@ fn syntax_finding(
     text: &str,
     read: &ReadUpTo<'_>,
     limits: Limits,
-    error: &Error,
     start: Pos,
 ) -> Result<Finding, AllocError>
-    ensures { IfOk result (λ finding. (place : Pos) × (finding.place ≡ Some place) ×
-        IsToldAt text.now start place) }
+    requires { BeginsAt text.now read.now.from }
+    ensures { IfOk result (λ finding. (message : String Global) (stop : Option Pos) →
+        IsFinding (IsKnown language limits text.now read.now) language limits text.now read.now.from
+        (Syntax message start stop) finding) }
 {
     let details = details_of(alloc, language, text, read, limits)?;
     let (front, back) = split(text, details.offset);
     let place = place_told(front, back, start, details.is_inside);
+    let end = match read.token {
+        Some(token) => end_of_token(&token),
+        None => None,
+    };
     let mut message = String::from_str(alloc, "syntax error: ")?;
     message.push_str(details.message.as_str())?;
     Ok(Finding {
         place: Some(place),
-        end: read.token.and_then(|token| end_of_token(&token)),
-        status: status_of(error),
+        end,
+        status: "SYNTAX",
         message,
     })
 }
@@ -108,12 +117,12 @@ fn limit_finding(
     text: &str,
     read: &ReadUpTo<'_>,
     limits: Limits,
-    error: &Error,
 ) -> Result<Finding, AllocError>
-    ensures { IfOk result (λ finding. (place : Pos) × (finding.place ≡ Some place) ×
-        IsPlaceIn text.now place) }
+    requires { BeginsAt text.now read.now.from }
+    ensures { IfOk result (IsFinding (IsKnown language limits text.now read.now) language limits text.now
+        read.now.from RecursionLimitExceeded) }
 {
-    let status = status_of(error);
+    let status = "RECURSION_LIMIT_EXCEEDED";
     let Some(token) = read.token else {
         return Ok(Finding {
             place: Some(place_of(text, text.len())),
@@ -135,7 +144,7 @@ fn limit_finding(
 
 // A tree that breaks a rule, or memory that was refused.
 fn breach_finding(alloc: Global, error: &Error) -> Result<Finding, AllocError>
-    ensures { IfOk result (λ finding. finding.place ≡ first_of (error_places error.now)) }
+    ensures { IfOk result (TellsBreach error.now) }
 {
     let place = error.positions().next();
     let mut message = format!(in alloc; "{error}")?;
@@ -150,7 +159,8 @@ fn breach_finding(alloc: Global, error: &Error) -> Result<Finding, AllocError>
 
 // Where the text stands from this offset on.
 fn place_of(text: &str, offset: usize) -> Pos
-    ensures { IsPlaceIn text.now result }
+    ensures inside { IsPlaceIn text.now result }
+    ensures place { IsCharBoundary text.now offset → result ≡ place text.now offset }
 {
     end_of(before(text, offset))
 }
@@ -181,7 +191,9 @@ fn end_of_token(token: &Token<'_>) -> Option<Pos>
 }
 
 // The name of the status that the error has in C.
-fn status_of(error: &Error) -> &'static str {
+fn status_of(error: &Error) -> &'static str
+    ensures { result.now ≡ status_text error.now }
+{
     match error {
         Error::OutOfMemory => "OUT_OF_MEMORY",
         Error::Syntax { .. } => "SYNTAX",

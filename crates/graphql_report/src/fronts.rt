@@ -5,7 +5,7 @@ ghost use Rattle.graphql_tokens.specs.tokens.Cuts.{IsCutInto};
 ghost use Rattle.graphql_tokens.specs.tokens.Place.{place_after};
 ghost use Rattle.graphql_tokens.specs.tokens.Token.{Token as SpecToken};
 ghost use Rattle.graphql_report.specs.fronts.Front.{LastIsLineFeed, IsFrontOf};
-ghost use Rattle.graphql_report.specs.inner.Expected.{TellsTreeOf};
+ghost use Rattle.graphql_report.specs.reports.Expected.{TellsTreeOf};
 ghost use Rattle.graphql_report.specs.inner.Told.{ReadsAs, TellsFront, TellsTree};
 
 use graphql_parser::pos::PositionCalculator;

@@ -1,4 +1,12 @@
 //! What was meant, as far as that can be guessed from the refused token and from what was expected.
+ghost use Rattle.std.specs.Prelude.{◌≡◌, OnOk, string_bytes};
+ghost use Rattle.std.specs.List.{list_any};
+ghost use Rattle.std.specs.Str.{bytes_eq};
+ghost use Rattle.graphql_tokens.specs.tokens.Seen.{seen};
+ghost use Rattle.graphql_report.specs.reports.Expected.{texts};
+ghost use Rattle.graphql_report.specs.inner.Told.{GoesOn};
+ghost use Rattle.graphql_report.specs.reports.Words.{is_no_enum_value as is_no_value};
+
 use crate::fronts::Language;
 use crate::refused::after;
 use crate::samples::{END, LOCATION, NAME};
@@ -60,7 +68,9 @@ pub fn push_hint(
     text: &str,
     token: &Token<'_>,
     expected: &[&'static str],
-) -> Result<(), AllocError> {
+) -> Result<(), AllocError>
+    ensures { OnOk result (GoesOn (string_bytes out.old) (string_bytes out.new)) }
+{
     if is_of_other_language(language, token, expected) {
         return push_other_language(out, language, token);
     }
@@ -81,7 +91,9 @@ pub fn push_hint(
 }
 
 /// Adds that a block string isn't closed, which probably begins at this place.
-pub fn push_unclosed(out: &mut String, place: Pos) -> Result<(), AllocError> {
+pub fn push_unclosed(out: &mut String, place: Pos) -> Result<(), AllocError>
+    ensures { OnOk result (GoesOn (string_bytes out.old) (string_bytes out.new)) }
+{
     write!(
         out,
         " (the block string that begins at {place} is probably not closed)"
@@ -92,7 +104,9 @@ fn push_other_language(
     out: &mut String,
     language: Language,
     token: &Token<'_>,
-) -> Result<(), AllocError> {
+) -> Result<(), AllocError>
+    ensures { OnOk result (GoesOn (string_bytes out.old) (string_bytes out.new)) }
+{
     let word = token.text;
     match language {
         Language::Requests if !token.kind.is_name() => out.push_str(
@@ -109,7 +123,9 @@ fn push_other_language(
     }
 }
 
-fn expects(expected: &[&'static str], name: &str) -> bool {
+fn expects(expected: &[&'static str], name: &str) -> bool
+    ensures { result ≡ list_any (λ other. bytes_eq other name.now) (texts expected.now) }
+{
     expected.contains(&name)
 }
 
@@ -133,7 +149,9 @@ fn is_of_other_language(language: Language, token: &Token<'_>, expected: &[&'sta
 
 /// Whether one of the three names that are no enum values stands where a value of an enum could: they stand wherever else a
 /// name of a schema file may.
-pub fn is_no_enum_value(language: Language, token: &Token<'_>, expected: &[&'static str]) -> bool {
+pub fn is_no_enum_value(language: Language, token: &Token<'_>, expected: &[&'static str]) -> bool
+    ensures { result ≡ is_no_value language (seen token.now).bare.spelling (texts expected.now) }
+{
     language == Language::Schemas
         && matches!(token.text, "true" | "false" | "null")
         && expects(expected, NAME)
@@ -154,7 +172,9 @@ fn push_guess(
     out: &mut String,
     token: &Token<'_>,
     expected: &[&'static str],
-) -> Result<(), AllocError> {
+) -> Result<(), AllocError>
+    ensures { OnOk result (GoesOn (string_bytes out.old) (string_bytes out.new)) }
+{
     if token.text.len() > LONGEST_WORD {
         return Ok(());
     }
@@ -176,7 +196,9 @@ fn push_guess(
 }
 
 // A guess, if there is one.
-fn push_meant(out: &mut String, word: &str) -> Result<(), AllocError> {
+fn push_meant(out: &mut String, word: &str) -> Result<(), AllocError>
+    ensures { OnOk result (GoesOn (string_bytes out.old) (string_bytes out.new)) }
+{
     if word.is_empty() {
         return Ok(());
     }

@@ -12,16 +12,18 @@
 //! after it, is a viable front, and one check of these tells that ([`is_front`]). So a report of a refused text costs some
 //! twenty checks, or some forty where no name can stand there; each is linear, and one copy of the text is kept at a time.
 //! Where the last definition before the refused token begins a line, and one check more finds that those before it are whole,
-//! only the text from that line on is checked; else all of the text before the refused token. Of an error that names a place
-//! the refused token is found by that; at a limit it takes one check more, or some twenty where the limits aren't the default
-//! ones. A caller that read a text from a later line on says so, and what stands before isn't checked again: it has the refused
-//! token from [`refused_token_from`], and hands it on with what it knows ([`ReadUpTo`], [`explain_from`], [`finding_from`]).
+//! only the text from that line on is checked; else all of the text before the refused token. One check of the text more finds
+//! that token. A caller that read a text from a later line on says so, and what stands before isn't checked again: it has the
+//! refused token from [`refused_token_from`], and hands it on with what it knows ([`ReadUpTo`], [`explain_from`],
+//! [`finding_from`]).
 //!
 //! Proved of it, unless memory runs out: `is_front` answers true exactly where the tokens of a text are a viable front, in
-//! both languages and at all limits; what is expected is exactly those of the samples, in their order, that can stand
+//! both languages and at all limits; the token that is given is the one at which the text is refused; what is expected is exactly those of the samples, in their order, that can stand
 //! after the text before the refused token, a keyword only where a name can't, and the end of the text where that text is a
-//! whole document; a report begins with the place of the error and its message, and a finding stands at that place; and
-//! every call is safe and ends. What a report says in words besides is tested, in `conformance`.
+//! whole document; where that text has no fault, every token that can stand after it is called by one of the names that are
+//! told, and every name by which no end is meant is that of such a token; a report begins with the place of the error and
+//! its message, and a finding stands at that place; and every call is safe and ends. What a report says in words besides is
+//! tested, in `conformance`.
 #![tactic(auto)]
 
 mod apart;
@@ -38,6 +40,7 @@ mod report;
 mod rests;
 mod samples;
 mod style;
+mod words;
 
 pub use findings::{Finding, finding_from, finding_of};
 pub use fronts::{Language, is_front};

@@ -2,7 +2,7 @@
 ghost use Rattle.std.specs.Prelude.{◌≡◌, [], ◌∷◌, ◌++◌, IfOk, OnOk, string_bytes};
 ghost use Rattle.std.specs.Str.{chars};
 ghost use Rattle.graphql_tokens.specs.tokens.Place.{place_after};
-ghost use Rattle.graphql_report.specs.inner.Expected.{TellsFrontOf, with_sample};
+ghost use Rattle.graphql_report.specs.reports.Expected.{TellsFrontOf, with_sample};
 
 use crate::fronts::{Language, end_of, is_front_to};
 use graphql_parser::{Limits, Pos};

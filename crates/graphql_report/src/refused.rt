@@ -1,18 +1,26 @@
 //! Where a text is refused, and by which limit.
-ghost use Rattle.std.specs.Prelude.{◌≡◌, ℕ, List, ◌++◌};
-ghost use Rattle.graphql_report.specs.reports.Rests.{BeginsAt};
+ghost use Rattle.std.specs.Prelude.{◌≡◌, ◌≢◌, ◌↔◌, ℕ, suc, IsTrue, IfOk, List, [], ◌∷◌, ◌++◌, length, take, drop, Err};
+ghost use Rattle.std.specs.Str.{IsCharBoundary};
+ghost use Rattle.graphql_tokens.specs.tokens.Cuts.{IsCutInto};
+ghost use Rattle.graphql_tokens.specs.tokens.Token.{Token as SpecToken, left};
+ghost use Rattle.graphql_grammar.specs.declared.error.Error.TheVariants.{OutOfMemory, RecursionLimitExceeded};
+ghost use Rattle.graphql_report.specs.inner.Told.{ReadsTo};
+ghost use Rattle.graphql_report.specs.reports.Refused.{IsOfAToken, IsItsToken};
+ghost use Rattle.graphql_report.specs.reports.Rests.{BeginsAt, top};
 
-use crate::fronts::{Language, end_of, is_front};
+use crate::fronts::{Language, end_of};
 use crate::probes::{line_of, takes};
 use crate::rests::{ReadFrom, read_before};
 use crate::samples::NUMBER_TEXT;
-use graphql_parser::lexer::{Token, Tokens};
-use graphql_parser::{Error, Limits, Pos, check_query_from, check_schema_from};
+use graphql_parser::lexer::Token;
+use graphql_parser::{Error, Limits, Memory, check_query_to, check_schema_to};
 use std::alloc::{AllocError, Global};
 
 /// The parts of `text` before this offset and from it on; the whole text and nothing where the offset is none of its.
 pub fn split(text: &str, offset: usize) -> (&str, &str)
-    ensures { text.now ≡ result.0.now ++ result.1.now }
+    ensures whole { text.now ≡ result.0.now ++ result.1.now }
+    ensures back { IsCharBoundary text.now offset → result.1.now ≡ drop offset text.now }
+    ensures front { IsCharBoundary text.now offset → result.0.now ≡ take offset text.now }
 {
     match text.split_at_checked(offset) {
         Some(parts) => parts,
@@ -22,33 +30,42 @@ pub fn split(text: &str, offset: usize) -> (&str, &str)
 
 /// The part of `text` before this offset; the whole text where the offset is none of its.
 pub fn before(text: &str, offset: usize) -> &str
-    ensures { (rest : List ℕ) × (text.now ≡ result.now ++ rest) }
+    ensures begins { (rest : List ℕ) × (text.now ≡ result.now ++ rest) }
+    ensures front { IsCharBoundary text.now offset → result.now ≡ take offset text.now }
 {
     split(text, offset).0
 }
 
 /// The part of `text` from this offset on; nothing where the offset is none of its.
-pub fn after(text: &str, offset: usize) -> &str {
+pub fn after(text: &str, offset: usize) -> &str
+    ensures { IsCharBoundary text.now offset → result.now ≡ drop offset text.now }
+{
     split(text, offset).1
 }
 
 /// The refused token of a text that `error` refuses: the first token such that no document within the limits begins with
 /// the tokens up to it, itself included.
 ///
-/// Where the error names a place at which one token stands, it is that one, and nothing is read. At the default limits
-/// one check counts the tokens up to it. Else it is found by halving. (This project's own call.)
+/// One check of the text finds it. None of an error about definitions, or
+/// where the text isn't refused. An error says that memory was refused. (This project's own call.)
 pub fn refused_token<'a>(
     alloc: Global,
     language: Language,
     text: &'a str,
     limits: Limits,
     error: &Error,
-) -> Result<Option<Token<'a>>, AllocError> {
-    refused_token_from(alloc, language, text, ReadFrom::top(text), limits, error)
+) -> Result<Option<Token<'a>>, AllocError>
+    ensures { IfOk result (IsItsToken language limits text.entry.now top error.now) }
+{
+    if is_of_token(error) {
+        refused_in(alloc, language, text, limits)
+    } else {
+        Ok(None)
+    }
 }
 
 /// As [`refused_token`], of a text that was read from this line on: what stands before is not looked at. The caller owes that
-/// the line begins there. The places of the error and of the token are those in the whole text. (This project's own call.)
+/// the line begins there. The place of the token is that in the whole text. (This project's own call.)
 pub fn refused_token_from<'a>(
     alloc: Global,
     language: Language,
@@ -58,107 +75,60 @@ pub fn refused_token_from<'a>(
     error: &Error,
 ) -> Result<Option<Token<'a>>, AllocError>
     requires { BeginsAt text.now from }
+    ensures { IfOk result (IsItsToken language limits text.entry.now from error.now) }
 {
     let rest = after(text, from.offset);
-    let token = refused_in(alloc, language, rest, from, limits, error)?;
+    let token = refused_token(alloc, language, rest, limits, error)?;
     Ok(match token {
         Some(token) => Some(from.moved(token)),
         None => None,
     })
 }
 
-// The refused token of the text that begins there.
+/// Whether the error is one of a refused token.
+pub fn is_of_token(error: &Error) -> bool
+    ensures { IsTrue result ↔ IsOfAToken error.now }
+{
+    matches!(error, Error::Syntax { .. } | Error::RecursionLimitExceeded)
+}
+
+// The refused token of a text, if it has one.
 fn refused_in<'a>(
-    alloc: Global,
-    language: Language,
-    rest: &'a str,
-    from: ReadFrom,
-    limits: Limits,
-    error: &Error,
-) -> Result<Option<Token<'a>>, AllocError> {
-    if let Error::Syntax { start, .. } = error
-        && let Some(token) = only_token_at(rest, from.place_in_rest(*start))
-    {
-        return Ok(Some(token));
-    }
-    if limits == Limits::default() {
-        let taken = tokens_taken(alloc, language, rest)?;
-        return Ok(Tokens::new(rest).nth(taken.saturating_sub(1)));
-    }
-    refused_by_halving(alloc, language, rest, limits)
-}
-
-// The token at this place, where it is the only one there: after a lone carriage return a second one may have the place of
-// the first. No token after one on a later line stands at the place.
-fn only_token_at(text: &str, place: Pos) -> Option<Token<'_>> {
-    let mut found = None;
-    for token in Tokens::new(text) {
-        if token.pos == place {
-            if found.is_some() {
-                return None;
-            }
-            found = Some(token);
-        } else if token.pos.line > place.line {
-            break;
-        }
-    }
-    found
-}
-
-// How many tokens of a refused text a parser takes at the default limits: those up to the refused one, and that one.
-fn tokens_taken(alloc: Global, language: Language, text: &str) -> Result<usize, AllocError> {
-    let mut tokens = Tokens::new(text);
-    let error = match language {
-        Language::Requests => check_query_from(alloc, &mut tokens).err(),
-        Language::Schemas => check_schema_from(alloc, &mut tokens).err(),
-    };
-    match error {
-        Some(Error::OutOfMemory) => Err(AllocError),
-        _ => Ok(tokens.taken()),
-    }
-}
-
-// A longer front is viable only where a shorter one is.
-fn refused_by_halving<'a>(
     alloc: Global,
     language: Language,
     text: &'a str,
     limits: Limits,
-) -> Result<Option<Token<'a>>, AllocError> {
-    let tokens: Vec<Token<'a>> = Tokens::new(text).collect(alloc)?;
-    let mut buffer = String::with_capacity(alloc, text.len().saturating_add(1))?;
-    // The tokens before `low` are a viable front; those up to `high` are none, or it is the last.
-    let mut low = 0usize;
-    let mut high = tokens.len().saturating_sub(1);
-    while low < high {
-        let middle = low + (high - low) / 2;
-        let Some(token) = tokens.get(middle) else {
-            return Ok(None);
-        };
-        if is_front_up_to(alloc, language, text, limits, token, &mut buffer)? {
-            low = middle + 1;
-        } else {
-            high = middle;
-        }
+) -> Result<Option<Token<'a>>, AllocError>
+    ensures { IfOk result (IsItsToken language limits text.entry.now top RecursionLimitExceeded) }
+{
+    let (answer, token) = check_to(alloc, language, text, limits);
+    if is_out_of_memory(&answer) {
+        return Err(AllocError);
     }
-    Ok(tokens.get(low).copied())
+    Ok(token)
 }
 
-// Whether some document within these limits begins with the tokens before the end of this token. The buffer is there to
-// be used again.
-fn is_front_up_to(
+// Whether memory was refused.
+fn is_out_of_memory(answer: &Result<(), Error>) -> bool
+    ensures { answer.now ≡ Err OutOfMemory → IsTrue result }
+{
+    matches!(answer, Err(Error::OutOfMemory))
+}
+
+// What the check of the language tells of the text, and the refused token.
+fn check_to<'a>(
     alloc: Global,
     language: Language,
-    text: &str,
+    text: &'a str,
     limits: Limits,
-    last: &Token<'_>,
-    buffer: &mut String,
-) -> Result<bool, AllocError> {
-    buffer.clear();
-    buffer.push_str(before(text, last.start))?;
-    buffer.push_str(last.text)?;
-    buffer.push('\n')?;
-    is_front(alloc, language, buffer.as_str(), limits)
+) -> (Result<(), Error>, Option<Token<'a>>)
+    ensures { ReadsTo language limits text.entry.now result.0 result.1 }
+{
+    let memory = &mut Memory::new(alloc);
+    match language {
+        Language::Requests => check_query_to(memory, text, limits),
+        Language::Schemas => check_schema_to(memory, text, limits),
+    }
 }
 
 /// One of the three things that nest, and how deep it may.

@@ -1,26 +1,27 @@
 //! The report of an error.
-ghost use Rattle.std.specs.Prelude.{◌≡◌, ◌∷◌, ◌++◌, [], IfOk, string_bytes};
+ghost use Rattle.std.specs.Prelude.{◌≡◌, ◌∷◌, ◌++◌, [], IfOk, OnOk, string_bytes};
 ghost use Rattle.graphql_grammar.specs.errors.Errors.{error_text};
 ghost use Rattle.graphql_report.specs.declared.style.Style.TheVariants.{Plain};
-ghost use Rattle.graphql_report.specs.reports.Rests.{BeginsAt};
-ghost use Rattle.graphql_report.specs.reports.Reports.{IsReport, IsToldAt, TellsSyntax, TellsLimit, Tells, TellsPlaces, named as named_by};
+ghost use Rattle.graphql_tokens.specs.tokens.Seen.{seen};
+ghost use Rattle.graphql_report.specs.inner.Told.{GoesOn, IsWrong};
+ghost use Rattle.graphql_report.specs.reports.Refused.{IsKnown, IsRefusedFrom};
+ghost use Rattle.graphql_report.specs.reports.Rests.{BeginsAt, top};
+ghost use Rattle.graphql_report.specs.reports.Reports.{AreDetails, IsReport, IsToldAt, TellsSyntax, TellsLimit, Tells, TellsPlaces, named as named_by};
 
 use crate::definitions::offsets_of;
-use crate::excerpt::{excerpt_of, shown};
+use crate::excerpt::excerpt_of;
 use crate::expected::expected_after;
 use crate::faults::fault_of;
 use crate::fronts::{Language, end_of};
-use crate::hints::{is_no_enum_value, push_hint, push_unclosed};
+use crate::hints::{push_hint, push_unclosed};
 use crate::refused::{Depth, after, before, reached_limit, split};
 use crate::rests::{ReadUpTo, read_before};
-use crate::samples::{END, NAME, NUMBER, VALUE};
+use crate::samples::{NUMBER, VALUE};
 use crate::style::{Part, Style};
+use crate::words::{push_expected, push_found};
 use graphql_parser::lexer::{Token, TokenKind};
 use graphql_parser::{Error, Limits, Pos};
 use std::alloc::{AllocError, Global};
-
-// So many characters of a token are shown.
-const SHOWN_TOKEN: usize = 30;
 
 /// What is told of a text that nests too deep.
 pub const TOO_DEEP: &str = "recursion limit exceeded";
@@ -50,8 +51,7 @@ const OF_NAMESAKES: Remarks = Remarks {
 ///
 /// `limits` are those that the parser was given, `Limits::default()` for the calls without limits. What was expected is
 /// found by some twenty to forty checks of the text before the refused token, or of the definition in which it stands if that
-/// begins with a line after others, and the place of `RecursionLimitExceeded` by one of the text, or by some twenty where the
-/// limits aren't the default ones. An error says that memory was refused.
+/// begins with a line after others; the refused token by one of the text. An error says that memory was refused.
 pub fn explain(
     alloc: Global,
     language: Language,
@@ -61,7 +61,8 @@ pub fn explain(
     error: &Error,
 ) -> Result<String, AllocError>
     ensures { IfOk result (λ report.
-        IsReport Plain file_name.now text.now error.now (string_bytes report)) }
+        IsReport Plain file_name.now (IsRefusedFrom language limits text.now top) language limits text.now top
+        error.now (string_bytes report)) }
 {
     explain_in(
         Style::Plain,
@@ -85,7 +86,8 @@ pub fn explain_in(
     error: &Error,
 ) -> Result<String, AllocError>
     ensures { IfOk result (λ report.
-        IsReport style file_name.now text.now error.now (string_bytes report)) }
+        IsReport style file_name.now (IsRefusedFrom language limits text.now top) language limits text.now top
+        error.now (string_bytes report)) }
 {
     let read = &ReadUpTo::refused(alloc, language, text, limits, error)?;
     explain_from(style, alloc, language, file_name, text, read, limits, error)
@@ -108,7 +110,8 @@ pub fn explain_from(
 ) -> Result<String, AllocError>
     requires { BeginsAt text.now read.now.from }
     ensures { IfOk result (λ report.
-        IsReport style file_name.now text.now error.now (string_bytes report)) }
+        IsReport style file_name.now (IsKnown language limits text.now read.now) language limits text.now
+        read.now.from error.now (string_bytes report)) }
 {
     let source = &Source {
         style,
@@ -118,7 +121,7 @@ pub fn explain_from(
     };
     match error {
         Error::Syntax { start, .. } => { explain_syntax(alloc, source, language, limits, *start) }
-        Error::RecursionLimitExceeded => explain_limit(alloc, source, language, limits),
+        Error::RecursionLimitExceeded => explain_limit(alloc, source, text, language, limits),
         Error::MissingOperation | Error::OutOfMemory => explain_plain(alloc, file_name, error),
         Error::MissingQueryRoot { pos } => explain_place(alloc, source, error, *pos),
         Error::MultipleRoots { schema, pos, .. } => {
@@ -153,8 +156,10 @@ fn told_at(
     message: &str,
     more: &str,
 ) -> Result<String, AllocError>
-    ensures { IfOk result (λ part.
+    ensures begins { IfOk result (λ part.
         Tells source.now.style source.now.file_name.now place message.now (string_bytes part)) }
+    ensures goes_on { IfOk result (λ part. Tells source.now.style source.now.file_name.now place
+        (message.now ++ more.now) (string_bytes part)) }
 {
     let file = named(alloc, source.file_name, ":")?;
     let file = file.as_str();
@@ -203,9 +208,10 @@ fn explain_syntax(
     limits: Limits,
     start: Pos,
 ) -> Result<String, AllocError>
-    ensures { IfOk result (λ report.
-        TellsSyntax source.now.style source.now.file_name.now source.now.text.now start
-        (string_bytes report)) }
+    requires { BeginsAt source.now.text.now source.now.read.now.from }
+    ensures { IfOk result (λ report. TellsSyntax source.now.style source.now.file_name.now
+        (IsKnown language limits source.now.text.now source.now.read.now) language limits
+        source.now.text.now source.now.read.now.from start (string_bytes report)) }
 {
     let details = details_of(alloc, language, source.text, source.read, limits)?;
     let (front, back) = split(source.text, details.offset);
@@ -254,7 +260,11 @@ pub fn details_of(
     text: &str,
     read: &ReadUpTo<'_>,
     limits: Limits,
-) -> Result<Details, AllocError> {
+) -> Result<Details, AllocError>
+    requires { BeginsAt text.now read.now.from }
+    ensures { IfOk result (λ details. AreDetails (IsKnown language limits text.now read.now) language limits
+        text.now read.now.from (string_bytes details.message)) }
+{
     let Some(token) = read.token else {
         return Ok(Details {
             message: String::from_str(alloc, "the text is refused")?,
@@ -266,21 +276,9 @@ pub fn details_of(
     let expected = expected_after(alloc, language, front, limits)?;
     let expected = expected.as_slice();
     let mut message = String::new(alloc);
-    let mut offset = 0usize;
-    if matches!(token.kind, TokenKind::Fault) {
-        let is_value = expected.contains(&VALUE) || expected.contains(&NUMBER);
-        let fault = fault_of(alloc, after(text, token.start), is_value)?;
-        message.push_str(fault.message.as_str())?;
-        offset = fault.offset;
-    } else {
-        message.push_str("found ")?;
-        push_found(&mut message, &token)?;
-    }
+    let offset = push_wrong(alloc, &mut message, text, &token, expected)?;
     push_expected(&mut message, language, &token, expected)?;
-    match read.unclosed {
-        Some(place) => push_unclosed(&mut message, place)?,
-        None => push_hint(alloc, &mut message, language, text, &token, expected)?,
-    }
+    push_more(alloc, &mut message, language, text, read, &token, expected)?;
     Ok(Details {
         message,
         offset: token.start.saturating_add(offset),
@@ -288,18 +286,59 @@ pub fn details_of(
     })
 }
 
+// Adds what was found, or what is wrong where no token begins, and gives how many bytes after the place that shows.
+fn push_wrong(
+    alloc: Global,
+    out: &mut String,
+    text: &str,
+    token: &Token<'_>,
+    expected: &[&'static str],
+) -> Result<usize, AllocError>
+    ensures { OnOk result (IsWrong (seen token.now).bare (string_bytes out.old) (string_bytes out.new)) }
+{
+    if matches!(token.kind, TokenKind::Fault) {
+        let is_value = expected.contains(&VALUE) || expected.contains(&NUMBER);
+        let fault = fault_of(alloc, after(text, token.start), is_value)?;
+        out.push_str(fault.message.as_str())?;
+        return Ok(fault.offset);
+    }
+    out.push_str("found ")?;
+    push_found(out, token)?;
+    Ok(0)
+}
+
+// Adds what was meant, as far as that is known.
+fn push_more(
+    alloc: Global,
+    out: &mut String,
+    language: Language,
+    text: &str,
+    read: &ReadUpTo<'_>,
+    token: &Token<'_>,
+    expected: &[&'static str],
+) -> Result<(), AllocError>
+    ensures { OnOk result (GoesOn (string_bytes out.old) (string_bytes out.new)) }
+{
+    match read.unclosed {
+        Some(place) => push_unclosed(out, place),
+        None => push_hint(alloc, out, language, text, token, expected),
+    }
+}
+
 // A text that nests too deep.
 fn explain_limit(
     alloc: Global,
     source: &Source<'_>,
+    text: &str,
     language: Language,
     limits: Limits,
 ) -> Result<String, AllocError>
-    ensures { IfOk result (λ report.
-        TellsLimit source.now.style source.now.file_name.now source.now.text.now
+    requires { BeginsAt text.now source.now.read.now.from }
+    ensures { IfOk result (λ report. TellsLimit source.now.style source.now.file_name.now
+        (IsKnown language limits text.now source.now.read.now) text.now
         (string_bytes report)) }
 {
-    let (text, read) = (source.text, source.read);
+    let read = source.read;
     let Some(token) = read.token else {
         let more = " at the end of the text";
         return told_at(alloc, source, end_of(text), text.len(), TOO_DEEP, more);
@@ -377,73 +416,4 @@ fn explain_places(
     let other = told_at(alloc, source, second, offsets.second, remarks.second, "")?;
     report.push_str(other.as_str())?;
     Ok(report)
-}
-
-// What stands at the refused place.
-fn push_found(out: &mut String, token: &Token<'_>) -> Result<(), AllocError> {
-    let text = token.text;
-    match token.kind {
-        TokenKind::End => out.push_str(END),
-        TokenKind::Block => out.push_str("a block string"),
-        TokenKind::String => {
-            out.push_str("the string ")?;
-            push_cut(out, text)
-        }
-        TokenKind::Number => {
-            out.push_str("the number ")?;
-            push_cut(out, text)
-        }
-        TokenKind::Punct | TokenKind::Name | TokenKind::Fault => {
-            out.push('"')?;
-            push_cut(out, text)?;
-            out.push('"')
-        }
-    }
-}
-
-// The first characters of a text.
-fn push_cut(out: &mut String, text: &str) -> Result<(), AllocError> {
-    for (index, c) in text.chars().enumerate() {
-        if index >= SHOWN_TOKEN {
-            return out.push_str("...");
-        }
-        out.push(shown(c))?;
-    }
-    Ok(())
-}
-
-// What is expected, as `, expected a name, "..." or "}"`.
-fn push_expected(
-    out: &mut String,
-    language: Language,
-    token: &Token<'_>,
-    expected: &[&'static str],
-) -> Result<(), AllocError> {
-    let count = expected.len();
-    for (index, name) in expected.iter().enumerate() {
-        out.push_str(if index == 0 {
-            ", expected "
-        } else if index + 1 == count {
-            " or "
-        } else {
-            ", "
-        })?;
-        out.push_str(name)?;
-        if !is_no_enum_value(language, token, expected) {
-            push_exception(out, token, name)?;
-        }
-    }
-    Ok(())
-}
-
-// What was found, where it is the one thing of what is expected that may not stand there.
-fn push_exception(out: &mut String, token: &Token<'_>, name: &str) -> Result<(), AllocError> {
-    if token.kind.is_name() && (name == NAME || name == VALUE) {
-        let word = token.text;
-        return write!(out, " other than \"{word}\"");
-    }
-    if token.text == "$" && name == VALUE {
-        return out.push_str(" without variables");
-    }
-    Ok(())
 }

@@ -1,8 +1,10 @@
 //! Texts that are read from a later line on: where that line begins, and which place in the whole text a place in the rest is.
-ghost use Rattle.std.specs.Prelude.{◌≡◌, ℕ, ◌+◌, List, length, IfSome};
+ghost use Rattle.std.specs.Prelude.{◌≡◌, ℕ, ◌+◌, ◌<◌, ◌^◌, ◌-◌, List, length, take, drop, IfSome};
 ghost use Rattle.std.specs.List.{count_by};
+ghost use Rattle.std.specs.Str.{IsCharBoundary};
 ghost use Rattle.graphql_tokens.specs.tokens.Place.{is_line_feed};
-ghost use Rattle.graphql_report.specs.reports.Rests.{BeginsAt, IsMoved, IsMovedBack};
+ghost use Rattle.graphql_report.specs.reports.Refused.{IsItsToken};
+ghost use Rattle.graphql_report.specs.reports.Rests.{BeginsAt, IsMoved, top};
 
 use crate::apart::ends_line;
 use crate::fronts::Language;
@@ -23,7 +25,8 @@ pub struct ReadFrom {
 impl ReadFrom {
     /// The beginning of a text. (This project's own call.)
     pub fn top(text: &str) -> ReadFrom
-        ensures { BeginsAt text.now result }
+        ensures begins { BeginsAt text.now result }
+        ensures top { result ≡ top }
     {
         let _ = text;
         ReadFrom { offset: 0, line: 1 }
@@ -44,16 +47,6 @@ impl ReadFrom {
         Some(ReadFrom { offset, line })
     }
 
-    /// The place in the rest of the text that is this place in the whole text.
-    pub(crate) fn place_in_rest(self, place: Pos) -> Pos
-        ensures { IsMovedBack self place result }
-    {
-        Pos {
-            line: place.line.saturating_sub(self.line.saturating_sub(1)),
-            column: place.column,
-        }
-    }
-
     /// The place in the whole text that is this place in the rest of the text. (This project's own call.)
     pub fn place_in_text(self, place: Pos) -> Pos
         ensures { IsMoved self place result }
@@ -65,7 +58,11 @@ impl ReadFrom {
     }
 
     /// A token of the rest of the text, with its offset and its place in the whole text.
-    pub(crate) fn moved(self, token: Token<'_>) -> Token<'_> {
+    pub(crate) fn moved(self, token: Token<'_>) -> Token<'_>
+        ensures moved { IsMoved self token.entry.pos result.pos }
+        ensures same { (result.kind ≡ token.entry.kind) × (result.text ≡ token.entry.text) }
+        ensures start { self.offset + token.entry.start < 2 ^ 64 → result.start ≡ self.offset + token.entry.start }
+    {
         Token {
             kind: token.kind,
             text: token.text,
@@ -112,23 +109,24 @@ impl<'a> ReadUpTo<'a> {
         limits: Limits,
         error: &Error,
     ) -> Result<ReadUpTo<'a>, AllocError>
-        ensures { IfOk result (λ read. BeginsAt text.entry.now read.from) }
+        ensures begins { IfOk result (λ read. BeginsAt text.entry.now read.from) }
+        ensures top { IfOk result (λ read. read.from ≡ top) }
+        ensures token { IfOk result (λ read.
+            IsItsToken language limits text.entry.now top error.now read.token) }
     {
-        let token = match error {
-            Error::Syntax { .. } | Error::RecursionLimitExceeded => {
-                refused_token(alloc, language, text, limits, error)?
-            }
-            _ => None,
-        };
         Ok(ReadUpTo {
             from: ReadFrom::top(text),
-            token,
+            token: refused_token(alloc, language, text, limits, error)?,
             unclosed: None,
         })
     }
 }
 
 /// What was read of a text that was read from there on, up to this offset in the whole text.
-pub fn read_before(text: &str, from: ReadFrom, offset: usize) -> &str {
+pub fn read_before(text: &str, from: ReadFrom, offset: usize) -> &str
+    ensures { IsCharBoundary text.now from.offset →
+        IsCharBoundary (drop from.offset text.now) (offset - from.offset) →
+        result.now ≡ take (offset - from.offset) (drop from.offset text.now) }
+{
     before(after(text, from.offset), offset.saturating_sub(from.offset))
 }

@@ -4,6 +4,7 @@ pub mod VariableProductions
 pub mod SelectionTrees
 pub mod SelectionProductions
 pub mod SelectionPlaces
+pub mod BreachPlaces
 pub mod RequestProductions
 pub mod FormerRequests
 pub mod Heads

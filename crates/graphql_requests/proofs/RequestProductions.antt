@@ -30,6 +30,7 @@ use Rattle.graphql_reading.proofs.Loop.{Takes, takes-one}
 use Rattle.graphql_grammar.specs.reading.ReadBy.{IsReadBy}
 use Rattle.graphql_grammar.proofs.Languages.{IsRead, is-read-by}
 use Rattle.graphql_requests.specs.grammar.Requests.{requests}
+use Rattle.graphql_requests.proofs.BreachPlaces.{requests-judge-alike}
 use Rattle.graphql_requests.proofs.FormerRequests.{includes-definitions}
 use Rattle.graphql_grammar.proofs.ArgumentProductions.{exact-directives, begins-directive, has-directives, ignores-directives}
 use Rattle.graphql_grammar.proofs.OperationKinds.{exact-operation_type, begins-operation_type, without-keyword-place, ignores-operation_type}
@@ -166,7 +167,7 @@ pub exact-request : {b : Limits} → ReadsExactly (definitions Current) b the_en
 exact-request = exact-definitions (the_end-within (λ w. refl))
 
 pub requests-are-read : IsRead requests definitions_at
-requests-are-read = record { has_phrase = has-definitions; ignores_places = ignores-definitions; reads_exactly = λ b. exact-request {b = b}; includes = includes-definitions }
+requests-are-read = record { has_phrase = has-definitions; ignores_places = ignores-definitions; reads_exactly = λ b. exact-request {b = b}; includes = includes-definitions; judges = requests-judge-alike }
 
 pub requests-read-by : IsReadBy requests definitions_at
 requests-read-by = is-read-by requests definitions_at requests-are-read

@@ -83,7 +83,7 @@ pub fn parse_query_within(
         ⊎ (memory.old.left < most_taken (length text.now)) }
 {
     let mut tokens = Tokens::new(text);
-    read_document::<KeptDefinitions>(memory, &mut tokens, limits)
+    read_document::<KeptDefinitions>(memory, &mut tokens, limits, &mut None)
 }
 
 /// As [`parse_query`], over the tokens that are not yet taken, with the places that they have in the whole
@@ -97,5 +97,6 @@ pub fn parse_query_from(alloc: Global, tokens: &mut Tokens<'_>) -> Result<Execut
     ensures reads { ReadsTokens requests default_limits tokens.old tokens.new result }
     ensures lawful { IfOk result (λ document. IsLawful (document_tree document)) }
 {
-    read_document::<KeptDefinitions>(&mut Memory::new(alloc), tokens, Limits::default())
+    let memory = &mut Memory::new(alloc);
+    read_document::<KeptDefinitions>(memory, tokens, Limits::default(), &mut None)
 }

@@ -10,6 +10,7 @@ pub mod FieldPartProductions
 pub mod BodyProductions
 pub mod DirectiveProductions
 pub mod FormerSchemas
+pub mod BreachPlaces
 pub mod SchemaFileProductions
 pub mod OnePassed
 pub mod Roots

@@ -30,6 +30,7 @@ use Rattle.graphql_schemas.specs.reading.Types.{body_first}
 use Rattle.graphql_schemas.proofs.BodyProductions.{exact-body, begins-body, ignores-body, exact-extended_body, begins-extended_body, ignores-extended_body, bodies-within}
 use Rattle.graphql_schemas.proofs.DescriptionProductions.{described-nowhere, text-within, name-no-text, begins-description, exact-maybe_description, has-maybe_description, ignores-maybe_description}
 use Rattle.graphql_schemas.proofs.DirectiveProductions.{DirectiveRest, placeless-directive-rest, directive-rest, exact-directive-rest, begins-directive-rest, ignores-directive-rest}
+use Rattle.graphql_schemas.proofs.BreachPlaces.{schemas-judge-alike}
 use Rattle.graphql_schemas.proofs.FormerSchemas.{includes-definitions}
 use Rattle.graphql_schemas.proofs.PartProductions.{no-punctuator, past-punctuator, past-parts}
 use Rattle.graphql_schemas.proofs.SchemaProductions.{schema-rest, exact-schema-rest, begins-schema-rest, has-schema-rest, ignores-schema-rest, extended-schema, exact-extended-schema, begins-extended-schema, has-extended-schema, ignores-extended-schema}
@@ -225,7 +226,7 @@ pub ignores-definitions : IgnoresPlaces (definitions Current) placeless_definiti
 ignores-definitions = ignores-plus ignores-definition
 
 pub schemas-are-read : IsRead schemas definitions_at
-schemas-are-read = record { has_phrase = has-definitions; ignores_places = ignores-definitions; reads_exactly = λ b. exact-definitions {b = b}; includes = includes-definitions }
+schemas-are-read = record { has_phrase = has-definitions; ignores_places = ignores-definitions; reads_exactly = λ b. exact-definitions {b = b}; includes = includes-definitions; judges = schemas-judge-alike }
 
 pub schemas-read-by : IsReadBy schemas definitions_at
 schemas-read-by = is-read-by schemas definitions_at schemas-are-read

@@ -137,7 +137,7 @@ pub fn parse_schema_within(
         ⊎ (memory.old.left < most_taken (length text.now)) }
 {
     let mut tokens = Tokens::new(text);
-    read_document::<KeptDefinitions>(memory, &mut tokens, limits)
+    read_document::<KeptDefinitions>(memory, &mut tokens, limits, &mut None)
 }
 
 /// As [`parse_schema`], over the tokens that are not yet taken, with the places that they have in the whole
@@ -151,5 +151,6 @@ pub fn parse_schema_from(alloc: Global, tokens: &mut Tokens<'_>) -> Result<Servi
     ensures reads { ReadsTokens schemas default_limits tokens.old tokens.new result }
     ensures lawful { IfOk result (λ document. IsLawful (schema_document_tree document)) }
 {
-    read_document::<KeptDefinitions>(&mut Memory::new(alloc), tokens, Limits::default())
+    let memory = &mut Memory::new(alloc);
+    read_document::<KeptDefinitions>(memory, tokens, Limits::default(), &mut None)
 }

@@ -74,7 +74,7 @@ pub fn expect_enum_name<'a>(parser: &mut Parser<'a>) -> Reading<Token<'a>>
     ensures saves { Spares 0 parser.old parser.new }
     ensures memory { parser.new.memory ≡ parser.old.memory }
     ensures pays { IfOk result (λ token. Spares (per_token + length token.text.now) parser.old parser.new) }
-    ensures stands { IfOk result (λ token. StandsIn parser.new.text (seen token)) }
+    ensures stands { IfOk result (λ token. StandsIn parser.new.source.text (seen token)) }
 {
     if !is_at_enum_name(parser) {
         return Err(Refusal::Syntax);

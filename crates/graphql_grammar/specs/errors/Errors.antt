@@ -1,9 +1,10 @@
 -- What an error says, and the places that it names.
 -- Source: this project's choice, with the texts and places of the Rust crate.
-use Rattle.std.specs.Prelude.{ℕ, List, [], ◌∷◌, ◌++◌, Option, Some, None, codes, string_bytes}
+use Rattle.std.specs.Prelude.{◌≡◌, ℕ, List, [], ◌∷◌, ◌++◌, Option, Some, None, option_map, codes, string_bytes}
 use Rattle.std.specs.Fmt.{decimal}
 use Rattle.graphql_tokens.specs.declared.pos.Pos.{Pos}
 use Rattle.graphql_syntax.specs.calls.Words.{operation_word}
+use Rattle.graphql_reading.specs.grammar.Places.{nowhere}
 use Rattle.graphql_grammar.specs.declared.error.Error.{Error}
 use Rattle.graphql_grammar.specs.declared.error.Error.TheVariants.{Syntax, MultipleRoots, MissingQueryRoot, MultipleOperations, OperationDuplicated, FragmentDuplicated, MissingOperation, RecursionLimitExceeded, OutOfMemory}
 
@@ -38,3 +39,20 @@ error_places (FragmentDuplicated fragment first second) = second ∷ first ∷ [
 error_places MissingOperation = []
 error_places RecursionLimitExceeded = []
 error_places OutOfMemory = []
+
+-- the error with each place made 0:0
+abbrev pub placeless_error : Error → Error
+placeless_error (Syntax message start end) = Syntax message nowhere (option_map (λ place. nowhere) end)
+placeless_error (MultipleRoots root schema pos) = MultipleRoots root nowhere nowhere
+placeless_error (MissingQueryRoot pos) = MissingQueryRoot nowhere
+placeless_error (MultipleOperations anonymous operation) = MultipleOperations nowhere nowhere
+placeless_error (OperationDuplicated operation first second) = OperationDuplicated operation nowhere nowhere
+placeless_error (FragmentDuplicated fragment first second) = FragmentDuplicated fragment nowhere nowhere
+placeless_error MissingOperation = MissingOperation
+placeless_error RecursionLimitExceeded = RecursionLimitExceeded
+placeless_error OutOfMemory = OutOfMemory
+
+-- the errors are equal: the same case, with the same names, kinds and places, and messages of the same text
+abbrev pub AreEqualErrors : Error → Error → Type 0
+AreEqualErrors (Syntax message start end) (Syntax other begin stop) = (string_bytes message ≡ string_bytes other) × (start ≡ begin) × (end ≡ stop)
+AreEqualErrors error other = error ≡ other

@@ -18,7 +18,7 @@ use std::alloc::AllocError;
 
 #[inline(always)]
 fn word_of<V: Literal>(parser: &mut Parser, token: Token) -> Result<V, AllocError>
-    requires { StandsIn parser.old.text (seen token) }
+    requires { StandsIn parser.old.source.text (seen token) }
     ensures word { IfOk result (λ v. V.tree v ≡ word_tree token.entry.text.now) }
     ensures takes { Takes (24 + length token.entry.text.now) parser.old.memory parser.new.memory }
     ensures refused { OnErr result (Refused parser.new.memory) }

@@ -26,7 +26,7 @@ ToldWhole view (Err refusal) old new r = Refuses refusal old new r
 
 -- the parser takes tokens of its text, and gives none back
 abbrev pub GoesOn : Ahead → Ahead → Type 0
-GoesOn old new = (new.whole ≡ old.whole) × (old.taken ≤ new.taken)
+GoesOn old new = (new.source ≡ old.source) × (old.taken ≤ new.taken)
 
 abbrev pub Gives : {X Y : Type 0} → (X → Y) → Result X Refusal → Ahead → Ahead → Reader Y → Type 0
 Gives view result old new r = Told view result old new r × GoesOn old new

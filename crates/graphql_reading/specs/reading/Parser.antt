@@ -20,7 +20,7 @@ abbrev pub mark : Bare → ℕ
 mark t = if is_punct t.kind then only_byte t.spelling else 0
 
 abbrev pub shown : Inside → Ahead
-shown a = record { text = a.tokens.text; whole = a.tokens.whole; hand = seen a.hand; after = left a.tokens; taken = a.tokens.taken; memory = a.memory }
+shown a = record { source = record { text = a.tokens.text; whole = a.tokens.whole }; hand = seen a.hand; after = left a.tokens; taken = a.tokens.taken; memory = a.memory }
 
 -- the tokens ahead end once, and each but a fault is proper; no more are taken than there are; the one in hand stands in
 -- the text; and its byte is beside it, where it is a punctuator of one byte

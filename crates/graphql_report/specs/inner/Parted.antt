@@ -11,7 +11,7 @@ use Rattle.graphql_schemas.specs.reading.SchemaFile as schema
 use Rattle.graphql_report.specs.declared.fronts.Language.{Language}
 use Rattle.graphql_report.specs.declared.fronts.Language.TheVariants.{Requests, Schemas}
 use Rattle.graphql_report.specs.fronts.Front.{LastIsLineFeed}
-use Rattle.graphql_report.specs.inner.Expected.{HasTreeOf}
+use Rattle.graphql_report.specs.reports.Expected.{HasTreeOf}
 
 -- what a definition begins with
 abbrev pub definition_begins : Language → Test

@@ -1,17 +1,26 @@
 -- What the check of a text tells; and what its error tells: whether the text can be completed, where its end stands at a
 -- place of its own, and whether it has a tree.
 -- Source: this project's choice.
-use Rattle.std.specs.Prelude.{◌≡◌, ◌↔◌, ℕ, List, Bool, true, false, IsTrue, Result, Ok, Err}
+use Rattle.std.specs.Prelude.{◌≡◌, ◌↔◌, ℕ, List, ◌++◌, codes, Bool, true, false, IsTrue, Option, None, string_bytes, Result, Ok, Err}
 use Rattle.std.specs.declared.alloc.AllocError.{AllocError}
+use Rattle.graphql_tokens.specs.declared.lexer.Token.{Token as LentToken}
 use Rattle.graphql_tokens.specs.declared.pos.Pos.{Pos}
+use Rattle.graphql_tokens.specs.tokens.Cuts.{IsCutInto}
+use Rattle.graphql_tokens.specs.declared.lexer.TokenKind.TheVariants.{Fault}
+use Rattle.graphql_tokens.specs.tokens.Token.{Bare, Token}
 use Rattle.graphql_reading.specs.grammar.Limits.{Limits}
+use Rattle.graphql_grammar.specs.answers.Answers.{TokenFor}
 use Rattle.graphql_grammar.specs.answers.Reads.{ReadsText}
 use Rattle.graphql_grammar.specs.declared.error.Error.{Error}
 use Rattle.graphql_grammar.specs.declared.error.Error.TheVariants.{Syntax, RecursionLimitExceeded, OutOfMemory}
+use Rattle.graphql_grammar.specs.errors.Errors.{error_places, error_text}
 use Rattle.graphql_requests.specs.grammar.Requests.{requests}
 use Rattle.graphql_schemas.specs.grammar.Schemas.{schemas}
 use Rattle.graphql_check.specs.Checking.{checked}
+use Rattle.graphql_report.specs.declared.findings.Finding.{Finding}
 use Rattle.graphql_report.specs.declared.fronts.Language.{Language}
+use Rattle.graphql_report.specs.reports.Findings.{first_of, status_of}
+use Rattle.graphql_report.specs.reports.Words.{found}
 use Rattle.graphql_report.specs.declared.fronts.Language.TheVariants.{Requests, Schemas}
 
 -- the result is that of the check of the language
@@ -34,3 +43,20 @@ TellsTree (Syntax message start stop) (Ok answer) = answer ≡ false
 TellsTree RecursionLimitExceeded (Ok answer) = answer ≡ false
 TellsTree OutOfMemory (Ok answer) = ⊥
 TellsTree broken (Ok answer) = answer ≡ true
+
+-- and the token is the one that its answer names
+abbrev pub ReadsTo : Language → Limits → List ℕ → Result (Unit {0}) Error → Option LentToken → Type 0
+ReadsTo Requests limits text result token = ReadsText (checked requests) limits text result × ((tokens : List Token) → IsCutInto text tokens → TokenFor (checked requests) limits tokens result token)
+ReadsTo Schemas limits text result token = ReadsText (checked schemas) limits text result × ((tokens : List Token) → IsCutInto text tokens → TokenFor (checked schemas) limits tokens result token)
+
+-- a text goes on with more
+abbrev pub GoesOn : List ℕ → List ℕ → Type 0
+GoesOn old new = (more : List ℕ) × (new ≡ old ++ more)
+
+-- what was found is told, or what is wrong
+abbrev pub IsWrong : Bare → List ℕ → List ℕ → Type 0
+IsWrong token old new = (wrong : List ℕ) × (new ≡ old ++ wrong) × ((token.kind ≡ Fault → ⊥) → wrong ≡ codes "found " ++ found token)
+
+-- what a finding says of an error that names no refused token
+abbrev pub TellsBreach : Error → Finding → Type 0
+TellsBreach error finding = (finding.place ≡ first_of (error_places error)) × (finding.end ≡ None) × (finding.status.now ≡ status_of error) × ((more : List ℕ) × (string_bytes finding.message ≡ error_text error ++ more))

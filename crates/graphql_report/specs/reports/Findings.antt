@@ -1,18 +1,59 @@
--- Where a finding stands.
+-- What a finding says of an error: where it stands, its status and its message.
 -- Source: this project's choice.
-use Rattle.std.specs.Prelude.{◌≡◌, ℕ, List, [], ◌∷◌, Option, Some, None}
+use Rattle.std.specs.Prelude.{◌≡◌, ℕ, ◌+◌, List, [], ◌∷◌, ◌++◌, length, Option, Some, None, MatchOption, codes, string_bytes}
 use Rattle.graphql_tokens.specs.declared.pos.Pos.{Pos}
+use Rattle.graphql_tokens.specs.tokens.Place.{place}
+use Rattle.graphql_tokens.specs.tokens.Token.{Token}
+use Rattle.graphql_reading.specs.grammar.Limits.{Limits}
 use Rattle.graphql_grammar.specs.declared.error.Error.{Error}
-use Rattle.graphql_grammar.specs.declared.error.Error.TheVariants.{Syntax, RecursionLimitExceeded}
-use Rattle.graphql_grammar.specs.errors.Errors.{error_places}
-use Rattle.graphql_report.specs.reports.Reports.{IsToldAt, IsPlaceIn}
+use Rattle.graphql_grammar.specs.declared.error.Error.TheVariants.{Syntax, RecursionLimitExceeded, MultipleRoots, MissingQueryRoot, MultipleOperations, OperationDuplicated, FragmentDuplicated, MissingOperation, OutOfMemory}
+use Rattle.graphql_grammar.specs.errors.Errors.{error_places, error_text}
+use Rattle.graphql_report.specs.declared.findings.Finding.{Finding}
+use Rattle.graphql_report.specs.declared.fronts.Language.{Language}
+use Rattle.graphql_report.specs.declared.rests.ReadFrom.{ReadFrom}
+use Rattle.graphql_report.specs.reports.Reports.{IsToldAt, IsLimitAt, AreDetails}
 
 abbrev pub first_of : List Pos → Option Pos
 first_of [] = None
 first_of (place ∷ more) = Some place
 
 -- A finding stands where the report of its error does: at the first place that it tells.
-abbrev pub StandsAt : List ℕ → Error → Option Pos → Type 0
-StandsAt text (Syntax message start stop) stands = (place : Pos) × (stands ≡ Some place) × IsToldAt text start place
-StandsAt text RecursionLimitExceeded stands = (place : Pos) × (stands ≡ Some place) × IsPlaceIn text place
-StandsAt text error stands = stands ≡ first_of (error_places error)
+abbrev pub StandsAt : (Token → Type 0) → List ℕ → Error → Option Pos → Type 0
+StandsAt is_refused text (Syntax message start stop) stands = (place : Pos) × (stands ≡ Some place) × IsToldAt text start place
+StandsAt is_refused text RecursionLimitExceeded stands = (place : Pos) × (stands ≡ Some place) × IsLimitAt is_refused text place
+StandsAt is_refused text error stands = stands ≡ first_of (error_places error)
+
+-- where a token of the text ends, if it has characters
+abbrev pub IsEndOf : List ℕ → Token → Option Pos → Type 0
+IsEndOf text token end = MatchOption end (token.bare.spelling ≡ []) (λ place_there. place_there ≡ place text (token.start + length token.bare.spelling))
+
+-- the message says what the report says after the place
+abbrev pub IsMessage : (Token → Type 0) → Language → Limits → List ℕ → ReadFrom → Error → List ℕ → Type 0
+IsMessage is_refused language limits text from (Syntax message start stop) told = (details : List ℕ) × (told ≡ codes "syntax error: " ++ details) × AreDetails is_refused language limits text from details
+IsMessage is_refused language limits text from RecursionLimitExceeded told = (more : List ℕ) × (told ≡ codes "recursion limit exceeded" ++ more)
+IsMessage is_refused language limits text from error told = (more : List ℕ) × (told ≡ error_text error ++ more)
+
+-- A finding ends where the refused token does, after its characters; and nowhere if that has none, or of another error.
+abbrev pub EndsAt : (Token → Type 0) → List ℕ → Error → Option Pos → Type 0
+EndsAt is_refused text (Syntax message start stop) end = (token : Token) → is_refused token → IsEndOf text token end
+EndsAt is_refused text RecursionLimitExceeded end = (token : Token) → is_refused token → IsEndOf text token end
+EndsAt is_refused text error end = end ≡ None
+
+-- the name of the error's status
+abbrev pub status_of : Error → List ℕ
+status_of (Syntax message start stop) = codes "SYNTAX"
+status_of RecursionLimitExceeded = codes "RECURSION_LIMIT_EXCEEDED"
+status_of (MultipleOperations anonymous operation) = codes "MULTIPLE_OPERATIONS"
+status_of (OperationDuplicated operation first second) = codes "OPERATION_DUPLICATED"
+status_of (FragmentDuplicated fragment first second) = codes "FRAGMENT_DUPLICATED"
+status_of MissingOperation = codes "MISSING_OPERATION"
+status_of (MultipleRoots root schema pos) = codes "MULTIPLE_ROOTS"
+status_of (MissingQueryRoot pos) = codes "MISSING_QUERY_ROOT"
+status_of OutOfMemory = codes "OUT_OF_MEMORY"
+
+-- The finding of an error of a text that was read from there on.
+pub record IsFinding (is_refused : Token → Type 0) (language : Language) (limits : Limits) (text : List ℕ) (from : ReadFrom) (error : Error) (finding : Finding) : Type 0 where
+  pub stands : StandsAt is_refused text error finding.place
+  pub ends : EndsAt is_refused text error finding.end
+  pub status : finding.status.now ≡ status_of error
+  pub message : IsMessage is_refused language limits text from error (string_bytes finding.message)

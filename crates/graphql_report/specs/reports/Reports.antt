@@ -1,17 +1,24 @@
 -- How the report of an error begins, and which places it tells.
 -- Source: this project's choice.
-use Rattle.std.specs.Prelude.{◌≡◌, ◌⊎◌, ℕ, List, [], ◌∷◌, ◌++◌, codes}
+use Rattle.std.specs.Prelude.{◌≡◌, ◌⊎◌, ℕ, ◌-◌, List, [], ◌∷◌, ◌++◌, take, drop, codes}
 use Rattle.std.specs.Fmt.{decimal}
 use Rattle.std.specs.Str.{chars}
+use Rattle.graphql_tokens.specs.declared.lexer.TokenKind.TheVariants.{Fault}
 use Rattle.graphql_tokens.specs.declared.pos.Pos.{Pos}
 use Rattle.graphql_tokens.specs.tokens.Place.{place_after}
+use Rattle.graphql_tokens.specs.tokens.Token.{Token}
+use Rattle.graphql_reading.specs.grammar.Limits.{Limits}
 use Rattle.graphql_grammar.specs.declared.error.Error.{Error}
 use Rattle.graphql_grammar.specs.declared.error.Error.TheVariants.{Syntax, RecursionLimitExceeded}
 use Rattle.graphql_grammar.specs.errors.Errors.{error_text, error_places}
+use Rattle.graphql_report.specs.declared.fronts.Language.{Language}
+use Rattle.graphql_report.specs.declared.rests.ReadFrom.{ReadFrom}
 use Rattle.graphql_report.specs.declared.style.Style.{Style}
 use Rattle.graphql_report.specs.declared.style.Style.TheVariants.{Plain, Coloured}
 use Rattle.graphql_report.specs.declared.style.Part.{Part}
 use Rattle.graphql_report.specs.declared.style.Part.TheVariants.{Place, Error as Word, Caret}
+use Rattle.graphql_report.specs.reports.Expected.{AreExpected}
+use Rattle.graphql_report.specs.reports.Words.{found, expected}
 
 -- ---- how a part stands out
 
@@ -62,20 +69,43 @@ IsEscapeIn text place = (before after : List ℕ) × (chars text ≡ before ++ 9
 abbrev pub IsToldAt : List ℕ → Pos → Pos → Type 0
 IsToldAt text start place = (place ≡ start) ⊎ IsEscapeIn text place
 
-abbrev pub TellsSyntax : Style → List ℕ → List ℕ → Pos → List ℕ → Type 0
-TellsSyntax style file text start report =
-    (place : Pos)
-    × IsToldAt text start place
-    × Tells style file place (codes "syntax " ++ styled style Word (codes "error") ++ codes ": ") report
+-- ---- what is told of a refused token
 
-abbrev pub TellsLimit : Style → List ℕ → List ℕ → List ℕ → Type 0
-TellsLimit style file text report =
+-- What was found, or what is wrong where no token begins, and then just what is expected after all that stands before it.
+pub record TellsToken (language : Language) (limits : Limits) (text : List ℕ) (from : ReadFrom) (token : Token) (details : List ℕ) : Type 0 where
+  pub names : List (List ℕ)
+  pub are_expected : AreExpected language limits (take (token.start - from.offset) (drop from.offset text)) names
+  pub wrong : List ℕ
+  pub more : List ℕ
+  pub is : details ≡ wrong ++ expected language token.bare names ++ more
+  pub found : (token.bare.kind ≡ Fault → ⊥) → wrong ≡ codes "found " ++ found token.bare
+
+-- these details are of the token that is the refused one
+abbrev pub AreDetails : (Token → Type 0) → Language → Limits → List ℕ → ReadFrom → List ℕ → Type 0
+AreDetails is_refused language limits text from details = (token : Token) → is_refused token → TellsToken language limits text from token details
+
+-- a limit is told at a place in the text, that of the token that is the refused one
+abbrev pub IsLimitAt : (Token → Type 0) → List ℕ → Pos → Type 0
+IsLimitAt is_refused text place = IsPlaceIn text place × ((token : Token) → is_refused token → place ≡ token.pos)
+
+-- ---- reports
+
+abbrev pub TellsSyntax : Style → List ℕ → (Token → Type 0) → Language → Limits → List ℕ → ReadFrom → Pos → List ℕ → Type 0
+TellsSyntax style file is_refused language limits text from start report =
+    (place : Pos) × (details : List ℕ)
+    × IsToldAt text start place
+    × AreDetails is_refused language limits text from details
+    × Tells style file place ((codes "syntax " ++ styled style Word (codes "error") ++ codes ": ") ++ details) report
+
+abbrev pub TellsLimit : Style → List ℕ → (Token → Type 0) → List ℕ → List ℕ → Type 0
+TellsLimit style file is_refused text report =
     (place : Pos)
-    × IsPlaceIn text place
+    × IsLimitAt is_refused text place
     × Tells style file place (codes "recursion limit exceeded") report
 
--- The report of an error: of one that names places, or of one without a place, the error's own text and its places.
-abbrev pub IsReport : Style → List ℕ → List ℕ → Error → List ℕ → Type 0
-IsReport style file text (Syntax message start stop) report = TellsSyntax style file text start report
-IsReport style file text RecursionLimitExceeded report = TellsLimit style file text report
-IsReport style file text error report = TellsPlaces style file (error_text error) (error_places error) report
+-- The report of an error of a text that was read from there on: of a token that is refused, where it is and what it is; of
+-- another error, its own text and its places.
+abbrev pub IsReport : Style → List ℕ → (Token → Type 0) → Language → Limits → List ℕ → ReadFrom → Error → List ℕ → Type 0
+IsReport style file is_refused language limits text from (Syntax message start stop) report = TellsSyntax style file is_refused language limits text from start report
+IsReport style file is_refused language limits text from RecursionLimitExceeded report = TellsLimit style file is_refused text report
+IsReport style file is_refused language limits text from error report = TellsPlaces style file (error_text error) (error_places error) report

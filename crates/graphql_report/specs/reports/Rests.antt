@@ -6,6 +6,10 @@ use Rattle.graphql_tokens.specs.declared.pos.Pos.{Pos}
 use Rattle.graphql_tokens.specs.tokens.Place.{place, place_after}
 use Rattle.graphql_report.specs.declared.rests.ReadFrom.{ReadFrom}
 
+-- the beginning of a text
+abbrev pub top : ReadFrom
+top = record { offset = 0; line = 1 }
+
 -- a line begins after these characters: the one that is counted so
 abbrev pub BeginsAfter : List ℕ → ReadFrom → Type 0
 BeginsAfter front from = place_after front ≡ record { line = from.line; column = 1 }
@@ -21,7 +25,3 @@ AreCounted text = length text + 1 < 2 ^ 64
 -- one spot: where the second part of a text begins with this line, its place in that part, and its place in the whole text
 abbrev pub IsMoved : ReadFrom → Pos → Pos → Type 0
 IsMoved from in_rest in_text = (front here : List ℕ) → BeginsAfter front from → AreCounted (front ++ here) → in_rest ≡ place_after here → in_text ≡ place_after (front ++ here)
-
--- the same the other way round
-abbrev pub IsMovedBack : ReadFrom → Pos → Pos → Type 0
-IsMovedBack from in_text in_rest = (front here : List ℕ) → BeginsAfter front from → in_text ≡ place_after (front ++ here) → in_rest ≡ place_after here

@@ -12,7 +12,7 @@ pub read_document-requires : goal.read_document-requires
 read_document-requires c k = ((refl, tt), (search rules, requests-read-by))
 
 pub returns-clause-reads : goal.returns-clause-reads
-returns-clause-reads c = reads-text requests definitions_at requests-are-read c.args.limits c.args.text.now c.new-tokens.result _ _ c.new-tokens.ensures.only c.new-tokens.ensures.former c.read_document.ensures.reads
+returns-clause-reads c = reads-text requests definitions_at requests-are-read c.args.limits c.args.text.now c.new-tokens.result _ _ c.new-tokens.ensures.cut c.new-tokens.ensures.only c.new-tokens.ensures.former c.read_document.ensures.reads
 
 pub returns-clause-lawful : goal.returns-clause-lawful
 returns-clause-lawful c = lawful-answer c.args.limits (left c.new-tokens.result) _ c.read_document.ensures.reads.answer

@@ -1,4 +1,4 @@
-use Rattle.std.proofs.Common.{◌≡◌, ℕ, List, ap, sym, subst, ◌∙◌, inl, inr, arith}
+use Rattle.std.proofs.Common.{◌≡◌, ℕ, List, refl, ap, sym, subst, ◌∙◌, inl, inr, arith}
 use Rattle.graphql_memory.specs.Memory as memory
 use Rattle.graphql_tokens.specs.declared.pos.Pos.{Pos}
 use Rattle.graphql_tokens.specs.tokens.Token.{Token}
@@ -10,7 +10,7 @@ use Rattle.graphql_reading.specs.reading.Outcome.{Reader, whole_at}
 use Rattle.graphql_reading.specs.reading.Given.{Refuses}
 use Rattle.graphql_tokens.specs.tokens.Token.{left}
 use Rattle.graphql_grammar.proofs.Bounds.{took-tree, took-none, left-after, err-same}
-use Rattle.graphql_grammar.proofs.Answering.{Goes, goes-of, reads-document, reads-refusal}
+use Rattle.graphql_grammar.proofs.Answering.{Goes, goes-of, reads-document, reads-refusal, document-token, token-of-refusal}
 use Rattle.graphql_grammar.proofs.Made.{is-made, refuses-made}
 use Rattle.graphql_grammar.proofs.document.read_document.Given.{Over}
 use Rattle.graphql_grammar.proofs.document.read_document.Goals as goal
@@ -22,7 +22,7 @@ went g c =
     let begins = c.new-parser.ensures in
     let ends = c.into_parts-left.ensures in
     goes-of c.args.tokens.now c.replace.result c.into_parts-left.result.0 c.new-parser.result c.read_all-read.new.parser
-    c.replace.ensures.value begins.left begins.ends begins.proper begins.whole begins.taken ends.left ends.whole ends.taken ends.within
+    c.replace.ensures.value begins.left begins.ends begins.proper begins.text begins.whole begins.taken ends.left ends.text ends.whole ends.taken ends.within
 
 -- ---- where there is a tree
 
@@ -31,6 +31,11 @@ returns-in-Ok-clause-reads g c =
     let made = is-made g.K.Kept.sum (whole_at (g.K.Kept.reader c.args.limits) (tokens c.new-parser.result)) _ c.read_all-read.new.parser.after c.in-Ok.ensures.gives.0 in
     reads-document g.K.Kept.language g.K.Kept.reader c.requires.read c.args.limits c.args.tokens.now c.into_parts-left.result.0 c.new-parser.result c.read_all-read.new.parser
     (went g (goal.at.returns-in-Ok-clause-reads g c).After-into_parts-left) c.in-Ok.ensures.gives.1 made.tree _ made.is (c.into_document-answer.ensures.document made.tree made.made)
+
+pub returns-in-Ok-clause-token : goal.returns-in-Ok-clause-token
+returns-in-Ok-clause-token g c none =
+    let made = is-made g.K.Kept.sum (whole_at (g.K.Kept.reader c.args.limits) (tokens c.new-parser.result)) _ c.read_all-read.new.parser.after c.in-Ok.ensures.gives.0 in
+    document-token g.K.Kept.language c.args.limits (left c.args.tokens.now) made.tree _ c.args.refused.now (c.into_document-answer.ensures.document made.tree made.made) none
 
 -- what the tokens cost, the parser's cost
 costs : (g : Over) (c : goal.After-into_parts-left g) (most : ℕ) → g.K.Kept.Costs c.args.limits (left c.args.tokens.now) most → g.K.Kept.Costs c.args.limits (tokens c.new-parser.result) most
@@ -73,10 +78,17 @@ error_of-error-requires g c is =
 
 pub returns-in-Err-clause-reads : goal.returns-in-Err-clause-reads
 returns-in-Err-clause-reads g c =
-    let place = ap (λ (t : Token). t.pos) c.hand.ensures.token in
+    let place = ap (λ (t : Token). t.pos) c.hand-hand.ensures.token in
     reads-refusal g.K.Kept.language g.K.Kept.reader c.requires.read c.args.limits c.args.tokens.now c.into_parts-left.result.0 c.new-parser.result c.read_all-read.new.parser
     (went g (goal.at.returns-in-Err-clause-reads g c).After-into_parts-left) c.in-Err.ensures.gives.1 c.in-Err.refusal c.error_of-error.result (refused-here g (goal.at.returns-in-Err-clause-reads g c).In-Err)
     (subst (λ (p : Pos). IsErrorOf c.in-Err.refusal p c.error_of-error.result) place c.error_of-error.ensures.error)
+
+pub returns-in-Err-clause-token : goal.returns-in-Err-clause-token
+returns-in-Err-clause-token g c none =
+    let place = ap (λ (t : Token). t.pos) c.hand-hand.ensures.token in
+    token-of-refusal g.K.Kept.language g.K.Kept.reader c.requires.read c.args.limits c.args.tokens.now c.into_parts-left.result.0 c.new-parser.result c.read_all-read.new.parser
+    (went g (goal.at.returns-in-Err-clause-token g c).After-into_parts-left) c.in-Err.refusal c.error_of-error.result c.hand-hand.result _ (refused-here g (goal.at.returns-in-Err-clause-token g c).In-Err)
+    (subst (λ (p : Pos). IsErrorOf c.in-Err.refusal p c.error_of-error.result) place c.error_of-error.ensures.error) refl c.hand-hand.ensures.token
 
 pub settle-requires-in-Err : goal.settle-requires-in-Err
 settle-requires-in-Err g c =

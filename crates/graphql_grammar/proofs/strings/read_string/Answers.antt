@@ -23,4 +23,4 @@ returns-clause-gives c =
     let means = rw c.in-Some.is at c.in_ok-text.ensures.some in
     let back = encodes-chars (string_bytes c.in-Some.text) (IsUtf8-string_bytes c.in-Some.text) in
     let reads = string-means c.hand-token.result c.args.parser.now.hand c.args.parser.now.after c.inside.result.now (string_bytes c.in-Some.text) c.hand-token.ensures.token (sym c.is_string.ensures ∙ c.if-not-is_string.false) c.inside.ensures.inside means back in
-    (reads ∙ ap (λ (l : List Token). Read (string_bytes c.in-Some.text) l) (sym (c.advance.ensures.left ∙ asked.1)), (c.advance.ensures.whole ∙ asked.2, omega (arith, c.advance.ensures.taken, asked.3)))
+    (reads ∙ ap (λ (l : List Token). Read (string_bytes c.in-Some.text) l) (sym (c.advance.ensures.left ∙ asked.1)), (c.advance.ensures.source ∙ asked.2, omega (arith, c.advance.ensures.taken, asked.3)))

@@ -1,4 +1,4 @@
-use Rattle.graphql_report.specs.inner.Expected.{texts}
+use Rattle.graphql_report.specs.reports.Expected.{texts}
 use Rattle.graphql_report.proofs.Parted.{expected-after}
 use Rattle.graphql_report.proofs.expected.expected_after_parts.Goals as goal
 

@@ -1,8 +1,7 @@
 use Rattle.std.proofs.Common.{◌≡◌, ℕ, Bool, cond, List, [], ◌∷◌, ◌++◌, sym, ap, ◌∙◌, subst, append-nil}
 use Rattle.std.specs.Borrow.{Bor}
 use Rattle.std.specs.String.{string_bytes}
-use Rattle.graphql_report.specs.declared.samples.TheConstants.{NAME_TEXT, END}
-use Rattle.graphql_report.specs.inner.Expected.{TellsFrontOf, with_sample, literals, punctuators, keywords, AreTaken, texts, value_names}
+use Rattle.graphql_report.specs.reports.Expected.{TellsFrontOf, with_sample, name_text, end_name, literals, punctuators, keywords, AreTaken, texts, value_names}
 use Rattle.graphql_report.proofs.ExpectedNames.{joined}
 use Rattle.graphql_report.proofs.expected.expected_in.Goals as goal
 use Rattle.graphql_report.proofs.expected.expected_in.Goals.{then-has_name, else-has_name+in_ok-keywords, then-branch+in_ok-push, else-branch}
@@ -25,7 +24,7 @@ returns c =
     (c.in_ok-extend_from_slice-2.ensures.items ∙ ap (λ (l : List (Bor (List ℕ))). c.extend_from_slice.new.self.items ++ l) c.as_slice-3.ensures.value) in
     record {
       has_name = c.in_ok-has_name.has_name;
-      tells_name = subst (λ (l : List ℕ). TellsFrontOf c.args.language c.args.limits (with_sample l NAME_TEXT.now) c.in_ok-has_name.has_name) begun c.in_ok-has_name.ensures.answer;
+      tells_name = subst (λ (l : List ℕ). TellsFrontOf c.args.language c.args.limits (with_sample l name_text) c.in_ok-has_name.has_name) begun c.in_ok-has_name.ensures.answer;
       of_literals = texts c.in_ok-literals.literals.items;
       are_literals = subst (λ (l : List ℕ). AreTaken c.args.language c.args.limits l literals (texts c.in_ok-literals.literals.items)) after-name c.in_ok-literals.ensures.names;
       of_punctuators = texts c.in_ok-punctuators.punctuators.items;
@@ -42,7 +41,7 @@ returns c =
       is_whole = c.in_ok-is_whole.field-0;
       tells_whole = c.in_ok-is_whole.ensures;
       are_names = elim c.if-branch.branch [
-        | then-branch+in_ok-push w ↦ ap (λ t. texts t.items) w.names-is ∙ joined told c.extend_from_slice-2.new.self.items _ w.push.new.self.items with-keywords w.in_ok-push.ensures.items ∙ ap (λ (b : Bool). told ++ cond b (END.now ∷ []) []) (sym w.if-branch.true)
-        | else-branch w ↦ ap (λ t. texts t.items) w.names-is ∙ with-keywords ∙ sym (append-nil told) ∙ ap (λ (b : Bool). told ++ cond b (END.now ∷ []) []) (sym w.if-branch.false)
+        | then-branch+in_ok-push w ↦ ap (λ t. texts t.items) w.names-is ∙ joined told c.extend_from_slice-2.new.self.items _ w.push.new.self.items with-keywords w.in_ok-push.ensures.items ∙ ap (λ (b : Bool). told ++ cond b (end_name ∷ []) []) (sym w.if-branch.true)
+        | else-branch w ↦ ap (λ t. texts t.items) w.names-is ∙ with-keywords ∙ sym (append-nil told) ∙ ap (λ (b : Bool). told ++ cond b (end_name ∷ []) []) (sym w.if-branch.false)
       ];
     }

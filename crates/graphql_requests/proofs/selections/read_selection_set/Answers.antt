@@ -80,7 +80,7 @@ loop-outer-preserved c = record {
 pub returns-in-None-clause-gives : goal.returns-in-None-clause-gives
 returns-in-None-clause-gives c =
     given-stays (placed selection_set_tree) c.in_ok-set.set c.args.parser.now c.advance.new.self c.close.new.parser (selection_set_at c.args.limits.values c.args.limits.selections)
-    (ends c.advance.new.self (sym c.is_at_punct.ensures ∙ c.loop-nests-test.true) c.advance.ensures.left (c.advance.ensures.whole, omega (arith, c.advance.ensures.taken)) (none-around c.loop-nests.outer.items c.in-None.ensures.variant.1) c.in_ok-set.ensures.set c.loop-nests.invariant.behind) c.close.ensures.stays
+    (ends c.advance.new.self (sym c.is_at_punct.ensures ∙ c.loop-nests-test.true) c.advance.ensures.left (c.advance.ensures.source, omega (arith, c.advance.ensures.taken)) (none-around c.loop-nests.outer.items c.in-None.ensures.variant.1) c.in_ok-set.ensures.set c.loop-nests.invariant.behind) c.close.ensures.stays
 
 -- the credit of a list is by its length and its capacity
 credit_of : {X : Type 0} (old new : Vec X Global) → vec_len new ≡ vec_len old → vec_capacity new ≡ vec_capacity old → selections_credit new ≡ selections_credit old
@@ -93,5 +93,5 @@ loop-nests-preserved c =
     record {
       nested = l.1;
       paid = rw (places, credit_of c.close.new.items c.fill_last.new.items c.fill_last.ensures.len c.fill_last.ensures.capacity) (omega (arith, c.loop-nests.invariant.paid, c.advance.ensures.pays, c.close.ensures.takes, c.in_ok-set.ensures.len, c.in_ok-set.ensures.fewer, c.in_ok-set.ensures.credit, c.in-Some-pop.ensures.len), omega (arith, c.loop-nests.invariant.paid, c.advance.ensures.pays, c.close.ensures.takes));
-      behind = after-stays {now = c.advance.new.self} c.close.new.parser c.close.ensures.stays (leaves c.in-Some-pop.around c.advance.new.self (sym c.is_at_punct.ensures ∙ c.loop-nests-test.true) c.advance.ensures.left (c.advance.ensures.whole, omega (arith, c.advance.ensures.taken)) l.0 c.in_ok-set.ensures.set c.in_ok-set.ensures.rest c.fill_last.ensures.trees c.loop-nests.invariant.behind);
+      behind = after-stays {now = c.advance.new.self} c.close.new.parser c.close.ensures.stays (leaves c.in-Some-pop.around c.advance.new.self (sym c.is_at_punct.ensures ∙ c.loop-nests-test.true) c.advance.ensures.left (c.advance.ensures.source, omega (arith, c.advance.ensures.taken)) l.0 c.in_ok-set.ensures.set c.in_ok-set.ensures.rest c.fill_last.ensures.trees c.loop-nests.invariant.behind);
     }

@@ -7,5 +7,5 @@ pub returns-clause-checks : goal.returns-clause-checks
 returns-clause-checks c = (
   string-here c.hand-token.result c.args.parser.now.hand c.args.parser.now.after c.hand-token.ensures.token (sym c.is_string.ensures ∙ c.if-not-is_string.false) c.hand-token.ensures.proper
       ∙ ap (λ (l : List Token). Some l) (sym c.advance.ensures.left),
-  (c.advance.ensures.whole, omega (arith, c.advance.ensures.taken)),
+  (c.advance.ensures.source, omega (arith, c.advance.ensures.taken)),
 )

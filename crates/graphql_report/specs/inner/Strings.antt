@@ -1,0 +1,43 @@
+-- What stands at the front of a string's rest: a unit of its content, a bad escape, or its end.
+-- Source: this project's choice.
+use Rattle.std.specs.Prelude.{◌≡◌, ◌≢◌, ℕ, ◌≤◌, true, false, List, ◌∷◌, ◌++◌, length}
+use Rattle.std.specs.Str.{byte, chars, IsUtf8}
+use Rattle.graphql_tokens.specs.tokens.Edition.{Current}
+use Rattle.graphql_tokens.specs.tokens.Place.{is_line_end}
+use Rattle.graphql_tokens.specs.tokens.Strings.{UnitMeans, IsContent}
+use Rattle.graphql_report.specs.declared.faults.Ahead.{Ahead}
+use Rattle.graphql_report.specs.declared.faults.Ahead.TheVariants.{Content, BadEscape, End}
+
+-- the text is these two parts
+abbrev pub IsSplit : List ℕ → List ℕ → List ℕ → Type 0
+IsSplit text front rest = chars text ≡ chars front ++ chars rest
+
+-- no character and no escape of a content stands at the front
+abbrev pub HasNoUnit : List ℕ → Type 0
+HasNoUnit text = (unit after : List ℕ) (c : ℕ) → UnitMeans Current unit c → text ≢ unit ++ after
+
+-- a content, one character or more, and this rest after it
+pub record Passes (text rest : List ℕ) : Type 0 where
+  pub content : List ℕ
+  pub is_content : IsContent Current content
+  pub some : 1 ≤ length content
+  pub whole : text ≡ content ++ rest
+
+-- a backslash and a character in the line, and no escape
+pub record IsBad (text : List ℕ) : Type 0 where
+  pub next : ℕ
+  pub rest : List ℕ
+  pub is : text ≡ byte "\\" ∷ next ∷ rest
+  pub in_line : is_line_end next ≡ false
+  pub none : HasNoUnit text
+
+-- no unit, and no backslash in the line
+pub record Ends (text : List ℕ) : Type 0 where
+  pub none : HasNoUnit text
+  pub ends : (next : ℕ) (rest : List ℕ) → text ≡ byte "\\" ∷ next ∷ rest → is_line_end next ≡ true
+
+-- what the answer says of the text
+abbrev pub TellsAhead : List ℕ → Ahead → Type 0
+TellsAhead text (Content rest) = IsUtf8 rest.now × Passes text (chars rest.now)
+TellsAhead text BadEscape = IsBad text
+TellsAhead text End = Ends text
