@@ -255,14 +255,14 @@ else
         if [ -z "$(cd "$here/python" && python3 -c 'import test_field_usage as test; print(test.python_with_dask() or "")')" ]; then
             skip "field_usage on a cluster" "no python3 has Dask (python3-dask, python3-distributed)"
         fi
-        if python3 -c 'import graphql' 2>/dev/null; then
+        if python3 -c 'import graphql, sys; sys.exit(graphql.version_info < (3, 2))' 2>/dev/null; then
             language "Python's graphql-core" python_nodes
             language "the pages" pages
             if ! has_nodes_in_c; then
                 skip "Python's nodes in C" "nodes.c isn't compiled: there are no headers of Python"
             fi
         else
-            skip "Python's graphql-core" "python3 doesn't have it"
+            skip "Python's graphql-core" "python3 doesn't have 3.2 or later"
         fi
     else
         skip Python "there is no python3"

@@ -13,6 +13,7 @@ import subprocess
 import sys
 import threading
 import unittest
+import unittest.mock
 
 import graphql
 from graphql.language import Node, Source, ast
@@ -323,27 +324,60 @@ class Deep(unittest.TestCase):
                 self.assertEqual(node.values[0].loc.start, text.index('"d"'))
 
     def test_a_deeper_text_is_refused(self):
-        for text in ("{a" * 66 + "}" * 66, "{a(b:" + "[" * 65 + "]" * 65 + ")}"):
-            with self.assertRaises(graphql.GraphQLSyntaxError) as caught:
-                graphql_parser.parse(text)
-            self.assertEqual(caught.exception.__cause__.kind, Kind.RECURSION_LIMIT_EXCEEDED)
-            self.assertEqual((caught.exception.positions, caught.exception.locations), (None, None))
+        deep = [
+            ("{a" * 66 + "}" * 66, {}, "selection sets may nest 64 deep"),
+            ("{a(b:" + "[" * 65 + "]" * 65 + ")}", {}, "lists and objects may nest 64 deep"),
+            ("{a{b{c}}}", {"selections": 1}, "selection sets may nest 1 deep"),
+            ("query($a:[Int]){b}", {"types": 0}, "list types may nest 0 deep"),
+            ("input A{b:C={d:{e:1}}}", {"values": 1}, "lists and objects may nest 1 deep"),
+        ]
+        for text, limits, message in deep:
+            with self.subTest(text=text), self.assertRaises(graphql.GraphQLSyntaxError) as caught:
+                graphql_parser.parse(text, **limits)
+            error = caught.exception
+            self.assertEqual(error.__cause__.kind, Kind.RECURSION_LIMIT_EXCEEDED)
+            self.assertEqual((error.positions, error.locations), (None, None))
+            self.assertEqual(error.message, "Syntax Error: recursion limit exceeded: " + message)
         with self.assertRaisesRegex(ValueError, "limit"):
             graphql_parser.parse("{a}", values=257)
 
 
+# What may begin a definition of either language, and what may follow a field.
+REQUEST = '"{", "fragment", "mutation", "query"'
+SCHEMA = '"directive", "enum", "extend", "input", "interface", "scalar", "schema", "type"'
+AFTER_FIELD = 'a name, "{", "(", "...", ":", "@" or "}"'
+
 REFUSED = [
-    ("{a", Kind.SYNTAX, [2], "syntax error at 1:3"),
-    ("", Kind.SYNTAX, [0], "syntax error at 1:1"),
-    ("é", Kind.SYNTAX, [0], "syntax error at 1:1"),
-    ("{a}\n  type A", Kind.SYNTAX, [6], "syntax error at 2:3"),
-    ("scalar A {a}", Kind.SYNTAX, [9], "syntax error at 1:10"),
-    ("{\ra(:1)}", Kind.SYNTAX, [4], "syntax error at 2:3"),
+    ("{a", Kind.SYNTAX, [2], f"found the end of the text, expected {AFTER_FIELD}"),
+    ("", Kind.SYNTAX, [0], f'found the end of the text, expected {REQUEST} or "subscription"'),
+    ("é", Kind.SYNTAX, [0], f'the character é begins no token, expected {REQUEST} or "subscription"'),
+    ("{a(b:)}", Kind.SYNTAX, [5], 'found ")", expected a value or "$"'),
+    ("query($a:B=){c}", Kind.SYNTAX, [11], 'found ")", expected a value'),
+    ("qurey{a}", Kind.SYNTAX, [0], f'found "qurey", expected {REQUEST} or "subscription" (did you mean "query"?)'),
+    (
+        "{a}\n  type A",
+        Kind.SYNTAX,
+        [6],
+        f'found "type", expected {REQUEST}, "subscription" or the end of the text '
+        '("type" begins a definition of a schema file, and this text is read as a request)',
+    ),
+    ("scalar A {a}", Kind.SYNTAX, [9], f'found "{{", expected a string, "@", {SCHEMA}, "union" or the end of the text'),
+    ("input A{b:C=}", Kind.SYNTAX, [12], 'found "}", expected a value'),
+    ("{\ra(:1)}", Kind.SYNTAX, [4], 'found ":", expected a name'),
+    # What ends a line elsewhere ends no message.
+    ('{a "\u2028\x0b\x85"}', Kind.SYNTAX, [3], f'found the string "\u2028\ufffd\ufffd", expected {AFTER_FIELD}'),
     ("query A{a}\nquery A{a}", Kind.OPERATION_DUPLICATED, [11, 0], "operation A is defined twice"),
     ("fragment F on T{a}", Kind.MISSING_OPERATION, None, "document does not contain an operation"),
     ("schema{mutation:M}", Kind.MISSING_QUERY_ROOT, [0], "schema definition is missing query root"),
     ("{a}#\ud800", Kind.NOT_UTF8, None, "the text isn't UTF-8"),
     (b"{a}#\xff", Kind.NOT_UTF8, None, "the text isn't UTF-8"),
+]
+
+# Each with what is expected in place of the string, and where that begins.
+BAD_ESCAPES = [
+    (r'{a(b:"\n\q")}', r"\q", 'a value or "$"', (1, 6)),
+    ('{a(b:\n"x\\u00zz")}', r"\u00", 'a value or "$"', (2, 1)),
+    ('\r"é\\ud800" type A', r"\ud800", f'a string, {SCHEMA} or "union"', (2, 1)),
 ]
 
 
@@ -358,6 +392,70 @@ class Errors(unittest.TestCase):
             self.assertEqual(len(error.locations or ()), len(positions or ()))
             self.assertEqual(error.formatted["message"], error.message)
             self.assertIsInstance(str(error), str)
+
+    def test_a_bad_escape_is_told_where_graphql_core_tells_it(self):
+        for text, escape, expected, place in BAD_ESCAPES:
+            with self.subTest(text=text):
+                error, theirs = (self.error_of(parse, text) for parse in (graphql_parser.parse, graphql.parse))
+                self.assertEqual(
+                    error.message, f"Syntax Error: the escape {escape} in this string stands for no character, expected {expected}"
+                )
+                self.assertEqual((error.positions, error.locations), (theirs.positions, theirs.locations))
+                self.assertEqual(error.__cause__.places, [place])
+
+    def test_what_is_expected_keeps_to_the_limits_of_the_call(self):
+        error = self.error_of(graphql_parser.parse, "{a 1}", selections=0)
+        self.assertEqual(error.message, 'Syntax Error: found the number 1, expected a name, "(", "...", ":", "@" or "}"')
+
+    def test_without_memory_for_its_message_an_error_has_the_short_one(self):
+        for text, name, positions, message in (
+            ("{a", "explain_query", [2], "syntax error at 1:3"),
+            ("type", "explain_schema", [4], "syntax error at 1:5"),
+            ("{a" * 66, "explain_query", None, "recursion limit exceeded."),
+            (r'{a(b:"\q")}', "explain_query", [5], "syntax error at 1:6"),
+        ):
+            with self.subTest(text=text):
+                self.assertNotEqual(self.error_of(graphql_parser.parse, text).message, "Syntax Error: " + message)
+                with unittest.mock.patch.object(_library, name, lambda *asked: 1):
+                    error = self.error_of(graphql_parser.parse, text)
+                self.assertEqual((error.message, error.positions), ("Syntax Error: " + message, positions))
+
+    def test_no_refused_request_for_memory_hides_an_error_behind_its_message(self):
+        try:
+            import _testcapi
+        except ImportError:
+            self.skipTest("this Python has no module _testcapi")
+        expected = self.error_of(graphql_parser.parse, "{a").message
+        told = []
+        for number in range(1, 10000):
+            message = None
+            _testcapi.set_nomemory(number, number + 1)
+            try:
+                graphql_parser.parse("{a")
+            except Exception as error:
+                message = getattr(error, "message", None)
+            finally:
+                _testcapi.remove_mem_hooks()
+            told.append(message)
+            if message == expected:
+                break
+        short = "Syntax Error: syntax error at 1:3"
+        first, count = told.index(short), told.count(short)
+        self.assertGreater(count, 30)
+        self.assertEqual(told[first : first + count], [short] * count)
+        self.assertEqual(message, expected)
+
+    def test_another_report_of_a_later_library_is_not_taken(self):
+        for report in ("a report\n", "\n1:3: syntax error: at the second line", None):
+            with unittest.mock.patch.object(_library, "explain", lambda *asked: report):
+                error = self.error_of(graphql_parser.parse, "{a")
+            self.assertEqual((error.message, error.positions), ("Syntax Error: syntax error at 1:3", [2]))
+
+    def error_of(self, parse, text, **limits):
+        """The error with which a text is refused."""
+        with self.assertRaises(graphql.GraphQLSyntaxError) as caught:
+            parse(text, **limits)
+        return caught.exception
 
     def test_texts_are_texts(self):
         for text in (None, 1, ["{a}"]):

@@ -72,6 +72,39 @@ class Package(unittest.TestCase):
             self.assertIn("bindings/build.sh", done.stderr)
 
 
+class GraphqlCore(unittest.TestCase):
+    """What `parse` says of a graphql-core whose nodes it can't give. Here it is a package of that name with a version alone."""
+
+    def said(self, written):
+        """What two calls of `parse` raise, where `written` is the package."""
+        program = (
+            "import graphql_parser; graphql_parser.parse_query('{a}')\n"
+            "for _ in range(2):\n"
+            "    try: graphql_parser.parse('{a}')\n"
+            "    except ImportError as error: print(error)"
+        )
+        with tempfile.TemporaryDirectory() as folder:
+            Path(folder, "graphql").mkdir()
+            Path(folder, "graphql", "__init__.py").write_text(written)
+            environment = {**os.environ, "PYTHONPATH": os.pathsep.join([folder, str(HERE)])}
+            done = subprocess.run([sys.executable, "-c", program], env=environment, capture_output=True, text=True)
+        first, second = done.stdout.splitlines() or self.fail(done.stderr)
+        self.assertEqual(second, first)
+        return first
+
+    def test_an_older_one_is_told_with_its_version(self):
+        for version in ("1.1.1", "2.3.2", "3.0.6", "3.1.7", "another"):
+            with self.subTest(version=version):
+                needs = f"graphql_parser needs graphql-core 3.2 or later, and found {version}"
+                self.assertEqual(self.said(f"__version__ = {version!r}"), needs + ": pip install 'graphql-core>=3.2,<3.3'")
+        self.assertIn("and found a module graphql without a version: pip", self.said(""))
+
+    def test_a_later_one_is_asked_for_its_nodes(self):
+        for version in ("3.2.0", "3.2.0rc2", "3.10.1", "4.0.0"):
+            with self.subTest(version=version):
+                self.assertEqual(self.said(f"__version__ = {version!r}"), "No module named 'graphql.error'")
+
+
 class Types(unittest.TestCase):
     """The stub says what the module has."""
 

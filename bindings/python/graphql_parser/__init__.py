@@ -106,7 +106,8 @@ def parse(source, no_location=False, *, selections=64, values=64, types=64):
     that is neither is refused. With `no_location` the nodes have no `loc`.
 
     Raises graphql-core's GraphQLSyntaxError where the text is refused, with a GraphQLError as its `__cause__`, and an
-    ImportError where graphql-core isn't installed.
+    ImportError where graphql-core isn't installed, or is older. The message says what was found and what was expected, as
+    'Syntax Error: found ")", expected a name'; as in a report, its words may change with any version of the library.
     """
     try:
         from . import _nodes

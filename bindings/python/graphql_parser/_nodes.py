@@ -5,6 +5,7 @@ function for each object in it, innermost first. That function makes the node fr
 out is found in the text: where the nodes inside lists and objects stand, and which strings are block strings.
 """
 
+import ctypes
 import gc
 import importlib.machinery
 import importlib.util
@@ -14,11 +15,17 @@ import os
 import re
 
 import graphql
+
+# Before what an older one lacks is asked of it.
+_found = getattr(graphql, "__version__", "a module graphql without a version")
+if [int(number) for number in re.findall("[0-9]+", _found)[:2]] < [3, 2]:
+    raise ImportError(f"graphql_parser needs graphql-core 3.2 or later, and found {_found}: pip install 'graphql-core>=3.2,<3.3'")
+
 from graphql.error import GraphQLSyntaxError
 from graphql.language import Location, OperationType, Source, ast
 
 from . import _library
-from ._errors import GraphQLError
+from ._errors import GraphQLError, Kind
 from ._json import decoded
 
 _IGNORED = r"(?:[ \t\n\r,\ufeff]+|#[^\n\r]*)*"
@@ -34,6 +41,8 @@ _TOKEN = re.compile(r'#[^\n\r]*|([\w.+-]+|"""(?:\\"""|[^"]|"(?!""))*"""|"(?:\\.|
 _OPENS = 2
 _CLOSES = 3
 _CACHE = "_graphql_parser_locations"
+# The first line of a report of a refused token, or of one that nests too deep: its place, and what is said of it.
+_REPORT = re.compile("([0-9]+):([0-9]+): (?:syntax error: )?(.+)")
 
 
 class _Text:
@@ -66,18 +75,38 @@ def parse(source, no_location, limits):
     try:
         written = _library.parse_bytes(call, text.body, limits, True)
     except GraphQLError as error:
-        raise _syntax_error(error, text) from error
+        explain = _library.explain_schema if is_schema else _library.explain_query
+        raise _syntax_error(text, *_told(error, text, explain, limits)) from error
     return _document(written, text)
 
 
-def _syntax_error(error, text):
+def _syntax_error(text, message, places):
     """graphql-core's error, with our message and places."""
     text.find_lines()
-    positions = [text.starts[line] + column for line, column in error.places]
-    refused = GraphQLSyntaxError(text.source, positions[0] if positions else 0, error.message)
+    positions = [text.starts[line] + column for line, column in places]
+    refused = GraphQLSyntaxError(text.source, positions[0] if positions else 0, message)
     refused.positions = positions or None
     refused.locations = [text.source.get_location(position) for position in positions] or None
     return refused
+
+
+def _told(error, text, explain, limits):
+    """The message and the places of an error.
+
+    Of a refused token they are those of the library's report, which says what was found and what was expected. Its place is the
+    error's, but for a bad escape in a string: there it is that of the escape, as in graphql-core. Of a text that nests too deep
+    the message is the report's. Where there is no memory for a report, both are the error's own.
+    """
+    if error.kind in (Kind.SYNTAX, Kind.RECURSION_LIMIT_EXCEEDED):
+        try:
+            found = _REPORT.match(_library.explain(explain, text.body, limits) or "")
+            if found:
+                line, column, message = found.groups()
+                return message, [(int(line), int(column))] if error.places else []
+        except (MemoryError, ctypes.ArgumentError):
+            # The second is how ctypes says that it got no memory for an argument.
+            pass
+    return error.message, error.places
 
 
 def _document(written, text):

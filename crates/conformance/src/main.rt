@@ -1,6 +1,6 @@
 //! Tables of cases with expected answers: requests and schema files, what the calls of their trees and of their errors give,
-//! their JSON, the reports of refused texts, and what the program `gql` does. The answers were worked out by hand from the rules
-//! of `docs/GRAMMAR.md`, and never taken from what the crates print.
+//! their JSON, what they are minified to, the reports of refused texts, and what the program `gql` does. The answers were
+//! worked out by hand from the rules of `docs/GRAMMAR.md`, and never taken from what the crates print.
 //!
 //! The tables are the files of `data/tables`, in the notation of the crate `rows`, and the runs of `gql` are the file
 //! `data/runs`. The program prints how many rows each table has, and the rows that do not hold: the file `stdout` has the
@@ -12,6 +12,7 @@ mod errors;
 mod json;
 mod kept;
 mod made;
+mod minified;
 mod parser;
 mod readme;
 mod reports;
@@ -29,6 +30,11 @@ struct Calls;
 impl Subject for Calls {
     fn answer(&self, alloc: Global, call: &str, text: &str) -> Result<String, Fail> {
         match call.split_once(' ') {
+            Some(("minified", asked)) => match asked.split_once(' ') {
+                Some(("query", asked)) => minified::answer(alloc, Parser::Query, asked, text),
+                Some(("schema", asked)) => minified::answer(alloc, Parser::Schema, asked, text),
+                _ => Err(Fail::new("no such language")),
+            },
             Some(("query", asked)) => parser::answer(alloc, Parser::Query, asked, text),
             Some(("schema", "kept")) => kept::of_file(alloc, text),
             Some(("schema", "long")) => kept::of_long_file(alloc, text),

@@ -21,22 +21,9 @@ use Rattle.graphql_requests.proofs.Heads.{set-law, item-law}
 use Rattle.graphql_requests.proofs.HeadTakes.{head-nests, item-takes, onto-takes}
 use Rattle.graphql_check.specs.Checked.{rest_of}
 use Rattle.graphql_check.specs.Heads.{entered_at}
+use Rattle.graphql_check.specs.OpenSets.{fresh, outs, sets}
 use Rattle.graphql_check.proofs.Parts.{stops-as}
 use Rattle.graphql_check.proofs.Rests.{ended, ended-read}
-
--- a set of which nothing is known
-abbrev fresh : Opened
-fresh = begun nowhere
-
--- To the end of so many sets around one in which sets may nest b deep, after a selection in each,
-abbrev pub outs : ℕ → ℕ → ℕ → List Token → Outcome (Unit {0})
-outs values b zero ts = Read tt ts
-outs values b (suc n) ts = ended (after_rest values (suc b) fresh ts) >>= λ _ rest. outs values (suc b) n rest
-
--- and from inside that one, where a selection has to follow or may.
-abbrev pub sets : ℕ → ℕ → ℕ → Bool → List Token → Outcome (Unit {0})
-sets values b n true ts = ended (wanted_rest values b fresh ts) >>= λ _ rest. outs values b n rest
-sets values b n false ts = ended (after_rest values b fresh ts) >>= λ _ rest. outs values b n rest
 
 -- from a head on, whose set follows or doesn't
 abbrev pub headed-on : ℕ → ℕ → ℕ → Bool → List Token → Outcome (Unit {0})
@@ -57,7 +44,7 @@ after-any values b o ts = go (many_at selection_first (item_at values b) ts)
     go (Read items rest) = closes (o.items ++ items) items (one_at (punct "}") rest)
     go (Refused v rest) = refl
 
-wanted-any : (values b : ℕ) (o : Opened) (ts : List Token) → ended (wanted_rest values b o ts) ≡ ended (wanted_rest values b fresh ts)
+pub wanted-any : (values b : ℕ) (o : Opened) (ts : List Token) → ended (wanted_rest values b o ts) ≡ ended (wanted_rest values b fresh ts)
 wanted-any values b o ts = go (item_at values b ts)
   where
     go : (read : Outcome (Positioned Selection)) → ended (read >>= λ x rest. after_rest values b (more o x) rest) ≡ ended (read >>= λ x rest. after_rest values b (more fresh x) rest)
@@ -139,7 +126,7 @@ opens-not values selections start new e h on =
     (λ v k. ap ended (set-law values selections (tokens start) ∙ ap (λ (o : Outcome Token). o >>= λ t rest. wanted_rest values selections (begun t.pos) rest) k))
     (refl, omega arith) h on
 
-nests-is : (left outer selections : ℕ) → left + outer ≡ selections → nat_lt outer selections ≡ may_nest left
+pub nests-is : (left outer selections : ℕ) → left + outer ≡ selections → nat_lt outer selections ≡ may_nest left
 nests-is zero outer selections e = grind (arith, nat_tests)
 nests-is (suc left) outer selections e = grind (arith, nat_tests)
 

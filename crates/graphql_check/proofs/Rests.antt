@@ -5,12 +5,8 @@ use Rattle.graphql_reading.specs.grammar.Fronts.{Verdict}
 use Rattle.graphql_reading.specs.reading.Ahead.{Ahead, tokens}
 use Rattle.graphql_reading.specs.reading.Given.{GoesOn}
 use Rattle.graphql_reading.specs.reading.Outcome.{Outcome, Reader, Read, Refused, with_front}
+pub use Rattle.graphql_check.specs.Checked.{ended}
 use Rattle.graphql_check.specs.Checked.{rest_of}
-
--- without its tree
-abbrev pub ended : {Y : Type 0} → Outcome Y → Outcome (Unit {0})
-ended (Read tree rest) = Read tt rest
-ended (Refused v rest) = Refused v rest
 
 -- a tree is read, and the parser has come past it
 abbrev pub Passed : {Y : Type 0} → Ahead → Ahead → Reader Y → Type 0

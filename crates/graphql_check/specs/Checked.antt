@@ -12,6 +12,11 @@ abbrev pub rest_of : {Y : Type 0} → Outcome Y → Option (List Token)
 rest_of (Read tree rest) = Some rest
 rest_of (Refused v rest) = None
 
+-- without its tree
+abbrev pub ended : {Y : Type 0} → Outcome Y → Outcome (Unit {0})
+ended (Read tree rest) = Read tt rest
+ended (Refused v rest) = Refused v rest
+
 -- there is a tree, and the tokens after it are those ahead now; or a refusal
 abbrev pub Told : {X Y : Type 0} → Result X Refusal → Ahead → Ahead → Reader Y → Type 0
 Told (Ok x) old new r = rest_of (r (tokens old)) ≡ Some (tokens new)

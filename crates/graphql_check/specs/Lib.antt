@@ -7,5 +7,6 @@ pub mod SchemaRules
 pub mod Heads
 pub mod HeadFunds
 pub mod Levels
+pub mod OpenSets
 pub mod RequestHeads
 pub mod Sorting

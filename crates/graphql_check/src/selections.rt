@@ -11,8 +11,7 @@ mod heads;
 use graphql_reading::limits::Limits;
 use graphql_reading::parser::{Parser, Reading};
 use graphql_requests::selections::is_at_selection;
-use heads::check_head;
-pub use heads::check_type_condition;
+pub use heads::{check_head, check_type_condition};
 
 /// Whether a selection is next: one has to follow, or one begins here.
 #[inline(always)]

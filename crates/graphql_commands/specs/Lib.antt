@@ -1,2 +1,4 @@
 -- Public: what a reader of the contracts of the program has to believe.
 pub mod checked
+-- Inner: what private clauses cite.
+pub mod inner

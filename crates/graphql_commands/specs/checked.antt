@@ -1,2 +1,3 @@
 -- Public: what `gql check` finds good.
 pub mod Good
+pub mod Language

@@ -8,9 +8,9 @@ ghost use Rattle.graphql_commands.specs.declared.check.Found.TheVariants.{Good};
 use crate::command::{Call, Format};
 use crate::language::read_as;
 use crate::output::shown_name;
-use crate::telling::{Names, Source, Teller};
+use crate::telling::{Names, Refused, Source, Teller};
 use crate::texts::{Texts, Unread};
-use graphql_parser::{Error, Memory, check_query_within, check_schema_within};
+use graphql_parser::{Error, Memory, check_query_to, check_schema_to};
 use graphql_report::Language;
 use std::alloc::{AllocError, Global};
 use std::io::Write;
@@ -52,33 +52,39 @@ impl Found {
     }
 }
 
-/// The error of a text within these limits; None where it has none, or lacks an operation and may. An error in its place
-/// says that memory was refused.
-pub fn error_of(
+/// What is wrong with a text within these limits; None where nothing is, or where it lacks an operation and may. An error in
+/// its place says that memory was refused.
+pub fn error_of<'a>(
     memory: &mut Memory,
-    source: &Source<'_>,
+    source: &Source<'a>,
     takes_fragments: bool,
-) -> Result<Option<Error>, AllocError>
+) -> Result<Option<Refused<'a>>, AllocError>
     ensures good { (result ≡ Ok None) →
         IsGoodText takes_fragments source.now.language source.now.limits source.now.text.now }
     ensures refused { OnErr result (HeapRefused memory.old memory.new
         ⊎ (memory.old.left < most_taken (length source.now.text.now))) }
 {
     let Source { limits, text, .. } = *source;
-    let error = match source.language {
-        Language::Requests => match check_query_within(memory, text, limits) {
-            Ok(_) => return Ok(None),
-            Err(Error::MissingOperation) if takes_fragments => return Ok(None),
-            Err(error) => error,
-        },
-        Language::Schemas => match check_schema_within(memory, text, limits) {
-            Ok(_) => return Ok(None),
-            Err(error) => error,
-        },
+    let (error, token) = match source.language {
+        Language::Requests => {
+            let (answer, token) = check_query_to(memory, text, limits);
+            match answer {
+                Ok(_) => return Ok(None),
+                Err(Error::MissingOperation) if takes_fragments => return Ok(None),
+                Err(error) => (error, token),
+            }
+        }
+        Language::Schemas => {
+            let (answer, token) = check_schema_to(memory, text, limits);
+            match answer {
+                Ok(_) => return Ok(None),
+                Err(error) => (error, token),
+            }
+        }
     };
     match error {
         Error::OutOfMemory => Err(AllocError),
-        error => Ok(Some(error)),
+        error => Ok(Some(Refused { error, token })),
     }
 }
 
@@ -94,7 +100,7 @@ pub fn check_files<T: Texts, E: Write>(
 ) -> Result<Outcome, AllocError>
     ensures status { IfOk result (λ outcome. outcome.status ≤ 2) }
     ensures good { IfOk result (λ outcome. outcome.status ≡ 0 →
-        GiveGoodTexts T.gives call.now.takes_fragments call.now.limits texts.old
+        GiveGoodTexts T.gives call.now.language call.now.takes_fragments call.now.limits texts.old
         (map (λ name. name.now) files.now.items) texts.new) }
 {
     let mut tally = Tally {
@@ -106,7 +112,7 @@ pub fn check_files<T: Texts, E: Write>(
     for name in files {
         let text = texts.text(teller.alloc, name);
         let shown = shown_name(teller.alloc, name)?;
-        let found = check_text(call, names_of(name, shown.as_str()), &text, teller, err)?;
+        let found = check_text(call, name, shown.as_str(), &text, teller, err)?;
         worst = worst.max(found.status());
         tally = counted(tally, found);
         if found == Found::Good && call.is_verbose && teller.format == Format::Text {
@@ -138,16 +144,19 @@ fn counted(tally: Tally, found: Found) -> Tally {
     tally
 }
 
-// What is found of the text of a file, or of there being none.
+// What is found of the text of a file of this name that is shown so, or of there being none.
 fn check_text<E: Write>(
     call: &Call<'_>,
-    names: Names<'_>,
+    name: &str,
+    shown: &str,
     text: &Result<String, Unread>,
     teller: &mut Teller,
     err: &mut E,
 ) -> Result<Found, AllocError>
-    ensures { (result ≡ Ok Good) → IsGood call.now.takes_fragments call.now.limits text.now }
+    ensures { (result ≡ Ok Good) →
+        IsGood call.now.language call.now.takes_fragments call.now.limits name.now text.now }
 {
+    let names = names_of(name, shown);
     match text {
         Err(why) => {
             teller.tell_unread(names, *why, err)?;
@@ -155,9 +164,10 @@ fn check_text<E: Write>(
         }
         Ok(text) => {
             let text = text.as_str();
+            let language = read_as(teller.alloc, call.language, name, text)?;
             let source = Source {
                 names,
-                language: read_as(teller.alloc, call.language, names.name, text)?,
+                language,
                 limits: call.limits,
                 text,
             };
@@ -180,8 +190,8 @@ fn check_source<E: Write>(
     let mut memory = Memory::with_budget(teller.alloc, call.memory.unwrap_or(usize::MAX));
     match error_of(&mut memory, source, call.takes_fragments) {
         Ok(None) => Ok(Found::Good),
-        Ok(Some(error)) => {
-            teller.tell_all(source, &error, err)?;
+        Ok(Some(refused)) => {
+            teller.tell_all(source, &refused, err)?;
             Ok(Found::Refused)
         }
         Err(_) if call.memory.is_some() => {

@@ -1,4 +1,9 @@
 //! What the program is asked for.
+ghost use Rattle.std.specs.Prelude.{◌≡◌, ◌≢◌, ℕ, List, ◌∷◌, true, false, Ok, None, IfOk, is_some, map, drop, string_bytes, Option as Opt};
+ghost use Rattle.graphql_commands.specs.checked.Language.{takes_value, said_after, language_of_options};
+ghost use Rattle.graphql_report.specs.declared.fronts.Language.{Language as Lang};
+ghost use Rattle.graphql_commands.specs.inner.Words.{said_in_the_end};
+
 use graphql_parser::Limits;
 use graphql_report::{Language, Style};
 use std::alloc::{AllocError, Global};
@@ -85,7 +90,10 @@ pub enum Wrong<'a> {
 }
 
 /// What these arguments ask for: those after the program's name.
-pub fn command_of<'a>(alloc: Global, words: &'a [String]) -> Result<Asked<'a>, AllocError> {
+pub fn command_of<'a>(alloc: Global, words: &'a [String]) -> Result<Asked<'a>, AllocError>
+    ensures { (call : _) → result ≡ Ok (Asked.Call call) →
+        call.language ≡ language_of_options false None (map string_bytes (drop 1 words.now)) }
+{
     let Some((first, words)) = words.split_first() else {
         return Ok(Asked::Wrong(Wrong::NoCommand));
     };
@@ -125,7 +133,10 @@ pub fn command_of<'a>(alloc: Global, words: &'a [String]) -> Result<Asked<'a>, A
     Ok(Asked::Call(call))
 }
 
-fn is_option(word: &str) -> bool {
+fn is_option(word: &str) -> bool
+    ensures { (result ≡ false) → (said : Opt Lang) (words : List (List ℕ)) →
+        language_of_options false said (word.now ∷ words) ≡ language_of_options false said words }
+{
     word.starts_with('-') && word != "-"
 }
 
@@ -140,29 +151,16 @@ enum Next {
 }
 
 // Reads the words into the call. What is asked for in its place, where a word is wrong or asks for help.
-fn read_words<'a>(
-    call: &mut Call<'a>,
-    words: &'a [String],
-) -> Result<Option<Asked<'a>>, AllocError> {
+fn read_words<'a>(call: &mut Call<'a>, words: &'a [String]) -> Result<Option<Asked<'a>>, AllocError>
+    ensures other { (asked : _) → result ≢ Ok (Some (Asked.Call asked)) }
+    ensures language { (result ≡ Ok None) →
+        call.new.language ≡ language_of_options false call.old.language (map string_bytes words.now) }
+{
     let mut next = Next::Any;
     for word in words {
-        let word = word.as_str();
-        match next {
-            Next::Value(option) => {
-                if !read_value(call, option, word) {
-                    return Ok(Some(Asked::Wrong(Wrong::WrongValue(option, word))));
-                }
-                next = Next::Any;
-            }
-            Next::Any if is_option(word) => match word {
-                "--" => next = Next::File,
-                "--help" | "-h" => return Ok(Some(Asked::Help)),
-                _ => match read_option(call, word) {
-                    Ok(then) => next = then,
-                    Err(wrong) => return Ok(Some(Asked::Wrong(wrong))),
-                },
-            },
-            Next::Any | Next::File => call.files.push(word)?,
+        match read_word(call, next, word.as_str())? {
+            Ok(then) => next = then,
+            Err(other) => return Ok(Some(other)),
         }
     }
     if let Next::Value(option) = next {
@@ -171,15 +169,44 @@ fn read_words<'a>(
     Ok(None)
 }
 
-// Reads an option into the call, and tells what the word after it is. Its value may stand after `=`.
-fn read_option<'a>(call: &mut Call<'a>, word: &'a str) -> Result<Next, Wrong<'a>> {
-    if let Some((option, value)) = word.split_once('=') {
-        let option = option_named(option).ok_or(Wrong::UnknownOption(word))?;
-        if !read_value(call, option, value) {
-            return Err(Wrong::WrongValue(option, value));
+// Reads a word into the call, and tells what the word after it is. What is asked for in its place, where the word is wrong or
+// asks for help.
+fn read_word<'a>(
+    call: &mut Call<'a>,
+    next: Next,
+    word: &'a str,
+) -> Result<Result<Next, Asked<'a>>, AllocError>
+    ensures other { (asked : _) → result ≢ Ok (Err (Asked.Call asked)) }
+    ensures language { (then : _) → (result ≡ Ok (Ok then)) → (words : List (List ℕ)) →
+        said_in_the_end then call.new.language words
+        ≡ said_in_the_end next call.old.language (word.now ∷ words) }
+{
+    match next {
+        Next::Value(option) => {
+            if read_value(call, option, word) {
+                Ok(Ok(Next::Any))
+            } else {
+                Ok(Err(Asked::Wrong(Wrong::WrongValue(option, word))))
+            }
         }
-        return Ok(Next::Any);
+        Next::Any if is_option(word) => match word {
+            "--" => Ok(Ok(Next::File)),
+            "--help" | "-h" => Ok(Err(Asked::Help)),
+            _ => Ok(read_option(call, word).map_err(Asked::Wrong)),
+        },
+        Next::Any | Next::File => {
+            call.files.push(word)?;
+            Ok(Ok(next))
+        }
     }
+}
+
+// Reads an option into the call, and tells what the word after it is.
+fn read_option<'a>(call: &mut Call<'a>, word: &'a str) -> Result<Next, Wrong<'a>>
+    ensures { IfOk result (λ next. (words : List (List ℕ)) →
+        said_in_the_end next call.new.language words
+        ≡ language_of_options (takes_value word.now) (said_after call.old.language word.now) words) }
+{
     match word {
         "--query" => call.language = Some(Language::Requests),
         "--schema" => call.language = Some(Language::Schemas),
@@ -188,16 +215,32 @@ fn read_option<'a>(call: &mut Call<'a>, word: &'a str) -> Result<Next, Wrong<'a>
         "--executable" => call.takes_fragments = false,
         "--fragments" => call.takes_fragments = true,
         "--places" => call.has_places = true,
-        _ => {
-            let option = option_named(word).ok_or(Wrong::UnknownOption(word))?;
-            return Ok(Next::Value(option));
-        }
+        _ => return read_valued(call, word),
+    }
+    Ok(Next::Any)
+}
+
+// Reads an option that has a value, which is the next word or stands after `=`.
+fn read_valued<'a>(call: &mut Call<'a>, word: &'a str) -> Result<Next, Wrong<'a>>
+    ensures language { call.new.language ≡ call.old.language }
+    ensures next { IfOk result (λ next. (said : Opt Lang) (words : List (List ℕ)) →
+        said_in_the_end next said words ≡ language_of_options (takes_value word.now) said words) }
+{
+    if let Some(option) = option_named(word) {
+        return Ok(Next::Value(option));
+    }
+    let (option, value) = word.split_once('=').ok_or(Wrong::UnknownOption(word))?;
+    let option = option_named(option).ok_or(Wrong::UnknownOption(word))?;
+    if !read_value(call, option, value) {
+        return Err(Wrong::WrongValue(option, value));
     }
     Ok(Next::Any)
 }
 
 // The option of this name that a value follows.
-fn option_named(name: &str) -> Option<Valued> {
+fn option_named(name: &str) -> Option<Valued>
+    ensures { is_some result ≡ takes_value name.now }
+{
     match name {
         "--limits" => Some(Valued::Limits),
         "--memory" => Some(Valued::Memory),
@@ -208,7 +251,9 @@ fn option_named(name: &str) -> Option<Valued> {
 }
 
 // Whether the value of an option could be read into the call.
-fn read_value(call: &mut Call<'_>, option: Valued, value: &str) -> bool {
+fn read_value(call: &mut Call<'_>, option: Valued, value: &str) -> bool
+    ensures { call.new.language ≡ call.old.language }
+{
     match option {
         Valued::Limits => match limits_of(value) {
             Some(limits) => call.limits = limits,

@@ -1,28 +1,28 @@
 //! What a text is read as: a request or a schema file.
+ghost use Rattle.std.specs.Prelude.{◌≡◌, IfOk, Some, None};
+ghost use Rattle.graphql_report.specs.declared.fronts.Language.{Language as Lang};
+ghost use Rattle.graphql_commands.specs.checked.Language.{is_schema_file, language_said, IsReadAs, language_of_keyword, IsFurthest};
+ghost use Rattle.graphql_commands.specs.inner.Begun.{language_begun};
+
 use graphql_parser::lexer::{Token, TokenKind, Tokens};
 use graphql_report::Language;
 use std::alloc::{AllocError, Global};
 use strsim::damerau_levenshtein;
 
-// The words with which definitions begin.
-const KEYWORDS: [(&str, Language); 13] = [
-    ("query", Language::Requests),
-    ("mutation", Language::Requests),
-    ("subscription", Language::Requests),
-    ("fragment", Language::Requests),
-    ("schema", Language::Schemas),
-    ("extend", Language::Schemas),
-    ("scalar", Language::Schemas),
-    ("type", Language::Schemas),
-    ("interface", Language::Schemas),
-    ("union", Language::Schemas),
-    ("enum", Language::Schemas),
-    ("input", Language::Schemas),
-    ("directive", Language::Schemas),
-];
+// The words with which definitions of a request begin, and those with which definitions of a schema file do.
+const REQUEST_KEYWORDS: [&str; 4] = ["query", "mutation", "subscription", "fragment"];
 
-// The extensions of files that hold schema files; others, as `.graphql`, tell nothing.
-const SCHEMA_EXTENSIONS: [&str; 3] = ["graphqls", "gqls", "sdl"];
+const SCHEMA_KEYWORDS: [&str; 9] = [
+    "schema",
+    "extend",
+    "scalar",
+    "type",
+    "interface",
+    "union",
+    "enum",
+    "input",
+    "directive",
+];
 
 // A word with more characters is no misspelled keyword.
 const LONGEST_WORD: usize = 15;
@@ -33,22 +33,41 @@ pub fn read_as(
     option: Option<Language>,
     file: &str,
     text: &str,
-) -> Result<Language, AllocError> {
-    if let Some(language) = option {
-        return Ok(language);
+) -> Result<Language, AllocError>
+    ensures said { IfOk result (λ language. IsReadAs option file.now language) }
+    ensures furthest { language_said option file.now ≡ None →
+        IfOk result (λ language. IsFurthest language text.now) }
+{
+    match language_said(option, file) {
+        Some(language) => Ok(language),
+        None => language_of(alloc, text),
     }
-    if let Some((_, extension)) = file.rsplit_once('.')
-        && SCHEMA_EXTENSIONS.contains(&extension)
-    {
-        return Ok(Language::Schemas);
+}
+
+// The language that the option says, else the extension of the file.
+fn language_said(option: Option<Language>, file: &str) -> Option<Language>
+    ensures { result ≡ language_said option file.now }
+{
+    match option {
+        Some(language) => Some(language),
+        None if is_schema_file(file) => Some(Language::Schemas),
+        None => None,
     }
-    language_of(alloc, text)
+}
+
+// Whether a file of this name is a schema file. Other extensions, as `.graphql`, tell nothing.
+fn is_schema_file(name: &str) -> bool
+    ensures { result ≡ is_schema_file name.now }
+{
+    name.ends_with(".graphqls") || name.ends_with(".gqls") || name.ends_with(".sdl")
 }
 
 // The language whose parser reads the text furthest. No token begins a document of both, so it is the one that the first
 // token begins; the other is refused there. Where it begins neither, both are refused there. Then the keyword tells that
 // the first word is most like, and else the first keyword outside of all braces; and where there is none, it is a request.
-fn language_of(alloc: Global, text: &str) -> Result<Language, AllocError> {
+fn language_of(alloc: Global, text: &str) -> Result<Language, AllocError>
+    ensures { IfOk result (λ language. IsFurthest language text.now) }
+{
     let mut tokens = Tokens::new(text);
     let Some(first) = tokens.next() else {
         return Ok(Language::Requests);
@@ -63,7 +82,10 @@ fn language_of(alloc: Global, text: &str) -> Result<Language, AllocError> {
 }
 
 // The language whose documents this token begins. A description that isn't ended is a fault, and begins one all the same.
-fn begun_by(text: &str, first: &Token<'_>) -> Option<Language> {
+fn begun_by(text: &str, first: &Token<'_>) -> Option<Language>
+    ensures { (language : Lang) →
+        language_begun first.now.kind first.now.text.now ≡ Some language → result ≡ Some language }
+{
     match first.kind {
         TokenKind::Name => language_of_keyword(first.text),
         TokenKind::String | TokenKind::Block => Some(Language::Schemas),
@@ -77,13 +99,16 @@ fn begun_by(text: &str, first: &Token<'_>) -> Option<Language> {
 }
 
 /// The language of whose definitions this word is a keyword.
-pub fn language_of_keyword(word: &str) -> Option<Language> {
-    for (keyword, language) in KEYWORDS {
-        if keyword == word {
-            return Some(language);
-        }
+pub fn language_of_keyword(word: &str) -> Option<Language>
+    ensures { result ≡ language_of_keyword word.now }
+{
+    if REQUEST_KEYWORDS.contains(&word) {
+        Some(Language::Requests)
+    } else if SCHEMA_KEYWORDS.contains(&word) {
+        Some(Language::Schemas)
+    } else {
+        None
     }
-    None
 }
 
 // The language of the keyword that is most like this word, in whatever case, if it has two thirds of it.
@@ -95,11 +120,11 @@ fn nearest(alloc: Global, token: &Token<'_>) -> Result<Option<Language>, AllocEr
     word.make_ascii_lowercase();
     let mut best = None;
     let mut fewest = usize::MAX;
-    for (keyword, language) in KEYWORDS {
+    for keyword in REQUEST_KEYWORDS.iter().chain(&SCHEMA_KEYWORDS) {
         let edits = damerau_levenshtein(alloc, keyword, word.as_str())?;
         if edits < fewest && edits <= keyword.len().div_ceil(3) {
             fewest = edits;
-            best = Some(language);
+            best = language_of_keyword(keyword);
         }
     }
     Ok(best)

@@ -5,8 +5,8 @@
 //! that isn't ([`telling`]), where reading goes on after a refused token ([`recovery`]), and lists of tokens ([`listed`]).
 //!
 //! Proved of it: it is safe and ends on every input; the status is 0, 1 or 2; a text is found good only where its tokens
-//! have a tree, and the files that are checked end with status 0 only where each of them was found good. What it prints is
-//! tested, in `conformance`.
+//! have a tree, in the language that the options or the file's name say, and the files that are checked end with status 0
+//! only where each of them was found good. What it prints is tested, in `conformance`.
 #![tactic(auto)]
 
 pub mod check;

@@ -10,9 +10,7 @@ use crate::texts::Unread;
 use graphql_parser::lexer::{Token, TokenKind};
 use graphql_parser::pos::PositionCalculator;
 use graphql_parser::{Error, Limits, Memory, Pos};
-use graphql_report::{
-    Finding, Language, ReadFrom, ReadUpTo, Style, explain_from, finding_from, refused_token_from,
-};
+use graphql_report::{Finding, Language, ReadFrom, ReadUpTo, Style, explain_from, finding_from};
 use serde::Serialize;
 use std::alloc::{AllocError, Global};
 use std::io::Write;
@@ -50,6 +48,13 @@ pub struct Source<'a> {
     pub text: &'a str,
 }
 
+/// What is wrong with a text: the error, and the token at which the text is refused, if it is refused at one.
+#[derive(Drop)]
+pub struct Refused<'a> {
+    pub error: Error,
+    pub token: Option<Token<'a>>,
+}
+
 impl Teller {
     /// Has told nothing yet.
     pub fn new(alloc: Global, format: Format, style: Style, is_quiet: bool) -> Teller {
@@ -76,13 +81,13 @@ impl Teller {
     pub fn tell_all<E: Write>(
         &mut self,
         source: &Source<'_>,
-        error: &Error,
+        refused: &Refused<'_>,
         err: &mut E,
     ) -> Result<(), AllocError> {
         if self.is_quiet {
             return Ok(());
         }
-        let mut known = source.refused_first(self.alloc, error)?;
+        let mut known = read_up_to(ReadFrom::top(source.text), refused);
         let mut passed = known.token.map(|token| token.start);
         if let Some(token) = known.token
             && let Some(last) = unclosed_string(source.text, token.start)
@@ -90,22 +95,18 @@ impl Teller {
             known.unclosed = source.opening(&token, last);
             passed = Some(last);
         }
-        self.tell(source, &known, error, err)?;
+        self.tell(source, &known, &refused.error, err)?;
         for _ in 1..MOST_FINDINGS {
             let Some(from) = source.next_after(known.from, passed) else {
                 break;
             };
-            let Some(error) = source.error_from(self.alloc, from)? else {
+            let Some(later) = source.refused_from(self.alloc, from)? else {
                 break;
             };
-            known = ReadUpTo {
-                from,
-                token: source.refused_from(self.alloc, from, &error)?,
-                unclosed: None,
-            };
+            known = read_up_to(from, &later);
             passed = known.token.map(|token| token.start);
-            if source.is_told_in_place(&error, known.token) {
-                self.tell(source, &known, &error, err)?;
+            if source.is_told_in_place(&later.error, known.token) {
+                self.tell(source, &known, &later.error, err)?;
             } else {
                 self.tell_copied(source, &known, err)?;
             }
@@ -128,8 +129,8 @@ impl Teller {
             text: text.as_str(),
             ..*source
         };
-        match rest.error_from(self.alloc, ReadFrom::top(rest.text))? {
-            Some(error) => self.tell(&rest, &in_copy(known, rest.text), &error, err),
+        match rest.refused_from(self.alloc, ReadFrom::top(rest.text))? {
+            Some(later) => self.tell(&rest, &in_copy(known, rest.text), &later.error, err),
             None => Ok(()),
         }
     }
@@ -210,8 +211,13 @@ impl Teller {
 }
 
 impl<'a> Source<'a> {
-    // The error of the text from there on, if it is one to be told. That of a refused token has its place in the whole text.
-    fn error_from(&self, alloc: Global, from: ReadFrom) -> Result<Option<Error>, AllocError> {
+    // What is wrong with the text from there on, if it is to be told. The place of a refused token, and its offset, are those in
+    // the whole text.
+    fn refused_from(
+        &self,
+        alloc: Global,
+        from: ReadFrom,
+    ) -> Result<Option<Refused<'a>>, AllocError> {
         let Some((_, rest)) = self.text.split_at_checked(from.offset) else {
             return Ok(None);
         };
@@ -219,15 +225,21 @@ impl<'a> Source<'a> {
             text: rest,
             ..*self
         };
-        match error_of(&mut Memory::new(alloc), &source, true)? {
-            Some(Error::MultipleOperations { .. }) => Ok(None),
-            Some(Error::Syntax { start, .. }) => Ok(Some(Error::Syntax {
+        let Some(refused) = error_of(&mut Memory::new(alloc), &source, true)? else {
+            return Ok(None);
+        };
+        let Refused { error, token } = refused;
+        let error = match error {
+            Error::MultipleOperations { .. } => return Ok(None),
+            Error::Syntax { start, .. } => Error::Syntax {
                 message: String::new(alloc),
                 start: from.place_in_text(start),
                 end: None,
-            })),
-            other => Ok(other),
-        }
+            },
+            other => other,
+        };
+        let token = token.map(|token| moved(token, from));
+        Ok(Some(Refused { error, token }))
     }
 
     // The reading of the text from its beginning on, up to the token that is refused.
@@ -235,21 +247,6 @@ impl<'a> Source<'a> {
         ensures { IfOk result (λ read. BeginsAt self.now.text.now read.from) }
     {
         ReadUpTo::refused(alloc, self.language, self.text, self.limits, error)
-    }
-
-    // The refused token of a text that was read from there on, if one is refused.
-    fn refused_from(
-        &self,
-        alloc: Global,
-        from: ReadFrom,
-        error: &Error,
-    ) -> Result<Option<Token<'a>>, AllocError>
-        requires { BeginsAt self.now.text.now from }
-    {
-        if !matches!(error, Error::Syntax { .. } | Error::RecursionLimitExceeded) {
-            return Ok(None);
-        }
-        refused_token_from(alloc, self.language, self.text, from, self.limits, error)
     }
 
     // Whether the error can be told without a copy of the rest of the text, from whose beginning a report counts its places: so
@@ -284,6 +281,26 @@ impl<'a> Source<'a> {
     {
         let offset = next_definition(self.language, self.text, passed?)?;
         from.later(self.text, offset)
+    }
+}
+
+// The reading of a text from there on, up to the token at which it is refused.
+fn read_up_to<'a>(from: ReadFrom, refused: &Refused<'a>) -> ReadUpTo<'a>
+    ensures { result.from ≡ from }
+{
+    ReadUpTo {
+        from,
+        token: refused.token,
+        unclosed: None,
+    }
+}
+
+// A token of the text from there on, with its offset and its place in the whole text.
+fn moved<'a>(token: Token<'a>, from: ReadFrom) -> Token<'a> {
+    Token {
+        start: token.start.saturating_add(from.offset),
+        pos: from.place_in_text(token.pos),
+        ..token
     }
 }
 

@@ -15,7 +15,7 @@ use Rattle.graphql_tokens.specs.calls.Escapes.{escape_at}
 use Rattle.graphql_tokens.proofs.Contents.{escape_front}
 use Rattle.graphql_tokens.proofs.EscapeUnits.{escape_reads}
 use Rattle.graphql_report.specs.inner.Strings.{HasNoUnit, Passes, IsBad, Ends}
-use Rattle.graphql_report.specs.inner.Escapes.{HasBadEscape}
+use Rattle.graphql_report.specs.reports.Escapes.{HasBadEscape}
 
 -- ---- contents joined
 

@@ -2,7 +2,7 @@
 use Rattle.std.proofs.Common.{◌≡◌, ℕ, List, ◌++◌, ap, ◌∙◌}
 use Rattle.std.proofs.lemmas.List.{map-append}
 use Rattle.std.specs.Borrow.{Bor}
-use Rattle.graphql_report.specs.reports.Expected.{texts}
+use Rattle.graphql_report.specs.inner.Called.{texts}
 
 texts-append : (xs ys : List (Bor (List ℕ))) → texts (xs ++ ys) ≡ texts xs ++ texts ys
 texts-append xs ys = map-append (λ (name : Bor (List ℕ)). name.now) xs ys

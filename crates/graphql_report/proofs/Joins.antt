@@ -125,7 +125,7 @@ ignored-more (p ∷ ps) after s l h =
     let lined : IsLined (p ++ (concat ps ++ after)) = subst IsLined (append_assoc p (concat ps) after) l in
     (subst (IsPiece p) (append_assoc (concat ps) after s) (piece-more p (concat ps ++ after) s lined h.0), ignored-more ps after s (lined-after p (concat ps ++ after) lined) h.1)
 
-ignored-append : (ps qs : List (List ℕ)) (after : List ℕ) → AreIgnored ps (concat qs ++ after) → AreIgnored qs after → AreIgnored (ps ++ qs) after
+pub ignored-append : (ps qs : List (List ℕ)) (after : List ℕ) → AreIgnored ps (concat qs ++ after) → AreIgnored qs after → AreIgnored (ps ++ qs) after
 ignored-append [] qs after h k = k
 ignored-append (p ∷ ps) qs after h k =
     let same : concat ps ++ (concat qs ++ after) ≡ concat (ps ++ qs) ++ after = sym (append_assoc (concat ps) (concat qs) after) ∙ ap (λ (l : List ℕ). l ++ after) (sym (concat-append ps qs)) in

@@ -6,6 +6,11 @@ mod Ends
 mod Spots
 mod LaterLines
 mod Listed
+mod Local
+mod LocalReaders
+mod OpenFronts
+mod CutTexts
+mod ShorterFronts
 mod Parted
 mod ToldFronts
 mod TakenSamples
@@ -25,3 +30,4 @@ mod Checks
 mod ReportParts
 mod Escapes
 mod StringTexts
+mod Carets

@@ -19,7 +19,8 @@ use Rattle.graphql_schemas.specs.grammar.Directives.{IsLocation}
 use Rattle.graphql_schemas.specs.reading.Directives.{location_named}
 use Rattle.graphql_schemas.proofs.LocationProductions.{location-decides}
 use Rattle.graphql_report.specs.declared.fronts.Language.{Language}
-use Rattle.graphql_report.specs.reports.Expected.{TellsFrontOf, with_sample, Samples, quoted, in_quotes, name_text, number_name, string_name, literals, punctuators, keyword_words, location_name, keywords, name_name, value_name, AreTaken, value_names, AreExpected, CanStand, begins_value, Calls, NamesAll}
+use Rattle.graphql_report.specs.reports.Expected.{TellsFrontOf, with_sample, Samples, quoted, in_quotes, name_text, number_name, string_name, literals, punctuators, keyword_words, location_name, keywords, name_name, value_name, AreTaken, value_names, AreExpected}
+use Rattle.graphql_report.specs.inner.Called.{CanStand, begins_value, Calls, NamesAll}
 use Rattle.graphql_report.proofs.Buffers.{line-feed-utf8, pushed-line-feed}
 use Rattle.std.proofs.lemmas.Str.{IsUtf8-append}
 use Rattle.graphql_report.proofs.SampleTokens.{IsSampleOf, itself, a_number, a_string, a_block, a_name, a_location}

@@ -16,7 +16,8 @@ use Rattle.graphql_reading.proofs.TokenTests.{are-ascii, punct-spells, name-spel
 use Rattle.graphql_schema_trees.specs.declared.service.DirectiveLocation.TheVariants as locations
 use Rattle.graphql_report.specs.declared.fronts.Language.{Language}
 use Rattle.graphql_report.specs.fronts.Front.{LastIsLineFeed}
-use Rattle.graphql_report.specs.reports.Expected.{TellsFrontOf, HasTreeOf, with_sample, Samples, in_quotes, name_text, literals, punctuators, keyword_words, location_name, keywords, name_name, value_name, end_name, AreTaken, value_names, AreExpected, CanStand, Calls, NamesOnly}
+use Rattle.graphql_report.specs.reports.Expected.{TellsFrontOf, HasTreeOf, with_sample, Samples, in_quotes, name_text, literals, punctuators, keyword_words, location_name, keywords, name_name, value_name, end_name, AreTaken, value_names, AreExpected}
+use Rattle.graphql_report.specs.inner.Called.{CanStand, Calls, NamesOnly}
 use Rattle.graphql_report.proofs.Buffers.{line-feed-utf8, pushed-line-feed}
 use Rattle.graphql_report.proofs.Named.{number-spells, string-spells, a-spells, field-spells}
 use Rattle.graphql_report.proofs.SampleParts.{and-first}

@@ -125,7 +125,7 @@ one-left t [] e = absurd cc
 one-left t (l ∷ []) e = (l, refl, head-is t.bare l.bare [] [] e)
 one-left t (l ∷ m ∷ more) e = absurd cc
 
-front-same : {D Document : Type 0} (language : Described D Document) (limits : Limits) (ts us : List Token) → bares ts ≡ bares us → IsFront language limits ts → IsFront language limits us
+pub front-same : {D Document : Type 0} (language : Described D Document) (limits : Limits) (ts us : List Token) → bares ts ≡ bares us → IsFront language limits ts → IsFront language limits us
 front-same language limits ts us e f =
     let s = splits f.front (f.last ∷ []) us (ap bares (sym f.split) ∙ e) in
     let l = one-left f.last s.back s.second in
@@ -139,7 +139,7 @@ front-same language limits ts us e f =
 
 -- ---- a text that begins with definitions, and the rest of it
 
-completes : {A : Type 0} (p : Rel A) (front : List Token) → Extends p front → Completes p front
+pub completes : {A : Type 0} (p : Rel A) (front : List Token) → Extends p front → Completes p front
 completes p front m = record { begun = front; after = m.tail; tree = m.tree; alike = refl; proper = m.proper; holds = m.holds }
 
 up-front : {D Document : Type 0} (language : Described D Document) (limits : Limits) (first : Test) → Parts language limits first → (u vs : List Token) (ds : List D) → language.definitions Current limits u ds → IsFront language limits vs → IsFront language limits (u ++ vs)
@@ -151,12 +151,12 @@ up-front language limits first parts u vs ds h f = record {
   viable = completes (grammar language Current limits) (u ++ f.front) (parts.front-up u f.front ds h (viable-completes parts.ignores limits f.front f.viable));
 }
 
-record Last (ts : List Token) : Type 0 where
-  front : List Token
-  last : Token
-  is : ts ≡ front ++ last ∷ []
+pub record Last (ts : List Token) : Type 0 where
+  pub front : List Token
+  pub last : Token
+  pub is : ts ≡ front ++ last ∷ []
 
-last-of : (t : Token) (ts : List Token) → Last (t ∷ ts)
+pub last-of : (t : Token) (ts : List Token) → Last (t ∷ ts)
 last-of t [] = record { front = []; last = t; is = refl }
 last-of t (s ∷ ts) = let m = last-of s ts in record { front = t ∷ m.front; last = m.last; is = ap (λ (l : List Token). t ∷ l) m.is }
 

@@ -5,6 +5,8 @@ use Rattle.std.proofs.lemmas.Str.{encodes-append, encodes-chars, scalars-chars, 
 use Rattle.std.specs.List.{concat}
 use lib.Utf8.{scalar}
 use Rattle.std.specs.Str.{chars, all_scalars, encode_utf8_all, IsUtf8, IsCharBoundary}
+use Rattle.graphql_tokens.specs.declared.lexer.TokenKind.{TokenKind}
+use Rattle.graphql_tokens.specs.declared.lexer.TokenKind.TheVariants.{End, Fault}
 use Rattle.graphql_tokens.specs.tokens.Cuts.{Cuts, IsCutInto, token}
 use Rattle.graphql_tokens.specs.tokens.Edition.{Current}
 use Rattle.graphql_tokens.specs.tokens.Place.{place_after}
@@ -19,6 +21,16 @@ record IsAmong (text : List ℕ) (t : Token) : Type 0 where
   whole : text ≡ here ++ word ++ rest
   is : t ≡ token t.bare.kind here word
 
+-- a token that has no characters, as an end or a fault
+without-word : (here after : List ℕ) (t : Token) (kind : TokenKind) → t ≡ token kind here [] → IsAmong (here ++ after) t
+without-word here after t kind is = record {
+  here = here;
+  word = [];
+  rest = after;
+  whole = ap (λ (l : List ℕ). l ++ after) (sym (append-nil here));
+  is = is ∙ ap (λ k. token k here []) (sym (ap (λ (x : Token). x.bare.kind) is));
+}
+
 first-among : (here after : List ℕ) (t : Token) (ts : List Token) → Stands Current here after t ts → IsAmong (here ++ after) t
 first-among here after t ts (inl b) = record {
   here = here;
@@ -27,20 +39,8 @@ first-among here after t ts (inl b) = record {
   whole = ap (λ (l : List ℕ). here ++ l) b.0.whole ∙ sym (append_assoc here b.0.word b.0.rest);
   is = b.0.is ∙ ap (λ k. token k here b.0.word) (sym (ap (λ (x : Token). x.bare.kind) b.0.is));
 }
-first-among here after t ts (inr (inl b)) = record {
-  here = here;
-  word = [];
-  rest = after;
-  whole = ap (λ (l : List ℕ). l ++ after) (sym (append-nil here));
-  is = b.0.is ∙ ap (λ k. token k here []) (sym (ap (λ (x : Token). x.bare.kind) b.0.is));
-}
-first-among here after t ts (inr (inr b)) = record {
-  here = here;
-  word = [];
-  rest = after;
-  whole = ap (λ (l : List ℕ). l ++ after) (sym (append-nil here));
-  is = b.0.is ∙ ap (λ k. token k here []) (sym (ap (λ (x : Token). x.bare.kind) b.0.is));
-}
+first-among here after t ts (inr (inl b)) = without-word here after t End b.0.is
+first-among here after t ts (inr (inr b)) = without-word here after t Fault b.0.is
 
 no-others : (before : List Token) (t : Token) (after : List Token) → [] ≡ before ++ t ∷ after → ⊥
 no-others [] t after e = cc

@@ -1,5 +1,5 @@
 -- The token that a check gives is the one at which the text is refused, and there is no other.
-use Rattle.std.proofs.Common.{◌≡◌, ℕ, suc, ◌+◌, ◌-◌, ◌<◌, ◌≤◌, ◌^◌, List, [], ◌∷◌, ◌++◌, Option, Some, None, Result, Ok, Err, length, take, drop, refl, sym, ap, ◌∙◌, subst, length-append, length-drop, arith}
+use Rattle.std.proofs.Common.{◌≡◌, ℕ, suc, ◌+◌, ◌-◌, ◌<◌, ◌≤◌, ◌^◌, List, [], ◌∷◌, ◌++◌, Option, Some, None, Result, Ok, Err, length, take, drop, refl, sym, ap, ◌∙◌, subst, inl, inr, length-append, length-drop, arith}
 use Rattle.std.proofs.Math.Seq.{take-add, take-append_seam, drop-append_seam}
 use Rattle.std.proofs.lemmas.List.{drop-drop, take-append-drop}
 use Rattle.std.proofs.lemmas.Str.{chars-append, IsUtf8-take, IsUtf8-drop, IsCharBoundary-from_rest}
@@ -35,7 +35,7 @@ use Rattle.graphql_report.specs.inner.Told.{ReadsTo}
 use Rattle.graphql_report.specs.reports.Refused.{RefusesTheToken, IsRefusedAt, IsRefusedFrom, IsKnown, IsOfAToken, IsItsToken, in_text}
 use Rattle.graphql_report.specs.reports.Rests.{AreCounted, BeginsAt, IsMoved, top}
 use Rattle.graphql_report.specs.reports.Findings.{EndsAt, IsEndOf, IsFinding, IsMessage, StandsAt}
-use Rattle.graphql_report.specs.reports.Reports.{AreDetails, IsReport, TellsToken}
+use Rattle.graphql_report.specs.reports.Reports.{AreDetails, IsReport, IsToldAt, TellsToken}
 use Rattle.graphql_report.specs.declared.findings.Finding.{Finding}
 use Rattle.graphql_report.specs.declared.style.Style.{Style}
 use Rattle.graphql_report.proofs.Depths.{same-token}
@@ -205,12 +205,15 @@ its-boundary language limits text from token utf8 begins r =
 pub known-lent : (language : Language) (limits : Limits) (text : List ℕ) (read : ReadUpTo) (token : Token) (lent : LentToken) → read.token ≡ Some lent → IsKnown language limits text read token → seen lent ≡ token
 known-lent language limits text read token lent is known = one-lent lent known.1.0 (sym is ∙ known.1.1) ∙ known.1.2
 
+-- where it starts, that one does
+at-lent : (P : ℕ → Type 0) (language : Language) (limits : Limits) (text : List ℕ) (read : ReadUpTo) (token : Token) (lent : LentToken) → read.token ≡ Some lent → IsKnown language limits text read token → P token.start → P lent.start
+at-lent P language limits text read token lent is known h = subst P (sym (ap (λ (t : Token). t.start) (known-lent language limits text read token lent is known))) h
+
 -- a place that is that of its offset
 pub known-place : (language : Language) (limits : Limits) (text : List ℕ) (read : ReadUpTo) (token : Token) (lent : LentToken) (here : Pos) → IsUtf8 text → BeginsAt text read.from → read.token ≡ Some lent → IsKnown language limits text read token → (IsCharBoundary text lent.start → here ≡ place text lent.start) → here ≡ token.pos
 known-place language limits text read token lent here utf8 begins is known at =
-    let start : lent.start ≡ token.start = ap (λ (t : Token). t.start) (known-lent language limits text read token lent is known) in
-    let boundary = subst (IsCharBoundary text) (sym start) (its-boundary language limits text read.from token utf8 begins known.0) in
-    at boundary ∙ ap (place text) start ∙ sym (at-its-start language limits text read.from token known.0)
+    let boundary = at-lent (IsCharBoundary text) language limits text read token lent is known (its-boundary language limits text read.from token utf8 begins known.0) in
+    at boundary ∙ at-lent (λ n. place text n ≡ token.pos) language limits text read token lent is known (sym (at-its-start language limits text read.from token known.0))
 
 pub not-known : {A : Type 0} (language : Language) (limits : Limits) (text : List ℕ) (read : ReadUpTo) (token : Token) → read.token ≡ None → IsKnown language limits text read token → A
 not-known language limits text read token none known = let e = known.1.1 in absurd (clash known.1.0 (sym none ∙ e))
@@ -223,8 +226,7 @@ not-known language limits text read token none known = let e = known.1.1 in absu
 -- the bytes before it, in the rest that was read
 pub read-front : (language : Language) (limits : Limits) (text : List ℕ) (read : ReadUpTo) (token : Token) (lent : LentToken) → IsUtf8 text → BeginsAt text read.from → read.token ≡ Some lent → IsKnown language limits text read token → IsCharBoundary (drop read.from.offset text) (lent.start - read.from.offset)
 read-front language limits text read token lent utf8 begins is known =
-    let start : lent.start ≡ token.start = ap (λ (t : Token). t.start) (known-lent language limits text read token lent is known) in
-    subst (λ (n : ℕ). IsCharBoundary (drop read.from.offset text) (n - read.from.offset)) (sym start) (inner-boundary language limits text read.from token utf8 begins known.0)
+    at-lent (λ n. IsCharBoundary (drop read.from.offset text) (n - read.from.offset)) language limits text read token lent is known (inner-boundary language limits text read.from token utf8 begins known.0)
 
 drop-sum : (n m : ℕ) (l : List ℕ) → drop (n + m) l ≡ drop m (drop n l)
 drop-sum n m l = sym (drop-drop m n l)
@@ -268,8 +270,13 @@ details-known : (language : Language) (limits : Limits) (text : List ℕ) (read 
 details-known language limits text read error details is of its are = λ token r.
     subst (λ (from : ReadFrom). TellsToken language limits text from token details) is (are token (is-known language limits text read error is of its token r))
 
+-- and so is the place that is told
+told-known : (language : Language) (limits : Limits) (text : List ℕ) (read : ReadUpTo) (error : Error) (start told : Pos) → read.from ≡ top → IsOfAToken error → IsItsToken language limits text top error read.token → IsToldAt (IsKnown language limits text read) text start told → IsToldAt (IsRefusedFrom language limits text top) text start told
+told-known language limits text read error start told is of its (inl (same, none)) = inl (same, λ token r. none token (is-known language limits text read error is of its token r))
+told-known language limits text read error start told is of its (inr (at, bad)) = inr (at, λ token r. bad token (is-known language limits text read error is of its token r))
+
 pub report-known : (style : Style) (file : List ℕ) (language : Language) (limits : Limits) (text : List ℕ) (read : ReadUpTo) (error : Error) (report : List ℕ) → read.from ≡ top → IsItsToken language limits text top error read.token → IsReport style file (IsKnown language limits text read) language limits text read.from error report → IsReport style file (IsRefusedFrom language limits text top) language limits text top error report
-report-known style file language limits text read (errors.Syntax message start stop) report is its (at, details, stands, are, tells) = (at, details, stands, details-known language limits text read (errors.Syntax message start stop) details is tt its are, tells)
+report-known style file language limits text read (errors.Syntax message start stop) report is its (at, details, stands, are, tells) = (at, details, told-known language limits text read (errors.Syntax message start stop) start at is tt its stands, details-known language limits text read (errors.Syntax message start stop) details is tt its are, tells)
 report-known style file language limits text read errors.RecursionLimitExceeded report is its (at, (inside, same), tells) = (at, (inside, λ token r. same token (is-known language limits text read errors.RecursionLimitExceeded is tt its token r)), tells)
 report-known style file language limits text read error report is its h = h
 
@@ -278,7 +285,7 @@ reports-known bytes style file language limits text read error (Err refused) is 
 reports-known bytes style file language limits text read error (Ok r) is its h = report-known style file language limits text read error (bytes r) is its h
 
 stands-known : (language : Language) (limits : Limits) (text : List ℕ) (read : ReadUpTo) (error : Error) (stands : Option Pos) → read.from ≡ top → IsItsToken language limits text top error read.token → StandsAt (IsKnown language limits text read) text error stands → StandsAt (IsRefusedFrom language limits text top) text error stands
-stands-known language limits text read (errors.Syntax message start stop) stands is its h = h
+stands-known language limits text read (errors.Syntax message start stop) stands is its (at, there, h) = (at, there, told-known language limits text read (errors.Syntax message start stop) start at is tt its h)
 stands-known language limits text read errors.RecursionLimitExceeded stands is its (at, there, (inside, same)) = (at, there, (inside, λ token r. same token (is-known language limits text read errors.RecursionLimitExceeded is tt its token r)))
 stands-known language limits text read error stands is its h = h
 

@@ -1,10 +1,9 @@
 -- How a part of a report is put together, and where the places in it stand.
-use Rattle.std.proofs.Common.{◌≡◌, ℕ, List, [], ◌∷◌, ◌++◌, Some, Result, Ok, Err, sym, ap, ◌∙◌, append_assoc, inr}
-use Rattle.std.specs.Prelude.{slice_get, IfOk, codes}
+use Rattle.std.proofs.Common.{◌≡◌, ℕ, List, [], ◌∷◌, ◌++◌, Result, Ok, Err, sym, ap, ◌∙◌, append_assoc}
+use Rattle.std.specs.Prelude.{IfOk, codes}
 use Rattle.std.specs.Fmt.{decimal}
 use Rattle.std.specs.Str.{chars, IsUtf8}
-use Rattle.std.proofs.Common.{rules}
-use Rattle.std.proofs.lemmas.Str.{chars-append, chars-IsAscii, IsUtf8-from_ascii}
+use Rattle.std.proofs.lemmas.Str.{chars-append}
 use Rattle.graphql_tokens.specs.declared.pos.Pos.{Pos}
 use Rattle.graphql_reading.specs.grammar.Limits.{Limits}
 use Rattle.graphql_report.specs.declared.fronts.Language.{Language}
@@ -39,23 +38,12 @@ pub limit-told : {A E : Type 0} (bytes : A → List ℕ) (result : Result A E) (
 limit-told bytes (Ok report) style file text is_refused place is told = (place, is, told)
 limit-told bytes (Err refused) style file text is_refused place is told = tt
 
--- what begins with a backslash
-begun : (back : List ℕ) (c : ℕ) → Some c ≡ slice_get back 0 → c ≡ 92 → (rest : List ℕ) × (back ≡ 92 ∷ rest)
-begun [] c e is = absurd cc
-begun (b ∷ back) c e is = (back, ap (λ (x : ℕ). x ∷ back) (let same : c ≡ b = cc in sym same ∙ is))
-
-pub escape-in : (front back : List ℕ) (c : ℕ) (start place : Pos) → IsUtf8 front → Some c ≡ slice_get back 0 → c ≡ 92 → place ≡ place_after (chars front) → IsToldAt (front ++ back) start place
-escape-in front back c start place utf8 first is at =
-    let b = begun back c first is in
-    let after : chars back ≡ 92 ∷ chars b.0 = ap chars b.1 ∙ chars-append (92 ∷ []) b.0 (IsUtf8-from_ascii (92 ∷ []) (search rules)) ∙ ap (λ (l : List ℕ). l ++ chars b.0) (chars-IsAscii (92 ∷ []) (search rules)) in
-    inr (chars front, chars b.0, chars-append front back utf8 ∙ ap (λ (l : List ℕ). chars front ++ l) after, at)
-
 -- a message that goes on
 pub go-on : (front message more rest : List ℕ) → (front ++ message) ++ (more ++ rest) ≡ (front ++ (message ++ more)) ++ rest
 go-on front message more rest = sym (append_assoc (front ++ message) more rest) ∙ ap (λ (l : List ℕ). l ++ rest) (append_assoc front message more)
 
 -- what is told of a refused token
-pub syntax-told : {A E : Type 0} (bytes : A → List ℕ) (result : Result A E) (style : Style) (file : List ℕ) (is_refused : Token → Type 0) (language : Language) (limits : Limits) (text : List ℕ) (from : ReadFrom) (start place : Pos) (details message : List ℕ) → IsToldAt text start place → AreDetails is_refused language limits text from details
+pub syntax-told : {A E : Type 0} (bytes : A → List ℕ) (result : Result A E) (style : Style) (file : List ℕ) (is_refused : Token → Type 0) (language : Language) (limits : Limits) (text : List ℕ) (from : ReadFrom) (start place : Pos) (details message : List ℕ) → IsToldAt is_refused text start place → AreDetails is_refused language limits text from details
     → message ≡ (codes "syntax " ++ styled style Word (codes "error") ++ codes ": ") ++ details → IfOk result (λ report. Tells style file place message (bytes report)) → IfOk result (λ report. TellsSyntax style file is_refused language limits text from start (bytes report))
 syntax-told bytes (Ok report) style file is_refused language limits text from start place details message at are is (rest, e) = (place, details, at, are, (rest, e ∙ ap (λ (l : List ℕ). styled style Place (place_text file place) ++ codes " " ++ l ++ rest) is))
 syntax-told bytes (Err refused) style file is_refused language limits text from start place details message at are is told = tt

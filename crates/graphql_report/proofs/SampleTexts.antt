@@ -22,7 +22,8 @@ use Rattle.graphql_schemas.specs.grammar.Schemas.{schemas}
 use Rattle.graphql_report.specs.declared.fronts.Language.{Language}
 use Rattle.graphql_report.specs.declared.fronts.Language.TheVariants.{Requests, Schemas}
 use Rattle.graphql_report.specs.fronts.Front.{LastIsLineFeed, IsFront, IsFrontOf}
-use Rattle.graphql_report.specs.reports.Expected.{TellsFrontOf, with_sample, IsViable, CanStand}
+use Rattle.graphql_report.specs.reports.Expected.{TellsFrontOf, with_sample}
+use Rattle.graphql_report.specs.inner.Called.{IsViable, CanStand}
 use Rattle.graphql_report.proofs.Joins.{join}
 use Rattle.graphql_report.proofs.Lines.{is-lined}
 use Rattle.graphql_report.proofs.SampleTokens.{IsSampleOf, AreSamplesOf, samples-themselves, samples-append, samples-last, AllowsSamples, allows-whole}

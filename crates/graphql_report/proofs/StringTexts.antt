@@ -18,7 +18,8 @@ use Rattle.graphql_tokens.specs.tokens.Edition.{Current}
 use Rattle.graphql_tokens.specs.tokens.Place.{is_line_end}
 use Rattle.graphql_tokens.specs.tokens.Strings.{StringMeans, IsContent}
 use Rattle.graphql_report.specs.inner.Strings.{IsSplit, HasNoUnit, IsBad, Ends, Passes}
-use Rattle.graphql_report.specs.inner.Escapes.{HasBadEscape, TellsEscape}
+use Rattle.graphql_report.specs.inner.Carets.{TellsEscape}
+use Rattle.graphql_report.specs.reports.Escapes.{HasBadEscape}
 use Rattle.graphql_report.proofs.Escapes.{Walked, none-bad, found-bad, no-string, begun}
 
 -- ---- the first characters

@@ -4,7 +4,8 @@ use Rattle.std.proofs.lemmas.List.{take_more, map_push}
 use Rattle.std.specs.Borrow.{Bor}
 use Rattle.graphql_reading.specs.grammar.Limits.{Limits}
 use Rattle.graphql_report.specs.declared.fronts.Language.{Language}
-use Rattle.graphql_report.specs.reports.Expected.{TellsFrontOf, with_sample, Samples, samples_of, AreTaken}
+use Rattle.graphql_report.specs.reports.Expected.{TellsFrontOf, with_sample, Samples, AreTaken}
+use Rattle.graphql_report.specs.inner.Called.{samples_of}
 
 -- a sample as the code has it
 abbrev Sample : Type 0

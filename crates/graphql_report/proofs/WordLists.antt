@@ -10,7 +10,7 @@ use Rattle.std.specs.Char.{encode_utf8}
 use Rattle.std.specs.Borrow.{Bor}
 use Rattle.std.specs.List.{list_any}
 use Rattle.graphql_tokens.specs.tokens.Token.{Bare}
-use Rattle.graphql_report.specs.reports.Expected.{texts}
+use Rattle.graphql_report.specs.inner.Called.{texts}
 use Rattle.graphql_report.specs.reports.Words.{cut, exception, expected_of, or_others, shown_for}
 
 pub any-of-texts : (p : List ℕ → Bool) (names : List (Bor (List ℕ))) → list_any (λ (name : Bor (List ℕ)). p name.now) names ≡ list_any p (texts names)

@@ -1,5 +1,7 @@
 -- Inner: what private clauses cite.
+pub mod Called
 pub mod Told
 pub mod Parted
 pub mod Strings
-pub mod Escapes
+pub mod Carets
+pub mod OpenFronts

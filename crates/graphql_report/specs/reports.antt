@@ -1,8 +1,9 @@
 -- Public: how a report begins, and which places it tells; where a finding stands; where the reading of a text began, and the
--- token at which it is refused; how that token is named, and what is expected in its place.
+-- token at which it is refused; the first bad escape of that token; how it is named, and what is expected in its place.
 pub mod Reports
 pub mod Findings
 pub mod Rests
 pub mod Refused
+pub mod Escapes
 pub mod Words
 pub mod Expected

@@ -1,13 +1,15 @@
 //! What could have stood in place of the refused token.
-ghost use Rattle.std.specs.Prelude.{◌≡◌, [], ◌∷◌, ◌++◌, IfOk, OnOk, string_bytes};
+ghost use Rattle.std.specs.Prelude.{◌≡◌, ◌++◌, IfOk, OnOk, string_bytes};
 ghost use Rattle.std.specs.Str.{chars};
 ghost use Rattle.graphql_tokens.specs.tokens.Place.{place_after};
-ghost use Rattle.graphql_report.specs.reports.Expected.{AreExpected, NamesAll, NamesOnly, AreTaken, samples_of, texts, value_names};
+ghost use Rattle.graphql_report.specs.reports.Expected.{AreExpected, AreTaken, value_names};
+ghost use Rattle.graphql_report.specs.inner.Called.{NamesAll, NamesOnly, samples_of, texts};
 
 use crate::apart::{is_apart, last_definition};
 use crate::fronts::{Language, end_of, is_whole};
 use crate::probes::{line_of, takes};
 use crate::samples::{END, KEYWORDS, LITERALS, NAME, NAME_TEXT, PUNCTUATORS, Sample, VALUE};
+use crate::shorter::shorter;
 use graphql_parser::{Limits, Pos};
 use std::alloc::{AllocError, Global};
 
@@ -70,9 +72,24 @@ fn expected_after_parts(
     ensures { IfOk result (λ names. AreExpected language limits front.now (texts names.items)) }
 {
     if is_apart(alloc, language, limits, whole, part)? {
-        return expected_in(alloc, language, part, limits);
+        return expected_by_less(alloc, language, part, limits);
     }
-    expected_in(alloc, language, front, limits)
+    expected_by_less(alloc, language, front, limits)
+}
+
+// The same, by a shorter front, where one is found after which the same is expected.
+fn expected_by_less(
+    alloc: Global,
+    language: Language,
+    front: &str,
+    limits: Limits,
+) -> Result<Vec<&'static str>, AllocError>
+    ensures { IfOk result (λ names. AreExpected language limits front.now (texts names.items)) }
+{
+    match shorter(alloc, language, front, limits)? {
+        Some(text) => expected_in(alloc, language, text.as_str(), limits),
+        None => expected_in(alloc, language, front, limits),
+    }
 }
 
 // What is expected after a front: each sample is tried after all of it.

@@ -3,7 +3,7 @@ ghost use Rattle.std.specs.Prelude.{◌≡◌, ◌≤◌, ◌==◌, ℕ, List, [
 ghost use Rattle.std.specs.Str.{chars, IsUtf8, NonePass};
 ghost use Rattle.graphql_tokens.specs.tokens.Strings.{is_plain as is_plain_char};
 ghost use Rattle.graphql_report.specs.inner.Strings.{IsSplit, HasNoUnit, Passes, TellsAhead};
-ghost use Rattle.graphql_report.specs.inner.Escapes.{TellsEscape};
+ghost use Rattle.graphql_report.specs.inner.Carets.{TellsEscape};
 
 use crate::excerpt::{is_line_end, push_shown, shown};
 use crate::refused::{after, before};

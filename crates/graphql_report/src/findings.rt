@@ -1,5 +1,5 @@
 //! What is wrong with a text, in parts: for those who show it in a way of their own.
-ghost use Rattle.std.specs.Prelude.{◌≡◌, ◌++◌, ℕ, List, [], Option, None, IfOk, MatchOption, String, string_bytes};
+ghost use Rattle.std.specs.Prelude.{◌≡◌, ◌++◌, ℕ, List, [], Option, None, IfOk, MatchOption, String};
 ghost use Rattle.graphql_grammar.specs.declared.error.Error.TheVariants.{Syntax, RecursionLimitExceeded};
 ghost use Rattle.graphql_report.specs.reports.Findings.{IsFinding, status_of as status_text};
 ghost use Rattle.graphql_report.specs.inner.Told.{TellsBreach};
@@ -10,7 +10,7 @@ ghost use Rattle.graphql_report.specs.reports.Reports.{IsPlaceIn};
 ghost use Rattle.graphql_report.specs.reports.Rests.{AreCounted, BeginsAt, top};
 
 use crate::fronts::{Language, end_of};
-use crate::refused::{before, reached_limit, split};
+use crate::refused::{before, reached_limit};
 use crate::report::{TOO_DEEP, details_of, limit_remark, place_told, remark_of};
 use crate::rests::ReadUpTo;
 use graphql_parser::lexer::Token;
@@ -94,8 +94,7 @@ fn syntax_finding(
         (Syntax message start stop) finding) }
 {
     let details = details_of(alloc, language, text, read, limits)?;
-    let (front, back) = split(text, details.offset);
-    let place = place_told(front, back, start, details.is_inside);
+    let place = place_told(text, start, details.offset, details.is_inside);
     let end = match read.token {
         Some(token) => end_of_token(&token),
         None => None,

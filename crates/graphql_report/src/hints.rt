@@ -3,7 +3,7 @@ ghost use Rattle.std.specs.Prelude.{◌≡◌, OnOk, string_bytes};
 ghost use Rattle.std.specs.List.{list_any};
 ghost use Rattle.std.specs.Str.{bytes_eq};
 ghost use Rattle.graphql_tokens.specs.tokens.Seen.{seen};
-ghost use Rattle.graphql_report.specs.reports.Expected.{texts};
+ghost use Rattle.graphql_report.specs.inner.Called.{texts};
 ghost use Rattle.graphql_report.specs.inner.Told.{GoesOn};
 ghost use Rattle.graphql_report.specs.reports.Words.{is_no_enum_value as is_no_value};
 

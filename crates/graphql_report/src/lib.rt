@@ -13,15 +13,18 @@
 //! twenty checks, or some forty where no name can stand there; each is linear, and one copy of the text is kept at a time.
 //! Where the last definition before the refused token begins a line, and one check more finds that those before it are whole,
 //! only the text from that line on is checked; else all of the text before the refused token. One check of the text more finds
-//! that token. A caller that read a text from a later line on says so, and what stands before isn't checked again: it has the
-//! refused token from [`refused_token_from`], and hands it on with what it knows ([`ReadUpTo`], [`explain_from`],
-//! [`finding_from`]).
+//! that token. A request is read once more, up to where its last selection or the end of a set begins: the samples are tried
+//! after as many open selection sets and what stands from there on, so a long request costs no more of these checks than a short
+//! one, unless its last selection is long before its own set. A caller that read a text from a later line on says so, and what
+//! stands before isn't checked again: it has the refused token from [`refused_token_from`], and hands it on with what it knows
+//! ([`ReadUpTo`], [`explain_from`], [`finding_from`]).
 //!
 //! Proved of it, unless memory runs out: `is_front` answers true exactly where the tokens of a text are a viable front, in
-//! both languages and at all limits; the token that is given is the one at which the text is refused; what is expected is exactly those of the samples, in their order, that can stand
-//! after the text before the refused token, a keyword only where a name can't, and the end of the text where that text is a
-//! whole document; where that text has no fault, every token that can stand after it is called by one of the names that are
-//! told, and every name by which no end is meant is that of such a token; a report begins with the place of the error and
+//! both languages and at all limits; the token that is given is the one at which the text is refused; what is expected is
+//! exactly those of the samples, in their order, that can stand after the text before the refused token, a keyword only
+//! where a name can't, and the end of the text where that text is a whole document; where that text has no fault, every
+//! token that can stand after it is called by one of the names that are told, and every name by which no end is meant is
+//! that of such a token; a report begins with the place of the error, or of the first bad escape of the refused string, and
 //! its message, and a finding stands at that place; and every call is safe and ends. What a report says in words besides is
 //! tested, in `conformance`.
 #![tactic(auto)]
@@ -34,11 +37,13 @@ mod faults;
 mod findings;
 mod fronts;
 mod hints;
+mod open_sets;
 mod probes;
 mod refused;
 mod report;
 mod rests;
 mod samples;
+mod shorter;
 mod style;
 mod words;
 

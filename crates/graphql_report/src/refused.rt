@@ -1,8 +1,6 @@
 //! Where a text is refused, and by which limit.
-ghost use Rattle.std.specs.Prelude.{◌≡◌, ◌≢◌, ◌↔◌, ℕ, suc, IsTrue, IfOk, List, [], ◌∷◌, ◌++◌, length, take, drop, Err};
+ghost use Rattle.std.specs.Prelude.{◌≡◌, ◌↔◌, ◌⊎◌, ℕ, IsTrue, IfOk, List, [], ◌++◌, take, drop, Err};
 ghost use Rattle.std.specs.Str.{IsCharBoundary};
-ghost use Rattle.graphql_tokens.specs.tokens.Cuts.{IsCutInto};
-ghost use Rattle.graphql_tokens.specs.tokens.Token.{Token as SpecToken, left};
 ghost use Rattle.graphql_grammar.specs.declared.error.Error.TheVariants.{OutOfMemory, RecursionLimitExceeded};
 ghost use Rattle.graphql_report.specs.inner.Told.{ReadsTo};
 ghost use Rattle.graphql_report.specs.reports.Refused.{IsOfAToken, IsItsToken};
@@ -21,6 +19,7 @@ pub fn split(text: &str, offset: usize) -> (&str, &str)
     ensures whole { text.now ≡ result.0.now ++ result.1.now }
     ensures back { IsCharBoundary text.now offset → result.1.now ≡ drop offset text.now }
     ensures front { IsCharBoundary text.now offset → result.0.now ≡ take offset text.now }
+    ensures elsewhere { IsCharBoundary text.now offset ⊎ (result.1.now ≡ []) }
 {
     match text.split_at_checked(offset) {
         Some(parts) => parts,

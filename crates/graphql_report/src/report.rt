@@ -1,12 +1,15 @@
 //! The report of an error.
-ghost use Rattle.std.specs.Prelude.{◌≡◌, ◌∷◌, ◌++◌, [], IfOk, OnOk, string_bytes};
+ghost use Rattle.std.specs.Prelude.{◌≡◌, ◌∷◌, ◌++◌, [], true, false, IfOk, OnOk, string_bytes};
+ghost use Rattle.std.specs.Str.{IsCharBoundary};
+ghost use Rattle.graphql_tokens.specs.tokens.Place.{place};
 ghost use Rattle.graphql_grammar.specs.errors.Errors.{error_text};
 ghost use Rattle.graphql_report.specs.declared.style.Style.TheVariants.{Plain};
 ghost use Rattle.graphql_tokens.specs.tokens.Seen.{seen};
+ghost use Rattle.graphql_report.specs.inner.Carets.{IsCaretAt, IsWrongAfter};
 ghost use Rattle.graphql_report.specs.inner.Told.{GoesOn, IsWrong};
 ghost use Rattle.graphql_report.specs.reports.Refused.{IsKnown, IsRefusedFrom};
 ghost use Rattle.graphql_report.specs.reports.Rests.{BeginsAt, top};
-ghost use Rattle.graphql_report.specs.reports.Reports.{AreDetails, IsReport, IsToldAt, TellsSyntax, TellsLimit, Tells, TellsPlaces, named as named_by};
+ghost use Rattle.graphql_report.specs.reports.Reports.{AreDetails, IsReport, TellsSyntax, TellsLimit, Tells, TellsPlaces, named as named_by};
 
 use crate::definitions::offsets_of;
 use crate::excerpt::excerpt_of;
@@ -14,7 +17,7 @@ use crate::expected::expected_after;
 use crate::faults::fault_of;
 use crate::fronts::{Language, end_of};
 use crate::hints::{push_hint, push_unclosed};
-use crate::refused::{Depth, after, before, reached_limit, split};
+use crate::refused::{Depth, before, reached_limit, split};
 use crate::rests::{ReadUpTo, read_before};
 use crate::samples::{NUMBER, VALUE};
 use crate::style::{Part, Style};
@@ -46,12 +49,13 @@ const OF_NAMESAKES: Remarks = Remarks {
 /// It begins with `FILE:LINE:COL: ` and the message, where `FILE` is `file_name` as it is; then the line of the place
 /// follows, with a caret under it; and where the error has two places, the second follows in the same way. For a `Syntax`
 /// error the message tells what was found, or what is wrong where no token begins, and what was expected; its place is the
-/// error's, but for a bad escape in a string, where it is that of the escape. An error without a place has the one line
+/// error's, but for a bad escape in a string, where it is that of the first one. An error without a place has the one line
 /// `FILE: ` and the message. Where `file_name` is empty, `FILE:` is left out everywhere. (This project's own call.)
 ///
 /// `limits` are those that the parser was given, `Limits::default()` for the calls without limits. What was expected is
-/// found by some twenty to forty checks of the text before the refused token, or of the definition in which it stands if that
-/// begins with a line after others; the refused token by one of the text. An error says that memory was refused.
+/// found by some twenty to forty checks of what stands before the refused token: of a schema file that is all, or the
+/// definition in which the token stands if that begins with a line after others; of a request only as many selection sets as
+/// are open, and the last selection. One check of the text finds the refused token. An error says that memory was refused.
 pub fn explain(
     alloc: Global,
     language: Language,
@@ -120,7 +124,9 @@ pub fn explain_from(
         read,
     };
     match error {
-        Error::Syntax { start, .. } => { explain_syntax(alloc, source, language, limits, *start) }
+        Error::Syntax { start, .. } => {
+            explain_syntax(alloc, source, text, language, limits, *start)
+        }
         Error::RecursionLimitExceeded => explain_limit(alloc, source, text, language, limits),
         Error::MissingOperation | Error::OutOfMemory => explain_plain(alloc, file_name, error),
         Error::MissingQueryRoot { pos } => explain_place(alloc, source, error, *pos),
@@ -204,18 +210,18 @@ fn explain_plain(alloc: Global, file_name: &str, error: &Error) -> Result<String
 fn explain_syntax(
     alloc: Global,
     source: &Source<'_>,
+    text: &str,
     language: Language,
     limits: Limits,
     start: Pos,
 ) -> Result<String, AllocError>
-    requires { BeginsAt source.now.text.now source.now.read.now.from }
+    requires { BeginsAt text.now source.now.read.now.from }
     ensures { IfOk result (λ report. TellsSyntax source.now.style source.now.file_name.now
-        (IsKnown language limits source.now.text.now source.now.read.now) language limits
-        source.now.text.now source.now.read.now.from start (string_bytes report)) }
+        (IsKnown language limits text.now source.now.read.now) language limits
+        text.now source.now.read.now.from start (string_bytes report)) }
 {
-    let details = details_of(alloc, language, source.text, source.read, limits)?;
-    let (front, back) = split(source.text, details.offset);
-    let place = place_told(front, back, start, details.is_inside);
+    let details = details_of(alloc, language, text, source.read, limits)?;
+    let place = place_told(text, start, details.offset, details.is_inside);
     let mut message = String::from_str(alloc, "syntax ")?;
     source.style.push(&mut message, Part::Error, "error")?;
     message.push_str(": ")?;
@@ -240,15 +246,13 @@ pub struct Details {
     pub is_inside: bool,
 }
 
-/// The place where the caret stands, in a text that is cut there: that of the refused token, or of the escape in it.
-pub fn place_told(front: &str, back: &str, start: Pos, is_inside: bool) -> Pos
-    ensures { IsToldAt (front.now ++ back.now) start result }
+/// The place where the caret stands: this one, that of the error, or inside the token the one at this offset.
+pub fn place_told(text: &str, start: Pos, offset: usize, is_inside: bool) -> Pos
+    ensures start { is_inside ≡ false → result ≡ start }
+    ensures inside { is_inside ≡ true → IsCharBoundary text.now offset → result ≡ place text.now offset }
 {
-    if is_inside
-        && let Some(byte) = back.as_bytes().first()
-        && *byte == b'\\'
-    {
-        return end_of(front);
+    if is_inside {
+        return end_of(before(text, offset));
     }
     start
 }
@@ -262,8 +266,10 @@ pub fn details_of(
     limits: Limits,
 ) -> Result<Details, AllocError>
     requires { BeginsAt text.now read.now.from }
-    ensures { IfOk result (λ details. AreDetails (IsKnown language limits text.now read.now) language limits
+    ensures told { IfOk result (λ details. AreDetails (IsKnown language limits text.now read.now) language limits
         text.now read.now.from (string_bytes details.message)) }
+    ensures caret { IfOk result (λ details. IsCaretAt (IsKnown language limits text.now read.now) text.now
+        details.offset details.is_inside) }
 {
     let Some(token) = read.token else {
         return Ok(Details {
@@ -294,11 +300,13 @@ fn push_wrong(
     token: &Token<'_>,
     expected: &[&'static str],
 ) -> Result<usize, AllocError>
-    ensures { OnOk result (IsWrong (seen token.now).bare (string_bytes out.old) (string_bytes out.new)) }
+    ensures told { OnOk result (IsWrong (seen token.now).bare (string_bytes out.old) (string_bytes out.new)) }
+    ensures caret { IfOk result (λ passed. IsWrongAfter text.now (seen token.now) passed) }
 {
     if matches!(token.kind, TokenKind::Fault) {
         let is_value = expected.contains(&VALUE) || expected.contains(&NUMBER);
-        let fault = fault_of(alloc, after(text, token.start), is_value)?;
+        let (_, rest) = split(text, token.start);
+        let fault = fault_of(alloc, rest, is_value)?;
         out.push_str(fault.message.as_str())?;
         return Ok(fault.offset);
     }

@@ -1,7 +1,7 @@
 //! How a report names the refused token, and what is expected in its place.
-ghost use Rattle.std.specs.Prelude.{◌≡◌, ◌++◌, ℕ, List, [], OnOk, if◌then◌else◌, string_bytes};
+ghost use Rattle.std.specs.Prelude.{◌≡◌, ◌++◌, [], OnOk, if◌then◌else◌, string_bytes};
 ghost use Rattle.graphql_tokens.specs.tokens.Seen.{seen};
-ghost use Rattle.graphql_report.specs.reports.Expected.{texts};
+ghost use Rattle.graphql_report.specs.inner.Called.{texts};
 ghost use Rattle.graphql_report.specs.reports.Words.{cut, found, exception, expected as expected_text};
 
 use crate::excerpt::shown;

@@ -10,6 +10,7 @@ use graphql_parser::{
     check_schema, check_schema_from, check_schema_limited, parse_query, parse_query_from,
     parse_query_limited, parse_schema, parse_schema_from, parse_schema_limited,
 };
+use graphql_printer::{minify_query, minify_schema};
 use rows::Shown;
 use rows::trees::Written;
 use std::alloc::{AllocError, Global};
@@ -36,6 +37,8 @@ pub enum Call {
     CheckSchemaLimited,
     /// As `QueryFrom`.
     CheckSchemaFrom,
+    MinifyQuery,
+    MinifySchema,
     StringValue,
     BlockStringValue,
     NewType,
@@ -170,6 +173,8 @@ impl Call {
             Call::CheckSchemaLimited => {
                 show_checked(shown, check_schema_limited(alloc, text, narrow()))
             }
+            Call::MinifyQuery => show_text(shown, minify_query(alloc, text, narrow())),
+            Call::MinifySchema => show_text(shown, minify_schema(alloc, text, narrow())),
             _ => self.of_tokens(alloc, text, shown),
         }
     }
@@ -225,6 +230,14 @@ fn count(tokens: Tokens<'_>) -> usize {
 // Limits within which little may nest.
 fn narrow() -> Limits {
     Limits::new(1, 1, 1).unwrap_or(Limits::default())
+}
+
+fn show_text(shown: &mut Shown, answer: Answer<String>) -> Answered {
+    match answer {
+        Ok(text) => shown.item("", &text),
+        Err(error) => show_error(shown, &error)?,
+    }
+    Ok(())
 }
 
 fn show_tree<D: Written + Drop>(shown: &mut Shown, answer: Answer<D>) -> Answered {

@@ -146,6 +146,16 @@ pub const TABLES: &[Table] = &[
         rows: CHECK_SCHEMA_FROM,
     },
     Table {
+        call: Call::MinifyQuery,
+        is_free: false,
+        rows: MINIFY_QUERY,
+    },
+    Table {
+        call: Call::MinifySchema,
+        is_free: false,
+        rows: MINIFY_SCHEMA,
+    },
+    Table {
         call: Call::StringValue,
         is_free: false,
         rows: STRING_VALUE,
@@ -460,6 +470,17 @@ const CHECK_SCHEMA_FROM: &str = r"
 union U=A|B ) type C ⇒ syntax error at 1:13 1:13, taken 7
 3 in x y z {a} ⇒ syntax error at 1:7 1:7, taken 4
 ";
+
+const MINIFY_QUERY: &str = r#"
+{ a ( b : "c" , d : [ "" "" ] ) , e } # f ⇒ {a(b:"c"d:["" ""])e}
+{ a { b { c } } } ⇒ recursion limit exceeded.
+{a ?} ⇒ syntax error at 1:4 1:4
+"#;
+
+const MINIFY_SCHEMA: &str = r#"
+"d" type A { "e" f : [ B ! ] } ⇒ "d"type A{"e"f:[B!]}
+extend type A {} ⇒ syntax error at 1:16 1:16
+"#;
 
 const STRING_VALUE: &str = r#"
 \u{1F600} a long text ⇒ 😀 a long text

@@ -46,6 +46,9 @@ pub fn run<L: Language>(
             _ => tally.refused = tally.refused.wrapping_add(1),
         }
         tally.failure = failure(alloc, language, text, made.is_meant, &seen)?;
+        if tally.failure.is_none() {
+            tally.failure = minified_failure(alloc, language, text, &seen)?;
+        }
         if tally.failure.is_some() {
             break;
         }
@@ -94,6 +97,37 @@ pub fn failure<L: Language>(
         return told(alloc, "the printed text differs", text, seen, &other);
     }
     Ok(None)
+}
+
+// What is wrong with the minified text, or the error in its place; None where nothing is.
+fn minified_failure<L: Language>(
+    alloc: Global,
+    language: &L,
+    text: &str,
+    seen: &Seen,
+) -> Result<Option<String>, AllocError> {
+    let minified = match language.minified(alloc, text) {
+        Ok(minified) => minified,
+        Err(error) => {
+            let shown = format!(in alloc; "{error:?}")?;
+            if shown == seen.placed {
+                return Ok(None);
+            }
+            return told(alloc, "the error of a minifier differs", text, seen, seen);
+        }
+    };
+    let other = asked(alloc, language, Form::Plain, minified.as_str())?;
+    if other.placeless != seen.placeless || minified.len() > text.len() {
+        return told(alloc, "the minified text differs", text, seen, &other);
+    }
+    let is_same = match language.minified(alloc, minified.as_str()) {
+        Ok(again) => again == minified,
+        Err(_error) => false,
+    };
+    if is_same {
+        return Ok(None);
+    }
+    told(alloc, "minified again it differs", text, seen, &other)
 }
 
 fn told(

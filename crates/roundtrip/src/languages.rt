@@ -8,6 +8,7 @@ use graphql_parser::{
     check_schema, check_schema_from, check_schema_limited, parse_query, parse_query_from,
     parse_query_limited, parse_schema, parse_schema_from, parse_schema_limited,
 };
+use graphql_printer::{minify_query, minify_schema};
 use rows::Shown;
 use rows::trees::Written;
 use std::alloc::{AllocError, Global};
@@ -69,6 +70,9 @@ pub trait Language {
 
     /// What its check answers.
     fn checked(&self, alloc: Global, form: Form, text: &str) -> Answer<()>;
+
+    /// The text minified, or its error.
+    fn minified(&self, alloc: Global, text: &str) -> Answer<String>;
 }
 
 /// What the parser of a language answers, if its check answers the same: both accept, or both give the same error.
@@ -127,6 +131,13 @@ impl Language for Parsed {
             (Parsed::Schemas, Form::Plain) => check_schema(alloc, text),
             (Parsed::Schemas, Form::FromTokens) => check_schema_from(alloc, &mut Tokens::new(text)),
             (Parsed::Schemas, _) => check_schema_limited(alloc, text, limits),
+        }
+    }
+
+    fn minified(&self, alloc: Global, text: &str) -> Answer<String> {
+        match self {
+            Parsed::Requests => minify_query(alloc, text, Limits::default()),
+            Parsed::Schemas => minify_schema(alloc, text, Limits::default()),
         }
     }
 }

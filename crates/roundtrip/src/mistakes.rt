@@ -30,6 +30,10 @@ impl<L: Language> Language for Forgetful<L> {
     fn checked(&self, alloc: Global, form: Form, text: &str) -> Answer<()> {
         self.language.checked(alloc, form, text)
     }
+
+    fn minified(&self, alloc: Global, text: &str) -> Answer<String> {
+        self.language.minified(alloc, text)
+    }
 }
 
 // A language one of whose forms, of the parser or of the check, answers as if a text went on.
@@ -60,10 +64,40 @@ impl<L: Language> Language for Astray<L> {
         }
         self.language.checked(alloc, form, text)
     }
+
+    fn minified(&self, alloc: Global, text: &str) -> Answer<String> {
+        self.language.minified(alloc, text)
+    }
+}
+
+// A language whose minified texts lack these characters.
+#[derive(Clone, Copy)]
+struct Stripped<L> {
+    language: L,
+    lacking: &'static str,
+}
+
+impl<L: Language> Language for Stripped<L> {
+    fn grammar(&self) -> &'static str {
+        self.language.grammar()
+    }
+
+    fn seen(&self, alloc: Global, form: Form, text: &str) -> Result<Seen, AllocError> {
+        self.language.seen(alloc, form, text)
+    }
+
+    fn checked(&self, alloc: Global, form: Form, text: &str) -> Answer<()> {
+        self.language.checked(alloc, form, text)
+    }
+
+    fn minified(&self, alloc: Global, text: &str) -> Answer<String> {
+        let minified = self.language.minified(alloc, text)?;
+        Ok(minified.replace(alloc, self.lacking, "")?)
+    }
 }
 
 /// How many mistakes are not found by so many texts or values from a seed on: of printers of trees, of forms of a parser and of
-/// its check, and of printers of values. A schema file has no `$`, so that forgetting it is none there.
+/// its check, of minifiers, and of printers of values. A schema file has no `$`, so that forgetting it is none there.
 pub fn overlooked(alloc: Global, seed: u64, count: u64) -> Result<usize, AllocError> {
     let mut overlooked = 0usize;
     for forgotten in ["!", "@", "$", "\\", "="] {
@@ -98,6 +132,19 @@ pub fn overlooked(alloc: Global, seed: u64, count: u64) -> Result<usize, AllocEr
             {
                 overlooked = overlooked.wrapping_add(1);
             }
+        }
+    }
+    for lacking in [" ", "@", "{"] {
+        let requests = Stripped {
+            language: Parsed::Requests,
+            lacking,
+        };
+        let schemas = Stripped {
+            language: Parsed::Schemas,
+            lacking,
+        };
+        if !is_found(alloc, &requests, seed, count)? || !is_found(alloc, &schemas, seed, count)? {
+            overlooked = overlooked.wrapping_add(1);
         }
     }
     for forgotten in ["\\", "\"", "$", "-", "[]", "{}", "😀"] {

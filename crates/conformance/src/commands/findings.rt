@@ -11,7 +11,7 @@ use crate::reports::read_as;
 use graphql_commands::check::error_of;
 use graphql_commands::command::Format;
 use graphql_commands::recovery::{next_definition, probable_opening, rest_at, unclosed_string};
-use graphql_commands::telling::{MOST_FINDINGS, Names, Source, Teller};
+use graphql_commands::telling::{MOST_FINDINGS, Names, Refused, Source, Teller};
 use graphql_parser::lexer::{Token, Tokens};
 use graphql_parser::pos::PositionCalculator;
 use graphql_parser::{Error, Limits, Memory, Pos, check_query_from, check_schema_from};
@@ -155,9 +155,13 @@ fn token_before<'a>(
 }
 
 fn error_before(alloc: Global, source: &Source<'_>) -> Result<Option<Error>, AllocError> {
-    match error_of(&mut Memory::new(alloc), source, true)? {
-        Some(Error::MultipleOperations { .. }) => Ok(None),
-        other => Ok(other),
+    let Some(refused) = error_of(&mut Memory::new(alloc), source, true)? else {
+        return Ok(None);
+    };
+    let Refused { error, .. } = refused;
+    match error {
+        Error::MultipleOperations { .. } => Ok(None),
+        other => Ok(Some(other)),
     }
 }
 
@@ -249,15 +253,15 @@ fn told(
     alloc: Global,
     source: &Source<'_>,
     format: Format,
-    error: &Error,
+    refused: &Refused<'_>,
     is_before: bool,
 ) -> Result<String, Fail> {
     let mut teller = Teller::new(alloc, format, Style::Plain, false);
     let mut err = patient(alloc);
     if is_before {
-        tell_all_before(&mut teller, source, error, &mut err)?;
+        tell_all_before(&mut teller, source, &refused.error, &mut err)?;
     } else {
-        teller.tell_all(source, error, &mut err)?;
+        teller.tell_all(source, refused, &mut err)?;
     }
     let mut told = String::from_str(alloc, str::from_utf8(err.held.as_slice())?)?;
     told.push_str(teller.lines.as_str())?;
@@ -287,13 +291,18 @@ fn end_before(
 }
 
 // How many findings a text with this error has, if it is told alike in both forms.
-fn counted(alloc: Global, source: &Source<'_>, error: &Error) -> Result<Option<usize>, Fail> {
-    let report = told(alloc, source, Format::Text, error, false)?;
+fn counted(
+    alloc: Global,
+    source: &Source<'_>,
+    refused: &Refused<'_>,
+) -> Result<Option<usize>, Fail> {
+    let error = &refused.error;
+    let report = told(alloc, source, Format::Text, refused, false)?;
     // A line of JSON for each.
-    let lines = told(alloc, source, Format::Json, error, false)?;
+    let lines = told(alloc, source, Format::Json, refused, false)?;
     let finding = finding_of(alloc, source.language, source.text, source.limits, error)?;
-    if report != told(alloc, source, Format::Text, error, true)?
-        || lines != told(alloc, source, Format::Json, error, true)?
+    if report != told(alloc, source, Format::Text, refused, true)?
+        || lines != told(alloc, source, Format::Json, refused, true)?
         || finding.end != end_before(alloc, source, error)?
     {
         return Ok(None);
@@ -318,7 +327,7 @@ fn findings_of(
         text,
     };
     match error_of(&mut Memory::new(alloc), &source, true)? {
-        Some(error) => counted(alloc, &source, &error),
+        Some(refused) => counted(alloc, &source, &refused),
         None => Ok(Some(0)),
     }
 }

@@ -34,12 +34,13 @@ pub fn told(alloc: Global, reading: &str, rest: &str) -> Result<String, Fail> {
         limits,
         text: copy.as_str(),
     };
-    // The error of the copy, in which each place is that in the whole text.
-    let error = error_of(&mut Memory::new(alloc), &source, true)?;
+    // What is wrong with the copy, in which each place is that in the whole text.
+    let refused = error_of(&mut Memory::new(alloc), &source, true)?;
+    let refused = refused.ok_or("a good text")?;
     let from = ReadFrom::top(text)
         .later(text, FRONT.len())
         .ok_or("no line")?;
-    told_alike(alloc, text, from, &source, &error.ok_or("a good text")?)
+    told_alike(alloc, text, from, &source, &refused.error)
 }
 
 // What is told of a text from there on, if it is what is told of this copy of it.

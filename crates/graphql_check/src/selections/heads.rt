@@ -50,6 +50,7 @@ fn take_brace(parser: &mut Parser, nests: bool) -> Reading<bool>
 /// A field up to its set.
 ///
 /// `Field : Alias? Name Arguments? Directives? SelectionSet?` (GraphQL October 2021, section 2.5)
+#[inline(always)]
 fn check_field(parser: &mut Parser, limits: Limits, nests: bool) -> Reading<bool>
     ensures gives { Gives (λ follows. follows) result parser.old parser.new
         (entered_at (field_head_at limits.values nests)) }
@@ -100,6 +101,7 @@ fn check_inline(parser: &mut Parser, limits: Limits) -> Reading<()>
 /// The rest of a spread or of an inline fragment after its `...`, up to its set: whether that follows.
 ///
 /// `FragmentName Directives? | TypeCondition? Directives? SelectionSet`
+#[inline(always)]
 fn check_after_dots(parser: &mut Parser, limits: Limits, nests: bool) -> Reading<bool>
     ensures gives { Gives (λ follows. follows) result parser.old parser.new
         (entered_at (after_dots_at limits.values nests nowhere)) }
@@ -124,7 +126,9 @@ fn check_after_dots(parser: &mut Parser, limits: Limits, nests: bool) -> Reading
 /// Reads a selection up to its set, and tells whether that follows. Its `{` is then read.
 ///
 /// `Selection : Field | FragmentSpread | InlineFragment` (GraphQL October 2021, section 2.4)
-pub(super) fn check_head(parser: &mut Parser, limits: Limits, nests: bool) -> Reading<bool>
+// In line, with what it calls: two loops call it, and the one of checks runs for each selection of a text.
+#[inline(always)]
+pub fn check_head(parser: &mut Parser, limits: Limits, nests: bool) -> Reading<bool>
     ensures gives { Gives (λ follows. follows) result parser.old parser.new
         (entered_at (head_at limits.values nests)) }
     ensures calm { Calm parser.old parser.new }

@@ -1,7 +1,7 @@
 -- When a text is good: its tokens have their one tree within the limits, which breaks no rule and lacks nothing, but for an
 -- operation where requests may hold fragments alone.
 -- Source: this project's choice.
-use Rattle.std.specs.Prelude.{◌≡◌, ◌⊎◌, ℕ, Bool, true, List, [], ◌∷◌, None, Some, Result, IsOkAnd, string_bytes}
+use Rattle.std.specs.Prelude.{◌≡◌, ◌⊎◌, ℕ, Bool, true, List, [], ◌∷◌, Option, None, Some, Result, IsOkAnd, string_bytes}
 use Rattle.std.specs.declared.alloc.Global.{Global}
 use Rattle.std.specs.declared.string.String.{String}
 use Rattle.graphql_parser.specs.tokens.Cuts.{IsCutInto}
@@ -14,6 +14,7 @@ use Rattle.graphql_parser.specs.schemas.Schemas.{schemas}
 use Rattle.graphql_parser.specs.types.Error.TheVariants.{MissingOperation}
 use Rattle.graphql_report.specs.declared.fronts.Language.{Language}
 use Rattle.graphql_report.specs.declared.fronts.Language.TheVariants.{Requests, Schemas}
+use Rattle.graphql_commands.specs.checked.Language.{IsReadAs}
 use Rattle.graphql_commands.specs.declared.texts.Unread.{Unread}
 
 -- These tokens have one tree, and it is a document: it breaks no rule and lacks nothing, or an operation alone where
@@ -32,12 +33,13 @@ HasDocumentOf fragments Schemas limits tokens = HasDocument fragments schemas li
 abbrev pub IsGoodText : Bool → Language → Limits → List ℕ → Type 0
 IsGoodText fragments language limits text = (tokens : List Token) → IsCutInto text tokens → HasDocumentOf fragments language limits tokens
 
--- there is a text, and it is good when it is read as one of the two
-abbrev pub IsGood : Bool → Limits → Result (String Global) Unread → Type 0
-IsGood fragments limits read = IsOkAnd read (λ text. (language : Language) × IsGoodText fragments language limits (string_bytes text))
+-- There is a text, and it is good, read as the language that the option or the file's name says, or as one of the two
+-- where neither says one.
+abbrev pub IsGood : Option Language → Bool → Limits → List ℕ → Result (String Global) Unread → Type 0
+IsGood option fragments limits name read = IsOkAnd read (λ text. (language : Language) × IsReadAs option name language × IsGoodText fragments language limits (string_bytes text))
 
 -- Read under these names one after another, from one state of what texts are read from to another, there is a text each
 -- time, and it is good. `gives` says what may be read under a name at a state, and the state after that.
-abbrev pub GiveGoodTexts : {T : Type 0} → (T → List ℕ → Result (String Global) Unread → T → Type 0) → Bool → Limits → T → List (List ℕ) → T → Type 0
-GiveGoodTexts gives fragments limits here [] there = here ≡ there
-GiveGoodTexts {T} gives fragments limits here (name ∷ names) there = (read : Result (String Global) Unread) × (next : T) × gives here name read next × IsGood fragments limits read × GiveGoodTexts gives fragments limits next names there
+abbrev pub GiveGoodTexts : {T : Type 0} → (T → List ℕ → Result (String Global) Unread → T → Type 0) → Option Language → Bool → Limits → T → List (List ℕ) → T → Type 0
+GiveGoodTexts gives option fragments limits here [] there = here ≡ there
+GiveGoodTexts {T} gives option fragments limits here (name ∷ names) there = (read : Result (String Global) Unread) × (next : T) × gives here name read next × IsGood option fragments limits name read × GiveGoodTexts gives option fragments limits next names there

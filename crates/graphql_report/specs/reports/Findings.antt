@@ -19,7 +19,7 @@ first_of (place ∷ more) = Some place
 
 -- A finding stands where the report of its error does: at the first place that it tells.
 abbrev pub StandsAt : (Token → Type 0) → List ℕ → Error → Option Pos → Type 0
-StandsAt is_refused text (Syntax message start stop) stands = (place : Pos) × (stands ≡ Some place) × IsToldAt text start place
+StandsAt is_refused text (Syntax message start stop) stands = (place : Pos) × (stands ≡ Some place) × IsToldAt is_refused text start place
 StandsAt is_refused text RecursionLimitExceeded stands = (place : Pos) × (stands ≡ Some place) × IsLimitAt is_refused text place
 StandsAt is_refused text error stands = stands ≡ first_of (error_places error)
 

@@ -5,7 +5,7 @@ use Rattle.std.specs.Fmt.{decimal}
 use Rattle.std.specs.Str.{chars}
 use Rattle.graphql_tokens.specs.declared.lexer.TokenKind.TheVariants.{Fault}
 use Rattle.graphql_tokens.specs.declared.pos.Pos.{Pos}
-use Rattle.graphql_tokens.specs.tokens.Place.{place_after}
+use Rattle.graphql_tokens.specs.tokens.Place.{place, place_after}
 use Rattle.graphql_tokens.specs.tokens.Token.{Token}
 use Rattle.graphql_reading.specs.grammar.Limits.{Limits}
 use Rattle.graphql_grammar.specs.declared.error.Error.{Error}
@@ -17,6 +17,7 @@ use Rattle.graphql_report.specs.declared.style.Style.{Style}
 use Rattle.graphql_report.specs.declared.style.Style.TheVariants.{Plain, Coloured}
 use Rattle.graphql_report.specs.declared.style.Part.{Part}
 use Rattle.graphql_report.specs.declared.style.Part.TheVariants.{Place, Error as Word, Caret}
+use Rattle.graphql_report.specs.reports.Escapes.{IsBadEscapeOf}
 use Rattle.graphql_report.specs.reports.Expected.{AreExpected}
 use Rattle.graphql_report.specs.reports.Words.{found, expected}
 
@@ -65,9 +66,12 @@ IsPlaceIn text place = (before after : List ℕ) × (chars text ≡ before ++ af
 abbrev pub IsEscapeIn : List ℕ → Pos → Type 0
 IsEscapeIn text place = (before after : List ℕ) × (chars text ≡ before ++ 92 ∷ after) × (place ≡ place_after before)
 
--- a syntax error is told at its place, or at an escape
-abbrev pub IsToldAt : List ℕ → Pos → Pos → Type 0
-IsToldAt text start place = (place ≡ start) ⊎ IsEscapeIn text place
+-- A syntax error is told at its place, where the token that is the refused one has no bad escape; or at a backslash, with
+-- which the first bad escape of that token begins.
+abbrev pub IsToldAt : (Token → Type 0) → List ℕ → Pos → Pos → Type 0
+IsToldAt is_refused text start told =
+    ((told ≡ start) × ((token : Token) → is_refused token → (offset : ℕ) → ¬ (IsBadEscapeOf text token offset)))
+    ⊎ (IsEscapeIn text told × ((token : Token) → is_refused token → (offset : ℕ) × IsBadEscapeOf text token offset × (told ≡ place text offset)))
 
 -- ---- what is told of a refused token
 
@@ -93,7 +97,7 @@ IsLimitAt is_refused text place = IsPlaceIn text place × ((token : Token) → i
 abbrev pub TellsSyntax : Style → List ℕ → (Token → Type 0) → Language → Limits → List ℕ → ReadFrom → Pos → List ℕ → Type 0
 TellsSyntax style file is_refused language limits text from start report =
     (place : Pos) × (details : List ℕ)
-    × IsToldAt text start place
+    × IsToldAt is_refused text start place
     × AreDetails is_refused language limits text from details
     × Tells style file place ((codes "syntax " ++ styled style Word (codes "error") ++ codes ": ") ++ details) report
 

@@ -11,6 +11,7 @@ use Rattle.graphql_tokens.specs.tokens.Kinds.{is_name}
 use Rattle.graphql_tokens.specs.tokens.Token.{Bare}
 use Rattle.graphql_report.specs.declared.fronts.Language.{Language}
 use Rattle.graphql_report.specs.declared.fronts.Language.TheVariants.{Requests, Schemas}
+use Rattle.graphql_report.specs.reports.Expected.{quoted, name_name, value_name, end_name}
 
 -- ---- the token
 
@@ -26,11 +27,8 @@ shown_for c = if (is_control c && not (c == byte "\t")) || turns_text c then 0xF
 abbrev pub cut : List ℕ → List ℕ
 cut text = encode_utf8_all (map shown_for (take 30 (chars text))) ++ (if nat_lt 30 (length (chars text)) then codes "..." else [])
 
-abbrev pub quoted : List ℕ → List ℕ
-quoted text = codes "\"" ++ text ++ codes "\""
-
 abbrev pub found_as : TokenKind → List ℕ → List ℕ
-found_as End text = codes "the end of the text"
+found_as End text = end_name
 found_as Block text = codes "a block string"
 found_as String text = codes "the string " ++ cut text
 found_as Number text = codes "the number " ++ cut text
@@ -45,13 +43,13 @@ found t = found_as t.kind t.spelling
 -- one of the three names that no value of an enum has, where a name is expected in a schema file
 abbrev pub is_no_enum_value : Language → List ℕ → List (List ℕ) → Bool
 is_no_enum_value Requests text names = false
-is_no_enum_value Schemas text names = (bytes_eq text (codes "true") || bytes_eq text (codes "false") || bytes_eq text (codes "null")) && list_any (λ name. bytes_eq name (codes "a name")) names
+is_no_enum_value Schemas text names = (bytes_eq text (codes "true") || bytes_eq text (codes "false") || bytes_eq text (codes "null")) && list_any (λ name. bytes_eq name name_name) names
 
 -- what is said after something that is expected, where just what was found can't stand for it
 abbrev pub exception : Bare → List ℕ → List ℕ
 exception t name =
-    if is_name t.kind && (bytes_eq name (codes "a name") || bytes_eq name (codes "a value")) then codes " other than " ++ quoted t.spelling
-    else if bytes_eq t.spelling (codes "$") && bytes_eq name (codes "a value") then codes " without variables"
+    if is_name t.kind && (bytes_eq name name_name || bytes_eq name value_name) then codes " other than " ++ quoted t.spelling
+    else if bytes_eq t.spelling (codes "$") && bytes_eq name value_name then codes " without variables"
     else []
 
 -- the second and later ones

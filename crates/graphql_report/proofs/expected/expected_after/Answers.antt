@@ -1,4 +1,4 @@
-use Rattle.graphql_report.specs.reports.Expected.{texts}
+use Rattle.graphql_report.specs.inner.Called.{texts}
 use Rattle.graphql_report.proofs.Named.{result-names-all}
 use Rattle.graphql_report.proofs.NamedOnly.{result-names-only}
 use Rattle.graphql_report.proofs.expected.expected_after.Goals as goal

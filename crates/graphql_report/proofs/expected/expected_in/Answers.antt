@@ -1,7 +1,8 @@
 use Rattle.std.proofs.Common.{◌≡◌, ℕ, Bool, cond, List, [], ◌∷◌, ◌++◌, sym, ap, ◌∙◌, subst, append-nil}
 use Rattle.std.specs.Borrow.{Bor}
 use Rattle.std.specs.String.{string_bytes}
-use Rattle.graphql_report.specs.reports.Expected.{TellsFrontOf, with_sample, name_text, end_name, literals, punctuators, keywords, AreTaken, texts, value_names}
+use Rattle.graphql_report.specs.reports.Expected.{TellsFrontOf, with_sample, name_text, end_name, literals, punctuators, keywords, AreTaken, value_names}
+use Rattle.graphql_report.specs.inner.Called.{texts}
 use Rattle.graphql_report.proofs.ExpectedNames.{joined}
 use Rattle.graphql_report.proofs.expected.expected_in.Goals as goal
 use Rattle.graphql_report.proofs.expected.expected_in.Goals.{then-has_name, else-has_name+in_ok-keywords, then-branch+in_ok-push, else-branch}

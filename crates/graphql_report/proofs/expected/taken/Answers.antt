@@ -2,7 +2,7 @@ use Rattle.std.proofs.Common.{ℕ, List, true, false, ap, ◌∙◌, sym, append
 use Rattle.std.specs.Borrow.{Bor}
 use Rattle.std.specs.String.{string_bytes}
 use Rattle.std.proofs.lemmas.List.{map_push}
-use Rattle.graphql_report.specs.reports.Expected.{texts}
+use Rattle.graphql_report.specs.inner.Called.{texts}
 use Rattle.graphql_report.proofs.TakenSamples.{taken-next}
 use Rattle.graphql_report.proofs.expected.taken.Goals as goal
 use Rattle.graphql_report.proofs.expected.taken.Goals.{then-branch+in_ok-push, else-branch}

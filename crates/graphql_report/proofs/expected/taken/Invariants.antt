@@ -1,6 +1,7 @@
 use Rattle.std.proofs.Common.{◌≡◌, take}
 use Rattle.std.specs.String.{string_bytes}
-use Rattle.graphql_report.specs.reports.Expected.{AreTaken, samples_of, texts}
+use Rattle.graphql_report.specs.reports.Expected.{AreTaken}
+use Rattle.graphql_report.specs.inner.Called.{samples_of, texts}
 use Rattle.graphql_report.proofs.expected.taken.Given as goal
 
 abbrev pub invariant-loop-sample : goal.invariant-loop-sample

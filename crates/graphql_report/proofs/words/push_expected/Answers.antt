@@ -4,7 +4,7 @@ use Rattle.std.specs.Borrow.{Bor}
 use Rattle.std.specs.Prelude.{codes}
 use Rattle.std.specs.String.{string_bytes}
 use Rattle.graphql_tokens.specs.tokens.Seen.{seen}
-use Rattle.graphql_report.specs.reports.Expected.{texts}
+use Rattle.graphql_report.specs.inner.Called.{texts}
 use Rattle.graphql_report.specs.reports.Words.{expected_of}
 use Rattle.graphql_report.proofs.WordLists.{told_as, expected-told, texts-parts}
 use Rattle.graphql_report.proofs.words.push_expected.Goals as goal

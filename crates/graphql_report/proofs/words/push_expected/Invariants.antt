@@ -2,7 +2,7 @@ use Rattle.std.proofs.Common.{◌≡◌, ◌++◌, take, flat_map}
 use Rattle.std.specs.Prelude.{codes}
 use Rattle.std.specs.String.{string_bytes}
 use Rattle.graphql_tokens.specs.tokens.Seen.{seen}
-use Rattle.graphql_report.specs.reports.Expected.{texts}
+use Rattle.graphql_report.specs.inner.Called.{texts}
 use Rattle.graphql_report.proofs.WordLists.{told_as}
 use Rattle.graphql_report.proofs.words.push_expected.Given as goal
 

@@ -1,0 +1,3 @@
+-- Inner: what private clauses cite.
+pub mod Begun
+pub mod Words

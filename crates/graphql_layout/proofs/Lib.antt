@@ -1,0 +1,10 @@
+pub mod Firsts
+pub mod Items
+pub mod ItemsIn
+pub mod Joined
+pub mod Minified
+pub mod Pushes
+pub mod Remains
+pub mod Room
+pub mod Sheets
+pub mod WrittenTokens

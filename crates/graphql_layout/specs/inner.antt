@@ -1,0 +1,4 @@
+pub mod Endings
+pub mod Written
+pub mod ItemsIn
+pub mod Sheets

@@ -1,0 +1,62 @@
+//! Texts written anew from their tokens. It knows tokens and no grammar.
+//!
+//! Proved: a text that [`minify`] gives has the tokens of the text that it is given, one for one in kind and spelling, and no
+//! others; between two of them there is nothing where they may touch, and else one blank; and it is no longer.
+//!
+//! A [`Sheet`](sheet::Sheet) is a text that is written token after token and comment after comment, with blanks and line feeds
+//! between them. Proved: it has these tokens and comments and no others, however it is laid out.
+//!
+//! Users name `graphql_printer`, whose calls read the text by a grammar first.
+#![tactic(auto)]
+
+ghost use Rattle.std.specs.Prelude.{◌≡◌, ◌++◌, IfOk, OnOk, IfSome, MatchOption, List, ℕ, string_bytes};
+ghost use Rattle.graphql_tokens.specs.tokens.Seen.{seen};
+ghost use Rattle.graphql_layout.specs.texts.SameTokens.{HasFault};
+ghost use Rattle.graphql_layout.specs.texts.Minified.{IsMinified};
+ghost use Rattle.graphql_layout.specs.inner.Endings.{ending_of, gap_before};
+
+mod ending;
+pub mod sheet;
+#[cfg(test)]
+mod tests;
+
+use ending::Ending;
+use graphql_tokens::lexer::{Token, TokenKind, Tokens};
+use std::alloc::{AllocError, Global};
+
+// Writes a token, after a blank where it may not touch what ends so, and gives how it ends itself.
+fn push_token(out: &mut String, ending: Ending, token: &Token<'_>) -> Result<Ending, AllocError>
+    ensures written { OnOk result (string_bytes out.new ≡ string_bytes out.old
+        ++ (gap_before ending (seen token.now).bare.spelling ++ (seen token.now).bare.spelling)) }
+    ensures ending { IfOk result (λ next. next ≡ ending_of (seen token.now).bare) }
+{
+    if ending.stops(token.text) {
+        out.push(' ')?;
+    }
+    out.push_str(token.text)?;
+    Ok(Ending::of(token.kind, token.text))
+}
+
+/// The text without its comments, and of the blanks, line ends, commas and byte order marks between its tokens (GraphQL
+/// October 2021, section 2.1.7) without all that aren't needed: a blank is left where two tokens would be read as others if
+/// they touched. Tokens are kept as they are spelled, block strings too. `None` where the text has a fault.
+///
+/// It fails only where memory runs out.
+pub fn minify(alloc: Global, text: &str) -> Result<Option<String>, AllocError>
+    ensures minified { IfOk result (λ r.
+        MatchOption r (HasFault text.now) (λ s. IsMinified text.now (string_bytes s))) }
+    // Of the text that it gives, it gives the same again.
+    ensures again { IfOk result (λ r. IfSome r (λ s.
+        (other : List ℕ) → IsMinified (string_bytes s) other → other ≡ string_bytes s)) }
+{
+    // It is no longer than the text, so it never grows.
+    let mut out = String::with_capacity(alloc, text.len())?;
+    let mut ending = Ending::Open;
+    for token in Tokens::new(text) {
+        if token.kind == TokenKind::Fault {
+            return Ok(None);
+        }
+        ending = push_token(&mut out, ending, &token)?;
+    }
+    Ok(Some(out))
+}

@@ -1,0 +1,175 @@
+//! A text that is written token after token, and comment after comment.
+
+ghost use Rattle.std.specs.Prelude.{◌≡◌, ◌++◌, ◌∷◌, [], false, IfOk, OnOk, OnErr, string_bytes};
+ghost use Rattle.std.specs.Str.{byte, chars};
+ghost use Rattle.graphql_tokens.specs.tokens.Ignored.{IsComment};
+ghost use Rattle.graphql_tokens.specs.tokens.Proper.{Spells};
+ghost use Rattle.graphql_layout.specs.inner.ItemsIn.{items_in};
+ghost use Rattle.graphql_layout.specs.inner.Sheets.{IsSheet, Holds, holds_off, holds_off_token};
+ghost use Rattle.graphql_layout.specs.texts.Items.{comment, word};
+
+use crate::ending::Ending;
+use graphql_tokens::lexer::TokenKind;
+use std::alloc::{AllocError, Global};
+use std::marker::Model;
+
+// What was written last.
+#[derive(Clone, Copy)]
+enum Last {
+    // A comment, whose line has not ended.
+    Comment,
+    // A token that ends so; for a blank, a line feed or nothing at all as one that anything may follow.
+    Other(Ending),
+}
+
+/// A text, as the comments and tokens that were written into it. Blanks and line feeds make no difference to them: between two
+/// tokens there are as many as the caller writes, and one that is needed and that the caller left out.
+#[derive(Drop)]
+pub struct Sheet {
+    text: String,
+    last: Last,
+}
+
+impl Model for Sheet {
+    ghost use Rattle.std.specs.Prelude.{List, string_bytes};
+    ghost use Rattle.graphql_layout.specs.texts.Items.{Item};
+
+    ghost Value = { List Item };
+
+    ghost use Rattle.graphql_layout.specs.inner.ItemsIn.{items_in};
+    ghost use Rattle.graphql_layout.specs.inner.Sheets.{IsSheet};
+
+    ghost view = { λ s. items_in (string_bytes s.text) };
+
+    ghost invariant = { λ s. IsSheet (string_bytes s.text) s.last };
+}
+
+// Whether a token that is spelled so may not come next.
+fn is_held_off(last: Last, spelling: &str) -> bool
+    ensures { result ≡ holds_off_token last spelling.now }
+{
+    match last {
+        Last::Comment => true,
+        Last::Other(ending) => ending.stops(spelling),
+    }
+}
+
+// Writes a blank, or ends the line of a comment.
+fn push_blank(text: &mut String, last: Last) -> Result<(), AllocError>
+    requires { IsSheet (string_bytes text.old) last }
+    ensures ok { OnOk result (Holds (string_bytes text.new) (Last.Other Ending.Open)
+        (items_in (string_bytes text.old))) }
+    ensures err { OnErr result (string_bytes text.new ≡ string_bytes text.old) }
+{
+    match last {
+        Last::Comment => text.push('\n'),
+        Last::Other(_) => text.push(' '),
+    }
+}
+
+fn push_line(text: &mut String, last: Last) -> Result<(), AllocError>
+    requires { IsSheet (string_bytes text.old) last }
+    ensures ok { OnOk result (Holds (string_bytes text.new) (Last.Other Ending.Open)
+        (items_in (string_bytes text.old))) }
+    ensures err { OnErr result (string_bytes text.new ≡ string_bytes text.old) }
+{
+    text.push('\n')
+}
+
+// Writes a blank or ends the line of a comment where this token may not come next, and gives what is then last.
+fn make_room(text: &mut String, last: Last, spelling: &str) -> Result<Last, AllocError>
+    requires { IsSheet (string_bytes text.old) last }
+    ensures ok { IfOk result (λ next. Holds (string_bytes text.new) next (items_in (string_bytes text.old))) }
+    ensures room { IfOk result (λ next. holds_off_token next spelling.now ≡ false) }
+    ensures err { OnErr result (string_bytes text.new ≡ string_bytes text.old) }
+{
+    if !is_held_off(last, spelling) {
+        return Ok(last);
+    }
+    push_blank(text, last)?;
+    Ok(Last::Other(Ending::Open))
+}
+
+// Ends the line of a comment, and gives what is then last.
+fn end_comment(text: &mut String, last: Last) -> Result<Last, AllocError>
+    requires { IsSheet (string_bytes text.old) last }
+    ensures ok { IfOk result (λ next. Holds (string_bytes text.new) next (items_in (string_bytes text.old))) }
+    ensures room { IfOk result (λ next. holds_off next (byte "#") ≡ false) }
+    ensures err { OnErr result (string_bytes text.new ≡ string_bytes text.old) }
+{
+    match last {
+        Last::Comment => {
+            push_line(text, last)?;
+            Ok(Last::Other(Ending::Open))
+        }
+        other => Ok(other),
+    }
+}
+
+impl Sheet {
+    ghost use Rattle.graphql_layout.specs.texts.Items.{IsItems, words};
+    ghost use Rattle.graphql_layout.specs.texts.SameTokens.{HasTokens};
+
+    /// A sheet with nothing on it.
+    pub fn new(alloc: Global) -> Sheet
+        ensures { result ≡ [] }
+    {
+        Sheet {
+            text: String::new(alloc),
+            last: Last::Other(Ending::Open),
+        }
+    }
+
+    /// Writes a blank, or ends the line of a comment. It fails only where memory runs out.
+    pub fn blank(&mut self) -> Result<(), AllocError>
+        ensures { self.new ≡ self.old }
+    {
+        push_blank(&mut self.text, self.last)?;
+        self.last = Last::Other(Ending::Open);
+        Ok(())
+    }
+
+    /// Writes a line feed. It fails only where memory runs out.
+    pub fn line(&mut self) -> Result<(), AllocError>
+        ensures { self.new ≡ self.old }
+    {
+        push_line(&mut self.text, self.last)?;
+        self.last = Last::Other(Ending::Open);
+        Ok(())
+    }
+
+    /// Writes a token, after a blank where it may not touch the one before (GraphQL October 2021, section 2.1.7). The caller owes
+    /// a spelling of the kind. It fails only where memory runs out.
+    pub fn token(&mut self, kind: TokenKind, spelling: &str) -> Result<(), AllocError>
+        requires { Spells kind spelling.now }
+        ensures ok { OnOk result (self.new ≡ self.old
+            ++ word (record { kind = kind; spelling = spelling.now }) ∷ []) }
+        ensures err { OnErr result (self.new ≡ self.old) }
+    {
+        self.last = make_room(&mut self.text, self.last, spelling)?;
+        self.text.push_str(spelling)?;
+        self.last = Last::Other(Ending::of(kind, spelling));
+        Ok(())
+    }
+
+    /// Writes a comment, from its `#` up to the end of its line (GraphQL October 2021, section 2.1.4), which the next call ends.
+    /// It fails only where memory runs out.
+    pub fn comment(&mut self, spelling: &str) -> Result<(), AllocError>
+        requires { IsComment (chars spelling.now) }
+        ensures ok { OnOk result (self.new ≡ self.old ++ comment (chars spelling.now) ∷ []) }
+        ensures err { OnErr result (self.new ≡ self.old) }
+    {
+        self.last = end_comment(&mut self.text, self.last)?;
+        self.text.push_str(spelling)?;
+        self.last = Last::Comment;
+        Ok(())
+    }
+
+    /// The text.
+    pub fn finish(self) -> String
+        ensures items { IsItems (chars (string_bytes result)) self }
+        ensures tokens { HasTokens (string_bytes result) (words self) }
+    {
+        self.text
+    }
+}

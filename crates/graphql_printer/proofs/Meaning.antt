@@ -1,0 +1,52 @@
+-- A text with the same bare tokens has the same tree, except for places.
+use Rattle.std.proofs.Common.{◌≡◌, ℕ, Result, Ok, Err, IfOk, String, Global, string_bytes, List, [], sym, ◌∙◌, subst}
+use Rattle.std.proofs.lemmas.Str.{IsUtf8-string_bytes}
+use Rattle.std.specs.Str.{chars, IsUtf8}
+use Rattle.graphql_tokens.specs.tokens.Cuts.{IsCutInto, EndsOnce}
+use Rattle.graphql_tokens.specs.tokens.Edition.{Current}
+use Rattle.graphql_tokens.specs.tokens.Proper.{AreProperButFaults}
+use Rattle.graphql_tokens.specs.tokens.Token.{Token}
+use Rattle.graphql_tokens.proofs.Lists.{cuts_ends, tokens_only}
+use Rattle.graphql_tokens.proofs.Propers.{cuts_proper, text_scalars}
+use Rattle.graphql_reading.specs.grammar.Fronts.{bares}
+use Rattle.graphql_reading.specs.grammar.Limits.{Limits}
+use Rattle.graphql_reading.specs.reading.Outcome.{Reader}
+use Rattle.graphql_check.specs.Checking.{checked}
+use Rattle.graphql_grammar.specs.answers.Answers.{AreTheDefinitions}
+use Rattle.graphql_grammar.specs.answers.Language.{Language}
+use Rattle.graphql_grammar.specs.answers.Reads.{ReadsText}
+use Rattle.graphql_grammar.specs.reading.ReadBy.{IsReadBy}
+use Rattle.graphql_layout.specs.texts.Minified.{IsMinified}
+use Rattle.graphql_printer.specs.Rewritten.{MeanTheSame}
+
+one_cut : (text : List ℕ) (ts us : List Token) → IsCutInto text ts → IsCutInto text us → ts ≡ us
+one_cut text ts us c d = tokens_only [] (chars text) ts c ∙ sym (tokens_only [] (chars text) us d)
+
+pub mean_the_same : {D Document : Type 0} (language : Language D Document) (reader : Limits → Reader (List D)) → IsReadBy language reader → (limits : Limits) (text other : List ℕ) → IsUtf8 other
+    → ReadsText (checked language) limits text (Ok tt) → IsMinified text other → MeanTheSame language limits text other
+mean_the_same {D} {Document} language reader read limits text other utf8 reads m =
+    let ts = m.of_text.0 in
+    let us = m.of_other.0 in
+    let cut = m.of_text.1 in
+    let cut_other = m.of_other.1 in
+    let alike : bares ts ≡ bares us = m.of_text.2 ∙ sym m.of_other.2 in
+    let a = reads.answer ts cut in
+    let ends : EndsOnce us = cuts_ends Current [] (chars other) us cut_other in
+    let proper : AreProperButFaults us = cuts_proper [] (chars other) us (text_scalars other utf8) cut_other in
+    let rests = read.bare limits ts in
+    let t = rests.has_tree us alike a.0 a.1.within in
+    let breaks = rests.same_breach us alike a.0 t.0 a.1.within t.1 in
+    record {
+      definitions = a.0;
+      other_definitions = t.0;
+      tree = λ vs c. subst (λ (l : List Token). AreTheDefinitions language limits l a.0) (one_cut text ts vs cut c) a.1;
+      other_tree = λ vs c. subst (λ (l : List Token). AreTheDefinitions language limits l t.0) (one_cut other us vs cut_other c) (read.only limits us ends proper t.0 t.1);
+      same = rests.same_tree us alike a.0 t.0 a.1.within t.1;
+      sound = (a.2.unbroken, a.2.complete);
+      other_sound = (breaks.unbroken a.2.unbroken, breaks.complete a.2.complete);
+    }
+
+pub text_means_the_same : {D Document E : Type 0} (language : Language D Document) (reader : Limits → Reader (List D)) → IsReadBy language reader → (limits : Limits) (text : List ℕ) (result : Result (String Global) E)
+    → ReadsText (checked language) limits text (Ok tt) → IfOk result (λ s. IsMinified text (string_bytes s)) → IfOk result (λ s. MeanTheSame language limits text (string_bytes s))
+text_means_the_same language reader read limits text (Ok s) reads m = mean_the_same language reader read limits text (string_bytes s) (IsUtf8-string_bytes s) reads m
+text_means_the_same language reader read limits text (Err error) reads m = tt

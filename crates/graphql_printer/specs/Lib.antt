@@ -1,0 +1,2 @@
+-- Public: what a reader of the contracts has to believe.
+pub mod Rewritten

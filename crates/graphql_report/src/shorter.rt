@@ -1,0 +1,72 @@
+//! A shorter text in place of a front: where the last selection begins, only the selection sets that are open count.
+ghost use Rattle.std.specs.Prelude.{List, ℕ, IfOk, IfSome, string_bytes};
+ghost use Rattle.graphql_report.specs.declared.fronts.Language.TheVariants.{Requests};
+ghost use Rattle.graphql_report.specs.reports.Expected.{AreExpected};
+
+use crate::fronts::Language;
+use crate::open_sets::last_open;
+use graphql_parser::Limits;
+use std::alloc::{AllocError, Global};
+
+/// A text after which the same is expected as after this front, where one is found that is shorter. Of a front it takes one
+/// reading. (A request is shortened, and a schema is not.)
+pub fn shorter(
+    alloc: Global,
+    language: Language,
+    front: &str,
+    limits: Limits,
+) -> Result<Option<String>, AllocError>
+    ensures { IfOk result (λ found. IfSome found (λ text. (names : List (List ℕ)) →
+        AreExpected language limits (string_bytes text) names → AreExpected language limits front.now names)) }
+{
+    match language {
+        Language::Requests => shorter_request(alloc, front, limits),
+        Language::Schemas => Ok(None),
+    }
+}
+
+// From the last definition, selection or end of a set on the text stays as it is. As many sets are opened before that.
+// Nothing hangs on how they are: the text is read once more, up to where as many sets are open before what has stayed.
+fn shorter_request(alloc: Global, front: &str, limits: Limits) -> Result<Option<String>, AllocError>
+    ensures { IfOk result (λ found. IfSome found (λ text. (names : List (List ℕ)) →
+        AreExpected Requests limits (string_bytes text) names → AreExpected Requests limits front.now names)) }
+{
+    let Some(at) = last_open(alloc, front, limits) else {
+        return Ok(None);
+    };
+    let Some((_, left)) = front.split_at_checked(at.offset) else {
+        return Ok(None);
+    };
+    let opened = at.depth.saturating_mul(OPEN_SET.len());
+    if opened >= at.offset {
+        return Ok(None);
+    }
+    let text = with_sets(alloc, at.depth, left)?;
+    let Some(again) = last_open(alloc, text.as_str(), limits) else {
+        return Ok(None);
+    };
+    let Some((_, same)) = text.as_str().split_at_checked(again.offset) else {
+        return Ok(None);
+    };
+    if again.depth != at.depth {
+        return Ok(None);
+    }
+    if same != left {
+        return Ok(None);
+    }
+    Ok(Some(text))
+}
+
+// A selection set that is open, after a field; the next one is that field's.
+const OPEN_SET: &str = "{a ";
+
+// So many selection sets that are open, and this text in the innermost.
+fn with_sets(alloc: Global, depth: usize, left: &str) -> Result<String, AllocError> {
+    let opened = depth.saturating_mul(OPEN_SET.len());
+    let mut text = String::with_capacity(alloc, opened.saturating_add(left.len()))?;
+    for _ in 0..depth {
+        text.push_str(OPEN_SET)?;
+    }
+    text.push_str(left)?;
+    Ok(text)
+}
