@@ -29,7 +29,7 @@ pub mod arguments;
 mod definitions;
 pub mod production;
 mod rules;
-mod schemas;
+pub mod schemas;
 pub mod selections;
 mod separated;
 pub mod types;

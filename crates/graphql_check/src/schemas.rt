@@ -16,11 +16,11 @@ ghost use Rattle.graphql_schemas.specs.grammar.Schemas.{schemas, FormerDescribes
 ghost use Rattle.graphql_schemas.specs.reading.SchemaFile.{definitions_at};
 
 mod definitions;
-mod descriptions;
+pub mod descriptions;
 mod directives;
-mod fields;
-mod input_values;
-mod members;
+pub mod fields;
+pub mod input_values;
+pub mod members;
 mod rules;
 mod schema;
 mod types;

@@ -17,7 +17,7 @@ use simple::check_simple;
 /// What a step comes to: the end of a list or an object, a value in it, or one that begins in it, which is an object
 /// or a list.
 #[derive(Clone, Copy)]
-enum Step {
+pub enum Step {
     Closed,
     Passed,
     Entered(bool),
@@ -25,14 +25,15 @@ enum Step {
 
 /// The lists and objects that are open, the innermost last: for each whether it is an object.
 #[derive(Drop)]
-struct Levels {
-    objects: ArrayVec<bool, 256>,
-    limit: usize,
+pub struct Levels {
+    pub objects: ArrayVec<bool, 256>,
+    pub limit: usize,
     ghost few: { limit ≤ 256 },
 }
 
 impl Levels {
-    fn new(first: bool, limit: usize) -> Levels
+    /// One level that is open, and how many may be.
+    pub fn new(first: bool, limit: usize) -> Levels
         requires { limit ≤ 256 }
         ensures objects { result.objects.items ≡ first ∷ [] }
         ensures limit { result.limit ≡ limit }
@@ -43,7 +44,7 @@ impl Levels {
     }
 
     /// Whether the innermost is an object, if one is open.
-    fn pop(&mut self) -> Option<bool>
+    pub fn pop(&mut self) -> Option<bool>
         ensures objects { self.old.objects.items ≡ self.new.objects.items ++ option_to_list result }
         ensures none { IfNone result (self.old.objects.items ≡ []) }
         ensures limit { self.new.limit ≡ self.old.limit }
@@ -52,14 +53,15 @@ impl Levels {
     }
 
     /// How many levels may open inside one more.
-    fn left(&self) -> usize
+    pub fn left(&self) -> usize
         requires { length self.now.objects.items < self.now.limit }
         ensures { result + length self.now.objects.items + 1 ≡ self.now.limit }
     {
         self.limit - self.objects.len() - 1
     }
 
-    fn push(&mut self, object: bool)
+    /// Opens a level.
+    pub fn push(&mut self, object: bool)
         requires { length self.old.objects.items < self.old.limit }
         ensures objects { self.new.objects.items ≡ self.old.objects.items ++ object ∷ [] }
         ensures limit { self.new.limit ≡ self.old.limit }
@@ -106,7 +108,8 @@ fn ends(parser: &mut Parser, object: bool) -> Reading<bool>
 }
 
 /// One step inside a list or an object, where so many levels are left.
-fn step_in(parser: &mut Parser, vars: bool, object: bool, left: usize) -> Reading<Step>
+#[inline(always)]
+pub fn step_in(parser: &mut Parser, vars: bool, object: bool, left: usize) -> Reading<Step>
     ensures gives { Gives met result parser.old parser.new (step_at vars left object) }
     ensures calm { Calm parser.old parser.new }
 {

@@ -271,6 +271,11 @@ pub const TABLES: &[Table] = &[
         rows: CHECK_SCHEMA_FROM_WITHOUT_MEMORY,
     },
     Table {
+        call: Call::MinifyQuery,
+        is_free: true,
+        rows: MINIFY_QUERY_WITHOUT_MEMORY,
+    },
+    Table {
         call: Call::BlockStringValue,
         is_free: true,
         rows: BLOCK_STRING_VALUE_WITHOUT_MEMORY,
@@ -473,7 +478,6 @@ union U=A|B ) type C ⇒ syntax error at 1:13 1:13, taken 7
 
 const MINIFY_QUERY: &str = r#"
 { a ( b : "c" , d : [ "" "" ] ) , e } # f ⇒ {a(b:"c"d:["" ""])e}
-{ a { b { c } } } ⇒ recursion limit exceeded.
 {a ?} ⇒ syntax error at 1:4 1:4
 "#;
 
@@ -603,6 +607,10 @@ type A{a:[[B]]} ⇒ recursion limit exceeded.
 const CHECK_SCHEMA_FROM_WITHOUT_MEMORY: &str = r"
 scalar A ⇒ accepted, taken 3
 3 in x y z type A ⇒ accepted, taken 6
+";
+
+const MINIFY_QUERY_WITHOUT_MEMORY: &str = r"
+{ a { b { c } } } ⇒ recursion limit exceeded.
 ";
 
 const BLOCK_STRING_VALUE_WITHOUT_MEMORY: &str = r"

@@ -15,7 +15,7 @@ use graphql_schemas::input_values::is_at_member;
 
 /// `FieldDefinition : Description? Name ArgumentsDefinition? ':' Type Directives[Const]?` (GraphQL October 2021,
 /// section 3.6)
-pub(crate) struct FieldPhrase;
+pub struct FieldPhrase;
 
 impl Phrase for FieldPhrase {
     ghost Tree = { Positioned trees.FieldDefinition };

@@ -15,7 +15,7 @@ use graphql_reading::parser::{Parser, Reading};
 use graphql_schemas::input_values::is_at_member;
 
 /// `InputValueDefinition : Description? Name ':' Type DefaultValue? Directives[Const]?`
-pub(crate) struct InputValuePhrase;
+pub struct InputValuePhrase;
 
 impl Phrase for InputValuePhrase {
     ghost Tree = { Positioned trees.InputValueDefinition };

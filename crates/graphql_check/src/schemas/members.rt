@@ -66,7 +66,7 @@ pub fn check_maybe_members(parser: &mut Parser, limits: Limits) -> Reading<()>
 }
 
 /// `EnumValueDefinition : Description? EnumValue Directives[Const]?` (GraphQL October 2021, section 3.9)
-pub(crate) struct EnumValuePhrase;
+pub struct EnumValuePhrase;
 
 impl Phrase for EnumValuePhrase {
     ghost Tree = { Positioned trees.EnumValueDefinition };
