@@ -9,6 +9,7 @@ mod Listed
 mod Local
 mod LocalReaders
 mod OpenFronts
+mod OpenValues
 mod CutTexts
 mod ShorterFronts
 mod Parted

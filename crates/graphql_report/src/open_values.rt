@@ -1,0 +1,185 @@
+//! How far the arguments of a field are read: which lists and objects are open where the last argument, or the last value or
+//! end in one of these, begins.
+ghost use Rattle.std.specs.Prelude.{◌≡◌, ◌<◌, ◌≤◌, ◌++◌, ◌∷◌, [], false, true, ℕ, length, IsTrue, IfSome};
+ghost use Rattle.graphql_reading.specs.reading.Ahead.{Ahead};
+ghost use Rattle.graphql_requests.specs.reading.SelectionSteps.{names_at};
+ghost use Rattle.graphql_tokens.specs.tokens.Cuts.{is_last};
+ghost use Rattle.graphql_report.specs.inner.OpenFronts.{Passes};
+ghost use Rattle.graphql_report.specs.inner.OpenValues.{IsReadIn, IsValueIn};
+
+use crate::open_sets::pass_to;
+use arrayvec::ArrayVec;
+use graphql_check::value::{Levels, Step, step_in};
+use graphql_parser::lexer::{TokenKind, Tokens};
+use graphql_parser::{Limits, Memory};
+use graphql_reading::parser::Parser;
+use std::alloc::Global;
+
+/// A byte offset within the arguments of a field, how many selection sets are open around the set of that field, and which
+/// lists and objects of an argument are open before the token that begins there, the innermost last: for each whether it is an
+/// object.
+#[derive(Drop)]
+pub struct ValueAt {
+    pub offset: usize,
+    pub outer: usize,
+    pub objects: ArrayVec<bool, 256>,
+}
+
+/// Where the last argument, value in one or end of a list or an object begins of those that are read before the end of the
+/// text, or before what is refused, in the arguments of the field that begins at `field`.
+pub fn last_value(alloc: Global, text: &str, limits: Limits, field: usize) -> Option<ValueAt>
+    ensures { IfSome result (λ at. IsValueIn limits text.now at.offset at.outer at.objects.items) }
+{
+    let mut parser = Parser::new(Memory::new(alloc), Tokens::new(text));
+    let outer = pass_to_arguments(&mut parser, limits, field)?;
+    let mut levels = no_levels(limits);
+    let mut found = None;
+    loop {
+        if !goes_on(&parser) {
+            return found;
+        }
+        let Some(at) = mark(&parser, outer, &levels) else {
+            return found;
+        };
+        found = Some(at);
+        if !step(&mut parser, limits, &mut levels) {
+            return found;
+        }
+    }
+}
+
+// Whether the token in hand isn't the last one.
+fn goes_on(parser: &Parser) -> bool
+    ensures { IsTrue result → is_last parser.now.hand.bare.kind ≡ false }
+{
+    match parser.hand().kind {
+        TokenKind::Fault | TokenKind::End => false,
+        _ => true,
+    }
+}
+
+// No list and no object.
+fn no_levels(limits: Limits) -> Levels
+    ensures objects { result.objects.items ≡ [] }
+    ensures limit { result.limit ≡ limits.values }
+{
+    Levels {
+        objects: ArrayVec::new(),
+        limit: limits.values(),
+    }
+}
+
+// What is open before the token in hand.
+fn mark(parser: &Parser, outer: usize, levels: &Levels) -> Option<ValueAt>
+    ensures { IfSome result (λ at. (at.offset ≡ parser.now.hand.start) × (at.outer ≡ outer) × (at.objects.items ≡ levels.now.objects.items)) }
+{
+    let Ok(objects) = ArrayVec::try_from(levels.objects.as_slice()) else {
+        return None;
+    };
+    Some(ValueAt {
+        offset: parser.hand().start,
+        outer,
+        objects,
+    })
+}
+
+// Up to the first argument of the field that begins at this offset: how many sets are open around the one that it stands in.
+fn pass_to_arguments(parser: &mut Parser, limits: Limits, field: usize) -> Option<usize>
+    ensures { IfSome result (λ outer. IsReadIn limits parser.old parser.new outer []) }
+{
+    let sets = pass_to(parser, limits, field)?;
+    if sets.depth == 0 {
+        return None;
+    }
+    if !pass_names(parser) {
+        return None;
+    }
+    let Ok(_) = parser.expect_punct("(") else {
+        return None;
+    };
+    if !parser.is_at_name() {
+        return None;
+    }
+    Some(sets.depth - 1)
+}
+
+// An alias, if there is one, and a name.
+//
+// `Alias? Name`, where `Alias : Name ':'`
+fn pass_names(parser: &mut Parser) -> bool
+    ensures { IsTrue result → Passes parser.old parser.new names_at }
+{
+    let Ok(_) = parser.expect_name() else {
+        return false;
+    };
+    if !parser.is_at_punct(":") {
+        return true;
+    }
+    parser.advance();
+    let Ok(_) = parser.expect_name() else {
+        return false;
+    };
+    true
+}
+
+// A step in the innermost list or object that is open, or an argument where none is.
+fn step(parser: &mut Parser, limits: Limits, levels: &mut Levels) -> bool
+    requires limit { levels.old.limit ≡ limits.values }
+    requires few { length levels.old.objects.items ≤ limits.values }
+    ensures limit { levels.new.limit ≡ limits.values }
+    ensures kept { IsTrue result → (start : Ahead) (outer : ℕ) → IsReadIn limits start parser.old outer levels.old.objects.items → IsReadIn limits start parser.new outer levels.new.objects.items }
+    ensures less { IsTrue result → length parser.new.after < length parser.old.after }
+{
+    match levels.pop() {
+        None => pass_argument(parser, limits, levels),
+        Some(object) => pass_in(parser, limits, object, levels),
+    }
+}
+
+// An argument, or what stands before the first value in it, where that is a list or an object.
+//
+// `Argument : Name ':' Value`
+fn pass_argument(parser: &mut Parser, limits: Limits, levels: &mut Levels) -> bool
+    requires none { levels.old.objects.items ≡ [] }
+    requires limit { levels.old.limit ≡ limits.values }
+    ensures limit { levels.new.limit ≡ limits.values }
+    ensures kept { IsTrue result → (start : Ahead) (outer : ℕ) → IsReadIn limits start parser.old outer [] → IsReadIn limits start parser.new outer levels.new.objects.items }
+    ensures less { IsTrue result → length parser.new.after < length parser.old.after }
+{
+    if !parser.is_at_name() {
+        return false;
+    }
+    let Ok(step) = step_in(parser, true, true, limits.values()) else {
+        return false;
+    };
+    match step {
+        Step::Closed => false,
+        Step::Passed => true,
+        Step::Entered(inner) => {
+            levels.push(inner);
+            true
+        }
+    }
+}
+
+// One step in a list or an object, inside these.
+fn pass_in(parser: &mut Parser, limits: Limits, object: bool, levels: &mut Levels) -> bool
+    requires limit { levels.old.limit ≡ limits.values }
+    requires few { length levels.old.objects.items < limits.values }
+    ensures limit { levels.new.limit ≡ limits.values }
+    ensures kept { IsTrue result → (start : Ahead) (outer : ℕ) → IsReadIn limits start parser.old outer (levels.old.objects.items ++ object ∷ []) → IsReadIn limits start parser.new outer levels.new.objects.items }
+    ensures less { IsTrue result → length parser.new.after < length parser.old.after }
+{
+    let Ok(step) = step_in(parser, true, object, levels.left()) else {
+        return false;
+    };
+    match step {
+        Step::Closed => {}
+        Step::Passed => levels.push(object),
+        Step::Entered(inner) => {
+            levels.push(object);
+            levels.push(inner);
+        }
+    }
+    true
+}
