@@ -16,13 +16,14 @@ use Rattle.graphql_reading.specs.grammar.Relations.{between_of, given}
 use Rattle.graphql_reading.specs.grammar.Tests.{Test, punct, any_name}
 use Rattle.graphql_reading.specs.reading.Ahead.{Ahead, tokens}
 use Rattle.graphql_reading.specs.reading.Outcome.{Outcome, Reader, Read, Refused, ◌>>=◌, one_at, then_at, mapped_at, take_at, choose_at, none_at, opt_at, many_at, plus_at}
-use Rattle.graphql_reading.proofs.Loop.{pair-read, cons-read, many-more, many-plus}
-use Rattle.graphql_grammar.specs.grammar.Arguments.{argument_of}
+use Rattle.graphql_reading.proofs.Loop.{pair-read, cons-read, many-more, many-stops, many-plus}
+use Rattle.graphql_reading.proofs.TokenTests.{punct-is}
+use Rattle.graphql_grammar.specs.grammar.Arguments.{argument_of, directive_of}
 use Rattle.graphql_grammar.specs.grammar.Values.{Value}
-use Rattle.graphql_grammar.specs.reading.Arguments.{argument_at, directives_at}
+use Rattle.graphql_grammar.specs.reading.Arguments.{argument_at, maybe_arguments_at, directive_at, directives_at}
 use Rattle.graphql_grammar.specs.reading.OpenValues.{Opened, in_list, in_object, node_of, node_at, open_rest, enters_at, enter_at, key_at}
 use Rattle.graphql_grammar.specs.reading.Values.{simple_at, value_at}
-use Rattle.graphql_grammar.proofs.ArgumentProductions.{takes-argument}
+use Rattle.graphql_grammar.proofs.ArgumentProductions.{takes-argument, takes-directive}
 use Rattle.graphql_grammar.proofs.ValueFrames.{value-law, begun}
 use Rattle.graphql_requests.specs.reading.Selections.{selection_first}
 use Rattle.graphql_requests.specs.reading.SelectionSteps.{Heading, Names, maybe_brace_at, may_nest, names_at, given_arguments_at, bare_field, field_head_at, dots_head_at}
@@ -201,6 +202,68 @@ module _ (limits : Limits) (n : ℕ) where
           opened here (ap any_name first ∙ is) ∙ ap (from_arguments limits n) same
       go false here = absurd (let none = rw here at e in cc)
 
+  -- after the names where there are no arguments
+  bare-law : (others : List Token) (b : Bare) → in_sight others ≡ b ∷ [] → punct "(" b ≡ false → after_names limits n others ≡ after_arguments limits n others
+  unfolding opt_at
+  bare-law [] b alike not = absurd cc
+  bare-law (t ∷ ts) b alike not =
+      let same : t.bare ≡ b = cc in
+      let here : punct "(" t.bare ≡ false = ap (punct "(") same ∙ not in
+      rw here refl
+
+  -- the end of arguments
+  end-law : (others rest : List Token) (bracket : Token) → one_at (punct ")") others ≡ Read bracket rest → from_levels limits n [] others ≡ after_arguments limits n rest
+  end-law [] rest bracket e = absurd cc
+  end-law (t ∷ ts) rest bracket e = go (punct ")" t.bare) refl
+    where
+      no-name : punct ")" t.bare ≡ true → any_name t.bare ≡ false
+      no-name is = ap any_name (punct-is ")" t.bare is)
+
+      go : (w : Bool) → punct ")" t.bare ≡ w → from_levels limits n [] (t ∷ ts) ≡ after_arguments limits n rest
+      go true is =
+          ap (λ (o : Outcome (List _)). o >>= λ _ rest'. closing rest') (many-stops any_name (argument_at true most) t ts (no-name is))
+          ∙ ap (λ (o : Outcome Token). o >>= λ _ rest'. after_arguments limits n rest') e
+      go false is = absurd (let none = rw is at e in cc)
+
+  -- ---- directives
+
+  -- the name of a directive, and what follows
+  abbrev from_directive : List Token → Outcome (Unit {0})
+  from_directive ts = one_at any_name ts >>= λ _ rest. after_names limits n rest
+
+  one-directive : {A : Type 0} (r : Reader A) (q : Reader (Option Pos)) (o : Outcome A) → (((((o >>= λ a rest. many_at (punct "@") r rest >>= λ others rest'. pair-read a others rest') >>= λ x rest. cons-read x rest) >>= λ d rest. q rest >>= paired d)) >>= λ x rest. after_head limits n (is_some x.1) rest) ≡ (o >>= λ _ rest. then_at (many_at (punct "@") r) q rest >>= λ x rest'. after_head limits n (is_some x.1) rest')
+  one-directive {A} r q (Read a rest) = go (many_at (punct "@") r rest)
+    where
+      last : (others : List A) (o : Outcome (Option Pos)) → ((o >>= paired (a ∷ others)) >>= λ x rest'. after_head limits n (is_some x.1) rest') ≡ ((o >>= paired others) >>= λ x rest'. after_head limits n (is_some x.1) rest')
+      last others (Read b rest') = refl
+      last others (Refused v rest') = refl
+
+      go : (o : Outcome (List A)) → ((((o >>= λ others rest'. pair-read a others rest') >>= λ x rest'. cons-read x rest') >>= λ d rest'. q rest' >>= paired d) >>= λ x rest'. after_head limits n (is_some x.1) rest') ≡ ((o >>= λ d rest'. q rest' >>= paired d) >>= λ x rest'. after_head limits n (is_some x.1) rest')
+      go (Read others rest') = last others (q rest')
+      go (Refused v rest') = refl
+  one-directive r q (Refused v rest) = refl
+
+  directive-parts : {A B C : Type 0} (r : Reader B) (g : B → C) (f : Token × (Token × B) → A) (t : Token) (o : Outcome Token) → ((((o >>= λ c rest. r rest >>= paired c) >>= paired t) >>= λ x rest. Read (f x) rest) >>= λ _ rest. after_arguments limits n rest) ≡ (o >>= λ _ rest. mapped_at g r rest >>= λ _ rest'. after_arguments limits n rest')
+  directive-parts {A} {B} r g f t (Read c rest) = go (r rest)
+    where
+      go : (o : Outcome B) → ((((o >>= paired c) >>= paired t) >>= λ x rest'. Read (f x) rest') >>= λ _ rest'. after_arguments limits n rest') ≡ ((o >>= λ b rest'. Read (g b) rest') >>= λ _ rest'. after_arguments limits n rest')
+      go (Read b rest') = refl
+      go (Refused v rest') = refl
+  directive-parts r g f t (Refused v rest) = refl
+
+  directive-law : (others rest : List Token) (at : Token) → one_at (punct "@") others ≡ Read at rest → after_arguments limits n others ≡ from_directive rest
+  directive-law [] rest at e = absurd cc
+  directive-law (t ∷ ts) rest at e = go (punct "@" t.bare) refl
+    where
+      go : (w : Bool) → punct "@" t.bare ≡ w → after_arguments limits n (t ∷ ts) ≡ from_directive rest
+      go true is =
+          let same : ts ≡ rest = (let k = rw is at e in cc) in
+          ap (λ (o : Outcome (List _)). (o >>= λ d rest'. maybe_brace_at (may_nest budget) rest' >>= paired d) >>= λ x rest'. after_head limits n (is_some x.1) rest') (many-more (punct "@") (directive_at true most) (takes-directive true most) t ts is)
+          ∙ one-directive (directive_at true most) (maybe_brace_at (may_nest budget)) (directive_at true most (t ∷ ts))
+          ∙ rw is (directive-parts (maybe_arguments_at true most) given directive_of t (one_at any_name ts))
+          ∙ ap from_directive same
+      go false is = absurd (let none = rw is at e in cc)
+
   -- an argument, or its value up to what opens
   abbrev on-argument : Met → List Token → Outcome (Unit {0})
   on-argument closes ts = from_levels limits n [] ts
@@ -312,22 +375,44 @@ reversed outer object = reverse-append outer (object ∷ [])
 not-zero : (n : ℕ) → suc n ≡ 0 → ⊥
 not-zero n e = omega (arith, e)
 
--- up to the first argument of a field
-pub to-arguments : {limits : Limits} {start now : Ahead} {depth : ℕ} {wanted : Bool} → IsReadTo limits start now depth wanted → (depth ≡ 0 → ⊥) → (mid after : Ahead) (bracket : Token) → Passes now mid names_at → one_at (punct "(") (tokens mid) ≡ Read bracket (tokens after) → any_name after.hand.bare ≡ true → (outer : ℕ) → outer ≡ depth - 1 → IsReadIn limits start after outer []
-to-arguments {limits} {start} {now} {depth} {wanted} kept some mid after bracket names opens name outer is = go depth kept some is
+-- past the names of a field
+pub to-names : {limits : Limits} {start now : Ahead} {depth : ℕ} {wanted : Bool} → IsReadTo limits start now depth wanted → (depth ≡ 0 → ⊥) → (after : Ahead) → Passes now after names_at → (outer : ℕ) → outer ≡ depth - 1 → IsReadInto limits start after (after_names limits outer)
+to-names {limits} {start} {now} {depth} {wanted} kept some after names outer is = go depth kept some is
   where
-    at : (n : ℕ) → IsReadTo limits start now (suc n) wanted → IsReadInto limits start after (from_levels limits n [])
+    at : (n : ℕ) → IsReadTo limits start now (suc n) wanted → IsReadInto limits start after (after_names limits n)
     at n kept =
-        let read = is-read (names_at (tokens now)) (tokens mid) names in
+        let read = is-read (names_at (tokens now)) (tokens after) names in
         let begun : IsReadInto limits start now (from_open limits (suc n) wanted) = record { used = kept.used; split = kept.split; told = λ others alike. kept.told others alike (λ e. absurd (not-zero n e)) } in
-        let named = goes begun local-names read.tree mid read.is (after_names limits n) (λ others rest alike next h. names-law limits n wanted others rest read.tree h) in
-        goes named (local-one (punct "(")) bracket after opens (from_levels limits n []) (λ others rest alike next h. bracket-law limits n others rest bracket h after.hand.bare next name)
+        goes begun local-names read.tree after read.is (after_names limits n) (λ others rest alike next h. names-law limits n wanted others rest read.tree h)
 
-    go : (depth : ℕ) → IsReadTo limits start now depth wanted → (depth ≡ 0 → ⊥) → outer ≡ depth - 1 → IsReadIn limits start after outer []
+    go : (depth : ℕ) → IsReadTo limits start now depth wanted → (depth ≡ 0 → ⊥) → outer ≡ depth - 1 → IsReadInto limits start after (after_names limits outer)
     go zero kept some is = absurd (some refl)
     go (suc n) kept some is =
         let same : n ≡ outer = omega (arith, is) in
-        record { read = subst (λ (k : ℕ). IsReadInto limits start after (from_levels limits k [])) same (at n kept); few = omega arith }
+        subst (λ (k : ℕ). IsReadInto limits start after (after_names limits k)) same (at n kept)
+
+module _ {limits : Limits} {start now : Ahead} (n : ℕ) where
+  -- past the bracket before a first argument
+  pub to-argument : IsReadInto limits start now (after_names limits n) → punct "(" now.hand.bare ≡ true → (after : Ahead) → tokens after ≡ now.after → any_name after.hand.bare ≡ true → IsReadIn limits start after n []
+  to-argument kept is after taken name = record {
+    read = goes kept (local-one (punct "(")) now.hand after (ap (λ (w : Bool). cond w (Read now.hand now.after) (Refused syntax (tokens now))) is ∙ ap (λ (l : List Token). Read now.hand l) (sym taken)) (from_levels limits n [])
+        (λ others rest alike next h. bracket-law limits n others rest now.hand h after.hand.bare next name);
+    few = omega arith;
+  }
+
+  -- past the name of a directive
+  pub to-directive : IsReadInto limits start now (after_arguments limits n) → (mid after : Ahead) (at name : Token) → one_at (punct "@") (tokens now) ≡ Read at (tokens mid) → one_at any_name (tokens mid) ≡ Read name (tokens after) → IsReadInto limits start after (after_names limits n)
+  to-directive kept mid after at name h k =
+      let begun = goes kept (local-one (punct "@")) at mid h (from_directive limits n) (λ others rest alike next h. directive-law limits n others rest at h) in
+      goes begun (local-one any_name) name after k (after_names limits n) (λ others rest alike next h. ap (λ (o : Outcome Token). o >>= λ _ rest'. after_names limits n rest') h)
+
+  -- where there are no arguments after the names
+  pub no-arguments : IsReadInto limits start now (after_names limits n) → punct "(" now.hand.bare ≡ false → IsReadInto limits start now (after_arguments limits n)
+  no-arguments kept not = record { used = kept.used; split = kept.split; told = λ others alike. kept.told others alike ∙ bare-law limits n others now.hand.bare alike not }
+
+  -- past the end of arguments
+  pub arguments-end : IsReadIn limits start now n [] → (after : Ahead) (bracket : Token) → one_at (punct ")") (tokens now) ≡ Read bracket (tokens after) → IsReadInto limits start after (after_arguments limits n)
+  arguments-end kept after bracket h = goes kept.read (local-one (punct ")")) bracket after h (after_arguments limits n) (λ others rest alike next h. end-law limits n others rest bracket h)
 
 module _ {limits : Limits} {start now : Ahead} {n : ℕ} where
   -- an argument, or its value up to what opens

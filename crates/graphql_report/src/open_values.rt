@@ -1,11 +1,12 @@
-//! How far the arguments of a field are read: which lists and objects are open where the last argument, or the last value or
-//! end in one of these, begins.
+//! How far the arguments of a field, and those of its directives, are read: which lists and objects are open where the last
+//! argument, or the last value or end in one of these, begins.
 ghost use Rattle.std.specs.Prelude.{◌≡◌, ◌<◌, ◌≤◌, ◌++◌, ◌∷◌, [], false, true, ℕ, length, IsTrue, IfSome};
+ghost use Rattle.graphql_reading.specs.grammar.Limits.{Limits as Budgets};
 ghost use Rattle.graphql_reading.specs.reading.Ahead.{Ahead};
 ghost use Rattle.graphql_requests.specs.reading.SelectionSteps.{names_at};
 ghost use Rattle.graphql_tokens.specs.tokens.Cuts.{is_last};
 ghost use Rattle.graphql_report.specs.inner.OpenFronts.{Passes};
-ghost use Rattle.graphql_report.specs.inner.OpenValues.{IsReadIn, IsValueIn};
+ghost use Rattle.graphql_report.specs.inner.OpenValues.{after_names, after_arguments, IsReadInto, IsReadIn, IsValueIn};
 
 use crate::open_sets::pass_to;
 use arrayvec::ArrayVec;
@@ -15,7 +16,7 @@ use graphql_parser::{Limits, Memory};
 use graphql_reading::parser::Parser;
 use std::alloc::Global;
 
-/// A byte offset within the arguments of a field, how many selection sets are open around the set of that field, and which
+/// A byte offset within the arguments of a field or of one of its directives, how many selection sets are open around the set of that field, and which
 /// lists and objects of an argument are open before the token that begins there, the innermost last: for each whether it is an
 /// object.
 #[derive(Drop)]
@@ -26,7 +27,7 @@ pub struct ValueAt {
 }
 
 /// Where the last argument, value in one or end of a list or an object begins of those that are read before the end of the
-/// text, or before what is refused, in the arguments of the field that begins at `field`.
+/// text, or before what is refused, in the arguments of the field that begins at `field` and in those of its directives.
 pub fn last_value(alloc: Global, text: &str, limits: Limits, field: usize) -> Option<ValueAt>
     ensures { IfSome result (λ at. IsValueIn limits text.now at.offset at.outer at.objects.items) }
 {
@@ -83,7 +84,8 @@ fn mark(parser: &Parser, outer: usize, levels: &Levels) -> Option<ValueAt>
     })
 }
 
-// Up to the first argument of the field that begins at this offset: how many sets are open around the one that it stands in.
+// Up to the first argument of the field that begins at this offset, or of its directives: how many sets are open around the
+// one that it stands in.
 fn pass_to_arguments(parser: &mut Parser, limits: Limits, field: usize) -> Option<usize>
     ensures { IfSome result (λ outer. IsReadIn limits parser.old parser.new outer []) }
 {
@@ -94,13 +96,40 @@ fn pass_to_arguments(parser: &mut Parser, limits: Limits, field: usize) -> Optio
     if !pass_names(parser) {
         return None;
     }
-    let Ok(_) = parser.expect_punct("(") else {
-        return None;
-    };
-    if !parser.is_at_name() {
+    if !pass_to_argument(parser) {
         return None;
     }
     Some(sets.depth - 1)
+}
+
+// After the names of a field: up to its first argument, or to that of the first of its directives that has any.
+fn pass_to_argument(parser: &mut Parser) -> bool
+    ensures kept { IsTrue result → (limits : Budgets) (start : Ahead) (outer : ℕ) → IsReadInto limits start parser.old (after_names limits outer) → IsReadIn limits start parser.new outer [] }
+    ensures less { IsTrue result → length parser.new.after < length parser.old.after }
+{
+    while !parser.is_at_punct("(") {
+        if !pass_directive_name(parser) {
+            return false;
+        }
+    }
+    parser.advance();
+    parser.is_at_name()
+}
+
+// What stands before the arguments of a directive.
+//
+// `'@' Name`
+fn pass_directive_name(parser: &mut Parser) -> bool
+    ensures kept { IsTrue result → (limits : Budgets) (start : Ahead) (outer : ℕ) → IsReadInto limits start parser.old (after_arguments limits outer) → IsReadInto limits start parser.new (after_names limits outer) }
+    ensures less { IsTrue result → length parser.new.after < length parser.old.after }
+{
+    let Ok(_) = parser.expect_punct("@") else {
+        return false;
+    };
+    let Ok(_) = parser.expect_name() else {
+        return false;
+    };
+    true
 }
 
 // An alias, if there is one, and a name.
@@ -136,7 +165,8 @@ fn step(parser: &mut Parser, limits: Limits, levels: &mut Levels) -> bool
     }
 }
 
-// An argument, or what stands before the first value in it, where that is a list or an object.
+// An argument, or what stands before the first value in it, where that is a list or an object; or else up to the first argument
+// of the next directive that has any.
 //
 // `Argument : Name ':' Value`
 fn pass_argument(parser: &mut Parser, limits: Limits, levels: &mut Levels) -> bool
@@ -147,7 +177,7 @@ fn pass_argument(parser: &mut Parser, limits: Limits, levels: &mut Levels) -> bo
     ensures less { IsTrue result → length parser.new.after < length parser.old.after }
 {
     if !parser.is_at_name() {
-        return false;
+        return pass_to_directive(parser);
     }
     let Ok(step) = step_in(parser, true, true, limits.values()) else {
         return false;
@@ -160,6 +190,20 @@ fn pass_argument(parser: &mut Parser, limits: Limits, levels: &mut Levels) -> bo
             true
         }
     }
+}
+
+// The end of arguments, and what stands before the first argument of the next directive that has any.
+fn pass_to_directive(parser: &mut Parser) -> bool
+    ensures kept { IsTrue result → (limits : Budgets) (start : Ahead) (outer : ℕ) → IsReadIn limits start parser.old outer [] → IsReadIn limits start parser.new outer [] }
+    ensures less { IsTrue result → length parser.new.after < length parser.old.after }
+{
+    let Ok(_) = parser.expect_punct(")") else {
+        return false;
+    };
+    if !pass_directive_name(parser) {
+        return false;
+    }
+    pass_to_argument(parser)
 }
 
 // One step in a list or an object, inside these.

@@ -1,4 +1,5 @@
--- The beginning of a request up to a token within the arguments of a field, by the lists and objects that are open before that.
+-- The beginning of a request up to a token within the arguments of a field or of one of its directives, by the lists and objects
+-- that are open before that.
 -- Source: this project's choice.
 use Rattle.std.specs.Prelude.{◌≡◌, ◌≤◌, ℕ, suc, ◌-◌, Bool, true, false, is_some, List, [], ◌∷◌, ◌++◌, length, reverse}
 use Rattle.graphql_tokens.specs.tokens.Token.{Token}
@@ -29,7 +30,8 @@ after_arguments limits n ts =
 abbrev pub after_names : Limits → ℕ → List Token → Outcome (Unit {0})
 after_names limits n ts = given_arguments_at limits.values ts >>= λ _ rest. after_arguments limits n rest
 
--- from an argument on, or from the end of the arguments
+-- From an argument on, or from the end of the arguments. After those of a directive the same may follow: more directives, and the
+-- set.
 abbrev pub from_arguments : Limits → ℕ → List Token → Outcome (Unit {0})
 from_arguments limits n ts =
     many_at any_name (argument_at true limits.values) ts >>= λ _ rest. one_at (punct ")") rest >>= λ _ rest'. after_arguments limits n rest'
@@ -48,7 +50,7 @@ pub record IsReadInto (limits : Limits) (start now : Ahead) (state : Reader (Uni
   pub split : tokens start ≡ used ++ tokens now
   pub told : (others : List Token) → in_sight others ≡ now.hand.bare ∷ [] → read_whole limits (used ++ others) ≡ state others
 
--- it is read into the arguments of a field, and there into these lists and objects, the innermost last
+-- it is read into the arguments of a field or of one of its directives, and there into these lists and objects, the innermost last
 pub record IsReadIn (limits : Limits) (start now : Ahead) (outer : ℕ) (objects : List Bool) : Type 0 where
   pub read : IsReadInto limits start now (from_levels limits outer (reverse objects))
   pub few : length objects ≤ limits.values

@@ -16,3 +16,6 @@ returns-in-Entered-clause-kept c = λ _ start outer read.
     let found = rw c.in-Entered.is at c.in-Ok.ensures.gives in
     argument-entered read (sym c.is_at_name.ensures ∙ c.if-not-is_at_name.false) c.in-Entered.inner c.step_in.new.parser (ap (λ (k : ℕ). step_at true k true (tokens c.args.parser.now)) (sym c.values.ensures) ∙ found.0)
     c.push.new.self.objects.items (c.push.ensures.objects ∙ ap (λ (l : List Bool). l ++ c.in-Entered.inner ∷ []) c.requires.none)
+
+pub returns-then-not-is_at_name-clause-kept : goal.returns-then-not-is_at_name-clause-kept
+returns-then-not-is_at_name-clause-kept c = λ is start outer read. subst (λ (l : List Bool). IsReadIn c.args.limits start c.pass_to_directive.new.parser outer l) (sym c.requires.none) (c.pass_to_directive.ensures.kept is c.args.limits start outer read)
