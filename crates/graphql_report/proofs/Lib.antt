@@ -10,6 +10,7 @@ mod Local
 mod LocalReaders
 mod OpenFronts
 mod OpenValues
+mod OpenVariables
 mod CutTexts
 mod ShorterFronts
 mod Parted

@@ -36,7 +36,7 @@ use Rattle.graphql_check.proofs.OpenSets.{headed-on, head-law, more-law}
 use Rattle.graphql_check.proofs.Rests.{is-read}
 use Rattle.graphql_report.specs.declared.open_values.ValueAt as code
 use Rattle.graphql_report.specs.inner.OpenFronts.{in_sight, read_whole, after_definition, from_open, Passes, IsReadTo, IsStateAt}
-use Rattle.graphql_report.specs.inner.OpenValues.{after_head, after_arguments, after_names, from_arguments, from_levels, IsReadInto, IsReadIn, IsValueIn}
+use Rattle.graphql_report.specs.inner.OpenValues.{after_head, after_arguments, after_names, from_arguments, through, may_vary, after_value, from_values, IsReadInto, IsReadIn, IsValueIn}
 use Rattle.graphql_report.proofs.Local.{IsLocal, ReadsSo, sight-after, local-one, local-none, local-take, local-mapped, local-then, local-choose}
 use Rattle.graphql_report.proofs.LocalReaders.{local-simple, local-names, local-if}
 
@@ -86,12 +86,12 @@ local-after_end : (vars : Bool) (left : ℕ) (ends : Bool) → IsLocal (after_en
 local-after_end vars left true = local-none closes
 local-after_end vars left false = local-bind (local-enter left) (local-after_enter vars)
 
-local-step : (vars : Bool) (left : ℕ) (object : Bool) → IsLocal (step_at vars left object)
+pub local-step : (vars : Bool) (left : ℕ) (object : Bool) → IsLocal (step_at vars left object)
 local-step vars left object = local-bind (local-end object) (local-after_end vars left)
 
 -- ---- a name
 
-name-no-punct : (word : Text) (t : Bare) → any_name t ≡ true → punct word t ≡ false
+pub name-no-punct : (word : Text) (t : Bare) → any_name t ≡ true → punct word t ≡ false
 name-no-punct word t e = go t.kind (bytes_eq t.spelling (codes word)) e
   where
     go : (kind : TokenKind) (same : Bool) → is_name kind ≡ true → (is_punct kind && same) ≡ false
@@ -105,12 +105,102 @@ name-no-punct word t e = go t.kind (bytes_eq t.spelling (codes word)) e
 
 -- ---- laws: what is left is read step by step
 
-abbrev paired : {A B : Type 0} → A → B → List Token → Outcome (A × B)
+abbrev pub paired : {A B : Type 0} → A → B → List Token → Outcome (A × B)
 paired a b rest = Read (a, b) rest
 
 only-ended : {A : Type 0} (o : Outcome A) (k : List Token → Outcome (Unit {0})) → (o >>= λ _ rest. k rest) ≡ (ended o >>= λ _ rest. k rest)
 only-ended (Read a rest) k = refl
 only-ended (Refused v rest) k = refl
+
+-- what was read of a reader doesn't matter
+pub mapped-on : {A B : Type 0} (g : A → B) (o : Outcome A) (k : List Token → Outcome (Unit {0})) → ((o >>= λ x rest. Read (g x) rest) >>= λ _ rest. k rest) ≡ (o >>= λ _ rest. k rest)
+mapped-on g (Read a rest) k = refl
+mapped-on g (Refused v rest) k = refl
+
+-- what stands between brackets, and what follows
+pub bracket-parts : {A B : Type 0} (t : Token) (o : Outcome A) (f : Token × (A × Token) → B) (k : List Token → Outcome (Unit {0})) → (((((o >>= λ a rest. one_at (punct ")") rest >>= paired a) >>= paired t) >>= λ x rest. Read (f x) rest) >>= λ x rest. Read (Some x) rest) >>= λ _ rest. k rest) ≡ (o >>= λ _ rest. one_at (punct ")") rest >>= λ _ rest'. k rest')
+bracket-parts {A} t (Read a rest) f k = go (one_at (punct ")") rest)
+  where
+    go : (o : Outcome Token) → (((((o >>= paired a) >>= paired t) >>= λ x rest'. Read (f x) rest') >>= λ x rest'. Read (Some x) rest') >>= λ _ rest'. k rest') ≡ (o >>= λ _ rest'. k rest')
+    go (Read b rest') = refl
+    go (Refused v rest') = refl
+bracket-parts t (Refused v rest) f k = refl
+
+-- one of any number, and the others
+pub one-more : {A : Type 0} (first : Test) (r : Reader A) (o : Outcome A) (k : List Token → Outcome (Unit {0})) → (((o >>= λ a rest. many_at first r rest >>= λ others rest'. pair-read a others rest') >>= λ x rest. cons-read x rest) >>= λ _ rest. k rest) ≡ (o >>= λ _ rest. many_at first r rest >>= λ _ rest'. k rest')
+one-more {A} first r (Read a rest) k = go (many_at first r rest)
+  where
+    go : (o : Outcome (List A)) → (((o >>= λ others rest'. pair-read a others rest') >>= λ x rest'. cons-read x rest') >>= λ _ rest'. k rest') ≡ (o >>= λ _ rest'. k rest')
+    go (Read others rest') = refl
+    go (Refused v rest') = refl
+one-more first r (Refused v rest) k = refl
+
+module _ (vars : Bool) (most : ℕ) (after : Reader (Unit {0})) where
+  -- ---- a value
+
+  -- what a step leaves that begins one
+  abbrev pub on-value : Met → List Token → Outcome (Unit {0})
+  on-value closes ts = through vars most after [] ts
+  on-value passes ts = through vars most after [] ts
+  on-value (enters o) ts = through vars most after (is_object o ∷ []) ts
+
+  simple-on : (o : Outcome Value) → ((o >>= λ v rest. Read (node_of v) rest) >>= λ _ rest. after rest) ≡ ((o >>= λ _ rest. Read passes rest) >>= on-value)
+  simple-on (Read v rest) = refl
+  simple-on (Refused v rest) = refl
+
+  enter-on : (o : Outcome (Option Opened)) → ((o >>= begun vars most) >>= λ _ rest. after rest) ≡ ((o >>= after_enter vars) >>= on-value)
+  enter-on (Read None rest) = simple-on (simple_at vars rest)
+  enter-on (Read (Some o) rest) =
+      let fewer : pred most ≡ most - suc (length {A = Bool} []) = omega arith in
+      only-ended (open_rest vars (pred most) o rest) after
+      ∙ ap (λ (p : Outcome (Unit {0})). p >>= λ _ rest'. after rest') (front-none vars (pred most) o rest)
+      ∙ ap (λ (b : ℕ). ended (open_rest vars b (opens (is_object o)) rest) >>= λ _ rest'. after rest') fewer
+  enter-on (Refused v rest) = refl
+
+  pub value-begins : (ts : List Token) → (value_at vars most ts >>= λ _ rest. after rest) ≡ ((enter_at most ts >>= after_enter vars) >>= on-value)
+  value-begins ts =
+      sym (mapped-on node_of (value_at vars most ts) after)
+      ∙ ap (λ (o : Outcome _). o >>= λ _ rest. after rest) (value-law vars most ts)
+      ∙ enter-on (enter_at most ts)
+
+  -- ---- lists and objects
+
+  rests-are : (levels : List Bool) → length levels ≤ most → (ts : List Token) → through vars most after levels ts ≡ (rests vars (most - length levels) levels ts >>= λ _ rest. after rest)
+  rests-are [] few ts = refl
+  rests-are (object ∷ outer) few ts = go (λ rest. rests-are outer (omega (arith, few)) rest) (ended (open_rest vars (most - suc (length outer)) (opens object) ts))
+    where
+      wider : suc (most - suc (length outer)) ≡ most - length outer
+      wider = omega (arith, few)
+
+      go : ((rest : List Token) → through vars most after outer rest ≡ (rests vars (most - length outer) outer rest >>= λ _ rest'. after rest')) → (o : Outcome (Unit {0})) → (o >>= λ _ rest. through vars most after outer rest) ≡ ((o >>= λ _ rest. rests vars (suc (most - suc (length outer))) outer rest) >>= λ _ rest. after rest)
+      go around (Read u rest) = around rest ∙ ap (λ (b : ℕ). rests vars b outer rest >>= λ _ rest'. after rest') (sym wider)
+      go around (Refused v rest) = refl
+
+  -- what a step in the innermost leaves
+  abbrev on-level : Bool → List Bool → Met → List Token → Outcome (Unit {0})
+  on-level object outer closes ts = through vars most after outer ts
+  on-level object outer passes ts = through vars most after (object ∷ outer) ts
+  on-level object outer (enters o) ts = through vars most after (is_object o ∷ object ∷ outer) ts
+
+  level-step : (object : Bool) (outer : List Bool) (left : ℕ) → left + length outer + 1 ≡ most → (others rest : List Token) (m : Met) → step_at vars left object others ≡ Read m rest → through vars most after (object ∷ outer) others ≡ on-level object outer m rest
+  level-step object outer left count others rest m h =
+      rests-are (object ∷ outer) (omega (arith, count)) others
+      ∙ ap (λ (b : ℕ). rests vars b (object ∷ outer) others >>= λ _ rest'. after rest') (sym left-is)
+      ∙ ap (λ (o : Outcome (Unit {0})). o >>= λ _ rest'. after rest') (step-law vars left object outer others ∙ ap (λ (o : Outcome Met). o >>= went vars left object outer) h)
+      ∙ go m h
+    where
+      left-is : left ≡ most - suc (length outer)
+      left-is = omega (arith, count)
+
+      there : (b : ℕ) (levels : List Bool) → length levels ≤ most → b ≡ most - length levels → (rests vars b levels rest >>= λ _ rest'. after rest') ≡ through vars most after levels rest
+      there b levels few is = ap (λ (k : ℕ). rests vars k levels rest >>= λ _ rest'. after rest') is ∙ sym (rests-are levels few rest)
+
+      go : (m : Met) → step_at vars left object others ≡ Read m rest → (went vars left object outer m rest >>= λ _ rest'. after rest') ≡ on-level object outer m rest
+      go closes h = there (suc left) outer (omega (arith, count)) (omega (arith, count))
+      go passes h = there left (object ∷ outer) (omega (arith, count)) (omega (arith, count))
+      go (enters o) h =
+          let some = step-room vars left object others o rest h in
+          there (pred left) (is_object o ∷ object ∷ outer) (omega (arith, count, some)) (omega (arith, count, some))
 
 module _ (limits : Limits) (n : ℕ) where
   abbrev most : ℕ
@@ -167,21 +257,13 @@ module _ (limits : Limits) (n : ℕ) where
   abbrev closing : List Token → Outcome (Unit {0})
   closing ts = one_at (punct ")") ts >>= λ _ rest. after_arguments limits n rest
 
-  bracket-parts : {A B C : Type 0} (t : Token) (o : Outcome A) (f : Token × (A × Token) → B) (g : Option B → C) → ((((((o >>= λ a rest. one_at (punct ")") rest >>= paired a) >>= paired t) >>= λ x rest. Read (f x) rest) >>= λ x rest. Read (Some x) rest) >>= λ x rest. Read (g x) rest) >>= λ _ rest. after_arguments limits n rest) ≡ (o >>= λ _ rest. closing rest)
-  bracket-parts {A} t (Read a rest) f g = go (one_at (punct ")") rest)
-    where
-      go : (o : Outcome Token) → ((((((o >>= paired a) >>= paired t) >>= λ x rest'. Read (f x) rest') >>= λ x rest'. Read (Some x) rest') >>= λ x rest'. Read (g x) rest') >>= λ _ rest'. after_arguments limits n rest') ≡ (o >>= λ _ rest'. after_arguments limits n rest')
-      go (Read b rest') = refl
-      go (Refused v rest') = refl
-  bracket-parts t (Refused v rest) f g = refl
-
   -- after the bracket, where a name follows
-  bracket-law : (others rest : List Token) (bracket : Token) → one_at (punct "(") others ≡ Read bracket rest → (b : Bare) → in_sight rest ≡ b ∷ [] → any_name b ≡ true → after_names limits n others ≡ from_levels limits n [] rest
+  bracket-law : (others rest : List Token) (bracket : Token) → one_at (punct "(") others ≡ Read bracket rest → (b : Bare) → in_sight rest ≡ b ∷ [] → any_name b ≡ true → after_names limits n others ≡ from_values limits (suc n) [] rest
   unfolding opt_at
   bracket-law [] rest bracket e b alike is = absurd cc
   bracket-law (t ∷ []) rest bracket e b alike is = go (punct "(" t.bare) refl
     where
-      go : (w : Bool) → punct "(" t.bare ≡ w → after_names limits n (t ∷ []) ≡ from_levels limits n [] rest
+      go : (w : Bool) → punct "(" t.bare ≡ w → after_names limits n (t ∷ []) ≡ from_values limits (suc n) [] rest
       go true here =
           let nothing : [] ≡ rest = (let k = rw here at e in cc) in
           let none : [] ≡ b ∷ [] = ap in_sight nothing ∙ alike in
@@ -192,10 +274,11 @@ module _ (limits : Limits) (n : ℕ) where
       opened : punct "(" t.bare ≡ true → any_name u.bare ≡ true → after_names limits n (t ∷ u ∷ us) ≡ from_arguments limits n (u ∷ us)
       opened here named =
           rw here
-          (bracket-parts t (plus_at any_name (argument_at true most) (u ∷ us)) between_of given
+          (mapped-on given _ (after_arguments limits n)
+          ∙ bracket-parts t (plus_at any_name (argument_at true most) (u ∷ us)) between_of (after_arguments limits n)
           ∙ ap (λ (o : Outcome (List _)). o >>= λ _ rest'. closing rest') (sym (many-plus any_name (argument_at true most) (takes-argument true most) u us named)))
 
-      go : (w : Bool) → punct "(" t.bare ≡ w → after_names limits n (t ∷ u ∷ us) ≡ from_levels limits n [] rest
+      go : (w : Bool) → punct "(" t.bare ≡ w → after_names limits n (t ∷ u ∷ us) ≡ from_values limits (suc n) [] rest
       go true here =
           let same : u ∷ us ≡ rest = (let k = rw here at e in cc) in
           let first : u.bare ≡ b = cc in
@@ -212,14 +295,14 @@ module _ (limits : Limits) (n : ℕ) where
       rw here refl
 
   -- the end of arguments
-  end-law : (others rest : List Token) (bracket : Token) → one_at (punct ")") others ≡ Read bracket rest → from_levels limits n [] others ≡ after_arguments limits n rest
+  end-law : (others rest : List Token) (bracket : Token) → one_at (punct ")") others ≡ Read bracket rest → from_values limits (suc n) [] others ≡ after_arguments limits n rest
   end-law [] rest bracket e = absurd cc
   end-law (t ∷ ts) rest bracket e = go (punct ")" t.bare) refl
     where
       no-name : punct ")" t.bare ≡ true → any_name t.bare ≡ false
       no-name is = ap any_name (punct-is ")" t.bare is)
 
-      go : (w : Bool) → punct ")" t.bare ≡ w → from_levels limits n [] (t ∷ ts) ≡ after_arguments limits n rest
+      go : (w : Bool) → punct ")" t.bare ≡ w → from_values limits (suc n) [] (t ∷ ts) ≡ after_arguments limits n rest
       go true is =
           ap (λ (o : Outcome (List _)). o >>= λ _ rest'. closing rest') (many-stops any_name (argument_at true most) t ts (no-name is))
           ∙ ap (λ (o : Outcome Token). o >>= λ _ rest'. after_arguments limits n rest') e
@@ -266,97 +349,32 @@ module _ (limits : Limits) (n : ℕ) where
 
   -- an argument, or its value up to what opens
   abbrev on-argument : Met → List Token → Outcome (Unit {0})
-  on-argument closes ts = from_levels limits n [] ts
-  on-argument passes ts = from_levels limits n [] ts
-  on-argument (enters o) ts = from_levels limits n (is_object o ∷ []) ts
-
-  one-more : {A : Type 0} (r : Reader A) (o : Outcome A) → (((o >>= λ a rest. many_at any_name r rest >>= λ others rest'. pair-read a others rest') >>= λ x rest. cons-read x rest) >>= λ _ rest. closing rest) ≡ (o >>= λ _ rest. many_at any_name r rest >>= λ _ rest'. closing rest')
-  one-more {A} r (Read a rest) = go (many_at any_name r rest)
-    where
-      go : (o : Outcome (List A)) → (((o >>= λ others rest'. pair-read a others rest') >>= λ x rest'. cons-read x rest') >>= λ _ rest'. closing rest') ≡ (o >>= λ _ rest'. closing rest')
-      go (Read others rest') = refl
-      go (Refused v rest') = refl
-  one-more r (Refused v rest) = refl
-
-  simple-on : (o : Outcome Value) → ((o >>= λ v rest. Read (node_of v) rest) >>= λ _ rest. from_arguments limits n rest) ≡ ((o >>= λ _ rest. Read passes rest) >>= on-argument)
-  simple-on (Read v rest) = refl
-  simple-on (Refused v rest) = refl
-
-  enter-on : (o : Outcome (Option Opened)) → ((o >>= begun true most) >>= λ _ rest. from_arguments limits n rest) ≡ ((o >>= after_enter true) >>= on-argument)
-  enter-on (Read None rest) = simple-on (simple_at true rest)
-  enter-on (Read (Some o) rest) =
-      let fewer : pred most ≡ most - suc (length {A = Bool} []) = omega arith in
-      only-ended (open_rest true (pred most) o rest) (from_arguments limits n)
-      ∙ ap (λ (p : Outcome (Unit {0})). p >>= λ _ rest'. from_arguments limits n rest') (front-none true (pred most) o rest)
-      ∙ ap (λ (b : ℕ). ended (open_rest true b (opens (is_object o)) rest) >>= λ _ rest'. from_arguments limits n rest') fewer
-  enter-on (Refused v rest) = refl
-
-  value-on : {X : Type 0} (f : Token × (Token × Value) → X) (t c : Token) (o : Outcome Value) → ((((o >>= paired c) >>= paired t) >>= λ x rest. Read (f x) rest) >>= λ _ rest. from_arguments limits n rest) ≡ ((o >>= λ v rest. Read (node_of v) rest) >>= λ _ rest. from_arguments limits n rest)
-  value-on f t c (Read v rest) = refl
-  value-on f t c (Refused v rest) = refl
+  on-argument = on-value true most (from_arguments limits n)
 
   colon-on : {X : Type 0} (f : Token × (Token × Value) → X) (t : Token) (o : Outcome Token) → ((((o >>= λ c rest. value_at true most rest >>= paired c) >>= paired t) >>= λ x rest. Read (f x) rest) >>= λ _ rest. from_arguments limits n rest) ≡ (((((o >>= paired t) >>= λ x rest. Read (Some x.0.bare.spelling) rest) >>= λ k rest. Read (is_none k) rest) >>= after_end true most) >>= on-argument)
-  colon-on f t (Read c rest) =
-      value-on f t c (value_at true most rest)
-      ∙ ap (λ (o : Outcome _). o >>= λ _ rest'. from_arguments limits n rest') (value-law true most rest)
-      ∙ enter-on (enter_at most rest)
+  colon-on f t (Read c rest) = go (value_at true most rest) ∙ value-begins true most (from_arguments limits n) rest
+    where
+      go : (o : Outcome Value) → ((((o >>= paired c) >>= paired t) >>= λ x rest'. Read (f x) rest') >>= λ _ rest'. from_arguments limits n rest') ≡ (o >>= λ _ rest'. from_arguments limits n rest')
+      go (Read v rest') = refl
+      go (Refused v rest') = refl
   colon-on f t (Refused v rest) = refl
 
   argument-law : (t : Token) (ts : List Token) → any_name t.bare ≡ true → from_arguments limits n (t ∷ ts) ≡ (step_at true most true (t ∷ ts) >>= on-argument)
   argument-law t ts is =
       ap (λ (o : Outcome (List _)). o >>= λ _ rest. closing rest) (many-more any_name (argument_at true most) (takes-argument true most) t ts is)
-      ∙ one-more (argument_at true most) (argument_at true most (t ∷ ts))
+      ∙ one-more any_name (argument_at true most) (argument_at true most (t ∷ ts)) closing
       ∙ rw (is, name-no-punct "}" t.bare is) (colon-on argument_of t (one_at (punct ":") ts))
 
-  argument-step : (others rest : List Token) (m : Met) (b : Bare) → in_sight others ≡ b ∷ [] → any_name b ≡ true → step_at true most true others ≡ Read m rest → from_levels limits n [] others ≡ on-argument m rest
+  argument-step : (others rest : List Token) (m : Met) (b : Bare) → in_sight others ≡ b ∷ [] → any_name b ≡ true → step_at true most true others ≡ Read m rest → from_values limits (suc n) [] others ≡ on-argument m rest
   argument-step [] rest m b alike is h = absurd cc
   argument-step (t ∷ ts) rest m b alike is h =
       let same : t.bare ≡ b = cc in
       argument-law t ts (ap any_name same ∙ is) ∙ ap (λ (o : Outcome Met). o >>= on-argument) h
 
-  -- ---- lists and objects
-
-  rests-are : (levels : List Bool) → length levels ≤ most → (ts : List Token) → from_levels limits n levels ts ≡ (rests true (most - length levels) levels ts >>= λ _ rest. from_arguments limits n rest)
-  rests-are [] few ts = refl
-  rests-are (object ∷ outer) few ts = go (λ rest. rests-are outer (omega (arith, few)) rest) (ended (open_rest true (most - suc (length outer)) (opens object) ts))
-    where
-      wider : suc (most - suc (length outer)) ≡ most - length outer
-      wider = omega (arith, few)
-
-      go : ((rest : List Token) → from_levels limits n outer rest ≡ (rests true (most - length outer) outer rest >>= λ _ rest'. from_arguments limits n rest')) → (o : Outcome (Unit {0})) → (o >>= λ _ rest. from_levels limits n outer rest) ≡ ((o >>= λ _ rest. rests true (suc (most - suc (length outer))) outer rest) >>= λ _ rest. from_arguments limits n rest)
-      go around (Read u rest) = around rest ∙ ap (λ (b : ℕ). rests true b outer rest >>= λ _ rest'. from_arguments limits n rest') (sym wider)
-      go around (Refused v rest) = refl
-
-  -- what a step in the innermost leaves
-  abbrev on-level : Bool → List Bool → Met → List Token → Outcome (Unit {0})
-  on-level object outer closes ts = from_levels limits n outer ts
-  on-level object outer passes ts = from_levels limits n (object ∷ outer) ts
-  on-level object outer (enters o) ts = from_levels limits n (is_object o ∷ object ∷ outer) ts
-
-  level-step : (object : Bool) (outer : List Bool) (left : ℕ) → left + length outer + 1 ≡ most → (others rest : List Token) (m : Met) → step_at true left object others ≡ Read m rest → from_levels limits n (object ∷ outer) others ≡ on-level object outer m rest
-  level-step object outer left count others rest m h =
-      rests-are (object ∷ outer) (omega (arith, count)) others
-      ∙ ap (λ (b : ℕ). rests true b (object ∷ outer) others >>= λ _ rest'. from_arguments limits n rest') (sym left-is)
-      ∙ ap (λ (o : Outcome (Unit {0})). o >>= λ _ rest'. from_arguments limits n rest') (step-law true left object outer others ∙ ap (λ (o : Outcome Met). o >>= went true left object outer) h)
-      ∙ go m h
-    where
-      left-is : left ≡ most - suc (length outer)
-      left-is = omega (arith, count)
-
-      after : (b : ℕ) (levels : List Bool) → length levels ≤ most → b ≡ most - length levels → (rests true b levels rest >>= λ _ rest'. from_arguments limits n rest') ≡ from_levels limits n levels rest
-      after b levels few is = ap (λ (k : ℕ). rests true k levels rest >>= λ _ rest'. from_arguments limits n rest') is ∙ sym (rests-are levels few rest)
-
-      go : (m : Met) → step_at true left object others ≡ Read m rest → (went true left object outer m rest >>= λ _ rest'. from_arguments limits n rest') ≡ on-level object outer m rest
-      go closes h = after (suc left) outer (omega (arith, count)) (omega (arith, count))
-      go passes h = after left (object ∷ outer) (omega (arith, count)) (omega (arith, count))
-      go (enters o) h =
-          let some = step-room true left object others o rest h in
-          after (pred left) (is_object o ∷ object ∷ outer) (omega (arith, count, some)) (omega (arith, count, some))
-
 -- ---- the ways on
 
 -- what is read next
-goes : {A : Type 0} {limits : Limits} {start now : Ahead} {state : Reader (Unit {0})} → IsReadInto limits start now state → {r : Reader A} → IsLocal r → (a : A) (after : Ahead) → r (tokens now) ≡ Read a (tokens after) → (next : Reader (Unit {0})) → ((others rest : List Token) → in_sight others ≡ now.hand.bare ∷ [] → in_sight rest ≡ after.hand.bare ∷ [] → r others ≡ Read a rest → state others ≡ next rest) → IsReadInto limits start after next
+pub goes : {A : Type 0} {limits : Limits} {start now : Ahead} {state : Reader (Unit {0})} → IsReadInto limits start now state → {r : Reader A} → IsLocal r → (a : A) (after : Ahead) → r (tokens now) ≡ Read a (tokens after) → (next : Reader (Unit {0})) → ((others rest : List Token) → in_sight others ≡ now.hand.bare ∷ [] → in_sight rest ≡ after.hand.bare ∷ [] → r others ≡ Read a rest → state others ≡ next rest) → IsReadInto limits start after next
 goes {limits = limits} {now = now} kept local a after h next law =
     let p = local.by (tokens now) a (tokens after) h in
     record {
@@ -372,7 +390,7 @@ goes {limits = limits} {now = now} kept local a after h next law =
 reversed : (outer : List Bool) (object : Bool) → reverse (outer ++ object ∷ []) ≡ object ∷ reverse outer
 reversed outer object = reverse-append outer (object ∷ [])
 
-not-zero : (n : ℕ) → suc n ≡ 0 → ⊥
+pub not-zero : (n : ℕ) → suc n ≡ 0 → ⊥
 not-zero n e = omega (arith, e)
 
 -- past the names of a field
@@ -393,9 +411,9 @@ to-names {limits} {start} {now} {depth} {wanted} kept some after names outer is 
 
 module _ {limits : Limits} {start now : Ahead} (n : ℕ) where
   -- past the bracket before a first argument
-  pub to-argument : IsReadInto limits start now (after_names limits n) → punct "(" now.hand.bare ≡ true → (after : Ahead) → tokens after ≡ now.after → any_name after.hand.bare ≡ true → IsReadIn limits start after n []
+  pub to-argument : IsReadInto limits start now (after_names limits n) → punct "(" now.hand.bare ≡ true → (after : Ahead) → tokens after ≡ now.after → any_name after.hand.bare ≡ true → IsReadIn limits start after (suc n) []
   to-argument kept is after taken name = record {
-    read = goes kept (local-one (punct "(")) now.hand after (ap (λ (w : Bool). cond w (Read now.hand now.after) (Refused syntax (tokens now))) is ∙ ap (λ (l : List Token). Read now.hand l) (sym taken)) (from_levels limits n [])
+    read = goes kept (local-one (punct "(")) now.hand after (ap (λ (w : Bool). cond w (Read now.hand now.after) (Refused syntax (tokens now))) is ∙ ap (λ (l : List Token). Read now.hand l) (sym taken)) (from_values limits (suc n) [])
         (λ others rest alike next h. bracket-law limits n others rest now.hand h after.hand.bare next name);
     few = omega arith;
   }
@@ -411,82 +429,82 @@ module _ {limits : Limits} {start now : Ahead} (n : ℕ) where
   no-arguments kept not = record { used = kept.used; split = kept.split; told = λ others alike. kept.told others alike ∙ bare-law limits n others now.hand.bare alike not }
 
   -- past the end of arguments
-  pub arguments-end : IsReadIn limits start now n [] → (after : Ahead) (bracket : Token) → one_at (punct ")") (tokens now) ≡ Read bracket (tokens after) → IsReadInto limits start after (after_arguments limits n)
+  pub arguments-end : IsReadIn limits start now (suc n) [] → (after : Ahead) (bracket : Token) → one_at (punct ")") (tokens now) ≡ Read bracket (tokens after) → IsReadInto limits start after (after_arguments limits n)
   arguments-end kept after bracket h = goes kept.read (local-one (punct ")")) bracket after h (after_arguments limits n) (λ others rest alike next h. end-law limits n others rest bracket h)
 
 module _ {limits : Limits} {start now : Ahead} {n : ℕ} where
   -- an argument, or its value up to what opens
-  argument-on : IsReadIn limits start now n [] → any_name now.hand.bare ≡ true → (m : Met) (after : Ahead) → step_at true limits.values true (tokens now) ≡ Read m (tokens after) → (next : Reader (Unit {0})) → ((rest : List Token) → on-argument limits n m rest ≡ next rest) → IsReadInto limits start after next
+  argument-on : IsReadIn limits start now (suc n) [] → any_name now.hand.bare ≡ true → (m : Met) (after : Ahead) → step_at true limits.values true (tokens now) ≡ Read m (tokens after) → (next : Reader (Unit {0})) → ((rest : List Token) → on-argument limits n m rest ≡ next rest) → IsReadInto limits start after next
   argument-on kept name m after h next same =
       goes kept.read (local-step true limits.values true) m after h next
       (λ others rest alike _ h. argument-step limits n others rest m now.hand.bare alike name h ∙ same rest)
 
-  pub argument-passed : IsReadIn limits start now n [] → any_name now.hand.bare ≡ true → (after : Ahead) → step_at true limits.values true (tokens now) ≡ Read passes (tokens after) → IsReadIn limits start after n []
-  argument-passed kept name after h = record { read = argument-on kept name passes after h (from_levels limits n []) (λ rest. refl); few = kept.few }
+  pub argument-passed : IsReadIn limits start now (suc n) [] → any_name now.hand.bare ≡ true → (after : Ahead) → step_at true limits.values true (tokens now) ≡ Read passes (tokens after) → IsReadIn limits start after (suc n) []
+  argument-passed kept name after h = record { read = argument-on kept name passes after h (from_values limits (suc n) []) (λ rest. refl); few = kept.few }
 
-  pub argument-entered : IsReadIn limits start now n [] → any_name now.hand.bare ≡ true → (inner : Bool) (after : Ahead) → step_at true limits.values true (tokens now) ≡ Read (enters (opens inner)) (tokens after) → (objects : List Bool) → objects ≡ inner ∷ [] → IsReadIn limits start after n objects
+  pub argument-entered : IsReadIn limits start now (suc n) [] → any_name now.hand.bare ≡ true → (inner : Bool) (after : Ahead) → step_at true limits.values true (tokens now) ≡ Read (enters (opens inner)) (tokens after) → (objects : List Bool) → objects ≡ inner ∷ [] → IsReadIn limits start after (suc n) objects
   argument-entered kept name inner after h objects is =
       let some = step-room true limits.values true (tokens now) (opens inner) (tokens after) h in
       let size : length objects ≡ 1 = ap length is in
       record {
-        read = argument-on kept name (enters (opens inner)) after h (from_levels limits n (reverse objects)) (λ rest. ap (λ (k : Bool). from_levels limits n (k ∷ []) rest) (object-opens inner) ∙ ap (λ (l : List Bool). from_levels limits n (reverse l) rest) (sym is));
+        read = argument-on kept name (enters (opens inner)) after h (from_values limits (suc n) (reverse objects)) (λ rest. ap (λ (k : Bool). from_values limits (suc n) (k ∷ []) rest) (object-opens inner) ∙ ap (λ (l : List Bool). from_values limits (suc n) (reverse l) rest) (sym is));
         few = omega (arith, size, some);
       }
 
-  module _ (objects : List Bool) (object : Bool) (kept : IsReadIn limits start now n (objects ++ object ∷ [])) (left : ℕ) (count : left + length objects + 1 ≡ limits.values) (after : Ahead) where
-    level-on : (m : Met) → step_at true left object (tokens now) ≡ Read m (tokens after) → (next : Reader (Unit {0})) → ((rest : List Token) → on-level limits n object (reverse objects) m rest ≡ next rest) → IsReadInto limits start after next
-    level-on m h next same =
-        let turned : left + length (reverse objects) + 1 ≡ limits.values = omega (arith, count, length-reverse objects) in
-        goes kept.read (local-step true left object) m after h next
-        (λ others rest alike _ h. ap (λ (l : List Bool). from_levels limits n l others) (reversed objects object) ∙ level-step limits n object (reverse objects) left turned others rest m h ∙ same rest)
+module _ {limits : Limits} {start now : Ahead} {depth : ℕ} (vars : Bool) (may : may_vary depth ≡ vars) (objects : List Bool) (object : Bool) (kept : IsReadIn limits start now depth (objects ++ object ∷ [])) (left : ℕ) (count : left + length objects + 1 ≡ limits.values) (after : Ahead) where
+  level-on : (m : Met) → step_at vars left object (tokens now) ≡ Read m (tokens after) → (next : Reader (Unit {0})) → ((rest : List Token) → on-level vars limits.values (after_value limits depth) object (reverse objects) m rest ≡ next rest) → IsReadInto limits start after next
+  level-on m h next same =
+      let turned : left + length (reverse objects) + 1 ≡ limits.values = omega (arith, count, length-reverse objects) in
+      goes kept.read (local-step vars left object) m after h next
+      (λ others rest alike _ h. ap (λ (l : List Bool). from_values limits depth l others) (reversed objects object) ∙ ap (λ (v : Bool). through v limits.values (after_value limits depth) (object ∷ reverse objects) others) may ∙ level-step vars limits.values (after_value limits depth) object (reverse objects) left turned others rest m h ∙ same rest)
 
-    pub level-closed : step_at true left object (tokens now) ≡ Read closes (tokens after) → IsReadIn limits start after n objects
-    level-closed h = record { read = level-on closes h (from_levels limits n (reverse objects)) (λ rest. refl); few = omega (arith, count) }
+  pub level-closed : step_at vars left object (tokens now) ≡ Read closes (tokens after) → IsReadIn limits start after depth objects
+  level-closed h = record { read = level-on closes h (from_values limits depth (reverse objects)) (λ rest. ap (λ (v : Bool). through v limits.values (after_value limits depth) (reverse objects) rest) (sym may)); few = omega (arith, count) }
 
-    pub level-passed : step_at true left object (tokens now) ≡ Read passes (tokens after) → (objects' : List Bool) → objects' ≡ objects ++ object ∷ [] → IsReadIn limits start after n objects'
-    level-passed h objects' is =
-        let size : length objects' ≡ suc (length objects) = ap length is ∙ length-append objects (object ∷ []) ∙ omega arith in
-        record {
-          read = level-on passes h (from_levels limits n (reverse objects')) (λ rest. ap (λ (l : List Bool). from_levels limits n l rest) (sym (ap reverse is ∙ reversed objects object)));
-          few = omega (arith, count, size);
-        }
+  pub level-passed : step_at vars left object (tokens now) ≡ Read passes (tokens after) → (objects' : List Bool) → objects' ≡ objects ++ object ∷ [] → IsReadIn limits start after depth objects'
+  level-passed h objects' is =
+      let size : length objects' ≡ suc (length objects) = ap length is ∙ length-append objects (object ∷ []) ∙ omega arith in
+      record {
+        read = level-on passes h (from_values limits depth (reverse objects')) (λ rest. ap (λ (v : Bool). through v limits.values (after_value limits depth) (object ∷ reverse objects) rest) (sym may) ∙ ap (λ (l : List Bool). from_values limits depth l rest) (sym (ap reverse is ∙ reversed objects object)));
+        few = omega (arith, count, size);
+      }
 
-    pub level-entered : (inner : Bool) → step_at true left object (tokens now) ≡ Read (enters (opens inner)) (tokens after) → (objects' objects'' : List Bool) → objects' ≡ objects ++ object ∷ [] → objects'' ≡ objects' ++ inner ∷ [] → IsReadIn limits start after n objects''
-    level-entered inner h objects' objects'' is is' =
-        let some = step-room true left object (tokens now) (opens inner) (tokens after) h in
-        let turned : reverse objects'' ≡ inner ∷ object ∷ reverse objects = ap reverse is' ∙ reversed objects' inner ∙ ap (λ (l : List Bool). inner ∷ l) (ap reverse is ∙ reversed objects object) in
-        let size : length objects' ≡ suc (length objects) = ap length is ∙ length-append objects (object ∷ []) ∙ omega arith in
-        let size' : length objects'' ≡ suc (length objects') = ap length is' ∙ length-append objects' (inner ∷ []) ∙ omega arith in
-        record {
-          read = level-on (enters (opens inner)) h (from_levels limits n (reverse objects''))
-              (λ rest. ap (λ (k : Bool). from_levels limits n (k ∷ object ∷ reverse objects) rest) (object-opens inner) ∙ ap (λ (l : List Bool). from_levels limits n l rest) (sym turned));
-          few = omega (arith, count, some, size, size');
-        }
+  pub level-entered : (inner : Bool) → step_at vars left object (tokens now) ≡ Read (enters (opens inner)) (tokens after) → (objects' objects'' : List Bool) → objects' ≡ objects ++ object ∷ [] → objects'' ≡ objects' ++ inner ∷ [] → IsReadIn limits start after depth objects''
+  level-entered inner h objects' objects'' is is' =
+      let some = step-room vars left object (tokens now) (opens inner) (tokens after) h in
+      let turned : reverse objects'' ≡ inner ∷ object ∷ reverse objects = ap reverse is' ∙ reversed objects' inner ∙ ap (λ (l : List Bool). inner ∷ l) (ap reverse is ∙ reversed objects object) in
+      let size : length objects' ≡ suc (length objects) = ap length is ∙ length-append objects (object ∷ []) ∙ omega arith in
+      let size' : length objects'' ≡ suc (length objects') = ap length is' ∙ length-append objects' (inner ∷ []) ∙ omega arith in
+      record {
+        read = level-on (enters (opens inner)) h (from_values limits depth (reverse objects''))
+            (λ rest. ap (λ (v : Bool). through v limits.values (after_value limits depth) (is_object (opens inner) ∷ object ∷ reverse objects) rest) (sym may) ∙ ap (λ (k : Bool). from_values limits depth (k ∷ object ∷ reverse objects) rest) (object-opens inner) ∙ ap (λ (l : List Bool). from_values limits depth l rest) (sym turned));
+        few = omega (arith, count, some, size, size');
+      }
 
 -- fewer tokens are ahead
-pub step-less : (left : ℕ) (object : Bool) (now after : Ahead) (m : Met) → step_at true left object (tokens now) ≡ Read m (tokens after) → length after.after < length now.after
-step-less left object now after m h = let less = step-shorter true left object (tokens now) m (tokens after) h in omega (arith, less)
+pub step-less : (vars : Bool) (left : ℕ) (object : Bool) (now after : Ahead) (m : Met) → step_at vars left object (tokens now) ≡ Read m (tokens after) → length after.after < length now.after
+step-less vars left object now after m h = let less = step-shorter vars left object (tokens now) m (tokens after) h in omega (arith, less)
 
 -- ---- the walk
 
 -- How far a text is read, and where it was marked last.
-pub record Walks (limits : Limits) (text : List ℕ) (now : Ahead) (outer : ℕ) (objects : List Bool) (found : Option code.ValueAt) : Type 0 where
+pub record Walks (limits : Limits) (text : List ℕ) (now : Ahead) (depth : ℕ) (objects : List Bool) (found : Option code.ValueAt) : Type 0 where
   pub start : Ahead
   pub only : (whole : List Token) → IsCutInto text whole → whole ≡ tokens start
-  pub read : IsReadIn limits start now outer objects
-  pub last : IfSome found (λ at. IsStateAt limits (tokens start) at.offset (from_levels limits at.outer (reverse at.objects.items)))
+  pub read : IsReadIn limits start now depth objects
+  pub last : IfSome found (λ at. IsStateAt limits (tokens start) at.offset (from_values limits at.depth (reverse at.objects.items)))
 
-pub found-in : {limits : Limits} {text : List ℕ} {now : Ahead} {outer : ℕ} {objects : List Bool} {found : Option code.ValueAt} → Walks limits text now outer objects found → IfSome found (λ at. IsValueIn limits text at.offset at.outer at.objects.items)
+pub found-in : {limits : Limits} {text : List ℕ} {now : Ahead} {depth : ℕ} {objects : List Bool} {found : Option code.ValueAt} → Walks limits text now depth objects found → IfSome found (λ at. IsValueIn limits text at.offset at.depth at.objects.items)
 found-in {found = None} w = tt
-found-in {limits} {found = Some at} w = λ whole cut. subst (λ (l : List Token). IsStateAt limits l at.offset (from_levels limits at.outer (reverse at.objects.items))) (sym (w.only whole cut)) w.last
+found-in {limits} {found = Some at} w = λ whole cut. subst (λ (l : List Token). IsStateAt limits l at.offset (from_values limits at.depth (reverse at.objects.items))) (sym (w.only whole cut)) w.last
 
-module _ {limits : Limits} {text : List ℕ} {now : Ahead} {outer : ℕ} {objects : List Bool} {found : Option code.ValueAt} (w : Walks limits text now outer objects found) (goes-on : is_last now.hand.bare.kind ≡ false) (at : code.ValueAt) (place : at.offset ≡ now.hand.start) (around : at.outer ≡ outer) (same : at.objects.items ≡ objects) where
+module _ {limits : Limits} {text : List ℕ} {now : Ahead} {depth : ℕ} {objects : List Bool} {found : Option code.ValueAt} (w : Walks limits text now depth objects found) (goes-on : is_last now.hand.bare.kind ≡ false) (at : code.ValueAt) (place : at.offset ≡ now.hand.start) (around : at.depth ≡ depth) (same : at.objects.items ≡ objects) where
   -- the token before which these are open is not the last
-  pub walk-marked : Walks limits text now outer objects (Some at)
-  walk-marked = record { start = w.start; only = w.only; read = w.read; last = subst (λ (k : ℕ). IsStateAt limits (tokens w.start) k (from_levels limits at.outer (reverse at.objects.items))) (sym place) (subst (λ (k : ℕ). IsStateAt limits (tokens w.start) now.hand.start (from_levels limits k (reverse at.objects.items))) (sym around) (subst (λ (l : List Bool). IsStateAt limits (tokens w.start) now.hand.start (from_levels limits outer (reverse l))) (sym same) here)) }
+  pub walk-marked : Walks limits text now depth objects (Some at)
+  walk-marked = record { start = w.start; only = w.only; read = w.read; last = subst (λ (k : ℕ). IsStateAt limits (tokens w.start) k (from_values limits at.depth (reverse at.objects.items))) (sym place) (subst (λ (k : ℕ). IsStateAt limits (tokens w.start) now.hand.start (from_values limits k (reverse at.objects.items))) (sym around) (subst (λ (l : List Bool). IsStateAt limits (tokens w.start) now.hand.start (from_values limits depth (reverse l))) (sym same) here)) }
     where
-      here : IsStateAt limits (tokens w.start) now.hand.start (from_levels limits outer (reverse objects))
+      here : IsStateAt limits (tokens w.start) now.hand.start (from_values limits depth (reverse objects))
       here = let read = w.read.read in record { front = read.used; next = now.hand; rest = now.after; split = read.split; starts = refl; goes_on = goes-on; opens = read.told }
 
-pub walk-goes : {limits : Limits} {text : List ℕ} {now : Ahead} {outer : ℕ} {objects : List Bool} {found : Option code.ValueAt} → Walks limits text now outer objects found → (after : Ahead) (objects' : List Bool) → ((start : Ahead) (outer : ℕ) → IsReadIn limits start now outer objects → IsReadIn limits start after outer objects') → Walks limits text after outer objects' found
-walk-goes {outer = outer} w after objects' step = record { start = w.start; only = w.only; read = step w.start outer w.read; last = w.last }
+pub walk-goes : {limits : Limits} {text : List ℕ} {now : Ahead} {depth : ℕ} {objects : List Bool} {found : Option code.ValueAt} → Walks limits text now depth objects found → (after : Ahead) (objects' : List Bool) → ((start : Ahead) → IsReadIn limits start now depth objects → IsReadIn limits start after depth objects') → Walks limits text after depth objects' found
+walk-goes w after objects' step = record { start = w.start; only = w.only; read = step w.start w.read; last = w.last }

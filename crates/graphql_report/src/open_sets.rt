@@ -205,9 +205,9 @@ fn pass_operation_opening(parser: &mut Parser, limits: Limits) -> bool
     true
 }
 
-// A name, where one is in hand.
+/// A name, where one is in hand.
 #[tactic(auto, unfolding(graphql_reading::specs::reading::Outcome::opt_at))]
-fn pass_maybe_name(parser: &mut Parser)
+pub fn pass_maybe_name(parser: &mut Parser)
     ensures { Passes parser.old parser.new (opt_at any_name (one_at any_name)) }
 {
     if parser.is_at_name() {
