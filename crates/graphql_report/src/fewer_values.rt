@@ -71,7 +71,11 @@ fn with_levels(alloc: Global, at: &ValueAt, left: &str) -> Result<String, AllocE
     for _ in 0..at.depth {
         text.push_str(OPEN_SET)?;
     }
-    text.push_str(if at.depth == 0 { "query($a:a " } else { "(a:0 " })?;
+    text.push_str(if at.depth == 0 {
+        "query($a:a "
+    } else {
+        "(a:0 "
+    })?;
     let mut before = if at.depth == 0 { "$a:a=" } else { "a:" };
     for object in at.objects.as_slice() {
         text.push_str(before)?;

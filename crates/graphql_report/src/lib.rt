@@ -14,11 +14,12 @@
 //! Where the last definition before the refused token begins a line, and one check more finds that those before it are whole,
 //! only the text from that line on is checked; else all of the text before the refused token. One check of the text more finds
 //! that token. A request is read once more, up to where its last selection or the end of a set begins, and where that selection
-//! is a field that is long, once more up to the last value in its arguments, or in those of its directives: the samples are tried
-//! after as many open selection sets, lists and objects and what stands from there on, so a long request costs no more of these
-//! checks than a short one, unless what stands before the set of a definition or of a fragment is long. A caller that read a text
-//! from a later line on says so, and what stands before isn't checked again: it has the refused token from
-//! [`refused_token_from`], and hands it on with what it knows ([`ReadUpTo`], [`explain_from`], [`finding_from`]).
+//! or a definition that begins is long, once more up to the last value in the arguments of the field or of its directives, or in
+//! the variable definitions: the samples are tried after as many open selection sets, lists and objects and what stands from
+//! there on, so a long request costs no more of these checks than a short one, unless the directives of a definition, a variable
+//! or a fragment are long. A caller that read a text from a later line on says so, and what stands before isn't checked again: it
+//! has the refused token from [`refused_token_from`], and hands it on with what it knows ([`ReadUpTo`], [`explain_from`],
+//! [`finding_from`]).
 //!
 //! Proved of it, unless memory runs out: `is_front` answers true exactly where the tokens of a text are a viable front, in
 //! both languages and at all limits; the token that is given is the one at which the text is refused; what is expected is

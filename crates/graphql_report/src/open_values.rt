@@ -297,7 +297,13 @@ fn pass_to_directive(parser: &mut Parser) -> bool
 }
 
 // One step in a list or an object, inside these.
-fn pass_in(parser: &mut Parser, limits: Limits, vars: bool, object: bool, levels: &mut Levels) -> bool
+fn pass_in(
+    parser: &mut Parser,
+    limits: Limits,
+    vars: bool,
+    object: bool,
+    levels: &mut Levels,
+) -> bool
     requires limit { levels.old.limit ≡ limits.values }
     requires few { length levels.old.objects.items < limits.values }
     ensures limit { levels.new.limit ≡ limits.values }

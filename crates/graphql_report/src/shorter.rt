@@ -1,4 +1,5 @@
-//! A shorter text in place of a front: where the last selection begins, only the selection sets that are open count.
+//! A shorter text in place of a front: where the last selection begins, only the selection sets that are open count, and where it
+//! is long, only the lists and objects that are open in it.
 ghost use Rattle.std.specs.Prelude.{List, ℕ, IfOk, IfSome, string_bytes};
 ghost use Rattle.graphql_report.specs.declared.fronts.Language.TheVariants.{Requests};
 ghost use Rattle.graphql_report.specs.reports.Expected.{AreExpected};
@@ -11,7 +12,7 @@ use graphql_parser::Limits;
 use std::alloc::{AllocError, Global};
 
 /// A text after which the same is expected as after this front, where one is found that is shorter. Of a front it takes one
-/// reading, and one more where its last selection is long. (A request is shortened, and a schema is not.)
+/// reading, and one more where its last selection or definition is long. (A request is shortened, and a schema is not.)
 pub fn shorter(
     alloc: Global,
     language: Language,
@@ -27,7 +28,7 @@ pub fn shorter(
     }
 }
 
-// Where the last selection is long, its arguments are cut too.
+// Where the last selection or the operation that begins is long, its arguments or variable definitions are cut too.
 fn shorter_request(alloc: Global, front: &str, limits: Limits) -> Result<Option<String>, AllocError>
     ensures { IfOk result (λ found. IfSome found (λ text. (names : List (List ℕ)) →
         AreExpected Requests limits (string_bytes text) names → AreExpected Requests limits front.now names)) }
