@@ -9,6 +9,8 @@ mod Listed
 mod Local
 mod LocalReaders
 mod OpenFronts
+mod OpenValues
+mod OpenVariables
 mod CutTexts
 mod ShorterFronts
 mod Parted

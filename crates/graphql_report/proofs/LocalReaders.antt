@@ -34,7 +34,7 @@ local-word =
     (local-choose (keyword "null") (local-mapped null_of (local-one (keyword "null")))
     (local-mapped enumeration_of (local-one (name_but ("true" ∷ "false" ∷ "null" ∷ []))))))
 
-local-simple : (vars : Bool) → IsLocal (simple_at vars)
+pub local-simple : (vars : Bool) → IsLocal (simple_at vars)
 local-simple vars =
     local-choose any_name local-word
     (local-choose any_number (local-mapped number_of (local-one any_number))
@@ -113,14 +113,14 @@ local-type_condition = local-mapped condition_of (local-then (local-one (keyword
 
 -- ---- selections up to their sets
 
-local-if : {A : Type 0} {r s : Reader A} (w : Bool) → IsLocal r → IsLocal s → IsLocal (λ ts. cond w (r ts) (s ts))
+pub local-if : {A : Type 0} {r s : Reader A} (w : Bool) → IsLocal r → IsLocal s → IsLocal (λ ts. cond w (r ts) (s ts))
 local-if {r = r} {s = s} true h k = local-same {r = r} (λ ts. refl) h
 local-if {r = r} {s = s} false h k = local-same {r = s} (λ ts. refl) k
 
 local-name : IsLocal name_at
 local-name = local-mapped name_of (local-one any_name)
 
-local-names : IsLocal names_at
+pub local-names : IsLocal names_at
 local-names =
     local-mapped (λ x. as_names x.0 x.1)
     (local-then local-name (local-choose (punct ":") (local-mapped (λ x. Some x.1) (local-then (local-one (punct ":")) local-name)) (local-none None)))

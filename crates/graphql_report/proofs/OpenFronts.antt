@@ -53,7 +53,7 @@ abbrev first-part : {A B : Type 0} → A × B → List Token → Outcome A
 first-part x rest = Read x.0 rest
 
 module _ (limits : Limits) where
-  abbrev set-after : {A : Type 0} → Outcome A → Outcome (Unit {0})
+  abbrev pub set-after : {A : Type 0} → Outcome A → Outcome (Unit {0})
   set-after o = o >>= λ _ rest. ended (own_set_at limits rest)
 
   -- three parts and a set
@@ -89,7 +89,7 @@ module _ (limits : Limits) where
   mapped-ended f (Refused v rest) = refl
 
   -- a definition is what stands before its set, and the set
-  definition-law : (ts : List Token) → ended (definition_at limits ts) ≡ set-after (opening_at limits ts)
+  pub definition-law : (ts : List Token) → ended (definition_at limits ts) ≡ set-after (opening_at limits ts)
   definition-law [] = refl
   definition-law (t ∷ ts) = go (punct "{" t.bare)
     where
@@ -107,10 +107,10 @@ module _ (limits : Limits) where
 
   -- ---- definitions, one after the other
 
-  abbrev others-after : Outcome (Unit {0}) → Outcome (Unit {0})
+  abbrev pub others-after : Outcome (Unit {0}) → Outcome (Unit {0})
   others-after o = o >>= λ _ rest. after_definition limits rest
 
-  whole-law : (ts : List Token) → read_whole limits ts ≡ others-after (ended (definition_at limits ts))
+  pub whole-law : (ts : List Token) → read_whole limits ts ≡ others-after (ended (definition_at limits ts))
   unfolding plus_at
   whole-law ts = first (definition_at limits ts)
     where

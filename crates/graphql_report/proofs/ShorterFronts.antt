@@ -15,7 +15,7 @@ use Rattle.graphql_reading.specs.grammar.Fronts.{bares, syntax, limit}
 use Rattle.graphql_reading.specs.grammar.Limits.{Limits}
 use Rattle.graphql_reading.specs.grammar.Relations.{one, Then}
 use Rattle.graphql_reading.specs.grammar.Tests.{the_end}
-use Rattle.graphql_reading.specs.reading.Outcome.{Outcome, Read, Refused, ◌>>=◌, one_at}
+use Rattle.graphql_reading.specs.reading.Outcome.{Outcome, Reader, Read, Refused, ◌>>=◌, one_at}
 use Rattle.graphql_reading.proofs.Theory.{Exact, Extends, Quiet, IsRead, IsDead}
 use Rattle.graphql_reading.proofs.TokenTests.{the_end-is}
 use Rattle.graphql_reading.proofs.Whole.{viable-completes, ignores-whole}
@@ -29,7 +29,7 @@ use Rattle.graphql_report.specs.declared.fronts.Language.TheVariants.{Requests}
 use Rattle.graphql_report.specs.declared.samples.TheConstants.{NAME_TEXT}
 use Rattle.graphql_report.specs.fronts.Front.{IsFront}
 use Rattle.graphql_report.specs.reports.Expected.{TellsFrontOf, TellsTreeOf, HasTree, with_sample, Samples, literals, punctuators, keywords, AreTaken, AreExpected}
-use Rattle.graphql_report.specs.inner.OpenFronts.{in_sight, read_whole, Opens, IsOpenIn}
+use Rattle.graphql_report.specs.inner.OpenFronts.{in_sight, read_whole, Opens, IsStateIn}
 use Rattle.graphql_report.proofs.Buffers.{line-feed-utf8}
 use Rattle.graphql_report.proofs.CutTexts.{IsLater, IsCutAt, cut-at}
 use Rattle.graphql_report.proofs.Depths.{peek-tail, tail-of, quiet-last}
@@ -144,18 +144,18 @@ same-left (c ∷ x) y (d ∷ f) g e n =
     let fewer : length (encode_utf8_all x) ≡ length (encode_utf8_all f) = omega (arith, n, size, length-append (encode_utf8 c) (encode_utf8_all x), length-append (encode_utf8 d) (encode_utf8_all f)) in
     same-left x y f g (cc) fewer
 
--- a text of which this is left where so many sets are open
-pub record IsLeft (limits : Limits) (text left : List ℕ) (depth : ℕ) : Type 0 where
+-- a text of which this is left where the rest is read so
+pub record IsLeft (limits : Limits) (text left : List ℕ) (state : Reader (Unit {0})) : Type 0 where
   pub utf8 : IsUtf8 text
   pub front : List Token
   pub next : Token
   pub goes_on : is_last next.bare.kind ≡ false
-  pub opens : Opens limits front depth next.bare
+  pub opens : Opens limits front state next.bare
   pub cut : IsCutAt [] (chars text) front next
   pub is : cut.left ≡ chars left
 
-is-left : (limits : Limits) (text passed left : List ℕ) (offset depth : ℕ) → IsUtf8 text → IsUtf8 passed → text ≡ passed ++ left → length passed ≡ offset → IsOpenIn limits text offset depth → IsLeft limits text left depth
-is-left limits text passed left offset depth utf8 passed-utf8 joined size h =
+is-left : (limits : Limits) (text passed left : List ℕ) (offset : ℕ) (state : Reader (Unit {0})) → IsUtf8 text → IsUtf8 passed → text ≡ passed ++ left → length passed ≡ offset → IsStateIn limits text offset state → IsLeft limits text left state
+is-left limits text passed left offset state utf8 passed-utf8 joined size h =
     let ts = tokens [] (chars text) in
     let at = h ts (tokens_cuts [] (chars text)) in
     let cut = cut-at [] (chars text) at.front at.next at.rest (subst (Cuts Current [] (chars text)) at.split (tokens_cuts [] (chars text))) at.goes_on in
@@ -192,7 +192,7 @@ bares-after : (c vs ws : List Token) → bares vs ≡ bares ws → bares (c ++ v
 bares-after [] vs ws e = e
 bares-after (t ∷ c) vs ws e = ap (λ (l : List Bare). t.bare ∷ l) (bares-after c vs ws e)
 
-module _ (limits : Limits) (text short left : List ℕ) (depth : ℕ) (whole : IsLeft limits text left depth) (part : IsLeft limits short left depth) (more : List ℕ) (later : IsLater (chars more)) where
+module _ (limits : Limits) (text short left : List ℕ) (state : Reader (Unit {0})) (whole : IsLeft limits text left state) (part : IsLeft limits short left state) (more : List ℕ) (later : IsLater (chars more)) where
   abbrev vs : List Token
   vs = tokens whole.cut.passed (whole.cut.left ++ chars more)
 
@@ -271,14 +271,14 @@ module _ (limits : Limits) (text short left : List ℕ) (depth : ℕ) (whole : I
 feed-later : (rest : List ℕ) → IsLater (chars (10 ∷ rest))
 feed-later rest = inr (chars rest, chars-append (10 ∷ []) rest line-feed-utf8 ∙ ap (λ (l : List ℕ). l ++ chars rest) (chars-IsAscii (10 ∷ []) (search rules)))
 
-module _ (limits : Limits) (text short left : List ℕ) (depth : ℕ) (whole : IsLeft limits text left depth) (part : IsLeft limits short left depth) where
+module _ (limits : Limits) (text short left : List ℕ) (state : Reader (Unit {0})) (whole : IsLeft limits text left state) (part : IsLeft limits short left state) where
   after-feed : (front sample : List ℕ) → with_sample (front ++ 10 ∷ []) sample ≡ front ++ (10 ∷ (sample ++ 10 ∷ []))
   after-feed front sample = append_assoc (front ++ 10 ∷ []) sample (10 ∷ []) ∙ append_assoc front (10 ∷ []) (sample ++ 10 ∷ [])
 
   sample-moved : (sample : List ℕ) (b : Bool) → TellsFrontOf Requests limits (with_sample (short ++ 10 ∷ []) sample) b → TellsFrontOf Requests limits (with_sample (text ++ 10 ∷ []) sample) b
   sample-moved sample b tells =
       subst (λ (l : List ℕ). TellsFrontOf Requests limits l b) (sym (after-feed text sample))
-      (tells-front limits text short left depth whole part (10 ∷ (sample ++ 10 ∷ [])) (feed-later (sample ++ 10 ∷ [])) b
+      (tells-front limits text short left state whole part (10 ∷ (sample ++ 10 ∷ [])) (feed-later (sample ++ 10 ∷ [])) b
       (subst (λ (l : List ℕ). TellsFrontOf Requests limits l b) (after-feed short sample) tells))
 
   taken-moved : (samples : Samples) (names : List (List ℕ)) → AreTaken Requests limits (short ++ 10 ∷ []) samples names → AreTaken Requests limits (text ++ 10 ∷ []) samples names
@@ -288,7 +288,7 @@ module _ (limits : Limits) (text short left : List ℕ) (depth : ℕ) (whole : I
   tree-moved : (b : Bool) → TellsTreeOf Requests limits short b → TellsTreeOf Requests limits text b
   tree-moved b tells =
       subst (λ (l : List ℕ). TellsTreeOf Requests limits l b) (append-nil text)
-      (tells-tree limits text short left depth whole part [] (inl chars-nil) b (subst (λ (l : List ℕ). TellsTreeOf Requests limits l b) (sym (append-nil short)) tells))
+      (tells-tree limits text short left state whole part [] (inl chars-nil) b (subst (λ (l : List ℕ). TellsTreeOf Requests limits l b) (sym (append-nil short)) tells))
 
   pub expected-moved : (names : List (List ℕ)) → AreExpected Requests limits short names → AreExpected Requests limits text names
   expected-moved names h = record {
@@ -307,20 +307,20 @@ module _ (limits : Limits) (text short left : List ℕ) (depth : ℕ) (whole : I
   }
 
 -- where texts are split
-cut-left : (limits : Limits) (text left : List ℕ) (offset depth : ℕ) → IsUtf8 text → IsCharBoundary text offset → left ≡ drop offset text → IsOpenIn limits text offset depth → IsLeft limits text left depth
-cut-left limits text left offset depth utf8 boundary is at =
-    is-left limits text (take offset text) left offset depth utf8 (IsUtf8-take text offset utf8 boundary) (sym (take-append-drop offset text) ∙ ap (λ (l : List ℕ). take offset text ++ l) (sym is)) (take-size offset text boundary.0) at
+cut-left : (limits : Limits) (text left : List ℕ) (offset : ℕ) (state : Reader (Unit {0})) → IsUtf8 text → IsCharBoundary text offset → left ≡ drop offset text → IsStateIn limits text offset state → IsLeft limits text left state
+cut-left limits text left offset state utf8 boundary is at =
+    is-left limits text (take offset text) left offset state utf8 (IsUtf8-take text offset utf8 boundary) (sym (take-append-drop offset text) ∙ ap (λ (l : List ℕ). take offset text ++ l) (sym is)) (take-size offset text boundary.0) at
   where
     take-size : (n : ℕ) (l : List ℕ) → n ≤ length l → length (take n l) ≡ n
     take-size zero l h = refl
     take-size (suc n) [] h = absurd (omega (arith, h))
     take-size (suc n) (c ∷ l) h = ap suc (take-size n l (omega (arith, h)))
 
-pub expected-cut : (limits : Limits) (text left bytes shown copy same : List ℕ) (offset depth again around : ℕ) → IsUtf8 text → IsCharBoundary text offset → left ≡ drop offset text → IsOpenIn limits text offset depth → IsUtf8 bytes → shown ≡ bytes → IsOpenIn limits shown again around → copy ≡ bytes → IsCharBoundary copy again → same ≡ drop again copy → around ≡ depth → same ≡ left → (names : List (List ℕ)) → AreExpected Requests limits bytes names → AreExpected Requests limits text names
-expected-cut limits text left bytes shown copy same offset depth again around utf8 boundary is at bytes-utf8 as-shown short-at as-seen short-boundary short-is deep alike =
+pub expected-cut : (limits : Limits) (text left bytes shown copy same : List ℕ) (offset again : ℕ) (state around : Reader (Unit {0})) → IsUtf8 text → IsCharBoundary text offset → left ≡ drop offset text → IsStateIn limits text offset state → IsUtf8 bytes → shown ≡ bytes → IsStateIn limits shown again around → copy ≡ bytes → IsCharBoundary copy again → same ≡ drop again copy → around ≡ state → same ≡ left → (names : List (List ℕ)) → AreExpected Requests limits bytes names → AreExpected Requests limits text names
+expected-cut limits text left bytes shown copy same offset again state around utf8 boundary is at bytes-utf8 as-shown short-at as-seen short-boundary short-is known alike =
     let part : IsLeft limits bytes same around =
-    cut-left limits bytes same again around bytes-utf8 (subst (λ (l : List ℕ). IsCharBoundary l again) as-seen short-boundary) (short-is ∙ ap (drop again) as-seen) (subst (λ (l : List ℕ). IsOpenIn limits l again around) as-shown short-at) in
-    expected-moved limits text bytes left depth (cut-left limits text left offset depth utf8 boundary is at) (subst (λ (d : ℕ). IsLeft limits bytes left d) deep (subst (λ (l : List ℕ). IsLeft limits bytes l around) alike part))
+    cut-left limits bytes same again around bytes-utf8 (subst (λ (l : List ℕ). IsCharBoundary l again) as-seen short-boundary) (short-is ∙ ap (drop again) as-seen) (subst (λ (l : List ℕ). IsStateIn limits l again around) as-shown short-at) in
+    expected-moved limits text bytes left state (cut-left limits text left offset state utf8 boundary is at) (subst (λ (r : Reader (Unit {0})). IsLeft limits bytes left r) known (subst (λ (l : List ℕ). IsLeft limits bytes l around) alike part))
 
 pub same-bytes : (xs ys : List ℕ) → false ≡ not (bytes_eq xs ys) → xs ≡ ys
 same-bytes xs ys e = go (bytes_eq xs ys) refl e

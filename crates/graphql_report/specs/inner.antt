@@ -5,3 +5,4 @@ pub mod Parted
 pub mod Strings
 pub mod Carets
 pub mod OpenFronts
+pub mod OpenValues

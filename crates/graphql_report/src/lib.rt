@@ -13,11 +13,13 @@
 //! twenty checks, or some forty where no name can stand there; each is linear, and one copy of the text is kept at a time.
 //! Where the last definition before the refused token begins a line, and one check more finds that those before it are whole,
 //! only the text from that line on is checked; else all of the text before the refused token. One check of the text more finds
-//! that token. A request is read once more, up to where its last selection or the end of a set begins: the samples are tried
-//! after as many open selection sets and what stands from there on, so a long request costs no more of these checks than a short
-//! one, unless its last selection is long before its own set. A caller that read a text from a later line on says so, and what
-//! stands before isn't checked again: it has the refused token from [`refused_token_from`], and hands it on with what it knows
-//! ([`ReadUpTo`], [`explain_from`], [`finding_from`]).
+//! that token. A request is read once more, up to where its last selection or the end of a set begins, and where that selection
+//! or a definition that begins is long, once more up to the last value in the arguments of the field or of its directives, or in
+//! the variable definitions: the samples are tried after as many open selection sets, lists and objects and what stands from
+//! there on, so a long request costs no more of these checks than a short one, unless the directives of a definition, a variable
+//! or a fragment are long. A caller that read a text from a later line on says so, and what stands before isn't checked again: it
+//! has the refused token from [`refused_token_from`], and hands it on with what it knows ([`ReadUpTo`], [`explain_from`],
+//! [`finding_from`]).
 //!
 //! Proved of it, unless memory runs out: `is_front` answers true exactly where the tokens of a text are a viable front, in
 //! both languages and at all limits; the token that is given is the one at which the text is refused; what is expected is
@@ -34,10 +36,12 @@ mod definitions;
 mod excerpt;
 mod expected;
 mod faults;
+mod fewer_values;
 mod findings;
 mod fronts;
 mod hints;
 mod open_sets;
+mod open_values;
 mod probes;
 mod refused;
 mod report;

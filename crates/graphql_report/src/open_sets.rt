@@ -27,12 +27,15 @@ pub struct OpenAt {
     pub depth: usize,
 }
 
-// How many sets are open, and whether a selection has to follow in the innermost.
+/// How many sets are open, and whether a selection has to follow in the innermost.
 #[derive(Clone, Copy)]
-struct Sets {
-    depth: usize,
-    is_wanted: bool,
+pub struct Sets {
+    pub depth: usize,
+    pub is_wanted: bool,
 }
+
+/// A selection set that is open, after a field; the next one is that field's.
+pub const OPEN_SET: &str = "{a ";
 
 /// Where the last definition, selection or end of a set begins of those that are read before the end of the text, or
 /// before what is refused.
@@ -58,6 +61,23 @@ pub fn last_open(alloc: Global, text: &str, limits: Limits) -> Option<OpenAt>
             None => return found,
         }
     }
+}
+
+/// Up to the first definition, selection or end of a set that doesn't begin before this offset.
+pub fn pass_to(parser: &mut Parser, limits: Limits, offset: usize) -> Option<Sets>
+    ensures { IfSome result (λ sets. IsReadTo limits parser.old parser.new sets.depth sets.is_wanted) }
+{
+    let mut sets = Sets {
+        depth: 0,
+        is_wanted: false,
+    };
+    while parser.hand().start < offset {
+        if !goes_on(parser, sets) {
+            return None;
+        }
+        sets = step(parser, limits, sets)?;
+    }
+    Some(sets)
 }
 
 // Whether a definition begins, where no set is open; or a selection, or the end of a set.
@@ -185,9 +205,9 @@ fn pass_operation_opening(parser: &mut Parser, limits: Limits) -> bool
     true
 }
 
-// A name, where one is in hand.
+/// A name, where one is in hand.
 #[tactic(auto, unfolding(graphql_reading::specs::reading::Outcome::opt_at))]
-fn pass_maybe_name(parser: &mut Parser)
+pub fn pass_maybe_name(parser: &mut Parser)
     ensures { Passes parser.old parser.new (opt_at any_name (one_at any_name)) }
 {
     if parser.is_at_name() {

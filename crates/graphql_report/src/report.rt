@@ -55,7 +55,8 @@ const OF_NAMESAKES: Remarks = Remarks {
 /// `limits` are those that the parser was given, `Limits::default()` for the calls without limits. What was expected is
 /// found by some twenty to forty checks of what stands before the refused token: of a schema file that is all, or the
 /// definition in which the token stands if that begins with a line after others; of a request only as many selection sets as
-/// are open, and the last selection. One check of the text finds the refused token. An error says that memory was refused.
+/// are open, and the last selection; and where that is long, or variable definitions are, only as many lists and objects as are
+/// open there, and the last value. One check of the text finds the refused token. An error says that memory was refused.
 pub fn explain(
     alloc: Global,
     language: Language,

@@ -1,15 +1,18 @@
-//! A shorter text in place of a front: where the last selection begins, only the selection sets that are open count.
+//! A shorter text in place of a front: where the last selection begins, only the selection sets that are open count, and where it
+//! is long, only the lists and objects that are open in it.
 ghost use Rattle.std.specs.Prelude.{List, ℕ, IfOk, IfSome, string_bytes};
 ghost use Rattle.graphql_report.specs.declared.fronts.Language.TheVariants.{Requests};
 ghost use Rattle.graphql_report.specs.reports.Expected.{AreExpected};
+ghost use Rattle.graphql_report.specs.inner.OpenFronts.{IsOpenIn};
 
+use crate::fewer_values::with_fewer_values;
 use crate::fronts::Language;
-use crate::open_sets::last_open;
+use crate::open_sets::{OPEN_SET, OpenAt, last_open};
 use graphql_parser::Limits;
 use std::alloc::{AllocError, Global};
 
 /// A text after which the same is expected as after this front, where one is found that is shorter. Of a front it takes one
-/// reading. (A request is shortened, and a schema is not.)
+/// reading, and one more where its last selection or definition is long. (A request is shortened, and a schema is not.)
 pub fn shorter(
     alloc: Global,
     language: Language,
@@ -25,8 +28,7 @@ pub fn shorter(
     }
 }
 
-// From the last definition, selection or end of a set on the text stays as it is. As many sets are opened before that.
-// Nothing hangs on how they are: the text is read once more, up to where as many sets are open before what has stayed.
+// Where the last selection or the operation that begins is long, its arguments or variable definitions are cut too.
 fn shorter_request(alloc: Global, front: &str, limits: Limits) -> Result<Option<String>, AllocError>
     ensures { IfOk result (λ found. IfSome found (λ text. (names : List (List ℕ)) →
         AreExpected Requests limits (string_bytes text) names → AreExpected Requests limits front.now names)) }
@@ -34,6 +36,24 @@ fn shorter_request(alloc: Global, front: &str, limits: Limits) -> Result<Option<
     let Some(at) = last_open(alloc, front, limits) else {
         return Ok(None);
     };
+    match with_fewer_values(alloc, front, limits, at.offset)? {
+        Some(text) => Ok(Some(text)),
+        None => with_fewer_sets(alloc, front, limits, at),
+    }
+}
+
+// From the last definition, selection or end of a set on the text stays as it is. As many sets are opened before that.
+// Nothing hangs on how they are: the text is read once more, up to where as many sets are open before what has stayed.
+fn with_fewer_sets(
+    alloc: Global,
+    front: &str,
+    limits: Limits,
+    at: OpenAt,
+) -> Result<Option<String>, AllocError>
+    requires { IsOpenIn limits front.now at.offset at.depth }
+    ensures { IfOk result (λ found. IfSome found (λ text. (names : List (List ℕ)) →
+        AreExpected Requests limits (string_bytes text) names → AreExpected Requests limits front.now names)) }
+{
     let Some((_, left)) = front.split_at_checked(at.offset) else {
         return Ok(None);
     };
@@ -56,9 +76,6 @@ fn shorter_request(alloc: Global, front: &str, limits: Limits) -> Result<Option<
     }
     Ok(Some(text))
 }
-
-// A selection set that is open, after a field; the next one is that field's.
-const OPEN_SET: &str = "{a ";
 
 // So many selection sets that are open, and this text in the innermost.
 fn with_sets(alloc: Global, depth: usize, left: &str) -> Result<String, AllocError> {

@@ -58,9 +58,9 @@ abbrev pub from_open : Limits → ℕ → Bool → List Token → Outcome (Unit 
 from_open limits zero wanted ts = read_whole limits ts
 from_open limits (suc n) wanted ts = sets limits.values (limits.selections - n) n wanted ts >>= λ _ rest. after_definition limits rest
 
--- after the front so many sets are open, if this is the next token
-abbrev pub Opens : Limits → List Token → ℕ → Bare → Type 0
-Opens limits front depth next = (others : List Token) → in_sight others ≡ next ∷ [] → read_whole limits (front ++ others) ≡ from_open limits depth false others
+-- after the front the rest is read so, if this is the next token
+abbrev pub Opens : Limits → List Token → Reader (Unit {0}) → Bare → Type 0
+Opens limits front state next = (others : List Token) → in_sight others ≡ next ∷ [] → read_whole limits (front ++ others) ≡ state others
 
 -- whether a definition begins with this token, where no set is open; or a selection, or the end of a set in which none has
 -- to follow
@@ -76,16 +76,24 @@ pub record IsReadTo (limits : Limits) (start now : Ahead) (depth : ℕ) (wanted 
   pub told : (others : List Token) → in_sight others ≡ now.hand.bare ∷ [] → (depth ≡ 0 → definition_first now.hand.bare ≡ true) → read_whole limits (used ++ others) ≡ from_open limits depth wanted others
   pub few : depth ≤ suc limits.selections
 
--- so many sets are open before a token that begins at this offset and isn't the last
-pub record IsOpenAt (limits : Limits) (whole : List Token) (offset depth : ℕ) : Type 0 where
+-- the rest is read so from a token on that begins at this offset and isn't the last
+pub record IsStateAt (limits : Limits) (whole : List Token) (offset : ℕ) (state : Reader (Unit {0})) : Type 0 where
   pub front : List Token
   pub next : Token
   pub rest : List Token
   pub split : whole ≡ front ++ next ∷ rest
   pub starts : next.start ≡ offset
   pub goes_on : is_last next.bare.kind ≡ false
-  pub opens : Opens limits front depth next.bare
+  pub opens : Opens limits front state next.bare
 
 -- the same of the tokens of a text
+abbrev pub IsStateIn : Limits → List ℕ → ℕ → Reader (Unit {0}) → Type 0
+IsStateIn limits text offset state = (whole : List Token) → IsCutInto text whole → IsStateAt limits whole offset state
+
+-- so many sets are open before that token
+abbrev pub IsOpenAt : Limits → List Token → ℕ → ℕ → Type 0
+IsOpenAt limits whole offset depth = IsStateAt limits whole offset (from_open limits depth false)
+
+-- and in a text
 abbrev pub IsOpenIn : Limits → List ℕ → ℕ → ℕ → Type 0
-IsOpenIn limits text offset depth = (whole : List Token) → IsCutInto text whole → IsOpenAt limits whole offset depth
+IsOpenIn limits text offset depth = IsStateIn limits text offset (from_open limits depth false)
