@@ -6,10 +6,16 @@ mod Ends
 mod Spots
 mod LaterLines
 mod Listed
+mod Reaches
 mod Local
 mod LocalReaders
+mod LocalSchemas
 mod OpenFronts
 mod CutTexts
+mod CutOffs
+mod StandsFor
+mod LeftFronts
+mod OpenBodies
 mod ShorterFronts
 mod Parted
 mod ToldFronts

@@ -5,3 +5,5 @@ pub mod Parted
 pub mod Strings
 pub mod Carets
 pub mod OpenFronts
+pub mod Reaches
+pub mod OpenBodies

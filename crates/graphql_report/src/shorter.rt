@@ -5,11 +5,12 @@ ghost use Rattle.graphql_report.specs.reports.Expected.{AreExpected};
 
 use crate::fronts::Language;
 use crate::open_sets::last_open;
+use crate::shorter_schemas::shorter_schema;
 use graphql_parser::Limits;
 use std::alloc::{AllocError, Global};
 
 /// A text after which the same is expected as after this front, where one is found that is shorter. Of a front it takes one
-/// reading. (A request is shortened, and a schema is not.)
+/// reading.
 pub fn shorter(
     alloc: Global,
     language: Language,
@@ -21,7 +22,7 @@ pub fn shorter(
 {
     match language {
         Language::Requests => shorter_request(alloc, front, limits),
-        Language::Schemas => Ok(None),
+        Language::Schemas => shorter_schema(alloc, front, limits),
     }
 }
 
