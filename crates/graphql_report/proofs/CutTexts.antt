@@ -1,6 +1,7 @@
 -- A text in two parts, of which the second begins with a token: its tokens are those before and those of the second part,
 -- also where the text goes on after a line feed.
 use Rattle.std.proofs.Common.{◌≡◌, ◌⊎◌, ℕ, Bool, true, false, ◌&&◌, ◌==◌, inl, inr, List, [], ◌∷◌, ◌++◌, length, refl, sym, ap, ◌∙◌, subst, append_assoc, append-nil}
+use Rattle.std.proofs.lemmas.List.{append_cancel_left}
 use Rattle.std.proofs.lemmas.List.Folds.{concat-append}
 use Rattle.std.specs.List.{concat}
 use Rattle.std.specs.Str.{encode_utf8_all}
@@ -56,12 +57,35 @@ ignored-later : (pieces : List (List ℕ)) (after more : List ℕ) → IsLater m
 ignored-later [] after more later h = tt
 ignored-later (p ∷ ps) after more later h = (subst (IsPiece p) (append_assoc (concat ps) after more) (piece-later p (concat ps ++ after) more later h.0), ignored-later ps after more later h.1)
 
+-- ---- and where it ends sooner
+
+follows-sooner : (kind : TokenKind) (w rest more : List ℕ) → MayFollow kind w (rest ++ more) → MayFollow kind w rest
+follows-sooner kind w [] more h = tt
+follows-sooner kind w (c ∷ rest) more h = h
+
+ends-sooner : (rest more : List ℕ) → EndsLine (rest ++ more) → EndsLine rest
+ends-sooner [] more h = tt
+ends-sooner (c ∷ rest) more h = h
+
+piece-sooner : (piece rest more : List ℕ) → IsPiece piece (rest ++ more) → IsPiece piece rest
+piece-sooner piece rest more (inl p) = inl p
+piece-sooner piece rest more (inr p) = inr (p.0, ends-sooner rest more p.1)
+
+ignored-sooner : (pieces : List (List ℕ)) (after more : List ℕ) → AreIgnored pieces (after ++ more) → AreIgnored pieces after
+ignored-sooner [] after more h = tt
+ignored-sooner (p ∷ ps) after more h = (piece-sooner p (concat ps ++ after) more (subst (IsPiece p) (sym (append_assoc (concat ps) after more)) h.0), ignored-sooner ps after more h.1)
+
 -- ---- the two parts
 
 -- The text after the front is cut into the tokens before this one and those of what is left; and so it is with more after it.
+-- What is passed is cut into the tokens before this one, and an end.
 pub record IsCutAt (front text : List ℕ) (before : List Token) (t : Token) : Type 0 where
+  pub begun : List ℕ
   pub passed : List ℕ
   pub left : List ℕ
+  pub last : Token
+  pub is_passed : passed ≡ front ++ begun
+  pub ends : Cuts Current front begun (before ++ last ∷ [])
   pub whole : front ++ text ≡ passed ++ left
   pub starts : t.start ≡ length (encode_utf8_all passed)
   pub cuts : (more : List ℕ) → IsLater more → (vs : List Token) → Cuts Current passed (left ++ more) vs → Cuts Current front (text ++ more) (before ++ vs)
@@ -96,8 +120,15 @@ module _ (front text : List ℕ) (t : Token) (rest : List Token) (c : Cuts Curre
     where
       go : Stands Current here c.0.after t rest → IsCutAt front text [] t
       go (inl m) = record {
+        begun = concat c.0.pieces;
         passed = here;
         left = c.0.after;
+        last = token End here [];
+        is_passed = refl;
+        ends = (
+          record { pieces = c.0.pieces; after = []; whole = sym (append-nil (concat c.0.pieces)); ignored = ignored-sooner c.0.pieces [] c.0.after c.0.ignored },
+          inr (inl (record { ends = refl; is = refl }, refl)),
+        );
         whole = ap (λ (l : List ℕ). front ++ l) c.0.whole ∙ sym (append_assoc front (concat c.0.pieces) c.0.after);
         starts = ap (λ (x : Token). x.start) m.0.is;
         cuts = first-cuts;
@@ -140,9 +171,21 @@ cut-at front text (s ∷ before) t rest c other = go c.1 (λ f r cut. cut-at f r
     go : Stands Current here c.0.after s (before ++ t ∷ rest) → ((f r : List ℕ) → Cuts Current f r (before ++ t ∷ rest) → IsCutAt f r before t) → IsCutAt front text (s ∷ before) t
     go (inl m) others =
         let k = others (here ++ m.0.word) m.0.rest m.1 in
+        let rest : m.0.rest ≡ k.begun ++ k.left = append_cancel_left (here ++ m.0.word) m.0.rest (k.begun ++ k.left) (k.whole ∙ ap (λ (l : List ℕ). l ++ k.left) k.is_passed ∙ append_assoc (here ++ m.0.word) k.begun k.left) in
+        let after : c.0.after ≡ (m.0.word ++ k.begun) ++ k.left = m.0.whole ∙ ap (λ (l : List ℕ). m.0.word ++ l) rest ∙ sym (append_assoc m.0.word k.begun k.left) in
         record {
+          begun = concat c.0.pieces ++ (m.0.word ++ k.begun);
           passed = k.passed;
           left = k.left;
+          last = k.last;
+          is_passed = k.is_passed ∙ append_assoc here m.0.word k.begun ∙ append_assoc front (concat c.0.pieces) (m.0.word ++ k.begun);
+          ends = (
+            record { pieces = c.0.pieces; after = m.0.word ++ k.begun; whole = refl; ignored = ignored-sooner c.0.pieces (m.0.word ++ k.begun) k.left (subst (AreIgnored c.0.pieces) after c.0.ignored) },
+            inl (
+              record { kind = m.0.kind; word = m.0.word; rest = k.begun; whole = refl; begins = record { spelled = m.0.begins.spelled; follows = follows-sooner m.0.kind m.0.word k.begun k.left (subst (MayFollow m.0.kind m.0.word) rest m.0.begins.follows) }; is = m.0.is },
+              k.ends,
+            ),
+          );
           whole =
               ap (λ (l : List ℕ). front ++ l) c.0.whole ∙ sym (append_assoc front (concat c.0.pieces) c.0.after) ∙ ap (λ (l : List ℕ). here ++ l) m.0.whole
               ∙ sym (append_assoc here m.0.word m.0.rest) ∙ k.whole;

@@ -15,7 +15,7 @@ use Rattle.graphql_tokens.specs.tokens.Token.{Bare, Token}
 use Rattle.graphql_tokens.specs.inner.Reading.{skip, next, before, tokens_from, tokens}
 use Rattle.graphql_tokens.specs.declared.lexer.TokenKind.{TokenKind}
 use Rattle.graphql_tokens.specs.declared.lexer.TokenKind.TheVariants.{Punct, Name, Number, String, Block, Fault, End}
-use Rattle.graphql_tokens.proofs.Lists.{Stands, tokens_cuts, tokens_only}
+use Rattle.graphql_tokens.proofs.Lists.{Stands, tokens_only}
 use Rattle.graphql_reading.specs.grammar.Fronts.{bares}
 use Rattle.graphql_report.proofs.Lines.{line_feeds, line_feeds-append, IsLined, lined-after}
 
@@ -193,44 +193,6 @@ join front a s (t ∷ ts) vs e l c is d = (
         )
     go (inr (inl m)) others = absurd (nothing-left ts e m.1)
     go (inr (inr m)) others = absurd (nothing-left ts e m.1)
-
--- ---- the first token
-
-pub record BeginsSo (t : Token) (us : List Token) : Type 0 where
-  pub rest : List Token
-  pub is : us ≡ t ∷ rest
-
--- a token that is not the last is the first one still where the text goes on
-pub first-stays : (front a s : List ℕ) (t : Token) (ts us : List Token) → IsLined a → Cuts Current front a (t ∷ ts) → is_last t.bare.kind ≡ false → Cuts Current front (a ++ s) us → BeginsSo t us
-first-stays front a s t ts us l c other d = go c.1
-  where
-    go : Stands Current (front ++ concat c.0.pieces) c.0.after t ts → BeginsSo t us
-    go (inl m) =
-        let here = front ++ concat c.0.pieces in
-        let lined : IsLined (m.0.word ++ m.0.rest) = subst IsLined m.0.whole (lined-after (concat c.0.pieces) c.0.after (subst IsLined c.0.whole l)) in
-        let vs = tokens (here ++ m.0.word) (m.0.rest ++ s) in
-        let cut : Cuts Current front (a ++ s) (t ∷ vs) = (
-          record {
-            pieces = c.0.pieces;
-            after = c.0.after ++ s;
-            whole = ap (λ (l : List ℕ). l ++ s) c.0.whole ∙ append_assoc (concat c.0.pieces) c.0.after s;
-            ignored = ignored-more c.0.pieces c.0.after s (subst IsLined c.0.whole l) c.0.ignored;
-          },
-          inl (
-            record {
-              kind = m.0.kind;
-              word = m.0.word;
-              rest = m.0.rest ++ s;
-              whole = ap (λ (l : List ℕ). l ++ s) m.0.whole ∙ append_assoc m.0.word m.0.rest s;
-              begins = begins-more m.0.kind m.0.word m.0.rest s lined m.0.begins;
-              is = m.0.is;
-            },
-            tokens_cuts (here ++ m.0.word) (m.0.rest ++ s),
-          ),
-        ) in
-        record { rest = vs; is = tokens_only front (a ++ s) us d ∙ sym (tokens_only front (a ++ s) (t ∷ vs) cut) }
-    go (inr (inl m)) = absurd (let last : is_last t.bare.kind ≡ true = ap (λ (t : Token). is_last t.bare.kind) m.0.is in cc)
-    go (inr (inr m)) = absurd (let last : is_last t.bare.kind ≡ true = ap (λ (t : Token). is_last t.bare.kind) m.0.is in cc)
 
 -- ---- places
 

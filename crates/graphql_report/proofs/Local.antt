@@ -23,7 +23,7 @@ pub sight-after : (u x y : List Token) → in_sight x ≡ in_sight y → in_sigh
 sight-after [] x y e = e
 sight-after (t ∷ u) x y e = refl
 
-head-same : (b c : Bare) → b ∷ [] ≡ c ∷ [] → b ≡ c
+pub head-same : (b c : Bare) → b ∷ [] ≡ c ∷ [] → b ≡ c
 head-same b c e = cc
 
 -- what the token in sight decides
@@ -31,7 +31,7 @@ pub chosen : {A : Type 0} (test : Test) (r s : Reader A) (w : Bool) (b : Bare) (
 chosen test r s w b [] e is = absurd cc
 chosen test r s w b (t ∷ ts) e is = ap (λ (v : Bool). cond v (r (t ∷ ts)) (s (t ∷ ts))) (ap test (head-same t.bare b e) ∙ is)
 
-many-sight : {A : Type 0} (first : Test) (r : Reader A) → Takes r → (b : Bare) (ts : List Token) → in_sight ts ≡ b ∷ [] → first b ≡ true → many_at first r ts ≡ ((r ts >>= λ a rest. many_at first r rest >>= λ others rest'. pair-read a others rest') >>= λ x rest. cons-read x rest)
+pub many-sight : {A : Type 0} (first : Test) (r : Reader A) → Takes r → (b : Bare) (ts : List Token) → in_sight ts ≡ b ∷ [] → first b ≡ true → many_at first r ts ≡ ((r ts >>= λ a rest. many_at first r rest >>= λ others rest'. pair-read a others rest') >>= λ x rest. cons-read x rest)
 many-sight first r takes b [] e is = absurd cc
 many-sight first r takes b (t ∷ ts) e is = many-more first r takes t ts (ap first (head-same t.bare b e) ∙ is)
 

@@ -152,7 +152,7 @@ with-sight : {A : Type 0} (f g : List Token → A) (b : Bare) (others : List Tok
 with-sight f g b [] e same = absurd cc
 with-sight f g b (t ∷ ts) e same = same t ts cc
 
-one-read : (test : Test) (ts : List Token) (brace : Token) (rest : List Token) → one_at test ts ≡ Read brace rest → (ts ≡ brace ∷ rest) × (test brace.bare ≡ true)
+pub one-read : (test : Test) (ts : List Token) (brace : Token) (rest : List Token) → one_at test ts ≡ Read brace rest → (ts ≡ brace ∷ rest) × (test brace.bare ≡ true)
 one-read test [] brace rest e = absurd cc
 one-read test (t ∷ ts) brace rest e = go (test t.bare) refl e
   where

@@ -1,11 +1,12 @@
--- What is expected after definitions that end in a line feed, and a part of a text after them that begins another one, is
--- what is expected after the part.
-use Rattle.std.proofs.Common.{◌≡◌, ℕ, Bool, false, IsTrue, ◌↔◌, Result, Ok, Err, List, [], ◌∷◌, ◌++◌, refl, sym, ap, ◌∙◌, subst, append_assoc}
+-- What is expected after definitions of a schema file, and a part of the text after them that begins another one, is what is
+-- expected after the part.
+use Rattle.std.proofs.Common.{◌≡◌, ℕ, Bool, true, false, IsTrue, ◌↔◌, Option, Some, None, List, [], ◌∷◌, ◌++◌, take, drop, refl, sym, ap, ◌∙◌, subst, append_assoc, append-nil, inl}
 use Rattle.std.proofs.lemmas.List.{same_from_push}
-use Rattle.std.proofs.lemmas.Str.{chars-append, IsUtf8-append}
-use Rattle.std.specs.Prelude.{IfOk}
-use Rattle.std.specs.Str.{chars, IsUtf8}
-use Rattle.graphql_tokens.specs.tokens.Cuts.{is_last, Cuts}
+use Rattle.std.proofs.lemmas.Str.{chars-append, chars-nil, IsUtf8-drop}
+use Rattle.std.specs.Option.{option_or}
+use Rattle.std.specs.Prelude.{IfSome}
+use Rattle.std.specs.Str.{chars, IsUtf8, IsCharBoundary}
+use Rattle.graphql_tokens.specs.tokens.Cuts.{is_last, Cuts, IsCutInto}
 use Rattle.graphql_tokens.specs.tokens.Edition.{Current}
 use Rattle.graphql_tokens.specs.tokens.Kinds.{is_end}
 use Rattle.graphql_tokens.specs.tokens.Token.{Bare, Token}
@@ -17,15 +18,12 @@ use Rattle.graphql_reading.specs.grammar.Fronts.{bares, Completes}
 use Rattle.graphql_reading.specs.grammar.Limits.{Limits}
 use Rattle.graphql_reading.specs.grammar.Relations.{Rel}
 use Rattle.graphql_reading.specs.grammar.Tests.{Test, the_end}
+use Rattle.graphql_reading.specs.reading.Ahead.{Ahead, tokens as tokens_of}
 use Rattle.graphql_reading.proofs.IgnoresPlaces.{IgnoresPlaces, splits, head-is}
-use Rattle.graphql_reading.proofs.Theory.{Begins, Extends, IsSubset, anything}
-use Rattle.graphql_reading.proofs.TokenTests.{word_of, keyword-within, the_end-is, the_end-within, within-anything, within-either}
+use Rattle.graphql_reading.proofs.Theory.{Begins, Extends, IsSubset}
+use Rattle.graphql_reading.proofs.TokenTests.{word_of, keyword-within, the_end-within, within-either}
 use Rattle.graphql_reading.proofs.Whole.{viable-bare, viable-completes, ignores-whole}
 use Rattle.graphql_grammar.specs.answers.Language.{Language as Described, grammar}
-use Rattle.graphql_requests.specs.grammar.Request as request
-use Rattle.graphql_requests.specs.grammar.Requests.{requests}
-use Rattle.graphql_requests.specs.reading.Request as request_at
-use Rattle.graphql_requests.proofs.RequestProductions as of_requests
 use Rattle.graphql_schemas.specs.grammar.SchemaFile as schema
 use Rattle.graphql_schemas.specs.grammar.Schemas.{schemas}
 use Rattle.graphql_schemas.specs.reading.Descriptions.{is_text}
@@ -34,15 +32,16 @@ use Rattle.graphql_schemas.specs.reading.Types.{body_first}
 use Rattle.graphql_schemas.proofs.BodyProductions.{bodies-within}
 use Rattle.graphql_schemas.proofs.DescriptionProductions.{text-within}
 use Rattle.graphql_schemas.proofs.SchemaFileProductions as of_schemas
-use Rattle.graphql_report.specs.declared.fronts.Language.{Language}
-use Rattle.graphql_report.specs.declared.fronts.Language.TheVariants.{Requests, Schemas}
-use Rattle.graphql_report.specs.fronts.Front.{LastIsLineFeed, IsFront}
-use Rattle.graphql_report.specs.inner.Parted.{definition_begins, first_passes, BeginsDefinition, IsApart}
-use Rattle.graphql_report.specs.reports.Expected.{TellsFrontOf, TellsTreeOf, HasTree, HasTreeOf, with_sample, Samples, name_text, literals, punctuators, keywords, AreTaken, AreExpected}
-use Rattle.graphql_report.proofs.Buffers.{line-feed-utf8, pushed-line-feed}
+use Rattle.graphql_report.specs.declared.fronts.Language.TheVariants.{Schemas}
+use Rattle.graphql_report.specs.fronts.Front.{IsFront}
+use Rattle.graphql_report.specs.inner.OpenFronts.{in_sight}
+use Rattle.graphql_report.specs.inner.Parted.{StartsAt, StartsIn}
+use Rattle.graphql_report.specs.reports.Expected.{TellsTreeOf, HasTree, AreExpected}
+use Rattle.graphql_report.proofs.CutOffs.{IsCutOff, cut-off}
+use Rattle.graphql_report.proofs.CutTexts.{IsLater}
 use Rattle.graphql_report.proofs.Listed.{AreListed, not-both, rest-has, all-has, rest-extends, all-extends}
-use Rattle.graphql_report.proofs.Joins.{join, first-stays, bares-of}
-use Rattle.graphql_report.proofs.Lines.{IsLined, is-lined}
+use Rattle.graphql_report.proofs.Joins.{bares-of}
+use Rattle.graphql_report.proofs.StandsFor.{StandsFor, expected-moved}
 
 -- ---- what is known of a language: of a text that begins with definitions, and of the rest of it
 
@@ -53,30 +52,6 @@ record Parts {D Document : Type 0} (language : Described D Document) (limits : L
   tree-down : (u w : List Token) (ds tree : List D) → language.definitions Current limits u ds → Begins first w → grammar language Current limits (u ++ w) tree → (rest : List D) × grammar language Current limits w rest
   ignores : IgnoresPlaces (grammar language Current) language.placeless
   apart : (t : Bare) → IsTrue (first t) → IsTrue (the_end t) → ⊥
-  not-last : (t : Bare) → IsTrue (first t) → is_last t.kind ≡ false
-
-requests-listed : (b : Limits) → AreListed (request.a_definition Current) b request_at.definition_first anything (request_at.definition_at b)
-requests-listed b = record { begins = of_requests.begins-definition; exact = of_requests.exact-definition; goes_on = within-anything; ends = within-anything; apart = the_end-within (λ spelling. refl) }
-
-no-request : (kind : TokenKind) (spelling : List ℕ) → IsTrue (request_at.definition_first (record { kind = kind; spelling = spelling })) → is_last kind ≡ false
-no-request Punct spelling h = refl
-no-request Name spelling h = refl
-no-request Number spelling h = refl
-no-request String spelling h = refl
-no-request Block spelling h = refl
-no-request Fault spelling h = absurd cc
-no-request End spelling h = absurd cc
-
-of-requests : (b : Limits) → Parts requests b request_at.definition_first
-of-requests b = record {
-  front-up = λ u q ds h. all-extends (request.a_definition Current) b u q ds h;
-  front-down = λ u q ds h begins. rest-extends (requests-listed b) u q ds h begins;
-  tree-up = λ u w ds tree h. all-has (request.a_definition Current) b u w ds tree h;
-  tree-down = λ u w ds tree h begins. rest-has (requests-listed b) u w ds tree h begins;
-  ignores = ignores-whole of_requests.ignores-definitions;
-  apart = not-both (requests-listed b);
-  not-last = λ t h. no-request t.kind t.spelling h;
-}
 
 definitions-within : {g : Test} → IsSubset is_text g → IsTrue (g (word_of "extend")) → IsTrue (g (word_of "schema")) → IsTrue (g (word_of "directive")) → IsSubset body_first g → IsSubset schema_at.definition_first g
 definitions-within a-text an-extension a-schema a-directive a-body =
@@ -93,7 +68,7 @@ schemas-listed b = record {
   apart = the_end-within (λ spelling. refl);
 }
 
-no-schema : (kind : TokenKind) (spelling : List ℕ) → IsTrue (schema_at.definition_first (record { kind = kind; spelling = spelling })) → is_last kind ≡ false
+no-schema : (kind : TokenKind) (spelling : List ℕ) → schema_at.definition_first (record { kind = kind; spelling = spelling }) ≡ true → is_last kind ≡ false
 no-schema Punct spelling h = refl
 no-schema Name spelling h = refl
 no-schema Number spelling h = refl
@@ -110,7 +85,6 @@ of-schemas b = record {
   tree-down = λ u w ds tree h begins. rest-has (schemas-listed b) u w ds tree h begins;
   ignores = ignores-whole of_schemas.ignores-definitions;
   apart = not-both (schemas-listed b);
-  not-last = λ t h. no-schema t.kind t.spelling h;
 }
 
 -- ---- lists with the same bare tokens
@@ -192,24 +166,11 @@ record Joined {D Document : Type 0} (language : Described D Document) (limits : 
   alike : bares (tokens [] c) ≡ bares rest
   begins : Begins first rest
 
-joined : {D Document : Type 0} (language : Described D Document) (limits : Limits) (first : Test) (a c : List ℕ) → IsLined a → HasTree language limits (tokens [] a) → Begins first (tokens [] c) → (ts : List Token) → Cuts Current [] (a ++ c) ts → Joined language limits first c ts
-joined language limits first a c lined tree begins ts cut =
-    let m = tree.1.holds in
-    let e : Token = tree.1.value.1 in
-    let split : tokens [] a ≡ m.front ++ e ∷ [] = m.joined ∙ ap (λ (l : List Token). m.front ++ l) m.second.0 in
-    let ends : e.bare.kind ≡ End = ap (λ (t : Bare). t.kind) (the_end-is e.bare m.second.1) in
-    let vs = tokens a c in
-    let all = join [] a c m.front vs e lined (subst (Cuts Current [] a) split (tokens_cuts [] a)) ends (tokens_cuts a c) in
-    let alike : bares (tokens [] c) ≡ bares vs = bares-of [] a c (tokens [] c) vs (tokens_cuts [] c) (tokens_cuts a c) in
-    record {
-      front = m.front;
-      rest = vs;
-      definitions = tree.1.value.0;
-      is = tokens_only [] (a ++ c) ts cut ∙ sym (tokens_only [] (a ++ c) (m.front ++ vs) all);
-      holds = m.first;
-      alike = alike;
-      begins = begins-same first (tokens [] c) vs alike begins;
-    }
+sight-begins : (first : Test) (ts : List Token) (b : Bare) → in_sight ts ≡ b ∷ [] → first b ≡ true → Begins first ts
+sight-begins first [] b e is = absurd cc
+sight-begins first (t ∷ ts) b e is =
+    let same : t.bare ≡ b = cc in
+    ap first same ∙ is
 
 front-joined : {D Document : Type 0} (language : Described D Document) (limits : Limits) (first : Test) → Parts language limits first → (c : List ℕ) (ts : List Token) → Joined language limits first c ts → (b : Bool) → ((ws : List Token) → Cuts Current [] c ws → IsTrue b ↔ IsFront language limits ws) → IsTrue b ↔ IsFront language limits ts
 front-joined language limits first parts c ts j b tells =
@@ -234,100 +195,87 @@ tree-joined language limits first parts c ts j b tells =
 
 -- ---- texts
 
-passes : (test : Test) (ts : List Token) → first_passes test ts → Begins test ts
-passes test [] h = h
-passes test (t ∷ ts) h = h
+module _ (limits : Limits) (text left : List ℕ) (offset : ℕ) (utf8 : IsUtf8 text) (boundary : IsCharBoundary text offset) (is-left : left ≡ drop offset text) (begins : StartsIn text offset) where
+  at : StartsAt (tokens [] (chars text)) offset
+  at = begins (tokens [] (chars text)) (tokens_cuts [] (chars text))
 
--- with definitions before it the text is a front where it is one by itself
-tells-front : (language : Language) (limits : Limits) (whole c : List ℕ) (b : Bool) → IsUtf8 whole → LastIsLineFeed (chars whole) → HasTreeOf language limits (tokens [] (chars whole)) → Begins (definition_begins language) (tokens [] (chars c)) → TellsFrontOf language limits c b → TellsFrontOf language limits (whole ++ c) b
-tells-front Requests limits whole c b utf8 lined tree begins tells = λ ts cut.
-    front-joined requests limits request_at.definition_first (of-requests limits) (chars c) ts
-    (joined requests limits request_at.definition_first (chars whole) (chars c) (is-lined (chars whole) lined) tree begins ts (subst (λ (l : List ℕ). Cuts Current [] l ts) (chars-append whole c utf8) cut)) b tells
-tells-front Schemas limits whole c b utf8 lined tree begins tells = λ ts cut.
-    front-joined schemas limits schema_at.definition_first (of-schemas limits) (chars c) ts
-    (joined schemas limits schema_at.definition_first (chars whole) (chars c) (is-lined (chars whole) lined) tree begins ts (subst (λ (l : List ℕ). Cuts Current [] l ts) (chars-append whole c utf8) cut)) b tells
+  off : IsCutOff text (take offset text) left at.front at.next
+  off = cut-off text left offset at.front at.next at.rest utf8 boundary is-left at.split at.starts (no-schema at.next.bare.kind at.next.bare.spelling at.begins)
 
-tells-tree : (language : Language) (limits : Limits) (whole c : List ℕ) (b : Bool) → IsUtf8 whole → LastIsLineFeed (chars whole) → HasTreeOf language limits (tokens [] (chars whole)) → Begins (definition_begins language) (tokens [] (chars c)) → TellsTreeOf language limits c b → TellsTreeOf language limits (whole ++ c) b
-tells-tree Requests limits whole c b utf8 lined tree begins tells = λ ts cut.
-    tree-joined requests limits request_at.definition_first (of-requests limits) (chars c) ts
-    (joined requests limits request_at.definition_first (chars whole) (chars c) (is-lined (chars whole) lined) tree begins ts (subst (λ (l : List ℕ). Cuts Current [] l ts) (chars-append whole c utf8) cut)) b tells
-tells-tree Schemas limits whole c b utf8 lined tree begins tells = λ ts cut.
-    tree-joined schemas limits schema_at.definition_first (of-schemas limits) (chars c) ts
-    (joined schemas limits schema_at.definition_first (chars whole) (chars c) (is-lined (chars whole) lined) tree begins ts (subst (λ (l : List ℕ). Cuts Current [] l ts) (chars-append whole c utf8) cut)) b tells
+  passed-cut : Cuts Current [] (chars (take offset text)) (at.front ++ off.cut.last ∷ [])
+  passed-cut = subst (λ (l : List ℕ). Cuts Current [] l (at.front ++ off.cut.last ∷ [])) (sym off.cut.is_passed ∙ off.was) off.cut.ends
 
-not-last : (language : Language) (t : Bare) → IsTrue (definition_begins language t) → is_last t.kind ≡ false
-not-last Requests t h = no-request t.kind t.spelling h
-not-last Schemas t h = no-schema t.kind t.spelling h
+  module _ (tree : HasTree schemas limits (at.front ++ off.cut.last ∷ [])) where
+    -- the text goes on
+    joined : (more : List ℕ) → IsLater (chars more) → (ts : List Token) → IsCutInto (text ++ more) ts → Joined schemas limits schema_at.definition_first (chars (left ++ more)) ts
+    joined more later ts cut =
+        let m = tree.1.holds in
+        let vs = tokens off.cut.passed (off.cut.left ++ chars more) in
+        let split : at.front ++ off.cut.last ∷ [] ≡ m.front ++ tree.1.value.1 ∷ [] = m.joined ∙ ap (λ (l : List Token). m.front ++ l) m.second.0 in
+        let all = subst (λ (l : List ℕ). Cuts Current [] l (at.front ++ vs)) (sym (chars-append text more utf8)) (off.cut.cuts (chars more) later vs (tokens_cuts off.cut.passed (off.cut.left ++ chars more))) in
+        let same : chars (left ++ more) ≡ off.cut.left ++ chars more = chars-append left more (subst IsUtf8 (sym is-left) (IsUtf8-drop text offset utf8 boundary)) ∙ ap (λ (l : List ℕ). l ++ chars more) (sym off.is) in
+        record {
+          front = at.front;
+          rest = vs;
+          definitions = tree.1.value.0;
+          is = tokens_only [] (chars (text ++ more)) ts cut ∙ sym (tokens_only [] (chars (text ++ more)) (at.front ++ vs) all);
+          holds = subst (λ (l : List Token). schemas.definitions Current limits l tree.1.value.0) (sym (same_from_push at.front m.front off.cut.last tree.1.value.1 split).0) m.first;
+          alike = bares-of [] off.cut.passed (off.cut.left ++ chars more) (tokens [] (chars (left ++ more))) vs (subst (λ (l : List ℕ). Cuts Current [] l (tokens [] (chars (left ++ more)))) same (tokens_cuts [] (chars (left ++ more)))) (tokens_cuts off.cut.passed (off.cut.left ++ chars more));
+          begins = sight-begins schema_at.definition_first vs at.next.bare (off.cut.sight (chars more) later) at.begins;
+        }
 
--- a text that goes on after a line begins as the line does
-begins-still : (language : Language) (line rest : List ℕ) → IsUtf8 line → LastIsLineFeed (chars line) → Begins (definition_begins language) (tokens [] (chars line)) → Begins (definition_begins language) (tokens [] (chars (line ++ rest)))
-begins-still language line rest utf8 lined begins = go (tokens [] (chars line)) (tokens_cuts [] (chars line)) begins
-  where
-    go : (ts : List Token) → Cuts Current [] (chars line) ts → Begins (definition_begins language) ts → Begins (definition_begins language) (tokens [] (chars (line ++ rest)))
-    go [] cut h = absurd h
-    go (t ∷ ts) cut h =
-        let us = tokens [] (chars (line ++ rest)) in
-        let same = first-stays [] (chars line) (chars rest) t ts us (is-lined (chars line) lined) cut (not-last language t.bare h) (subst (λ (l : List ℕ). Cuts Current [] l us) (chars-append line rest utf8) (tokens_cuts [] (chars (line ++ rest)))) in
-        subst (Begins (definition_begins language)) (sym same.is) h
-
--- ---- what is expected
-
-with-sample-after : (whole line sample : List ℕ) → whole ++ with_sample line sample ≡ with_sample (whole ++ line) sample
-with-sample-after whole line sample = sym (append_assoc whole (line ++ sample) (10 ∷ [])) ∙ ap (λ (l : List ℕ). l ++ 10 ∷ []) (sym (append_assoc whole line sample))
-
-record Line (language : Language) (limits : Limits) (whole line : List ℕ) : Type 0 where
-  utf8 : IsUtf8 whole
-  lined : LastIsLineFeed (chars whole)
-  tree : HasTreeOf language limits (tokens [] (chars whole))
-  line-utf8 : IsUtf8 line
-  line-lined : LastIsLineFeed (chars line)
-  begins : Begins (definition_begins language) (tokens [] (chars line))
-
-sample-after : (language : Language) (limits : Limits) (whole line sample : List ℕ) (b : Bool) → Line language limits whole line → TellsFrontOf language limits (with_sample line sample) b → TellsFrontOf language limits (with_sample (whole ++ line) sample) b
-sample-after language limits whole line sample b h tells =
-    let begins = begins-still language line (sample ++ 10 ∷ []) h.line-utf8 h.line-lined h.begins in
-    let here = subst (λ (l : List ℕ). Begins (definition_begins language) (tokens [] (chars l))) (sym (append_assoc line sample (10 ∷ []))) begins in
-    subst (λ (l : List ℕ). TellsFrontOf language limits l b) (with-sample-after whole line sample) (tells-front language limits whole (with_sample line sample) b h.utf8 h.lined h.tree here tells)
-
-taken-after : (language : Language) (limits : Limits) (whole line : List ℕ) → Line language limits whole line → (samples : Samples) (names : List (List ℕ)) → AreTaken language limits line samples names → AreTaken language limits (whole ++ line) samples names
-taken-after language limits whole line h [] names e = e
-taken-after language limits whole line h (s ∷ samples) names k =
-    (k.0, k.1, sample-after language limits whole line s.0 k.0 h k.2, k.3, taken-after language limits whole line h samples k.1 k.4)
-
-expected-names : (language : Language) (limits : Limits) (whole part front : List ℕ) (names : List (List ℕ)) → IsUtf8 whole → IsUtf8 part → front ≡ whole ++ part → IsApart language limits whole part → AreExpected language limits part names → AreExpected language limits front names
-expected-names language limits whole part front names utf8 part-utf8 is apart h =
-    let line : List ℕ = part ++ 10 ∷ [] in
-    let facts : Line language limits whole line = record {
-      utf8 = utf8;
-      lined = apart.lined;
-      tree = apart.tree (tokens [] (chars whole)) (tokens_cuts [] (chars whole));
-      line-utf8 = IsUtf8-append part (10 ∷ []) part-utf8 line-feed-utf8;
-      line-lined = pushed-line-feed part line part-utf8 refl;
-      begins = passes (definition_begins language) (tokens [] (chars line)) (apart.line_begins (tokens [] (chars line)) (tokens_cuts [] (chars line)));
-    } in
-    let begins = passes (definition_begins language) (tokens [] (chars part)) (apart.begins (tokens [] (chars part)) (tokens_cuts [] (chars part))) in
-    let same : whole ++ line ≡ front ++ 10 ∷ [] = sym (append_assoc whole part (10 ∷ [])) ∙ ap (λ (l : List ℕ). l ++ 10 ∷ []) (sym is) in
-    record {
-      has_name = h.has_name;
-      tells_name = subst (λ (l : List ℕ). TellsFrontOf language limits (with_sample l name_text) h.has_name) same (sample-after language limits whole line name_text h.has_name facts h.tells_name);
-      of_literals = h.of_literals;
-      are_literals = subst (λ (l : List ℕ). AreTaken language limits l literals h.of_literals) same (taken-after language limits whole line facts literals h.of_literals h.are_literals);
-      of_punctuators = h.of_punctuators;
-      are_punctuators = subst (λ (l : List ℕ). AreTaken language limits l punctuators h.of_punctuators) same (taken-after language limits whole line facts punctuators h.of_punctuators h.are_punctuators);
-      of_keywords = h.of_keywords;
-      none_beside_a_name = h.none_beside_a_name;
-      are_keywords = λ e. subst (λ (l : List ℕ). AreTaken language limits l keywords h.of_keywords) same (taken-after language limits whole line facts keywords h.of_keywords (h.are_keywords e));
-      is_whole = h.is_whole;
-      tells_whole = subst (λ (l : List ℕ). TellsTreeOf language limits l h.is_whole) (sym is) (tells-tree language limits whole part h.is_whole utf8 apart.lined facts.tree begins h.tells_whole);
-      are_names = h.are_names;
+    -- with definitions before it a text is a front, and has a tree, where it has them by itself
+    stands : StandsFor Schemas limits left text
+    stands = record {
+      fronts = λ more later b tells ts cut. front-joined schemas limits schema_at.definition_first (of-schemas limits) (chars (left ++ more)) ts (joined more later ts cut) b tells;
+      trees = λ b tells ts cut. tree-joined schemas limits schema_at.definition_first (of-schemas limits) (chars left) ts
+          (subst (λ (l : List ℕ). Joined schemas limits schema_at.definition_first (chars l) ts) (append-nil left) (joined [] (inl chars-nil) ts (subst (λ (l : List ℕ). IsCutInto l ts) (sym (append-nil text)) cut))) b tells;
     }
 
-pub expected-after : {A E : Type 0} (view : A → List (List ℕ)) (language : Language) (limits : Limits) (whole part front : List ℕ) (result : Result A E) → IsUtf8 whole → IsUtf8 part → front ≡ whole ++ part → IsApart language limits whole part → IfOk result (λ names. AreExpected language limits part (view names)) → IfOk result (λ names. AreExpected language limits front (view names))
-expected-after view language limits whole part front (Err refused) utf8 part-utf8 is apart h = tt
-expected-after view language limits whole part front (Ok names) utf8 part-utf8 is apart h = expected-names language limits whole part front (view names) utf8 part-utf8 is apart h
+  pub expected-after : (b : Bool) → TellsTreeOf Schemas limits (take offset text) b → IsTrue b → (names : List (List ℕ)) → AreExpected Schemas limits left names → AreExpected Schemas limits text names
+  expected-after b tells is names h = expected-moved (stands ((tells (at.front ++ off.cut.last ∷ []) passed-cut).0 is)) names h
 
--- ---- how the parts are judged
+-- ---- the walk
 
-pub is-apart : {E : Type 0} (language : Language) (limits : Limits) (whole part line : List ℕ) (result : Result Bool E) → LastIsLineFeed (chars whole) → BeginsDefinition language part → line ≡ part ++ 10 ∷ [] → BeginsDefinition language line → IfOk result (TellsTreeOf language limits whole) → IfOk result (λ answer. IsTrue answer → IsApart language limits whole part)
-is-apart language limits whole part line (Err refused) lined begins is line_begins tells = tt
-is-apart language limits whole part line (Ok answer) lined begins is line_begins tells = λ t. record { lined = lined; tree = λ ts cut. (tells ts cut).0 t; begins = begins; line_begins = subst (BeginsDefinition language) is line_begins }
+-- How far a text is seen, and where a definition was found last.
+pub record Seeks (text : List ℕ) (now : Ahead) (found : Option ℕ) : Type 0 where
+  pub start : Ahead
+  pub used : List Token
+  pub only : (whole : List Token) → IsCutInto text whole → whole ≡ tokens_of start
+  pub split : tokens_of start ≡ used ++ tokens_of now
+  pub last : IfSome found (StartsAt (tokens_of start))
+
+pub seek-begins : (text : List ℕ) (start : Ahead) → ((whole : List Token) → IsCutInto text whole → whole ≡ tokens_of start) → Seeks text start None
+seek-begins text start only = record { start = start; used = []; only = only; split = refl; last = tt }
+
+either-found : (P : ℕ → Type 0) (here found : Option ℕ) → IfSome here P → IfSome found P → IfSome (option_or here found) P
+either-found P (Some offset) found h k = h
+either-found P None found h k = k
+
+module _ {text : List ℕ} {now : Ahead} {found : Option ℕ} (seeks : Seeks text now found) where
+  marked : (here : Option ℕ) → IfSome here (λ offset. (offset ≡ now.hand.start) × (schema_at.definition_first now.hand.bare ≡ true)) → IfSome here (StartsAt (tokens_of seeks.start))
+  marked None h = tt
+  marked (Some offset) h = record { front = seeks.used; next = now.hand; rest = now.after; split = seeks.split; starts = sym h.0; begins = h.1 }
+
+  -- a definition may begin with the token in hand
+  pub seek-marks : (here more : Option ℕ) → more ≡ option_or here found → IfSome here (λ offset. (offset ≡ now.hand.start) × (schema_at.definition_first now.hand.bare ≡ true)) → Seeks text now more
+  seek-marks here more is h = record {
+    start = seeks.start;
+    used = seeks.used;
+    only = seeks.only;
+    split = seeks.split;
+    last = subst (λ (o : Option ℕ). IfSome o (StartsAt (tokens_of seeks.start))) (sym is) (either-found (StartsAt (tokens_of seeks.start)) here found (marked here h) seeks.last);
+  }
+
+  pub seek-on : (after : Ahead) → tokens_of after ≡ now.after → Seeks text after found
+  seek-on after taken = record {
+    start = seeks.start;
+    used = seeks.used ++ now.hand ∷ [];
+    only = seeks.only;
+    split = seeks.split ∙ ap (λ (l : List Token). seeks.used ++ now.hand ∷ l) (sym taken) ∙ sym (append_assoc seeks.used (now.hand ∷ []) (tokens_of after));
+    last = seeks.last;
+  }
+
+pub found-start : (text : List ℕ) (now : Ahead) (found : Option ℕ) → Seeks text now found → IfSome found (StartsIn text)
+found-start text now None seeks = tt
+found-start text now (Some offset) seeks = λ whole cut. subst (λ (l : List Token). StartsAt l offset) (sym (seeks.only whole cut)) seeks.last

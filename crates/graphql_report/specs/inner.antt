@@ -6,3 +6,5 @@ pub mod Strings
 pub mod Carets
 pub mod OpenFronts
 pub mod OpenValues
+pub mod Reaches
+pub mod OpenBodies

@@ -199,8 +199,8 @@ pub const BEFORE_NAMES: [&str; 11] = [
     "@",
 ];
 
-/// The first token of the definition whose keyword this is: `extend`, or a description, or the keyword itself.
-pub fn first_of<'a>(before: Option<Token<'a>>, keyword: Token<'a>) -> Token<'a> {
+// The first token of the definition whose keyword this is: `extend`, or a description, or the keyword itself.
+fn first_of<'a>(before: Option<Token<'a>>, keyword: Token<'a>) -> Token<'a> {
     match before {
         Some(token) if token.text == "extend" || token.kind.is_string() || token.kind.is_block() =>
             { token }

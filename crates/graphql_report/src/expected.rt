@@ -1,11 +1,11 @@
 //! What could have stood in place of the refused token.
-ghost use Rattle.std.specs.Prelude.{◌≡◌, ◌++◌, IfOk, OnOk, string_bytes};
+ghost use Rattle.std.specs.Prelude.{◌≡◌, IfOk, OnOk, string_bytes};
 ghost use Rattle.std.specs.Str.{chars};
 ghost use Rattle.graphql_tokens.specs.tokens.Place.{place_after};
 ghost use Rattle.graphql_report.specs.reports.Expected.{AreExpected, AreTaken, value_names};
 ghost use Rattle.graphql_report.specs.inner.Called.{NamesAll, NamesOnly, samples_of, texts};
 
-use crate::apart::{is_apart, last_definition};
+use crate::apart::last_definition;
 use crate::fronts::{Language, end_of, is_whole};
 use crate::probes::{line_of, takes};
 use crate::samples::{END, KEYWORDS, LITERALS, NAME, NAME_TEXT, PUNCTUATORS, Sample, VALUE};
@@ -43,8 +43,8 @@ fn taken(
 /// If the front has no fault, each token that can stand on the line after it is called by one of the names, and each name is
 /// that of such a token, or of the end.
 ///
-/// Where the last definition that has begun stands on a line of its own, the samples are tried after that definition
-/// alone, and one check sees that those before it are whole.
+/// In a schema file the samples are tried after the last definition that has begun alone, where one check sees that those
+/// before it are whole.
 pub fn expected_after(
     alloc: Global,
     language: Language,
@@ -55,26 +55,20 @@ pub fn expected_after(
     ensures all { IfOk result (λ names. NamesAll language limits front.now (texts names.items)) }
     ensures only { IfOk result (λ names. NamesOnly language limits front.now (texts names.items)) }
 {
-    let (whole, part) = last_definition(language, front);
-    expected_after_parts(alloc, language, front, whole, part, limits)
+    expected_after_last(alloc, language, front, limits)
 }
 
-// The same of a front in two parts.
-fn expected_after_parts(
+// The same, after the last definition.
+fn expected_after_last(
     alloc: Global,
     language: Language,
     front: &str,
-    whole: &str,
-    part: &str,
     limits: Limits,
 ) -> Result<Vec<&'static str>, AllocError>
-    requires { front.now ≡ whole.now ++ part.now }
     ensures { IfOk result (λ names. AreExpected language limits front.now (texts names.items)) }
 {
-    if is_apart(alloc, language, limits, whole, part)? {
-        return expected_by_less(alloc, language, part, limits);
-    }
-    expected_by_less(alloc, language, front, limits)
+    let part = last_definition(alloc, language, front, limits)?;
+    expected_by_less(alloc, language, part, limits)
 }
 
 // The same, by a shorter front, where one is found after which the same is expected.

@@ -55,8 +55,8 @@ const EXTENDED: [&str; 7] = [
 // What a definition of a request begins with.
 const OF_REQUESTS: [&str; 5] = ["{", "fragment", "mutation", "query", "subscription"];
 
-/// Whether a definition of a schema file may begin with the word, but for its description.
-pub fn begins_in_schemas(word: &str) -> bool {
+// Whether a definition of a schema file may begin with the word, but for its description.
+fn begins_in_schemas(word: &str) -> bool {
     EXTENDED.contains(&word) || word == "extend" || word == "directive"
 }
 

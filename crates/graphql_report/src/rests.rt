@@ -1,12 +1,12 @@
 //! Texts that are read from a later line on: where that line begins, and which place in the whole text a place in the rest is.
-ghost use Rattle.std.specs.Prelude.{◌≡◌, ◌+◌, ◌<◌, ◌^◌, ◌-◌, take, drop, IfSome};
+ghost use Rattle.std.specs.Prelude.{◌≡◌, ◌+◌, ◌<◌, ◌^◌, ◌-◌, take, drop, IsTrue, IfSome};
 ghost use Rattle.std.specs.List.{count_by};
-ghost use Rattle.std.specs.Str.{IsCharBoundary};
+ghost use Rattle.std.specs.Str.{chars, IsCharBoundary};
 ghost use Rattle.graphql_tokens.specs.tokens.Place.{is_line_feed};
+ghost use Rattle.graphql_report.specs.fronts.Front.{LastIsLineFeed};
 ghost use Rattle.graphql_report.specs.reports.Refused.{IsItsToken};
 ghost use Rattle.graphql_report.specs.reports.Rests.{BeginsAt, IsMoved, top};
 
-use crate::apart::ends_line;
 use crate::fronts::Language;
 use crate::refused::{after, before, refused_token};
 use graphql_parser::lexer::Token;
@@ -69,6 +69,16 @@ impl ReadFrom {
             start: token.start.saturating_add(self.offset),
             pos: self.place_in_text(token.pos),
         }
+    }
+}
+
+// Whether the last character is a line feed.
+fn ends_line(text: &str) -> bool
+    ensures { IsTrue result → LastIsLineFeed (chars text.now) }
+{
+    match text.strip_suffix('\n') {
+        Some(_) => true,
+        None => false,
     }
 }
 

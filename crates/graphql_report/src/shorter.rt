@@ -8,11 +8,12 @@ ghost use Rattle.graphql_report.specs.inner.OpenFronts.{IsOpenIn};
 use crate::fewer_values::with_fewer_values;
 use crate::fronts::Language;
 use crate::open_sets::{OPEN_SET, OpenAt, last_open};
+use crate::shorter_schemas::shorter_schema;
 use graphql_parser::Limits;
 use std::alloc::{AllocError, Global};
 
 /// A text after which the same is expected as after this front, where one is found that is shorter. Of a front it takes one
-/// reading, and one more where its last selection or definition is long. (A request is shortened, and a schema is not.)
+/// reading, and one more where the last selection or definition of a request is long.
 pub fn shorter(
     alloc: Global,
     language: Language,
@@ -24,7 +25,7 @@ pub fn shorter(
 {
     match language {
         Language::Requests => shorter_request(alloc, front, limits),
-        Language::Schemas => Ok(None),
+        Language::Schemas => shorter_schema(alloc, front, limits),
     }
 }
 

@@ -1,7 +1,7 @@
 use Rattle.std.proofs.Common.{Some, lit<}
 use Rattle.std.proofs.lemmas.Str.Pattern.{strip_suffix_char}
 use Rattle.graphql_report.proofs.Buffers.{line-feed-last}
-use Rattle.graphql_report.proofs.apart.ends_line.Goals as goal
+use Rattle.graphql_report.proofs.rests.ends_line.Goals as goal
 
 pub returns-in-Some : goal.returns-in-Some
 returns-in-Some c = λ _.
