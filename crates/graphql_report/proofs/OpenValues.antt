@@ -15,7 +15,7 @@ use Rattle.graphql_reading.specs.grammar.Limits.{Limits}
 use Rattle.graphql_reading.specs.grammar.Relations.{between_of, given}
 use Rattle.graphql_reading.specs.grammar.Tests.{Test, punct, any_name}
 use Rattle.graphql_reading.specs.reading.Ahead.{Ahead, tokens}
-use Rattle.graphql_reading.specs.reading.Outcome.{Outcome, Reader, Read, Refused, ◌>>=◌, one_at, then_at, mapped_at, take_at, choose_at, none_at, opt_at, many_at, plus_at}
+use Rattle.graphql_reading.specs.reading.Outcome.{Outcome, Reader, Takes, Read, Refused, ◌>>=◌, one_at, between_at, then_at, mapped_at, take_at, choose_at, none_at, opt_at, many_at, plus_at}
 use Rattle.graphql_reading.proofs.Loop.{pair-read, cons-read, many-more, many-stops, many-plus}
 use Rattle.graphql_reading.proofs.TokenTests.{punct-is}
 use Rattle.graphql_grammar.specs.grammar.Arguments.{argument_of, directive_of}
@@ -118,13 +118,31 @@ mapped-on g (Read a rest) k = refl
 mapped-on g (Refused v rest) k = refl
 
 -- what stands between brackets, and what follows
-pub bracket-parts : {A B : Type 0} (t : Token) (o : Outcome A) (f : Token × (A × Token) → B) (k : List Token → Outcome (Unit {0})) → (((((o >>= λ a rest. one_at (punct ")") rest >>= paired a) >>= paired t) >>= λ x rest. Read (f x) rest) >>= λ x rest. Read (Some x) rest) >>= λ _ rest. k rest) ≡ (o >>= λ _ rest. one_at (punct ")") rest >>= λ _ rest'. k rest')
+bracket-parts : {A B : Type 0} (t : Token) (o : Outcome A) (f : Token × (A × Token) → B) (k : List Token → Outcome (Unit {0})) → (((((o >>= λ a rest. one_at (punct ")") rest >>= paired a) >>= paired t) >>= λ x rest. Read (f x) rest) >>= λ x rest. Read (Some x) rest) >>= λ _ rest. k rest) ≡ (o >>= λ _ rest. one_at (punct ")") rest >>= λ _ rest'. k rest')
 bracket-parts {A} t (Read a rest) f k = go (one_at (punct ")") rest)
   where
     go : (o : Outcome Token) → (((((o >>= paired a) >>= paired t) >>= λ x rest'. Read (f x) rest') >>= λ x rest'. Read (Some x) rest') >>= λ _ rest'. k rest') ≡ (o >>= λ _ rest'. k rest')
     go (Read b rest') = refl
     go (Refused v rest') = refl
 bracket-parts t (Refused v rest) f k = refl
+
+-- after the bracket of any number, where the first of them follows
+pub brackets-law : {A : Type 0} (first : Test) (r : Reader A) → Takes r → (k : List Token → Outcome (Unit {0})) (others rest : List Token) (bracket : Token) → one_at (punct "(") others ≡ Read bracket rest → (b : Bare) → in_sight rest ≡ b ∷ [] → first b ≡ true → (opt_at (punct "(") (between_at (punct "(") (plus_at first r) (punct ")")) others >>= λ _ rest'. k rest') ≡ (many_at first r rest >>= λ _ rest'. one_at (punct ")") rest' >>= λ _ rest''. k rest'')
+unfolding opt_at
+brackets-law first r takes k [] rest bracket e b alike is = absurd cc
+brackets-law {A} first r takes k (t ∷ ts) rest bracket e b alike is = go (punct "(" t.bare) refl
+  where
+    begun : (us : List Token) → in_sight us ≡ b ∷ [] → plus_at first r us ≡ many_at first r us
+    begun [] none = absurd cc
+    begun (u ∷ us) here = let same : u.bare ≡ b = cc in sym (many-plus first r takes u us (ap first same ∙ is))
+
+    go : (w : Bool) → punct "(" t.bare ≡ w → (opt_at (punct "(") (between_at (punct "(") (plus_at first r) (punct ")")) (t ∷ ts) >>= λ _ rest'. k rest') ≡ (many_at first r rest >>= λ _ rest'. one_at (punct ")") rest' >>= λ _ rest''. k rest'')
+    go true here =
+        let same : ts ≡ rest = (let k = rw here at e in cc) in
+        rw here (bracket-parts t (plus_at first r ts) between_of k)
+        ∙ ap (λ (l : List Token). plus_at first r l >>= λ _ rest'. one_at (punct ")") rest' >>= λ _ rest''. k rest'') same
+        ∙ ap (λ (o : Outcome (List A)). o >>= λ _ rest'. one_at (punct ")") rest' >>= λ _ rest''. k rest'') (begun rest alike)
+    go false here = absurd (let none = rw here at e in cc)
 
 -- one of any number, and the others
 pub one-more : {A : Type 0} (first : Test) (r : Reader A) (o : Outcome A) (k : List Token → Outcome (Unit {0})) → (((o >>= λ a rest. many_at first r rest >>= λ others rest'. pair-read a others rest') >>= λ x rest. cons-read x rest) >>= λ _ rest. k rest) ≡ (o >>= λ _ rest. many_at first r rest >>= λ _ rest'. k rest')
@@ -259,31 +277,9 @@ module _ (limits : Limits) (n : ℕ) where
 
   -- after the bracket, where a name follows
   bracket-law : (others rest : List Token) (bracket : Token) → one_at (punct "(") others ≡ Read bracket rest → (b : Bare) → in_sight rest ≡ b ∷ [] → any_name b ≡ true → after_names limits n others ≡ from_values limits (suc n) [] rest
-  unfolding opt_at
-  bracket-law [] rest bracket e b alike is = absurd cc
-  bracket-law (t ∷ []) rest bracket e b alike is = go (punct "(" t.bare) refl
-    where
-      go : (w : Bool) → punct "(" t.bare ≡ w → after_names limits n (t ∷ []) ≡ from_values limits (suc n) [] rest
-      go true here =
-          let nothing : [] ≡ rest = (let k = rw here at e in cc) in
-          let none : [] ≡ b ∷ [] = ap in_sight nothing ∙ alike in
-          absurd cc
-      go false here = absurd (let none = rw here at e in cc)
-  bracket-law (t ∷ u ∷ us) rest bracket e b alike is = go (punct "(" t.bare) refl
-    where
-      opened : punct "(" t.bare ≡ true → any_name u.bare ≡ true → after_names limits n (t ∷ u ∷ us) ≡ from_arguments limits n (u ∷ us)
-      opened here named =
-          rw here
-          (mapped-on given _ (after_arguments limits n)
-          ∙ bracket-parts t (plus_at any_name (argument_at true most) (u ∷ us)) between_of (after_arguments limits n)
-          ∙ ap (λ (o : Outcome (List _)). o >>= λ _ rest'. closing rest') (sym (many-plus any_name (argument_at true most) (takes-argument true most) u us named)))
-
-      go : (w : Bool) → punct "(" t.bare ≡ w → after_names limits n (t ∷ u ∷ us) ≡ from_values limits (suc n) [] rest
-      go true here =
-          let same : u ∷ us ≡ rest = (let k = rw here at e in cc) in
-          let first : u.bare ≡ b = cc in
-          opened here (ap any_name first ∙ is) ∙ ap (from_arguments limits n) same
-      go false here = absurd (let none = rw here at e in cc)
+  bracket-law others rest bracket e b alike is =
+      mapped-on given (maybe_arguments_at true most others) (after_arguments limits n)
+      ∙ brackets-law any_name (argument_at true most) (takes-argument true most) (after_arguments limits n) others rest bracket e b alike is
 
   -- after the names where there are no arguments
   bare-law : (others : List Token) (b : Bare) → in_sight others ≡ b ∷ [] → punct "(" b ≡ false → after_names limits n others ≡ after_arguments limits n others

@@ -27,7 +27,7 @@ use Rattle.graphql_report.specs.inner.OpenValues.{after_variables, from_variable
 use Rattle.graphql_report.proofs.Local.{IsLocal, local-one, local-opt}
 use Rattle.graphql_report.proofs.LocalReaders.{local-operation_type, local-type}
 use Rattle.graphql_report.proofs.OpenFronts.{set-after, definition-law, others-after, whole-law}
-use Rattle.graphql_report.proofs.OpenValues.{paired, mapped-on, bracket-parts, one-more, on-value, value-begins, local-step, goes}
+use Rattle.graphql_report.proofs.OpenValues.{paired, brackets-law, one-more, on-value, value-begins, local-step, goes}
 
 module _ (limits : Limits) where
   abbrev most : ℕ
@@ -82,30 +82,7 @@ module _ (limits : Limits) where
   default-law t ts not = ap (λ (o : Outcome (List _)). o >>= λ _ rest. from_variables limits rest) (many-stops (punct "@") (directive_at true most) t ts not)
 
   bracket-law : (others rest : List Token) (bracket : Token) → one_at (punct "(") others ≡ Read bracket rest → (b : Bare) → in_sight rest ≡ b ∷ [] → punct "$" b ≡ true → after_name others ≡ from_variables limits rest
-  unfolding opt_at
-  bracket-law [] rest bracket e b alike is = absurd cc
-  bracket-law (t ∷ []) rest bracket e b alike is = go (punct "(" t.bare) refl
-    where
-      go : (w : Bool) → punct "(" t.bare ≡ w → after_name (t ∷ []) ≡ from_variables limits rest
-      go true here =
-          let nothing : [] ≡ rest = (let k = rw here at e in cc) in
-          let none : [] ≡ b ∷ [] = ap in_sight nothing ∙ alike in
-          absurd cc
-      go false here = absurd (let none = rw here at e in cc)
-  bracket-law (t ∷ u ∷ us) rest bracket e b alike is = go (punct "(" t.bare) refl
-    where
-      opened : punct "(" t.bare ≡ true → punct "$" u.bare ≡ true → after_name (t ∷ u ∷ us) ≡ from_variables limits (u ∷ us)
-      opened here dollar =
-          rw here
-          (bracket-parts t (plus_at (punct "$") (variable_definition_at most limits.types) (u ∷ us)) between_of (after_variables limits)
-          ∙ ap (λ (o : Outcome (List _)). o >>= λ _ rest'. closing rest') (sym (many-plus (punct "$") (variable_definition_at most limits.types) (takes-variable_definition most limits.types) u us dollar)))
-
-      go : (w : Bool) → punct "(" t.bare ≡ w → after_name (t ∷ u ∷ us) ≡ from_variables limits rest
-      go true here =
-          let same : u ∷ us ≡ rest = (let k = rw here at e in cc) in
-          let first : u.bare ≡ b = cc in
-          opened here (ap (punct "$") first ∙ is) ∙ ap (from_variables limits) same
-      go false here = absurd (let none = rw here at e in cc)
+  bracket-law = brackets-law (punct "$") (variable_definition_at most limits.types) (takes-variable_definition most limits.types) (after_variables limits)
 
   -- ---- one of them
 

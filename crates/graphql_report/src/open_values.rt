@@ -76,7 +76,8 @@ fn no_levels(limits: Limits) -> Levels
 
 // What is open before the token in hand.
 fn mark(parser: &Parser, depth: usize, levels: &Levels) -> Option<ValueAt>
-    ensures { IfSome result (λ at. (at.offset ≡ parser.now.hand.start) × (at.depth ≡ depth) × (at.objects.items ≡ levels.now.objects.items)) }
+    ensures { IfSome result (λ at. (at.offset ≡ parser.now.hand.start) × (at.depth ≡ depth) ×
+        (at.objects.items ≡ levels.now.objects.items)) }
 {
     let Ok(objects) = ArrayVec::try_from(levels.objects.as_slice()) else {
         return None;
@@ -112,7 +113,8 @@ fn pass_to_values(parser: &mut Parser, limits: Limits, first: usize) -> Option<u
 
 // `OperationType Name? '('`, where a variable definition follows.
 fn pass_to_variables(parser: &mut Parser) -> bool
-    ensures { IsTrue result → (limits : Budgets) (start : Ahead) (wanted : Bool) → IsReadTo limits start parser.old 0 wanted → IsReadIn limits start parser.new 0 [] }
+    ensures { IsTrue result → (limits : Budgets) (start : Ahead) (wanted : Bool) →
+        IsReadTo limits start parser.old 0 wanted → IsReadIn limits start parser.new 0 [] }
 {
     if !Definition::is_next(parser) || parser.is_at_punct("{") || parser.is_at_keyword("fragment") {
         return false;
@@ -129,7 +131,9 @@ fn pass_to_variables(parser: &mut Parser) -> bool
 
 // After the names of a field: up to its first argument, or to that of the first of its directives that has any.
 fn pass_to_argument(parser: &mut Parser) -> bool
-    ensures kept { IsTrue result → (limits : Budgets) (start : Ahead) (outer : ℕ) → IsReadInto limits start parser.old (after_names limits outer) → IsReadIn limits start parser.new (suc outer) [] }
+    ensures kept { IsTrue result → (limits : Budgets) (start : Ahead) (outer : ℕ) →
+        IsReadInto limits start parser.old (after_names limits outer) →
+        IsReadIn limits start parser.new (suc outer) [] }
     ensures less { IsTrue result → length parser.new.after < length parser.old.after }
 {
     while !parser.is_at_punct("(") {
@@ -145,7 +149,9 @@ fn pass_to_argument(parser: &mut Parser) -> bool
 //
 // `'@' Name`
 fn pass_directive_name(parser: &mut Parser) -> bool
-    ensures kept { IsTrue result → (limits : Budgets) (start : Ahead) (outer : ℕ) → IsReadInto limits start parser.old (after_arguments limits outer) → IsReadInto limits start parser.new (after_names limits outer) }
+    ensures kept { IsTrue result → (limits : Budgets) (start : Ahead) (outer : ℕ) →
+        IsReadInto limits start parser.old (after_arguments limits outer) →
+        IsReadInto limits start parser.new (after_names limits outer) }
     ensures less { IsTrue result → length parser.new.after < length parser.old.after }
 {
     let Ok(_) = parser.expect_punct("@") else {
@@ -181,7 +187,8 @@ fn step(parser: &mut Parser, limits: Limits, depth: usize, levels: &mut Levels) 
     requires limit { levels.old.limit ≡ limits.values }
     requires few { length levels.old.objects.items ≤ limits.values }
     ensures limit { levels.new.limit ≡ limits.values }
-    ensures kept { IsTrue result → (start : Ahead) → IsReadIn limits start parser.old depth levels.old.objects.items → IsReadIn limits start parser.new depth levels.new.objects.items }
+    ensures kept { IsTrue result → (start : Ahead) → IsReadIn limits start parser.old depth levels.old.objects.items →
+        IsReadIn limits start parser.new depth levels.new.objects.items }
     ensures less { IsTrue result → length parser.new.after < length parser.old.after }
 {
     match levels.pop() {
@@ -204,7 +211,8 @@ fn pass_variable(parser: &mut Parser, limits: Limits, levels: &mut Levels) -> bo
     requires none { levels.old.objects.items ≡ [] }
     requires limit { levels.old.limit ≡ limits.values }
     ensures limit { levels.new.limit ≡ limits.values }
-    ensures kept { IsTrue result → (start : Ahead) → IsReadIn limits start parser.old 0 [] → IsReadIn limits start parser.new 0 levels.new.objects.items }
+    ensures kept { IsTrue result → (start : Ahead) → IsReadIn limits start parser.old 0 [] →
+        IsReadIn limits start parser.new 0 levels.new.objects.items }
     ensures less { IsTrue result → length parser.new.after < length parser.old.after }
 {
     if !pass_type(parser, limits) {
@@ -234,7 +242,8 @@ fn pass_variable(parser: &mut Parser, limits: Limits, levels: &mut Levels) -> bo
 //
 // `Variable ':' Type`
 fn pass_type(parser: &mut Parser, limits: Limits) -> bool
-    ensures kept { IsTrue result → (start : Ahead) → IsReadIn limits start parser.old 0 [] → IsReadInto limits start parser.new (after_type limits) }
+    ensures kept { IsTrue result → (start : Ahead) → IsReadIn limits start parser.old 0 [] →
+        IsReadInto limits start parser.new (after_type limits) }
     ensures less { IsTrue result → length parser.new.after < length parser.old.after }
 {
     if parser.is_at_punct("@") {
@@ -263,7 +272,8 @@ fn pass_argument(parser: &mut Parser, limits: Limits, levels: &mut Levels) -> bo
     requires none { levels.old.objects.items ≡ [] }
     requires limit { levels.old.limit ≡ limits.values }
     ensures limit { levels.new.limit ≡ limits.values }
-    ensures kept { IsTrue result → (start : Ahead) (outer : ℕ) → IsReadIn limits start parser.old (suc outer) [] → IsReadIn limits start parser.new (suc outer) levels.new.objects.items }
+    ensures kept { IsTrue result → (start : Ahead) (outer : ℕ) → IsReadIn limits start parser.old (suc outer) [] →
+        IsReadIn limits start parser.new (suc outer) levels.new.objects.items }
     ensures less { IsTrue result → length parser.new.after < length parser.old.after }
 {
     if !parser.is_at_name() {
@@ -284,7 +294,8 @@ fn pass_argument(parser: &mut Parser, limits: Limits, levels: &mut Levels) -> bo
 
 // The end of arguments, and what stands before the first argument of the next directive that has any.
 fn pass_to_directive(parser: &mut Parser) -> bool
-    ensures kept { IsTrue result → (limits : Budgets) (start : Ahead) (outer : ℕ) → IsReadIn limits start parser.old (suc outer) [] → IsReadIn limits start parser.new (suc outer) [] }
+    ensures kept { IsTrue result → (limits : Budgets) (start : Ahead) (outer : ℕ) →
+        IsReadIn limits start parser.old (suc outer) [] → IsReadIn limits start parser.new (suc outer) [] }
     ensures less { IsTrue result → length parser.new.after < length parser.old.after }
 {
     let Ok(_) = parser.expect_punct(")") else {
@@ -307,7 +318,9 @@ fn pass_in(
     requires limit { levels.old.limit ≡ limits.values }
     requires few { length levels.old.objects.items < limits.values }
     ensures limit { levels.new.limit ≡ limits.values }
-    ensures kept { IsTrue result → (start : Ahead) (depth : ℕ) → may_vary depth ≡ vars → IsReadIn limits start parser.old depth (levels.old.objects.items ++ object ∷ []) → IsReadIn limits start parser.new depth levels.new.objects.items }
+    ensures kept { IsTrue result → (start : Ahead) (depth : ℕ) → may_vary depth ≡ vars →
+        IsReadIn limits start parser.old depth (levels.old.objects.items ++ object ∷ []) →
+        IsReadIn limits start parser.new depth levels.new.objects.items }
     ensures less { IsTrue result → length parser.new.after < length parser.old.after }
 {
     let Ok(step) = step_in(parser, vars, object, levels.left()) else {
