@@ -21,8 +21,8 @@ use Rattle.graphql_schemas.proofs.FieldProductions.{takes-field_definition}
 use Rattle.graphql_schemas.proofs.InputValueProductions.{takes-input_value}
 use Rattle.graphql_schemas.proofs.MemberProductions.{takes-enum_value}
 use Rattle.graphql_report.specs.declared.bodies.Body.{Body}
-use Rattle.graphql_report.specs.declared.bodies.Body.TheVariants.{Fields, InputFields, Values}
-use Rattle.graphql_report.specs.inner.OpenBodies.{phrase_at}
+use Rattle.graphql_report.specs.declared.bodies.Body.TheVariants.{Fields, InputFields, Values, Arguments, DirectiveArguments}
+use Rattle.graphql_report.specs.inner.OpenBodies.{phrase_at, typed_at}
 use Rattle.graphql_report.proofs.Local.{IsLocal, local-one, local-meaning, local-mapped, local-then, local-between, local-after, local-choose, local-opt, local-many, local-plus}
 use Rattle.graphql_report.proofs.LocalReaders.{local-directives, local-type, local-maybe_default}
 
@@ -86,8 +86,15 @@ module _ (limits : Limits) where
   local-phrase Fields = local-field_definition
   local-phrase InputFields = local-input_value
   local-phrase Values = local-enum_value
+  local-phrase Arguments = local-input_value
+  local-phrase DirectiveArguments = local-input_value
 
   pub takes-phrase : (body : Body) → Takes (phrase_at body limits)
   takes-phrase Fields = takes-field_definition limits
   takes-phrase InputFields = takes-input_value limits
   takes-phrase Values = takes-enum_value limits
+  takes-phrase Arguments = takes-input_value limits
+  takes-phrase DirectiveArguments = takes-input_value limits
+
+  pub local-typed : IsLocal (typed_at limits)
+  local-typed = local-then (local-one (punct ":")) (local-then (local-type limits.types) (local-directives false limits.values))

@@ -1,6 +1,6 @@
 -- What a walk over the body of a definition keeps, and what a shorter body in its place tells.
 use Prim.Native.String.{String}
-use Rattle.std.proofs.Common.{◌≡◌, ◌⊎◌, ℕ, ◌<◌, Bool, true, false, cond, not, ◌&&◌, inl, inr, Option, Some, None, drop, List, [], ◌∷◌, ◌++◌, length, refl, sym, ap, ◌∙◌, subst, arith}
+use Rattle.std.proofs.Common.{◌≡◌, ◌⊎◌, ℕ, ◌<◌, Bool, true, false, cond, not, ◌&&◌, ◌||◌, inl, inr, Option, Some, None, drop, List, [], ◌∷◌, ◌++◌, length, refl, sym, ap, ◌∙◌, subst, length-append, arith}
 use Rattle.std.specs.Prelude.{IfSome}
 use Rattle.std.specs.Str.{IsUtf8, IsCharBoundary}
 use Rattle.graphql_tokens.specs.tokens.Cuts.{is_last, IsCutInto}
@@ -10,7 +10,7 @@ use Rattle.graphql_tokens.specs.declared.lexer.TokenKind.TheVariants.{Punct, Nam
 use Rattle.graphql_reading.specs.grammar.Fronts.{syntax}
 use Rattle.graphql_reading.specs.grammar.Limits.{Limits}
 use Rattle.graphql_reading.specs.grammar.Places.{name_of}
-use Rattle.graphql_reading.specs.grammar.Tests.{punct, keyword, any_name, the_end}
+use Rattle.graphql_reading.specs.grammar.Tests.{Test, punct, keyword, any_name, the_end}
 use Rattle.graphql_reading.specs.reading.Ahead.{Ahead, tokens}
 use Rattle.graphql_reading.specs.reading.Outcome.{Outcome, Reader, Read, Refused, ◌>>=◌, one_at, then_at, mapped_at, choose_at, opt_at, many_at}
 use Rattle.graphql_grammar.specs.reading.Arguments.{directives_at}
@@ -21,27 +21,30 @@ use Rattle.graphql_schema_trees.specs.trees.Schema.{object, interface, enumerati
 use Rattle.graphql_schemas.specs.reading.Bodies.{worded, word_at, rest_at, after_word_at, body_by_word_at}
 use Rattle.graphql_schemas.specs.reading.Descriptions.{maybe_description_at}
 use Rattle.graphql_schemas.specs.reading.Directives.{directive_rest_at}
+use Rattle.graphql_schemas.specs.grammar.Fields.{field_definition_of}
+use Rattle.graphql_schemas.specs.reading.InputValues.{member_first}
 use Rattle.graphql_schemas.specs.reading.Members.{implements_at}
 use Rattle.graphql_schemas.specs.reading.Schema.{schema_rest_at, extended_schema_at}
-use Rattle.graphql_schemas.specs.reading.SchemaFile.{of_schema, of_type, of_directive, with_description, a_schema, a_type, extension_of, extension_at, described_at, definition_first, definition_at}
+use Rattle.graphql_schemas.specs.reading.SchemaFile.{of_schema, of_type, of_directive, with_description, a_schema, a_type, extension_of, extension_at, described_at, undescribed_at, definition_first, definition_at}
 use Rattle.graphql_schemas.specs.reading.Types.{part_first, field_part_first, some_parts_at, some_field_parts_at, a_body_at, body_at as type_at}
 use Rattle.graphql_schemas.proofs.SchemaFileProductions.{schemas-are-read}
-use Rattle.graphql_check.specs.Checked.{ended}
+use Rattle.graphql_reading.proofs.Loop.{many-stops}
+use Rattle.graphql_check.specs.Checked.{ended, rest_of}
 use Rattle.graphql_check.proofs.Rests.{is-read}
 use Rattle.graphql_report.specs.declared.bodies.Body.{Body}
-use Rattle.graphql_report.specs.declared.bodies.Body.TheVariants.{Fields, InputFields, Values}
+use Rattle.graphql_report.specs.declared.bodies.Body.TheVariants.{Fields, InputFields, Values, Arguments, DirectiveArguments}
 use Rattle.graphql_report.specs.declared.bodies.InBody as code
 use Rattle.graphql_report.specs.declared.fronts.Language.TheVariants.{Schemas}
-use Rattle.graphql_report.specs.inner.OpenBodies.{phrase_first, phrase_at, body_at, body_rest_at, file_rest_at, file_at, IsInBody}
+use Rattle.graphql_report.specs.inner.OpenBodies.{phrase_first, phrase_at, opening, closing, body_at, body_rest_at, typed_at, located_at, left_at, file_rest_at, file_at, IsInBody}
 use Rattle.graphql_report.specs.inner.OpenFronts.{Passes}
 use Rattle.graphql_report.specs.inner.Reaches.{Reaches, IsReachedAt}
 use Rattle.graphql_report.specs.reports.Expected.{AreExpected}
 use Rattle.graphql_report.proofs.LeftFronts.{IsLeft, is-left, is-left-again, tells-front, tells-whole}
-use Rattle.graphql_report.proofs.Local.{local-one}
+use Rattle.graphql_report.proofs.Local.{local-one, local-then, local-many}
 use Rattle.graphql_report.proofs.LocalReaders.{local-directives}
-use Rattle.graphql_report.proofs.LocalSchemas.{local-word, local-maybe_description, local-maybe_implements, local-phrase, takes-phrase}
+use Rattle.graphql_report.proofs.LocalSchemas.{local-word, local-maybe_description, local-maybe_implements, local-phrase, takes-phrase, local-typed}
 use Rattle.graphql_report.proofs.OpenFronts.{one-read}
-use Rattle.graphql_report.proofs.Reaches.{reaches-on, reaches-mapped, reaches-within, reaches-after, reaches-bound, reaches-chosen, reaches-other, reaches-opt, reaches-owed, reaches-first, reaches-plus, reaches-more, reaches-between, has-read}
+use Rattle.graphql_report.proofs.Reaches.{reaches-on, reaches-mapped, reaches-within, reaches-after, reaches-bound, reaches-chosen, reaches-other, reaches-opt, reaches-owed, reaches-first, reaches-plus, reaches-more, reaches-many, reaches-between, reaches-past, has-read, then-passes, mapped-passes, one-passed, passes-no-more}
 use Rattle.graphql_report.proofs.StandsFor.{StandsFor, expected-moved}
 
 -- what is known of a result that is some
@@ -115,17 +118,14 @@ module _ (extend : Bool) (limits : Limits) where
 module _ (limits : Limits) where
   -- ---- what stands before a phrase
 
-  pub body-entered : (body : Body) (old mid new : Ahead) (brace : Token) → one_at (punct "{") (tokens old) ≡ Read brace (tokens mid) → Passes mid new (phrase_at body limits) → Reaches (opt_at (punct "{") (body_at body limits)) (tokens old) (body_rest_at body limits) (tokens new)
-  body-entered body old mid new brace e h =
-      let first = (local-one (punct "{")).by (tokens old) brace (tokens mid) e in
-      let b = one-read (punct "{") (tokens old) brace (tokens mid) e in
-      let same : old.hand ≡ brace = (let is : old.hand ∷ old.after ≡ brace ∷ tokens mid = b.0 in cc) in
-      reaches-opt (punct "{") (ap (λ (t : Token). punct "{" t.bare) same ∙ b.1)
-      (reaches-between (punct "{") (punct "}") first (reaches-first (phrase_first body) (has-read (local-phrase limits body) (tokens mid) (tokens new) h).so))
+  pub body-entered : (body : Body) (old mid new : Ahead) → Passes old mid (one_at (opening body)) → Passes mid new (phrase_at body limits) → Reaches (opt_at (opening body) (body_at body limits)) (tokens old) (body_rest_at body limits) (tokens new)
+  body-entered body old mid new g h =
+      reaches-opt (opening body) (one-passed (opening body) old.hand old.after (tokens mid) g).0
+      (reaches-between (opening body) (closing body) (has-read (local-one (opening body)) (tokens old) (tokens mid) g).so (reaches-first (phrase_first body) (has-read (local-phrase limits body) (tokens mid) (tokens new) h).so))
 
   module _ {B : Type 0} {s : Reader B} (old mid new : Ahead) where
-    pub braced-entered : (extend : Bool) (body : Body) → (extend && not (part_first (punct "{") old.hand.bare)) ≡ false → Passes old mid (directives_at false limits.values) → Reaches (opt_at (punct "{") (body_at body limits)) (tokens mid) s (tokens new) → Reaches (some_parts_at extend limits (punct "{") (body_at body limits)) (tokens old) s (tokens new)
-    braced-entered extend body owed h k = reaches-owed extend (part_first (punct "{")) owed (reaches-mapped parts_of (reaches-after (has-read (local-directives false limits.values) (tokens old) (tokens mid) h).so k))
+    pub braced-entered : (extend : Bool) (body : Body) → opening body ≡ punct "{" → (extend && not (part_first (punct "{") old.hand.bare)) ≡ false → Passes old mid (directives_at false limits.values) → Reaches (opt_at (opening body) (body_at body limits)) (tokens mid) s (tokens new) → Reaches (some_parts_at extend limits (opening body) (body_at body limits)) (tokens old) s (tokens new)
+    braced-entered extend body brace owed h k = reaches-owed extend (part_first (opening body)) (ap (λ (test : Test). extend && not (part_first test old.hand.bare)) brace ∙ owed) (reaches-mapped parts_of (reaches-after (has-read (local-directives false limits.values) (tokens old) (tokens mid) h).so k))
 
     pub fields-entered : (extend : Bool) (after : Ahead) → (extend && not (field_part_first old.hand.bare)) ≡ false → Passes old after (opt_at (keyword "implements") implements_at) → Passes after mid (directives_at false limits.values) → Reaches (opt_at (punct "{") (body_at Fields limits)) (tokens mid) s (tokens new) → Reaches (some_field_parts_at extend limits) (tokens old) s (tokens new)
     fields-entered extend after owed g h k =
@@ -149,13 +149,77 @@ module _ (limits : Limits) where
         (reaches-after ((local-one (keyword "extend")).by (tokens old) w (tokens mid) h)
         (reaches-other (keyword "schema") (mapped_at a_schema (extended_schema_at limits)) other (reaches-mapped a_type k))))
 
-    pub description-entered : keyword "extend" old.hand.bare ≡ false → Passes old mid maybe_description_at → keyword "schema" mid.hand.bare ≡ false → keyword "directive" mid.hand.bare ≡ false → Reaches (type_at false limits) (tokens mid) s (tokens new) → Reaches (definition_at limits) (tokens old) s (tokens new)
-    description-entered extends h other another k =
-        reaches-other (keyword "extend") (extension_at limits) extends
-        (reaches-mapped with_description
-        (reaches-after (has-read local-maybe_description (tokens old) (tokens mid) h).so
-        (reaches-other (keyword "schema") (mapped_at of_schema (schema_rest_at limits)) other
-        (reaches-other (keyword "directive") (mapped_at of_directive (directive_rest_at limits)) another (reaches-mapped of_type k)))))
+    pub description-entered : keyword "extend" old.hand.bare ≡ false → Passes old mid maybe_description_at → Reaches (undescribed_at limits) (tokens mid) s (tokens new) → Reaches (definition_at limits) (tokens old) s (tokens new)
+    description-entered extends h k = reaches-other (keyword "extend") (extension_at limits) extends (reaches-mapped with_description (reaches-after (has-read local-maybe_description (tokens old) (tokens mid) h).so k))
+
+  pub undescribed-entered : {B : Type 0} {s : Reader B} (old new : Ahead) → keyword "schema" old.hand.bare ≡ false → keyword "directive" old.hand.bare ≡ false → Reaches (type_at false limits) (tokens old) s (tokens new) → Reaches (undescribed_at limits) (tokens old) s (tokens new)
+  undescribed-entered old new other another k =
+      reaches-other (keyword "schema") (mapped_at of_schema (schema_rest_at limits)) other
+      (reaches-other (keyword "directive") (mapped_at of_directive (directive_rest_at limits)) another (reaches-mapped of_type k))
+
+  pub directive-entered : (old at name mid new : Ahead) (word mark called : Token) → keyword "schema" old.hand.bare ≡ false → keyword "directive" old.hand.bare ≡ true → one_at (keyword "directive") (tokens old) ≡ Read word (tokens at) → one_at (punct "@") (tokens at) ≡ Read mark (tokens name) → one_at any_name (tokens name) ≡ Read called (tokens mid) → Reaches (opt_at (punct "(") (body_at DirectiveArguments limits)) (tokens mid) (body_rest_at DirectiveArguments limits) (tokens new) → Reaches (undescribed_at limits) (tokens old) (left_at DirectiveArguments limits) (tokens new)
+  directive-entered old at name mid new word mark called other is e f g k =
+      reaches-other (keyword "schema") (mapped_at of_schema (schema_rest_at limits)) other
+      (reaches-chosen (keyword "directive") (mapped_at of_type (type_at false limits)) is
+      (reaches-mapped of_directive
+      (reaches-after ((local-one (keyword "directive")).by (tokens old) word (tokens at) e)
+      (reaches-after ((local-one (punct "@")).by (tokens at) mark (tokens name) f)
+      (reaches-after ((local-one any_name).by (tokens name) called (tokens mid) g) (reaches-within located_at k))))))
+
+  -- ---- from a phrase to the next
+
+  phrases-on : (body : Body) (old new : Ahead) → phrase_first body old.hand.bare ≡ true → Passes old new (phrase_at body limits) → Reaches (body_rest_at body limits) (tokens old) (body_rest_at body limits) (tokens new)
+  phrases-on body old new begins h = reaches-within (one_at (closing body)) (reaches-more (phrase_first body) (takes-phrase limits body) begins (has-read (local-phrase limits body) (tokens old) (tokens new) h).so)
+
+  pub phrase-passed : (body : Body) (old new : Ahead) → phrase_first body old.hand.bare ≡ true → Passes old new (phrase_at body limits) → Reaches (left_at body limits) (tokens old) (left_at body limits) (tokens new)
+  phrase-passed Fields old new begins h = phrases-on Fields old new begins h
+  phrase-passed InputFields old new begins h = phrases-on InputFields old new begins h
+  phrase-passed Values old new begins h = phrases-on Values old new begins h
+  phrase-passed Arguments old new begins h = reaches-within (one_at (closing Fields)) (reaches-within (many_at (phrase_first Fields) (phrase_at Fields limits)) (reaches-within (typed_at limits) (phrases-on Arguments old new begins h)))
+  phrase-passed DirectiveArguments old new begins h = reaches-within located_at (phrases-on DirectiveArguments old new begins h)
+
+  module _ (old name mid : Ahead) (begins : member_first old.hand.bare ≡ true) (described : Passes old name maybe_description_at) (called : Token) (named : one_at any_name (tokens name) ≡ Read called (tokens mid)) where
+    pub field-entered : (new : Ahead) → Reaches (opt_at (punct "(") (body_at Arguments limits)) (tokens mid) (body_rest_at Arguments limits) (tokens new) → Reaches (left_at Fields limits) (tokens old) (left_at Arguments limits) (tokens new)
+    field-entered new k =
+        reaches-within (one_at (closing Fields))
+        (reaches-many (phrase_first Fields) (takes-phrase limits Fields) begins
+        (reaches-mapped field_definition_of
+        (reaches-after (has-read local-maybe_description (tokens old) (tokens name) described).so
+        (reaches-after ((local-one any_name).by (tokens name) called (tokens mid) named) (reaches-within (typed_at limits) k)))))
+
+    pub field-passed : (new : Ahead) → punct "(" mid.hand.bare ≡ false → Passes mid new (typed_at limits) → Reaches (left_at Fields limits) (tokens old) (left_at Fields limits) (tokens new)
+    unfolding opt_at
+    field-passed new none typed =
+        let arguments = opt_at (punct "(") (body_at Arguments limits) in
+        let nothing : rest_of (arguments (tokens mid)) ≡ Some (tokens mid) = ap (λ (w : Bool). rest_of (cond w (mapped_at Some (body_at Arguments limits) (tokens mid)) (Read None (tokens mid)))) none in
+        let after = then-passes arguments (typed_at limits) (tokens mid) (tokens mid) (tokens new) nothing typed in
+        let all = then-passes maybe_description_at (then_at (one_at any_name) (then_at arguments (typed_at limits))) (tokens old) (tokens name) (tokens new) described
+        (then-passes (one_at any_name) (then_at arguments (typed_at limits)) (tokens name) (tokens mid) (tokens new) (ap rest_of named) after) in
+        phrases-on Fields old new begins (mapped-passes field_definition_of (then_at maybe_description_at (then_at (one_at any_name) (then_at arguments (typed_at limits)))) (tokens old) (tokens new) all)
+
+    name-less : length (tokens mid) < length (tokens old)
+    name-less =
+        let passed : rest_of (one_at any_name (name.hand ∷ name.after)) ≡ Some (tokens mid) = ap rest_of named in
+        omega (arith, passes-no-more local-maybe_description (tokens old) (tokens name) described, ap length (one-passed any_name name.hand name.after (tokens mid) passed).1)
+
+    pub field-passed-less : (new : Ahead) → Passes mid new (typed_at limits) → length new.after < length old.after
+    field-passed-less new typed = omega (arith, name-less, passes-no-more (local-typed limits) (tokens mid) (tokens new) typed)
+
+    pub field-entered-less : (new : Ahead) {B : Type 0} {s : Reader B} → Reaches (opt_at (punct "(") (body_at Arguments limits)) (tokens mid) s (tokens new) → length new.after < length old.after
+    field-entered-less new k = omega (arith, name-less, ap length k.split, length-append k.used (tokens new))
+
+  -- the end of a field's arguments
+  module _ (old mid new : Ahead) (others : member_first old.hand.bare ≡ false) (ended : Passes old mid (one_at (punct ")"))) (typed : Passes mid new (typed_at limits)) where
+    pub arguments-left : Reaches (left_at Arguments limits) (tokens old) (left_at Fields limits) (tokens new)
+    arguments-left =
+        let none = many-stops member_first (phrase_at Arguments limits) old.hand old.after others in
+        let closed = then-passes (many_at member_first (phrase_at Arguments limits)) (one_at (punct ")")) (tokens old) (tokens old) (tokens mid) (ap rest_of none) ended in
+        let all = then-passes (body_rest_at Arguments limits) (typed_at limits) (tokens old) (tokens mid) (tokens new) closed typed in
+        let local = local-then (local-then (local-many member_first (takes-phrase limits Arguments) (local-phrase limits Arguments)) (local-one (punct ")"))) (local-typed limits) in
+        reaches-within (one_at (closing Fields)) (reaches-past (many_at (phrase_first Fields) (phrase_at Fields limits)) (has-read local (tokens old) (tokens new) all).so)
+
+    pub arguments-less : length new.after < length old.after
+    arguments-less = omega (arith, ap length (one-passed (punct ")") old.hand old.after (tokens mid) ended).1, passes-no-more (local-typed limits) (tokens mid) (tokens new) typed)
 
 -- what stands after a name, by the keyword
 pub rest-of-fields : {B : Type 0} {s : Reader B} (extend : Bool) (limits : Limits) (word : Word) (ts rest : List Token) → (word ≡ words.Type) ⊎ (word ≡ words.Interface) → Reaches (some_field_parts_at extend limits) ts s rest → Reaches (rest_at extend limits word) ts s rest
@@ -163,33 +227,45 @@ rest-of-fields {s = s} extend limits word ts rest (inl e) h = subst (λ (w : Wor
 rest-of-fields {s = s} extend limits word ts rest (inr e) h = subst (λ (w : Word). Reaches (rest_at extend limits w) ts s rest) (sym e) (reaches-mapped (fields_rest interface) h)
 
 module _ (extend : Bool) (limits : Limits) (word : Word) (ts rest : List Token) where
-  pub rest-of-values : (o : Option Body) → word ≡ words.Enum → IfSome o (λ body. body ≡ Values) → IfSome o (λ _. Reaches (some_parts_at extend limits (punct "{") (body_at Values limits)) ts (body_rest_at Values limits) rest) → IfSome o (λ body. Reaches (rest_at extend limits word) ts (body_rest_at body limits) rest)
+  pub rest-of-values : (o : Option Body) → word ≡ words.Enum → IfSome o (λ body. body ≡ Values) → IfSome o (λ _. Reaches (some_parts_at extend limits (punct "{") (body_at Values limits)) ts (body_rest_at Values limits) rest) → IfSome o (λ body. Reaches (rest_at extend limits word) ts (left_at body limits) rest)
   rest-of-values None e same h = tt
   rest-of-values (Some body) e same h =
-      subst (λ (b : Body). Reaches (rest_at extend limits word) ts (body_rest_at b limits) rest) (sym same)
+      subst (λ (b : Body). Reaches (rest_at extend limits word) ts (left_at b limits) rest) (sym same)
       (subst (λ (w : Word). Reaches (rest_at extend limits w) ts (body_rest_at Values limits) rest) (sym e) (reaches-mapped (list_rest enumeration) h))
 
-  pub rest-of-input : (o : Option Body) → word ≡ words.Input → IfSome o (λ body. body ≡ InputFields) → IfSome o (λ _. Reaches (some_parts_at extend limits (punct "{") (body_at InputFields limits)) ts (body_rest_at InputFields limits) rest) → IfSome o (λ body. Reaches (rest_at extend limits word) ts (body_rest_at body limits) rest)
+  pub rest-of-input : (o : Option Body) → word ≡ words.Input → IfSome o (λ body. body ≡ InputFields) → IfSome o (λ _. Reaches (some_parts_at extend limits (punct "{") (body_at InputFields limits)) ts (body_rest_at InputFields limits) rest) → IfSome o (λ body. Reaches (rest_at extend limits word) ts (left_at body limits) rest)
   rest-of-input None e same h = tt
   rest-of-input (Some body) e same h =
-      subst (λ (b : Body). Reaches (rest_at extend limits word) ts (body_rest_at b limits) rest) (sym same)
+      subst (λ (b : Body). Reaches (rest_at extend limits word) ts (left_at b limits) rest) (sym same)
       (subst (λ (w : Word). Reaches (rest_at extend limits w) ts (body_rest_at InputFields limits) rest) (sym e) (reaches-mapped (list_rest input_object) h))
 
 -- what begins a phrase, or ends a body, is not the last token
-not-end : (body : Body) (kind : TokenKind) (spelling : List ℕ) → let t : Bare = record { kind = kind; spelling = spelling } in (phrase_first body t ≡ true) ⊎ (punct "}" t ≡ true) → is_last kind ≡ false
+not-end : (body : Body) (kind : TokenKind) (spelling : List ℕ) → let t : Bare = record { kind = kind; spelling = spelling } in (phrase_first body t || closing body t) ≡ true → is_last kind ≡ false
 not-end body Punct spelling h = refl
 not-end body Name spelling h = refl
 not-end body Number spelling h = refl
 not-end body Quoted spelling h = refl
 not-end body Block spelling h = refl
-not-end Fields Fault spelling (inl h) = absurd cc
-not-end InputFields Fault spelling (inl h) = absurd cc
-not-end Values Fault spelling (inl h) = absurd cc
-not-end body Fault spelling (inr h) = absurd cc
-not-end Fields End spelling (inl h) = absurd cc
-not-end InputFields End spelling (inl h) = absurd cc
-not-end Values End spelling (inl h) = absurd cc
-not-end body End spelling (inr h) = absurd cc
+not-end Fields Fault spelling h = absurd cc
+not-end InputFields Fault spelling h = absurd cc
+not-end Values Fault spelling h = absurd cc
+not-end Arguments Fault spelling h = absurd cc
+not-end DirectiveArguments Fault spelling h = absurd cc
+not-end Fields End spelling h = absurd cc
+not-end InputFields End spelling h = absurd cc
+not-end Values End spelling h = absurd cc
+not-end Arguments End spelling h = absurd cc
+not-end DirectiveArguments End spelling h = absurd cc
+
+-- what each body begins with
+pub braces-open : (body : Body) → (body ≡ Fields) ⊎ (body ≡ InputFields) ⊎ (body ≡ Values) → opening body ≡ punct "{"
+braces-open body (inl e) = ap opening e
+braces-open body (inr (inl e)) = ap opening e
+braces-open body (inr (inr e)) = ap opening e
+
+pub parentheses-open : (body : Body) → (body ≡ Arguments) ⊎ (body ≡ DirectiveArguments) → opening body ≡ punct "("
+parentheses-open body (inl e) = ap opening e
+parentheses-open body (inr e) = ap opening e
 
 -- ---- the walk
 
@@ -200,7 +276,7 @@ pub record WalksIn (limits : Limits) (text : List ℕ) (now : Ahead) (body : Bod
   pub reached : Reaches (file_at limits) (tokens start) (file_rest_at body limits) (tokens now)
   pub last : IfSome found (λ at. IsReachedAt (file_at limits) (tokens start) at.offset (file_rest_at at.body limits))
 
-pub walk-enters : (limits : Limits) (text : List ℕ) (start now : Ahead) (body : Body) → ((whole : List Token) → IsCutInto text whole → whole ≡ tokens start) → Reaches (definition_at limits) (tokens start) (body_rest_at body limits) (tokens now) → WalksIn limits text now body None
+pub walk-enters : (limits : Limits) (text : List ℕ) (start now : Ahead) (body : Body) → ((whole : List Token) → IsCutInto text whole → whole ≡ tokens start) → Reaches (definition_at limits) (tokens start) (left_at body limits) (tokens now) → WalksIn limits text now body None
 walk-enters limits text start now body only h = record {
   start = start;
   only = only;
@@ -212,30 +288,23 @@ pub found-in-body : (limits : Limits) (text : List ℕ) (now : Ahead) (body : Bo
 found-in-body limits text now body None w = tt
 found-in-body limits text now body (Some at) w = λ whole cut. subst (λ (l : List Token). IsReachedAt (file_at limits) l at.offset (file_rest_at at.body limits)) (sym (w.only whole cut)) w.last
 
-module _ {limits : Limits} {text : List ℕ} {now : Ahead} {body : Body} {found : Option code.InBody} (w : WalksIn limits text now body found) (at : code.InBody) (place : at.offset ≡ now.hand.start) (same : at.body ≡ body) where
-  here-marked : (phrase_first body now.hand.bare ≡ true) ⊎ (punct "}" now.hand.bare ≡ true) → IsReachedAt (file_at limits) (tokens w.start) at.offset (file_rest_at at.body limits)
-  here-marked h =
+module _ {limits : Limits} {text : List ℕ} {now : Ahead} {body : Body} {found : Option code.InBody} (w : WalksIn limits text now body found) (at : code.InBody) (place : at.offset ≡ now.hand.start) (same : at.body ≡ body) (goes : (phrase_first body now.hand.bare || closing body now.hand.bare) ≡ true) where
+  here-marked : IsReachedAt (file_at limits) (tokens w.start) at.offset (file_rest_at at.body limits)
+  here-marked =
       subst (λ (b : Body). IsReachedAt (file_at limits) (tokens w.start) at.offset (file_rest_at b limits)) (sym same)
-      (record { front = w.reached.used; next = now.hand; rest = now.after; split = w.reached.split; starts = sym place; goes_on = not-end body now.hand.bare.kind now.hand.bare.spelling h; same = w.reached.same })
+      (record { front = w.reached.used; next = now.hand; rest = now.after; split = w.reached.split; starts = sym place; goes_on = not-end body now.hand.bare.kind now.hand.bare.spelling goes; same = w.reached.same })
 
-  -- a phrase begins
-  pub walk-marks : phrase_first body now.hand.bare ≡ true → WalksIn limits text now body (Some at)
-  walk-marks begins = record { start = w.start; only = w.only; reached = w.reached; last = here-marked (inl begins) }
+  -- one step more
+  pub walk-goes : (after : Ahead) (next : Body) → Reaches (left_at body limits) (tokens now) (left_at next limits) (tokens after) → WalksIn limits text after next (Some at)
+  walk-goes after next h = record {
+    start = w.start;
+    only = w.only;
+    reached = reaches-on w.reached (reaches-within (one_at the_end) (reaches-within (many_at definition_first (definition_at limits)) h));
+    last = here-marked;
+  }
 
-  -- the body ends
-  pub walk-closes : punct "}" now.hand.bare ≡ true → IsInBody limits text at.offset at.body
-  walk-closes ends = λ whole cut. subst (λ (l : List Token). IsReachedAt (file_at limits) l at.offset (file_rest_at at.body limits)) (sym (w.only whole cut)) (here-marked (inr ends))
-
--- a phrase is passed
-pub walk-passes : {limits : Limits} {text : List ℕ} {now : Ahead} {body : Body} {found : Option code.InBody} → WalksIn limits text now body found → phrase_first body now.hand.bare ≡ true → (after : Ahead) → Passes now after (phrase_at body limits) → WalksIn limits text after body found
-walk-passes {limits = limits} {now = now} {body = body} w begins after h =
-    let p = (has-read (local-phrase limits body) (tokens now) (tokens after) h).so in
-    record {
-      start = w.start;
-      only = w.only;
-      reached = reaches-on w.reached (reaches-within (one_at the_end) (reaches-within (many_at definition_first (definition_at limits)) (reaches-within (one_at (punct "}")) (reaches-more (phrase_first body) (takes-phrase limits body) begins p))));
-      last = w.last;
-    }
+  pub walk-ends : IsInBody limits text at.offset at.body
+  walk-ends = λ whole cut. subst (λ (l : List Token). IsReachedAt (file_at limits) l at.offset (file_rest_at at.body limits)) (sym (w.only whole cut)) here-marked
 
 pub phrase-less : (limits : Limits) (body : Body) (now after : Ahead) → Passes now after (phrase_at body limits) → length after.after < length now.after
 phrase-less limits body now after h =

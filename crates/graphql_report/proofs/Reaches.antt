@@ -1,5 +1,5 @@
 -- How far a reader has come, made from how far its parts have.
-use Rattle.std.proofs.Common.{◌≡◌, Bool, true, false, not, ◌&&◌, cond, Some, List, [], ◌∷◌, ◌++◌, refl, sym, ap, ◌∙◌, append_assoc}
+use Rattle.std.proofs.Common.{◌≡◌, ◌≤◌, Bool, true, false, not, ◌&&◌, cond, Some, List, [], ◌∷◌, ◌++◌, length, refl, sym, ap, ◌∙◌, append_assoc, length-append, arith}
 use Rattle.graphql_tokens.specs.tokens.Token.{Bare, Token}
 use Rattle.graphql_reading.specs.grammar.Fronts.{syntax}
 use Rattle.graphql_reading.specs.grammar.Relations.{cons, between_of}
@@ -129,9 +129,24 @@ reaches-more first {r = r} takes {t = t} {rest = rest} begins h =
       same = λ others alike. ap ended (many-sight first r takes t.bare (p.used ++ others) (sight-after p.used others rest alike ∙ ap in_sight (sym p.split)) begins) ∙ p.same others alike;
     }
 
+-- within one more
+pub reaches-many : {A B : Type 0} (first : Test) {r : Reader A} → Takes r → {s : Reader B} {t : Token} {ts rest : List Token} → first t.bare ≡ true → Reaches r (t ∷ ts) s rest → Reaches (many_at first r) (t ∷ ts) (then_at s (many_at first r)) rest
+unfolding plus_at
+reaches-many first {r = r} takes {t = t} {rest = rest} begins h =
+    let p = reaches-plus first h in
+    record {
+      used = p.used;
+      split = p.split;
+      same = λ others alike. ap ended (many-sight first r takes t.bare (p.used ++ others) (sight-after p.used others rest alike ∙ ap in_sight (sym p.split)) begins) ∙ p.same others alike;
+    }
+
 -- after the first bracket
 pub reaches-between : {A B : Type 0} (opening closing : Test) {r : Reader A} {s : Reader B} {ts : List Token} {t : Token} {mid rest : List Token} → ReadsSo (one_at opening) ts t mid → Reaches r mid s rest → Reaches (between_at opening r closing) ts (then_at s (one_at closing)) rest
 reaches-between opening closing h k = reaches-mapped between_of (reaches-after h (reaches-within (one_at closing) k))
+
+-- the first of two parts is read
+pub reaches-past : {A B : Type 0} {r : Reader A} (q : Reader B) {ts : List Token} {a : A} {rest : List Token} → ReadsSo r ts a rest → Reaches (then_at r q) ts q rest
+reaches-past q {rest = rest} h = reaches-after h (reaches-here q rest)
 
 -- ---- what the code reads
 
@@ -143,3 +158,37 @@ pub has-read : {A : Type 0} {r : Reader A} → IsLocal r → (ts rest : List Tok
 has-read {r = r} local ts rest e =
     let read = is-read (r ts) rest e in
     record { tree = read.tree; so = local.by ts read.tree rest read.is }
+
+pub then-passes : {A B : Type 0} (r : Reader A) (s : Reader B) (ts mid rest : List Token) → rest_of (r ts) ≡ Some mid → rest_of (s mid) ≡ Some rest → rest_of (then_at r s ts) ≡ Some rest
+then-passes {A} {B} r s ts mid rest h k = go (r ts) h
+  where
+    after : (a : A) (o : Outcome B) → rest_of o ≡ Some rest → rest_of {Y = A × B} (o >>= λ b rest'. Read (a, b) rest') ≡ Some rest
+    after a (Read b rest') e = e
+    after a (Refused v rest') e = absurd cc
+
+    go : (o : Outcome A) → rest_of o ≡ Some mid → rest_of {Y = A × B} (o >>= λ a rest'. s rest' >>= λ b rest''. Read (a, b) rest'') ≡ Some rest
+    go (Read a rest') e =
+        let same : mid ≡ rest' = cc in
+        after a (s rest') (ap (λ (l : List Token). rest_of (s l)) (sym same) ∙ k)
+    go (Refused v rest') e = absurd cc
+
+pub mapped-passes : {A B : Type 0} (f : A → B) (r : Reader A) (ts rest : List Token) → rest_of (r ts) ≡ Some rest → rest_of (mapped_at f r ts) ≡ Some rest
+mapped-passes {A} f r ts rest h = go (r ts) h
+  where
+    go : (o : Outcome A) → rest_of o ≡ Some rest → rest_of (o >>= λ a rest'. Read (f a) rest') ≡ Some rest
+    go (Read a rest') e = e
+    go (Refused v rest') e = absurd cc
+
+-- one token
+pub one-passed : (test : Test) (t : Token) (ts rest : List Token) → rest_of (one_at test (t ∷ ts)) ≡ Some rest → (test t.bare ≡ true) × (ts ≡ rest)
+one-passed test t ts rest e = go (test t.bare) refl e
+  where
+    go : (w : Bool) → test t.bare ≡ w → rest_of (cond w (Read t ts) (Refused syntax (t ∷ ts))) ≡ Some rest → (test t.bare ≡ true) × (ts ≡ rest)
+    go true is k = (is, cc)
+    go false is k = absurd cc
+
+-- no more tokens are left
+pub passes-no-more : {A : Type 0} {r : Reader A} → IsLocal r → (ts rest : List Token) → rest_of (r ts) ≡ Some rest → length rest ≤ length ts
+passes-no-more local ts rest e =
+    let p = (has-read local ts rest e).so in
+    omega (arith, ap length p.split, length-append p.used rest)

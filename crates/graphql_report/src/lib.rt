@@ -12,16 +12,16 @@
 //! after it, is a viable front, and one check of these tells that ([`is_front`]). So a report of a refused text costs some
 //! twenty checks, or some forty where no name can stand there; each is linear, and one copy of the text is kept at a time.
 //! One check of the text more finds that token. Of a schema file only what begins with the last definition that has begun is
-//! checked, if one check more finds that those before it are whole; and where that definition has a body it is read once more,
-//! up to where the last phrase of the body or its end begins: the samples are tried after a short body of that kind and what
-//! stands from there on. A request is read once more too, up to where its last selection or the end of a set begins, and where
-//! that selection or a definition that begins is long, once more up to the last value in the arguments of the field or of its
-//! directives, or in the variable definitions: the samples are tried after as many open selection sets, lists and objects and
-//! what stands from there on. So a long text costs no more of these checks than a short one, unless the directives of a
-//! definition, a variable or a fragment are long, or the last phrase of a body, or what stands before a body. A caller that read
-//! a text from a later line on says so, and what stands before isn't checked again: it has the refused token from
-//! [`refused_token_from`], and hands it on with what it knows ([`ReadUpTo`], [`explain_from`],
-//! [`finding_from`]).
+//! checked, if one check more finds that those before it are whole; and where that definition has a body it is read once
+//! more, up to where the last field or the like begins, or the last argument of a field or a directive, or the end of these:
+//! the samples are tried after a short body of that kind and what stands from there on. A request is read once more too, up
+//! to where its last selection or the end of a set begins, and where that selection or a definition that begins is long, once
+//! more up to the last value in the arguments of the field or of its directives, or in the variable definitions: the samples
+//! are tried after as many open selection sets, lists and objects and what stands from there on. So a long text costs no more
+//! of these checks than a short one, unless the directives of a definition, a variable or a fragment are long, or the last
+//! phrase of a body, or what stands before a body. A caller that read a text from a later line on says so, and what stands
+//! before isn't checked again: it has the refused token from [`refused_token_from`], and hands it on with what it knows
+//! ([`ReadUpTo`], [`explain_from`], [`finding_from`]).
 //!
 //! Proved of it, unless memory runs out: `is_front` answers true exactly where the tokens of a text are a viable front, in
 //! both languages and at all limits; the token that is given is the one at which the text is refused; what is expected is

@@ -50,6 +50,8 @@ fn opening_of(body: Body) -> &'static str {
         Body::Fields => "type a{a:a ",
         Body::InputFields => "input a{a:a ",
         Body::Values => "enum a{a ",
+        Body::Arguments => "type a{a(a:a ",
+        Body::DirectiveArguments => "directive@a(a:a ",
     }
 }
 
@@ -70,5 +72,7 @@ fn is_same(body: Body, other: Body) -> bool
         (Body::Fields, Body::Fields)
             | (Body::InputFields, Body::InputFields)
             | (Body::Values, Body::Values)
+            | (Body::Arguments, Body::Arguments)
+            | (Body::DirectiveArguments, Body::DirectiveArguments)
     )
 }
