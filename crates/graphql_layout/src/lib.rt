@@ -15,13 +15,16 @@ ghost use Rattle.graphql_layout.specs.texts.SameTokens.{HasFault};
 ghost use Rattle.graphql_layout.specs.texts.Minified.{IsMinified};
 ghost use Rattle.graphql_layout.specs.inner.Endings.{ending_of, gap_before};
 
+mod comments;
 mod ending;
+mod layout;
 pub mod sheet;
 #[cfg(test)]
 mod tests;
 
 use ending::Ending;
 use graphql_tokens::lexer::{Token, TokenKind, Tokens};
+pub use layout::format;
 use std::alloc::{AllocError, Global};
 
 // Writes a token, after a blank where it may not touch what ends so, and gives how it ends itself.
