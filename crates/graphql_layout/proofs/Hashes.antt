@@ -134,8 +134,7 @@ one_passed gap rest from first after old sheet longer p h e = record {
   utf8 = h.after_utf8;
   goes = λ items i z.
       let o = p.goes items i z in
-      let l = leads (chars rest) h.blanks (chars first) (chars after) o.0 h.none h.is h.ends h.whole o.1 o.2 in
-      (
+      let l = leads (chars rest) h.blanks (chars first) (chars after) o.0 h.none h.is h.ends h.whole o.1 o.2 in (
         l.others,
         l.are,
         l.none,

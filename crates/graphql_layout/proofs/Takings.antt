@@ -1,5 +1,5 @@
 -- The tokens of a text are taken one after another, and each is written after the comments before it.
-use Rattle.std.proofs.Common.{◌≡◌, ◌≢◌, ℕ, ◌+◌, ◌-◌, ◌≤◌, true, false, inl, inr, List, [], ◌∷◌, ◌++◌, length, take, drop, refl, sym, ap, ◌∙◌, subst, append_assoc, append-nil, arith, length-append}
+use Rattle.std.proofs.Common.{◌≡◌, ◌≢◌, ℕ, ◌+◌, ◌-◌, ◌≤◌, false, inl, inr, List, [], ◌∷◌, ◌++◌, length, take, drop, refl, sym, ap, ◌∙◌, subst, append_assoc, append-nil, arith, length-append}
 use Rattle.std.proofs.lemmas.Str.{encodes-chars, encodes-append}
 use Rattle.std.specs.List.{concat}
 use Rattle.std.specs.Str.{chars, IsUtf8, IsCharBoundary, encode_utf8_all}
@@ -14,10 +14,10 @@ use Rattle.graphql_tokens.specs.declared.lexer.TokenKind.TheVariants.{Punct, Nam
 use Rattle.graphql_tokens.proofs.Lists.{Stands}
 use Rattle.graphql_layout.specs.texts.Items.{Item, word, IsItems, words}
 use Rattle.graphql_layout.specs.texts.LaidOut.{tidied, IsLaidOut}
-use Rattle.graphql_layout.specs.texts.SameTokens.{HasFault, HasTokens, bares, bare_end}
+use Rattle.graphql_layout.specs.texts.SameTokens.{HasFault, HasTokens}
 use Rattle.graphql_layout.proofs.Items.{word_item, itemized, items_written, one_list}
 use Rattle.graphql_layout.proofs.Joined.{proper_of, spells_of}
-use Rattle.graphql_layout.proofs.Readings.{Seam, seam, Comments, comments_of, tidied-append, same_words, whole_items}
+use Rattle.graphql_layout.proofs.Readings.{Seam, seam, comments_of, tidied-append, same_words, whole_items}
 
 -- ---- the loop
 
@@ -218,13 +218,12 @@ one_read text rest gap from after all left more sheet new longer t u v cut r is 
             let here : IsItems (m.word ++ m.rest) (word b ∷ i.items) = word_item m.kind m.word m.rest i.items m.begins i.are in
             let there : IsItems n.after (word t.bare ∷ i.items) = subst (λ (x : Bare). IsItems n.after (word x ∷ i.items)) bare_is (subst (λ (x : List ℕ). IsItems x (word b ∷ i.items)) (sym m.whole) here) in
             let all_of : IsItems (chars rest) (c.items ++ (word t.bare ∷ i.items)) = subst (λ (x : List ℕ). IsItems x (c.items ++ (word t.bare ∷ i.items))) (sym n.whole) (c.before (word t.bare ∷ i.items) there) in
-            let same : g.0 ≡ c.items ++ (word t.bare ∷ i.items) = one_list (chars rest) g.0 (c.items ++ (word t.bare ∷ i.items)) g.1 all_of in
-            (
+            let same : g.0 ≡ c.items ++ (word t.bare ∷ i.items) = one_list (chars rest) g.0 (c.items ++ (word t.bare ∷ i.items)) g.1 all_of in (
               i.items,
               subst (λ (x : List ℕ). IsItems x i.items) (sym chars_is) i.are,
               ap (λ (x : List Item). x ++ tidied i.items) (l ∙ ap (λ (x : List Item). x ++ word t.bare ∷ []) (pushed text rest r.front _ t more n sheet new e p))
-              ∙ append_assoc (sheet ++ tidied c.items) (word t.bare ∷ []) (tidied i.items) ∙ append_assoc sheet (tidied c.items) (word t.bare ∷ tidied i.items)
-              ∙ ap (λ (x : List Item). sheet ++ x) (sym (tidied-append c.items (word t.bare ∷ i.items))) ∙ ap (λ (x : List Item). sheet ++ tidied x) (sym same) ∙ g.2,
+                  ∙ append_assoc (sheet ++ tidied c.items) (word t.bare ∷ []) (tidied i.items) ∙ append_assoc sheet (tidied c.items) (word t.bare ∷ tidied i.items)
+                  ∙ ap (λ (x : List Item). sheet ++ x) (sym (tidied-append c.items (word t.bare ∷ i.items))) ∙ ap (λ (x : List Item). sheet ++ tidied x) (sym same) ∙ g.2,
             );
       };
     }

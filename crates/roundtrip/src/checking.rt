@@ -116,7 +116,13 @@ fn rewritten_failure<L: Language>(
             if shown == seen.placed {
                 return Ok(None);
             }
-            return told(alloc, "the error of the call that writes anew differs", text, seen, seen);
+            return told(
+                alloc,
+                "the error of the call that writes anew differs",
+                text,
+                seen,
+                seen,
+            );
         }
     };
     let other = asked(alloc, language, Form::Plain, written.as_str())?;

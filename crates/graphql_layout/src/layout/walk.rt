@@ -247,8 +247,8 @@ impl Walk {
                 Last::Whole
             };
         }
-        let is_keyword =
-            matches!(role, Role::Definition | Role::Described) || self.last == Last::Extend;
+        let is_keyword = matches!(role, Role::Definition | Role::Described)
+            || self.last == Last::Extend;
         if is_keyword && spelling == "extend" {
             return Last::Extend;
         }

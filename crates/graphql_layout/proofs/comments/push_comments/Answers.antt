@@ -24,12 +24,11 @@ loop-start-smaller c = (passed_hash c).shorter
 
 pub loop-start-preserved : goal.loop-start-preserved
 loop-start-preserved c =
-    let h = passed_hash c in
-    (
+    let h = passed_hash c in (
       h.after_utf8,
       one_passed c.args.gap.now c.loop-start.rest.now c.split_at.result.1.now c.split_line.result.0.now c.split_line.result.1.now c.args.sheet.now c.loop-start.sheet c.comment.new.self c.loop-start.invariant.1 h
-      (c.in_ok-comment.ensures.ok ∙ ap (λ (s : List Item). s ++ comment (chars c.without_blanks.result.now) ∷ []) c.in_ok-begin_comment.ensures
-      ∙ ap (λ (t : List ℕ). c.loop-start.sheet ++ comment t ∷ []) c.without_blanks.ensures),
+          (c.in_ok-comment.ensures.ok ∙ ap (λ (s : List Item). s ++ comment (chars c.without_blanks.result.now) ∷ []) c.in_ok-begin_comment.ensures
+          ∙ ap (λ (t : List ℕ). c.loop-start.sheet ++ comment t ∷ []) c.without_blanks.ensures),
     )
 
 pub returns : goal.returns
