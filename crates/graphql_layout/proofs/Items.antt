@@ -142,7 +142,7 @@ one_body (x ∷ c) (y ∷ d) r s h k e f same =
     let i = one_body c d r s h.1 k.1 e f n in
     (ap₂ (λ (a : ℕ) (l : List ℕ). a ∷ l) m i.0, i.1)
 
-one_comment : (c d r s : List ℕ) → IsComment c → IsComment d → EndsLine r → EndsLine s → c ++ r ≡ d ++ s → (c ≡ d) × (r ≡ s)
+pub one_comment : (c d r s : List ℕ) → IsComment c → IsComment d → EndsLine r → EndsLine s → c ++ r ≡ d ++ s → (c ≡ d) × (r ≡ s)
 one_comment [] d r s h k e f same = absurd h
 one_comment (x ∷ c) [] r s h k e f same = absurd k
 one_comment (x ∷ c) (y ∷ d) r s h k e f same =

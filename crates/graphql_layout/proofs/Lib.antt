@@ -1,10 +1,15 @@
+pub mod Hashes
+pub mod FirstLines
 pub mod Firsts
 pub mod Items
 pub mod ItemsIn
 pub mod Joined
 pub mod Minified
 pub mod Pushes
+pub mod Readings
 pub mod Remains
 pub mod Room
 pub mod Sheets
+pub mod Takings
+pub mod Trimmed
 pub mod WrittenTokens

@@ -8,7 +8,7 @@ use Rattle.graphql_layout.specs.declared.sheet.Last.{Last}
 use Rattle.graphql_layout.specs.declared.sheet.Last.TheVariants.{Other}
 use Rattle.graphql_layout.specs.inner.ItemsIn.{items_in}
 use Rattle.graphql_layout.specs.inner.Sheets.{IsSheet, Holds}
-use Rattle.graphql_layout.proofs.Sheets.{line_added, blank_added}
+use Rattle.graphql_layout.proofs.Sheets.{line_added, blank_added, comma_added}
 
 pub line_pushed : {T E : Type 0} (r : Result T E) (old new : String Global) (last : Last) → IsSheet (string_bytes old) last → string_bytes new ≡ cond (is_ok r) (string_bytes old ++ encode 10) (string_bytes old)
     → OnOk r (Holds (string_bytes new) (Other Open) (items_in (string_bytes old)))
@@ -19,3 +19,8 @@ pub blank_pushed : {T E : Type 0} (r : Result T E) (old new : String Global) (en
     → OnOk r (Holds (string_bytes new) (Other Open) (items_in (string_bytes old)))
 blank_pushed (Ok x) old new ending s e = blank_added (string_bytes old) (string_bytes new) ending (IsUtf8-string_bytes old) s e
 blank_pushed (Err x) old new ending s e = tt
+
+pub comma_pushed : {T E : Type 0} (r : Result T E) (old new : String Global) (ending : Ending) → IsSheet (string_bytes old) (Other ending) → string_bytes new ≡ cond (is_ok r) (string_bytes old ++ encode 44) (string_bytes old)
+    → OnOk r (Holds (string_bytes new) (Other Open) (items_in (string_bytes old)))
+comma_pushed (Ok x) old new ending s e = comma_added (string_bytes old) (string_bytes new) ending (IsUtf8-string_bytes old) s e
+comma_pushed (Err x) old new ending s e = tt

@@ -53,7 +53,7 @@ seam : (text part w rest new : List ℕ) → IsUtf8 text → chars part ≡ w �
 seam text part w rest new u e n =
     ap (λ (x : List ℕ). chars x ++ rest) n ∙ ap (λ (x : List ℕ). x ++ rest) (chars-append text part u ∙ ap (λ (x : List ℕ). chars text ++ x) e) ∙ append_assoc (chars text) w rest
 
--- a line feed may always come, and a blank after all but a comment
+-- a line feed may always come, a blank and a comma after all but a comment
 line_allowed : (last : Last) → holds_off last 10 ≡ false
 line_allowed Comment = refl
 line_allowed (Other endings.Open) = refl
@@ -66,6 +66,12 @@ blank_allowed endings.Open = refl
 blank_allowed endings.Name = refl
 blank_allowed endings.Number = refl
 blank_allowed endings.EmptyString = refl
+
+comma_allowed : (ending : Ending) → holds_off (Other ending) 44 ≡ false
+comma_allowed endings.Open = refl
+comma_allowed endings.Name = refl
+comma_allowed endings.Number = refl
+comma_allowed endings.EmptyString = refl
 
 pub comment_allowed : (ending : Ending) → holds_off (Other ending) 35 ≡ false
 comment_allowed endings.Open = refl
@@ -93,6 +99,11 @@ pub blank_added : (text new : List ℕ) (ending : Ending) → IsUtf8 text → Is
 blank_added text new ending u s e =
     gap_added text new (Other ending) 32 (32 ∷ []) u s (chars-IsAscii (32 ∷ []) (search rules)) (λ rest others h. ignored_item 32 rest others refl h) (blank_allowed ending)
     (e ∙ ap (λ (x : List ℕ). text ++ x) (encode_ascii 32 (omega arith)))
+
+pub comma_added : (text new : List ℕ) (ending : Ending) → IsUtf8 text → IsSheet text (Other ending) → new ≡ text ++ encode 44 → Holds new (Other endings.Open) (items_in text)
+comma_added text new ending u s e =
+    gap_added text new (Other ending) 44 (44 ∷ []) u s (chars-IsAscii (44 ∷ []) (search rules)) (λ rest others h. ignored_item 44 rest others refl h) (comma_allowed ending)
+    (e ∙ ap (λ (x : List ℕ). text ++ x) (encode_ascii 44 (omega arith)))
 
 comes_allows : (ending : Ending) (rest : List ℕ) → MayCome (Other ending) rest → Allows ending rest
 comes_allows ending [] a = tt

@@ -2,3 +2,4 @@ pub mod Endings
 pub mod Written
 pub mod ItemsIn
 pub mod Sheets
+pub mod FirstLine

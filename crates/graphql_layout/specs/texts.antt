@@ -1,4 +1,6 @@
--- Public: texts with the same tokens, texts with nothing else, and the comments and tokens of a text.
+-- Public: texts with the same tokens, texts with nothing else, the comments and tokens of a text, and
+-- texts that are laid out anew.
 pub mod SameTokens
 pub mod Minified
 pub mod Items
+pub mod LaidOut

@@ -3,6 +3,9 @@
 //! Proved: a text that [`minify`] gives has the tokens of the text that it is given, one for one in kind and spelling, and no
 //! others; between two of them there is nothing where they may touch, and else one blank; and it is no longer.
 //!
+//! A text that [`format`] gives has the tokens of the text that it is given, one for one in kind and spelling, and its comments,
+//! each between the same two tokens, less the blanks at its end; and no others.
+//!
 //! A [`Sheet`](sheet::Sheet) is a text that is written token after token and comment after comment, with blanks and line feeds
 //! between them. Proved: it has these tokens and comments and no others, however it is laid out.
 //!
@@ -15,13 +18,16 @@ ghost use Rattle.graphql_layout.specs.texts.SameTokens.{HasFault};
 ghost use Rattle.graphql_layout.specs.texts.Minified.{IsMinified};
 ghost use Rattle.graphql_layout.specs.inner.Endings.{ending_of, gap_before};
 
+mod comments;
 mod ending;
+mod layout;
 pub mod sheet;
 #[cfg(test)]
 mod tests;
 
 use ending::Ending;
 use graphql_tokens::lexer::{Token, TokenKind, Tokens};
+pub use layout::format;
 use std::alloc::{AllocError, Global};
 
 // Writes a token, after a blank where it may not touch what ends so, and gives how it ends itself.

@@ -67,6 +67,19 @@ fn push_blank(text: &mut String, last: Last) -> Result<(), AllocError>
     }
 }
 
+// Writes a comma, or ends the line of a comment.
+fn push_comma(text: &mut String, last: Last) -> Result<(), AllocError>
+    requires { IsSheet (string_bytes text.old) last }
+    ensures ok { OnOk result (Holds (string_bytes text.new) (Last.Other Ending.Open)
+        (items_in (string_bytes text.old))) }
+    ensures err { OnErr result (string_bytes text.new ≡ string_bytes text.old) }
+{
+    match last {
+        Last::Comment => push_line(text, last),
+        Last::Other(_) => text.push(','),
+    }
+}
+
 fn push_line(text: &mut String, last: Last) -> Result<(), AllocError>
     requires { IsSheet (string_bytes text.old) last }
     ensures ok { OnOk result (Holds (string_bytes text.new) (Last.Other Ending.Open)
@@ -125,6 +138,16 @@ impl Sheet {
         ensures { self.new ≡ self.old }
     {
         push_blank(&mut self.text, self.last)?;
+        self.last = Last::Other(Ending::Open);
+        Ok(())
+    }
+
+    /// Writes a comma, which is as good as a blank (GraphQL October 2021, section 2.1.5), or ends the line of a comment. It fails
+    /// only where memory runs out.
+    pub fn comma(&mut self) -> Result<(), AllocError>
+        ensures { self.new ≡ self.old }
+    {
+        push_comma(&mut self.text, self.last)?;
         self.last = Last::Other(Ending::Open);
         Ok(())
     }

@@ -14,6 +14,7 @@ fn what_is_needed_stands_between(rt: HostRuntime) -> Result<(), io::Error> {
     sheet.line()?;
     sheet.blank()?;
     sheet.token(TokenKind::Name, "f")?;
-    assert_eq!(rt; sheet.finish().as_str(), "a# b\n# c\nd e\n f");
+    sheet.comma()?;
+    assert_eq!(rt; sheet.finish().as_str(), "a# b\n# c\nd e\n f,");
     Ok(())
 }

@@ -16,14 +16,16 @@ use Rattle.graphql_grammar.specs.answers.Answers.{AreTheDefinitions}
 use Rattle.graphql_grammar.specs.answers.Language.{Language}
 use Rattle.graphql_grammar.specs.answers.Reads.{ReadsText}
 use Rattle.graphql_grammar.specs.reading.ReadBy.{IsReadBy}
+use Rattle.graphql_layout.specs.texts.LaidOut.{IsLaidOut}
 use Rattle.graphql_layout.specs.texts.Minified.{IsMinified}
+use Rattle.graphql_layout.specs.texts.SameTokens.{HaveSameTokens}
 use Rattle.graphql_printer.specs.Rewritten.{MeanTheSame}
 
 one_cut : (text : List ℕ) (ts us : List Token) → IsCutInto text ts → IsCutInto text us → ts ≡ us
 one_cut text ts us c d = tokens_only [] (chars text) ts c ∙ sym (tokens_only [] (chars text) us d)
 
 pub mean_the_same : {D Document : Type 0} (language : Language D Document) (reader : Limits → Reader (List D)) → IsReadBy language reader → (limits : Limits) (text other : List ℕ) → IsUtf8 other
-    → ReadsText (checked language) limits text (Ok tt) → IsMinified text other → MeanTheSame language limits text other
+    → ReadsText (checked language) limits text (Ok tt) → HaveSameTokens text other → MeanTheSame language limits text other
 mean_the_same {D} {Document} language reader read limits text other utf8 reads m =
     let ts = m.of_text.0 in
     let us = m.of_other.0 in
@@ -46,7 +48,15 @@ mean_the_same {D} {Document} language reader read limits text other utf8 reads m
       other_sound = (breaks.unbroken a.2.unbroken, breaks.complete a.2.complete);
     }
 
-pub text_means_the_same : {D Document E : Type 0} (language : Language D Document) (reader : Limits → Reader (List D)) → IsReadBy language reader → (limits : Limits) (text : List ℕ) (result : Result (String Global) E)
+alike : (text other : List ℕ) → IsMinified text other → HaveSameTokens text other
+alike text other m = record { tokens = m.tokens; of_text = m.of_text; of_other = m.of_other }
+
+pub minified_means_the_same : {D Document E : Type 0} (language : Language D Document) (reader : Limits → Reader (List D)) → IsReadBy language reader → (limits : Limits) (text : List ℕ) (result : Result (String Global) E)
     → ReadsText (checked language) limits text (Ok tt) → IfOk result (λ s. IsMinified text (string_bytes s)) → IfOk result (λ s. MeanTheSame language limits text (string_bytes s))
-text_means_the_same language reader read limits text (Ok s) reads m = mean_the_same language reader read limits text (string_bytes s) (IsUtf8-string_bytes s) reads m
-text_means_the_same language reader read limits text (Err error) reads m = tt
+minified_means_the_same language reader read limits text (Ok s) reads m = mean_the_same language reader read limits text (string_bytes s) (IsUtf8-string_bytes s) reads (alike text (string_bytes s) m)
+minified_means_the_same language reader read limits text (Err error) reads m = tt
+
+pub laid_out_means_the_same : {D Document E : Type 0} (language : Language D Document) (reader : Limits → Reader (List D)) → IsReadBy language reader → (limits : Limits) (text : List ℕ) (result : Result (String Global) E)
+    → ReadsText (checked language) limits text (Ok tt) → IfOk result (λ s. IsLaidOut text (string_bytes s)) → IfOk result (λ s. MeanTheSame language limits text (string_bytes s))
+laid_out_means_the_same language reader read limits text (Ok s) reads m = mean_the_same language reader read limits text (string_bytes s) (IsUtf8-string_bytes s) reads m.tokens
+laid_out_means_the_same language reader read limits text (Err error) reads m = tt

@@ -3,6 +3,10 @@
 //! Proved of [`minify_query`] and [`minify_schema`], unless memory runs out: they answer as the checks of `graphql_parser` do;
 //! a text that they give has the tokens of the text that they are given, one for one in kind and spelling, with nothing between
 //! two that may touch, and else one blank; it is no longer; and so it has the same tree, except for places.
+//!
+//! Proved of [`format_query`] and [`format_schema`], unless memory runs out: they answer as the checks do; a text that they give
+//! has the tokens of the text that they are given, one for one in kind and spelling, and its comments in their order, each before
+//! the same token, less the blanks at its end; and so it has the same tree, except for places.
 #![tactic(auto)]
 
 ghost use Rattle.std.specs.Prelude.{◌≡◌, List, ℕ, IfOk, IfErr, string_bytes};
@@ -15,6 +19,9 @@ ghost use Rattle.graphql_printer.specs.Rewritten.{judgement_of, MeanTheSame};
 ghost use Rattle.graphql_requests.specs.grammar.Requests.{requests};
 ghost use Rattle.graphql_schemas.specs.grammar.Schemas.{schemas};
 
+mod formatting;
+
+pub use formatting::{format_query, format_schema};
 use graphql_layout::minify;
 use graphql_parser::{Limits, Result, check_query_limited, check_schema_limited};
 use std::alloc::Global;

@@ -10,7 +10,7 @@ use graphql_parser::{
     check_schema, check_schema_from, check_schema_limited, parse_query, parse_query_from,
     parse_query_limited, parse_schema, parse_schema_from, parse_schema_limited,
 };
-use graphql_printer::{minify_query, minify_schema};
+use graphql_printer::{format_query, format_schema, minify_query, minify_schema};
 use rows::Shown;
 use rows::trees::Written;
 use std::alloc::{AllocError, Global};
@@ -39,6 +39,8 @@ pub enum Call {
     CheckSchemaFrom,
     MinifyQuery,
     MinifySchema,
+    FormatQuery,
+    FormatSchema,
     StringValue,
     BlockStringValue,
     NewType,
@@ -175,6 +177,8 @@ impl Call {
             }
             Call::MinifyQuery => show_text(shown, minify_query(alloc, text, narrow())),
             Call::MinifySchema => show_text(shown, minify_schema(alloc, text, narrow())),
+            Call::FormatQuery => show_text(shown, format_query(alloc, text, narrow())),
+            Call::FormatSchema => show_text(shown, format_schema(alloc, text, narrow())),
             _ => self.of_tokens(alloc, text, shown),
         }
     }

@@ -156,6 +156,16 @@ pub const TABLES: &[Table] = &[
         rows: MINIFY_SCHEMA,
     },
     Table {
+        call: Call::FormatQuery,
+        is_free: false,
+        rows: FORMAT_QUERY,
+    },
+    Table {
+        call: Call::FormatSchema,
+        is_free: false,
+        rows: FORMAT_SCHEMA,
+    },
+    Table {
         call: Call::StringValue,
         is_free: false,
         rows: STRING_VALUE,
@@ -274,6 +284,11 @@ pub const TABLES: &[Table] = &[
         call: Call::MinifyQuery,
         is_free: true,
         rows: MINIFY_QUERY_WITHOUT_MEMORY,
+    },
+    Table {
+        call: Call::FormatQuery,
+        is_free: true,
+        rows: FORMAT_QUERY_WITHOUT_MEMORY,
     },
     Table {
         call: Call::BlockStringValue,
@@ -486,6 +501,16 @@ const MINIFY_SCHEMA: &str = r#"
 extend type A {} ⇒ syntax error at 1:16 1:16
 "#;
 
+const FORMAT_QUERY: &str = r#"
+{ a ( b : "c" , d : [ "" ␊ 1 ] ) , e } # f ⇒ {␊␠␠a(b: "c", d: ["", 1])␊␠␠e␊} # f
+{a ?} ⇒ syntax error at 1:4 1:4
+"#;
+
+const FORMAT_SCHEMA: &str = r#"
+# c␊"d" type A { "e" f(␊#g␊h:I): [ B ! ] } ⇒ # c␊"d"␊type A {␊␠␠"e"␊␠␠f(␊␠␠␠␠#g␊␠␠␠␠h: I␊␠␠): [B!]␊}
+extend type A {} ⇒ syntax error at 1:16 1:16
+"#;
+
 const STRING_VALUE: &str = r#"
 \u{1F600} a long text ⇒ 😀 a long text
 \x ⇒ none
@@ -610,6 +635,10 @@ scalar A ⇒ accepted, taken 3
 ";
 
 const MINIFY_QUERY_WITHOUT_MEMORY: &str = r"
+{ a { b { c } } } ⇒ recursion limit exceeded.
+";
+
+const FORMAT_QUERY_WITHOUT_MEMORY: &str = r"
 { a { b { c } } } ⇒ recursion limit exceeded.
 ";
 

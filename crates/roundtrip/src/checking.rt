@@ -1,6 +1,6 @@
 //! The check of one text, and runs over many.
 use crate::grammars;
-use crate::languages::{Form, Kind, Language, Seen, asked};
+use crate::languages::{Form, Kind, Language, Rewriting, Seen, asked};
 use crate::texts::Source;
 use graphql_parser::lexer::{TokenKind, Tokens};
 use rows::Shown;
@@ -46,8 +46,10 @@ pub fn run<L: Language>(
             _ => tally.refused = tally.refused.wrapping_add(1),
         }
         tally.failure = failure(alloc, language, text, made.is_meant, &seen)?;
-        if tally.failure.is_none() {
-            tally.failure = minified_failure(alloc, language, text, &seen)?;
+        for rewriting in [Rewriting::Minified, Rewriting::Formatted] {
+            if tally.failure.is_none() {
+                tally.failure = rewritten_failure(alloc, language, rewriting, text, &seen)?;
+            }
         }
         if tally.failure.is_some() {
             break;
@@ -99,35 +101,48 @@ pub fn failure<L: Language>(
     Ok(None)
 }
 
-// What is wrong with the minified text, or the error in its place; None where nothing is.
-fn minified_failure<L: Language>(
+// What is wrong with the text written anew, or with the error in its place; None where nothing is.
+fn rewritten_failure<L: Language>(
     alloc: Global,
     language: &L,
+    rewriting: Rewriting,
     text: &str,
     seen: &Seen,
 ) -> Result<Option<String>, AllocError> {
-    let minified = match language.minified(alloc, text) {
-        Ok(minified) => minified,
+    let written = match language.rewritten(alloc, rewriting, text) {
+        Ok(written) => written,
         Err(error) => {
             let shown = format!(in alloc; "{error:?}")?;
             if shown == seen.placed {
                 return Ok(None);
             }
-            return told(alloc, "the error of a minifier differs", text, seen, seen);
+            return told(
+                alloc,
+                "the error of the call that writes anew differs",
+                text,
+                seen,
+                seen,
+            );
         }
     };
-    let other = asked(alloc, language, Form::Plain, minified.as_str())?;
-    if other.placeless != seen.placeless || minified.len() > text.len() {
-        return told(alloc, "the minified text differs", text, seen, &other);
+    let other = asked(alloc, language, Form::Plain, written.as_str())?;
+    if other.placeless != seen.placeless {
+        return told(alloc, "the text written anew differs", text, seen, &other);
     }
-    let is_same = match language.minified(alloc, minified.as_str()) {
-        Ok(again) => again == minified,
+    if rewriting == Rewriting::Minified && written.len() > text.len() {
+        return told(alloc, "the minified text is longer", text, seen, &other);
+    }
+    if rewriting == Rewriting::Formatted && !has_same_items(text, written.as_str()) {
+        return told(alloc, "comments or tokens differ", text, seen, &other);
+    }
+    let is_same = match language.rewritten(alloc, rewriting, written.as_str()) {
+        Ok(again) => again == written,
         Err(_error) => false,
     };
     if is_same {
         return Ok(None);
     }
-    told(alloc, "minified again it differs", text, seen, &other)
+    told(alloc, "written anew again it differs", text, seen, &other)
 }
 
 fn told(
@@ -156,4 +171,56 @@ fn in_lines(alloc: Global, text: &str) -> Result<String, AllocError> {
         lines.word("\n");
     }
     lines.finish()
+}
+
+// Whether two texts have the same tokens, and before each the same comments, but for the blanks at their ends.
+fn has_same_items(text: &str, other: &str) -> bool {
+    let mut others = Tokens::new(other);
+    let mut rest = text;
+    let mut rest_of_other = other;
+    for token in Tokens::new(text) {
+        let Some(same) = others.next() else {
+            return false;
+        };
+        let (gap, after) = around(text, rest, token.start, token.text);
+        let (gap_of_other, after_other) = around(other, rest_of_other, same.start, same.text);
+        if token.text != same.text || !has_same_comments(gap, gap_of_other) {
+            return false;
+        }
+        rest = after;
+        rest_of_other = after_other;
+    }
+    true
+}
+
+// What is before a token of a text, of which this is the rest, and after it.
+fn around<'a>(text: &str, rest: &'a str, start: usize, spelling: &str) -> (&'a str, &'a str) {
+    let end = text.len().saturating_sub(rest.len());
+    match rest.split_at_checked(start.saturating_sub(end)) {
+        Some((gap, from)) => (gap, from.strip_prefix(spelling).unwrap_or(from)),
+        None => (rest, ""),
+    }
+}
+
+// Whether two gaps between tokens have the same comments, but for the blanks at their ends.
+fn has_same_comments(gap: &str, other: &str) -> bool {
+    let mut rest = gap;
+    let mut rest_of_other = other;
+    while let Some((_, from)) = rest.split_once('#') {
+        let Some((_, from_other)) = rest_of_other.split_once('#') else {
+            return false;
+        };
+        let (comment, after) = first_line(from);
+        let (comment_of_other, after_other) = first_line(from_other);
+        if comment.trim_end_matches(['\t', ' ']) != comment_of_other {
+            return false;
+        }
+        rest = after;
+        rest_of_other = after_other;
+    }
+    !rest_of_other.contains('#')
+}
+
+fn first_line(text: &str) -> (&str, &str) {
+    text.split_at(text.find(['\n', '\r']).unwrap_or(text.len()))
 }

@@ -8,7 +8,7 @@ use graphql_parser::{
     check_schema, check_schema_from, check_schema_limited, parse_query, parse_query_from,
     parse_query_limited, parse_schema, parse_schema_from, parse_schema_limited,
 };
-use graphql_printer::{minify_query, minify_schema};
+use graphql_printer::{format_query, format_schema, minify_query, minify_schema};
 use rows::Shown;
 use rows::trees::Written;
 use std::alloc::{AllocError, Global};
@@ -34,6 +34,15 @@ impl Form {
         }
         Limits::default()
     }
+}
+
+/// How a text is written anew.
+#[derive(Clone, Copy, Debug, PartialEq, Eq)]
+pub enum Rewriting {
+    /// Without what is ignored and isn't needed.
+    Minified,
+    /// Laid out, with its comments.
+    Formatted,
 }
 
 /// What an answer is seen by. Equal answers have equal parts.
@@ -71,8 +80,8 @@ pub trait Language {
     /// What its check answers.
     fn checked(&self, alloc: Global, form: Form, text: &str) -> Answer<()>;
 
-    /// The text minified, or its error.
-    fn minified(&self, alloc: Global, text: &str) -> Answer<String>;
+    /// The text written anew, or its error.
+    fn rewritten(&self, alloc: Global, rewriting: Rewriting, text: &str) -> Answer<String>;
 }
 
 /// What the parser of a language answers, if its check answers the same: both accept, or both give the same error.
@@ -134,10 +143,13 @@ impl Language for Parsed {
         }
     }
 
-    fn minified(&self, alloc: Global, text: &str) -> Answer<String> {
-        match self {
-            Parsed::Requests => minify_query(alloc, text, Limits::default()),
-            Parsed::Schemas => minify_schema(alloc, text, Limits::default()),
+    fn rewritten(&self, alloc: Global, rewriting: Rewriting, text: &str) -> Answer<String> {
+        let limits = Limits::default();
+        match (self, rewriting) {
+            (Parsed::Requests, Rewriting::Minified) => minify_query(alloc, text, limits),
+            (Parsed::Requests, Rewriting::Formatted) => format_query(alloc, text, limits),
+            (Parsed::Schemas, Rewriting::Minified) => minify_schema(alloc, text, limits),
+            (Parsed::Schemas, Rewriting::Formatted) => format_schema(alloc, text, limits),
         }
     }
 }

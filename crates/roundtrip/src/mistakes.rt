@@ -1,6 +1,6 @@
 //! Printers and calls with a mistake, which the checks have to find.
 use crate::checking::run;
-use crate::languages::{Form, Language, Parsed, Seen};
+use crate::languages::{Form, Language, Parsed, Rewriting, Seen};
 use crate::values::run_values;
 use graphql_parser::Result as Answer;
 use std::alloc::{AllocError, Global};
@@ -31,8 +31,8 @@ impl<L: Language> Language for Forgetful<L> {
         self.language.checked(alloc, form, text)
     }
 
-    fn minified(&self, alloc: Global, text: &str) -> Answer<String> {
-        self.language.minified(alloc, text)
+    fn rewritten(&self, alloc: Global, rewriting: Rewriting, text: &str) -> Answer<String> {
+        self.language.rewritten(alloc, rewriting, text)
     }
 }
 
@@ -65,15 +65,16 @@ impl<L: Language> Language for Astray<L> {
         self.language.checked(alloc, form, text)
     }
 
-    fn minified(&self, alloc: Global, text: &str) -> Answer<String> {
-        self.language.minified(alloc, text)
+    fn rewritten(&self, alloc: Global, rewriting: Rewriting, text: &str) -> Answer<String> {
+        self.language.rewritten(alloc, rewriting, text)
     }
 }
 
-// A language whose minified texts lack these characters.
+// A language whose texts, written anew so, lack these characters.
 #[derive(Clone, Copy)]
 struct Stripped<L> {
     language: L,
+    rewriting: Rewriting,
     lacking: &'static str,
 }
 
@@ -90,14 +91,17 @@ impl<L: Language> Language for Stripped<L> {
         self.language.checked(alloc, form, text)
     }
 
-    fn minified(&self, alloc: Global, text: &str) -> Answer<String> {
-        let minified = self.language.minified(alloc, text)?;
-        Ok(minified.replace(alloc, self.lacking, "")?)
+    fn rewritten(&self, alloc: Global, rewriting: Rewriting, text: &str) -> Answer<String> {
+        let written = self.language.rewritten(alloc, rewriting, text)?;
+        if rewriting == self.rewriting {
+            return Ok(written.replace(alloc, self.lacking, "")?);
+        }
+        Ok(written)
     }
 }
 
 /// How many mistakes are not found by so many texts or values from a seed on: of printers of trees, of forms of a parser and of
-/// its check, of minifiers, and of printers of values. A schema file has no `$`, so that forgetting it is none there.
+/// its check, of minifiers, of formatters, and of printers of values. A schema file has no `$`, so that forgetting it is none there.
 pub fn overlooked(alloc: Global, seed: u64, count: u64) -> Result<usize, AllocError> {
     let mut overlooked = 0usize;
     for forgotten in ["!", "@", "$", "\\", "="] {
@@ -134,13 +138,22 @@ pub fn overlooked(alloc: Global, seed: u64, count: u64) -> Result<usize, AllocEr
             }
         }
     }
-    for lacking in [" ", "@", "{"] {
+    for (rewriting, lacking) in [
+        (Rewriting::Minified, " "),
+        (Rewriting::Minified, "@"),
+        (Rewriting::Minified, "{"),
+        (Rewriting::Formatted, "@"),
+        (Rewriting::Formatted, "#"),
+        (Rewriting::Formatted, "}"),
+    ] {
         let requests = Stripped {
             language: Parsed::Requests,
+            rewriting,
             lacking,
         };
         let schemas = Stripped {
             language: Parsed::Schemas,
+            rewriting,
             lacking,
         };
         if !is_found(alloc, &requests, seed, count)? || !is_found(alloc, &schemas, seed, count)? {

@@ -18,3 +18,9 @@ HasTokens text bs = (tokens : List Token) × IsCutInto text tokens × (bares tok
 -- a fault is among the tokens of the text
 abbrev pub HasFault : List ℕ → Type 0
 HasFault text = (tokens : List Token) × IsCutInto text tokens × (¬ (HasNoFault tokens))
+
+-- Both texts have these tokens.
+pub record HaveSameTokens (text other : List ℕ) : Type 0 where
+  pub tokens : List Bare
+  pub of_text : HasTokens text tokens
+  pub of_other : HasTokens other tokens

@@ -5,7 +5,7 @@ use Rattle.graphql_schemas.specs.grammar.Schemas.{schemas}
 use Rattle.graphql_schemas.specs.reading.SchemaFile.{definitions_at}
 use Rattle.graphql_schemas.proofs.SchemaFileProductions.{schemas-read-by}
 use Rattle.graphql_printer.proofs.Accepted.{accepted}
-use Rattle.graphql_printer.proofs.Meaning.{text_means_the_same}
+use Rattle.graphql_printer.proofs.Meaning.{minified_means_the_same}
 use Rattle.graphql_printer.proofs.minify_schema.Goals as goal
 
 pub minify_tokens-requires : goal.minify_tokens-requires
@@ -16,4 +16,4 @@ minify_tokens-requires c =
 pub returns-clause-meaning : goal.returns-clause-meaning
 returns-clause-meaning c =
     let reads : ReadsText (checked schemas) c.args.limits c.args.text.now (Ok tt) = c.in_ok-check_schema_limited.ensures.reads in
-    text_means_the_same schemas definitions_at schemas-read-by c.args.limits c.args.text.now c.minify_tokens.result reads c.minify_tokens.ensures.minified
+    minified_means_the_same schemas definitions_at schemas-read-by c.args.limits c.args.text.now c.minify_tokens.result reads c.minify_tokens.ensures.minified

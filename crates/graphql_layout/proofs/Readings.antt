@@ -1,0 +1,132 @@
+-- A text that is read token after token, with the comments between them, and written so.
+use Rattle.std.proofs.Common.{◌≡◌, ◌≢◌, ℕ, ◌+◌, Bool, true, false, ◌&&◌, inl, inr, List, [], ◌∷◌, ◌++◌, length, take, drop, refl, sym, ap, ◌∙◌, subst, append_assoc, length-append}
+use Rattle.std.proofs.Math.Seq.{take-append_seam, drop-append_seam}
+use Rattle.std.proofs.lemmas.Str.{chars-encodes, encodes-chars, encodes-append, scalars-chars, IsCharBoundary-at_seam}
+use lib.Utf8.{scalar}
+use Rattle.std.specs.List.{concat}
+use Rattle.std.specs.Str.{chars, IsUtf8, IsCharBoundary, all_scalars, encode_utf8_all}
+use Rattle.graphql_tokens.specs.tokens.Cuts.{IsCutInto, HasNoFault}
+use Rattle.graphql_tokens.specs.tokens.Edition.{Current}
+use Rattle.graphql_tokens.specs.tokens.Ignored.{IsPiece, AreIgnored, EndsLine}
+use Rattle.graphql_tokens.specs.tokens.Spelling.{Begins}
+use Rattle.graphql_tokens.specs.tokens.Token.{Bare, Token}
+use Rattle.graphql_tokens.specs.declared.lexer.TokenKind.{TokenKind}
+use Rattle.graphql_tokens.specs.declared.lexer.TokenKind.TheVariants.{Fault, End}
+use Rattle.graphql_tokens.proofs.Lists.{tokens_only}
+use Rattle.graphql_layout.specs.texts.Items.{Item, comment, word, IsItems, words}
+use Rattle.graphql_layout.specs.texts.LaidOut.{trimmed, tidied}
+use Rattle.graphql_layout.specs.texts.SameTokens.{bares, bare_end}
+use Rattle.graphql_layout.proofs.Items.{ignored_item, comment_item, items_written}
+
+-- ---- a text in two
+
+and_parts : (a b : Bool) → (a && b) ≡ true → (a ≡ true) × (b ≡ true)
+and_parts true b h = (refl, h)
+and_parts false b h = absurd cc
+
+scalars_split : (xs ys : List ℕ) → all_scalars (xs ++ ys) ≡ true → (all_scalars xs ≡ true) × (all_scalars ys ≡ true)
+scalars_split [] ys h = (refl, h)
+scalars_split (x ∷ xs) ys h =
+    let p = and_parts (scalar x) (all_scalars (xs ++ ys)) h in
+    let q = scalars_split xs ys p.1 in
+    (ap (λ (b : Bool). b && all_scalars xs) p.0 ∙ q.0, q.1)
+
+-- cut after the first of two lists of characters
+pub record Seam (bs xs ys : List ℕ) : Type 0 where
+  pub boundary : IsCharBoundary bs (length (encode_utf8_all xs))
+  pub front : take (length (encode_utf8_all xs)) bs ≡ encode_utf8_all xs
+  pub back : drop (length (encode_utf8_all xs)) bs ≡ encode_utf8_all ys
+  pub front_chars : chars (encode_utf8_all xs) ≡ xs
+  pub back_chars : chars (encode_utf8_all ys) ≡ ys
+  pub back_utf8 : IsUtf8 (encode_utf8_all ys)
+  pub long : length bs ≡ length (encode_utf8_all xs) + length (encode_utf8_all ys)
+
+pub seam : (bs xs ys : List ℕ) → IsUtf8 bs → chars bs ≡ xs ++ ys → Seam bs xs ys
+seam bs xs ys u e =
+    let n = length (encode_utf8_all xs) in
+    let s = scalars_split xs ys (ap all_scalars (sym e) ∙ scalars-chars bs u) in
+    let whole : bs ≡ encode_utf8_all xs ++ encode_utf8_all ys = sym (encodes-chars bs u) ∙ ap encode_utf8_all e ∙ encodes-append xs ys in
+    let utf8 : IsUtf8 (encode_utf8_all ys) = (ys, (s.1, refl)) in
+    record {
+      boundary = IsCharBoundary-at_seam bs (encode_utf8_all xs) (encode_utf8_all ys) whole utf8;
+      front = ap (take n) whole ∙ take-append_seam (encode_utf8_all xs) (encode_utf8_all ys);
+      back = ap (drop n) whole ∙ drop-append_seam (encode_utf8_all xs) (encode_utf8_all ys);
+      front_chars = chars-encodes xs s.0;
+      back_chars = chars-encodes ys s.1;
+      back_utf8 = utf8;
+      long = ap length whole ∙ length-append (encode_utf8_all xs) (encode_utf8_all ys);
+    }
+
+-- ---- the comments among ignored pieces
+
+pub record Comments (pieces : List (List ℕ)) (after : List ℕ) : Type 0 where
+  pub items : List Item
+  pub alone : IsItems (concat pieces) items
+  pub none : words items ≡ []
+  pub before : (others : List Item) → IsItems after others → IsItems (concat pieces ++ after) (items ++ others)
+
+ends_alone : (rest after : List ℕ) → EndsLine (rest ++ after) → EndsLine rest
+ends_alone [] after h = tt
+ends_alone (c ∷ rest) after h = h
+
+pub comments_of : (pieces : List (List ℕ)) (after : List ℕ) → AreIgnored pieces after → Comments pieces after
+comments_of [] after h = record { items = []; alone = tt; none = refl; before = λ others k. k }
+comments_of (p ∷ ps) after h = by h.0 (comments_of ps after h.1)
+  where
+    seamed : (items : List Item) → IsItems (p ++ (concat ps ++ after)) items → IsItems (concat (p ∷ ps) ++ after) items
+    seamed items i = subst (λ (x : List ℕ). IsItems x items) (sym (append_assoc p (concat ps) after)) i
+
+    by : IsPiece p (concat ps ++ after) → Comments ps after → Comments (p ∷ ps) after
+    by (inl i) k = record {
+      items = k.items;
+      alone = subst (λ (l : List ℕ). IsItems (l ++ concat ps) k.items) (sym i.1) (ignored_item i.0 (concat ps) k.items i.2 k.alone);
+      none = k.none;
+      before = λ others o.
+          seamed (k.items ++ others) (subst (λ (l : List ℕ). IsItems (l ++ (concat ps ++ after)) (k.items ++ others)) (sym i.1) (ignored_item i.0 (concat ps ++ after) (k.items ++ others) i.2 (k.before others o)));
+    }
+    by (inr i) k = record {
+      items = comment p ∷ k.items;
+      alone = comment_item p (concat ps) k.items i.0 (ends_alone (concat ps) after i.1) k.alone;
+      none = k.none;
+      before = λ others o. seamed (comment p ∷ (k.items ++ others)) (comment_item p (concat ps ++ after) (k.items ++ others) i.0 i.1 (k.before others o));
+    }
+
+-- ---- what is tidied
+
+pub tidied-append : (xs ys : List Item) → tidied (xs ++ ys) ≡ tidied xs ++ tidied ys
+tidied-append [] ys = refl
+tidied-append (comment c ∷ xs) ys = ap (λ (l : List Item). comment (trimmed c) ∷ l) (tidied-append xs ys)
+tidied-append (word b ∷ xs) ys = ap (λ (l : List Item). word b ∷ l) (tidied-append xs ys)
+
+pub same_words : (xs : List Item) → words (tidied xs) ≡ words xs
+same_words [] = refl
+same_words (comment c ∷ xs) = same_words xs
+same_words (word b ∷ xs) = ap (λ (l : List Bare). b ∷ l) (same_words xs)
+
+-- ---- a text with items has no fault
+
+word_kind : (b : Bare) (w rest : List ℕ) → Begins Current b.kind w rest → b.kind ≢ Fault
+word_kind b w rest h e = (subst (λ (k : TokenKind). Begins Current k w rest) e h).spelled
+
+words_whole : (text : List ℕ) (items : List Item) (ts : List Token) → IsItems text items → bares ts ≡ words items ++ bare_end ∷ [] → HasNoFault ts
+words_whole text [] [] h e = absurd cc
+words_whole text [] (t ∷ ts) h e =
+    let same : t.bare ≡ bare_end = cc in
+    let none : bares ts ≡ [] = cc in
+    (λ f. absurd (let k : End ≡ Fault = ap (λ (x : Bare). x.kind) (sym same) ∙ f in cc), nothing ts none)
+  where
+    nothing : (us : List Token) → bares us ≡ [] → HasNoFault us
+    nothing [] n = tt
+    nothing (u ∷ us) n = absurd cc
+words_whole text (comment c ∷ items) ts h e = words_whole h.rest items ts h.more e
+words_whole text (word b ∷ items) [] h e = absurd cc
+words_whole text (word b ∷ items) (t ∷ ts) h e =
+    let same : t.bare ≡ b = cc in
+    let more : bares ts ≡ words items ++ bare_end ∷ [] = cc in
+    (λ f. word_kind b h.spelling h.rest h.begins (ap (λ (x : Bare). x.kind) (sym same) ∙ f), words_whole h.rest items ts h.more more)
+
+pub whole_items : (text : List ℕ) (items : List Item) (all : List Token) → IsCutInto text all → IsItems (chars text) items → HasNoFault all
+whole_items text items all cut h =
+    let w = items_written (chars text) items h [] in
+    let same : w.0 ≡ all = tokens_only [] (chars text) w.0 w.1 ∙ sym (tokens_only [] (chars text) all cut) in
+    words_whole (chars text) items all h (ap bares (sym same) ∙ w.2)

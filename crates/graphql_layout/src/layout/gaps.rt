@@ -1,0 +1,115 @@
+//! What stands before each token.
+use crate::layout::walk::{Role, Step, Walk};
+use graphql_tokens::lexer::TokenKind;
+use std::alloc::{AllocError, Global};
+
+/// What stands before a token.
+#[derive(Clone, Copy, Debug, PartialEq, Eq)]
+pub enum Gap {
+    /// Nothing: it begins the text.
+    Start,
+    /// Nothing.
+    Nothing,
+    /// A blank.
+    Blank,
+    /// A comma and a blank.
+    Comma,
+    /// The end of a line.
+    Line,
+    /// The end of a line, and a blank line if there was one.
+    Spread,
+    /// A blank line.
+    BlankLine,
+}
+
+/// Where a token stands.
+#[derive(Clone, Copy, Debug)]
+pub struct Place {
+    /// What stands before it.
+    pub gap: Gap,
+    /// Whether it is the first in its bracket, or in the text.
+    pub is_first: bool,
+    /// How deep its line is, if it begins one, or if comments before it are on lines of their own.
+    pub depth: usize,
+    /// How deep these comments are.
+    pub comments: usize,
+}
+
+/// A text up to one of its tokens.
+#[derive(Debug, Drop)]
+pub struct Layout {
+    walk: Walk,
+    // Whether each bracket of the text is broken, in the order in which they open, and how many have opened.
+    broken: Vec<bool>,
+    opened: usize,
+    // Whether each open bracket is broken, and how many of them are.
+    open: Vec<bool>,
+    depth: usize,
+}
+
+impl Layout {
+    /// Before the first token of a text of which these brackets are broken.
+    pub fn new(alloc: Global, broken: Vec<bool>) -> Layout {
+        Layout {
+            walk: Walk::new(alloc),
+            broken,
+            opened: 0,
+            open: Vec::new(alloc),
+            depth: 0,
+        }
+    }
+
+    /// Passes the next token, and gives where it stands. It fails only where memory runs out.
+    pub fn pass(&mut self, kind: TokenKind, spelling: &str) -> Result<Place, AllocError> {
+        let step = self.walk.step(kind, spelling)?;
+        let place = self.place(&step);
+        if step.role == Role::Closing {
+            self.close();
+        }
+        if step.opens.is_some() {
+            self.open()?;
+        }
+        Ok(place)
+    }
+
+    fn place(&self, step: &Step) -> Place {
+        let is_broken = self.open.last().copied() == Some(true);
+        let deeper = self.depth.saturating_add(1);
+        let outer = self.depth.saturating_sub(1);
+        let (gap, depth, comments) = match step.role {
+            Role::Definition | Role::End if step.is_first => (Gap::Start, 0, 0),
+            Role::Definition => (Gap::BlankLine, self.depth, self.depth),
+            Role::Member if is_broken => (Gap::Spread, self.depth, self.depth),
+            Role::Member if step.is_first => (Gap::Nothing, deeper, deeper),
+            Role::Member => (Gap::Comma, deeper, deeper),
+            Role::Described => (Gap::Line, self.depth, self.depth),
+            Role::Closing if is_broken => (Gap::Line, outer, self.depth),
+            Role::Closing | Role::Touching => (Gap::Nothing, deeper, deeper),
+            Role::Apart => (Gap::Blank, deeper, deeper),
+            Role::Body => (Gap::Blank, self.depth, self.depth),
+            Role::End => (Gap::Nothing, self.depth, self.depth),
+        };
+        Place {
+            gap,
+            is_first: step.is_first,
+            depth,
+            comments,
+        }
+    }
+
+    fn open(&mut self) -> Result<(), AllocError> {
+        let is_broken = self.broken.get(self.opened).copied() == Some(true);
+        self.opened = self.opened.saturating_add(1);
+        if is_broken {
+            self.depth = self.depth.saturating_add(1);
+        }
+        self.open.push(is_broken)?;
+        Ok(())
+    }
+
+    fn close(&mut self) {
+        if self.open.pop() == Some(true) {
+            self.depth = self.depth.saturating_sub(1);
+        }
+    }
+}

@@ -1,0 +1,19 @@
+use Rattle.std.proofs.Common.{Ok}
+use Rattle.graphql_check.specs.Checking.{checked}
+use Rattle.graphql_grammar.specs.answers.Reads.{ReadsText}
+use Rattle.graphql_requests.specs.grammar.Requests.{requests}
+use Rattle.graphql_requests.specs.reading.Request.{definitions_at}
+use Rattle.graphql_requests.proofs.RequestProductions.{requests-read-by}
+use Rattle.graphql_printer.proofs.Accepted.{accepted}
+use Rattle.graphql_printer.proofs.Meaning.{laid_out_means_the_same}
+use Rattle.graphql_printer.proofs.formatting.format_query.Goals as goal
+
+pub format_tokens-requires : goal.format_tokens-requires
+format_tokens-requires c =
+    let reads : ReadsText (checked requests) c.args.limits c.args.text.now (Ok tt) = c.in_ok-check_query_limited.ensures.reads in
+    accepted requests c.args.limits c.args.text.now reads
+
+pub returns-clause-meaning : goal.returns-clause-meaning
+returns-clause-meaning c =
+    let reads : ReadsText (checked requests) c.args.limits c.args.text.now (Ok tt) = c.in_ok-check_query_limited.ensures.reads in
+    laid_out_means_the_same requests definitions_at requests-read-by c.args.limits c.args.text.now c.format_tokens.result reads c.format_tokens.ensures.laid_out
