@@ -80,11 +80,17 @@ impl Measure {
 
     // Whether the innermost bracket is broken for this token and what is ignored before it.
     fn breaks(&self, gap: &str, step: &Step) -> bool {
-        let is_broken = step.is_first
+        if step.describes && self.is_in(Bracket::Other) {
+            return true;
+        }
+        if gap.is_empty() || gap == " " {
+            return false;
+        }
+        let was_broken = step.is_first
             && step.role != Role::Closing
             && (self.is_in(Bracket::List) || self.is_in(Bracket::Object))
             && (gap.contains('\n') || gap.contains('\r'));
-        is_broken || step.describes && self.is_in(Bracket::Other) || gap.contains('#')
+        was_broken || gap.contains('#')
     }
 
     fn break_innermost(&mut self) {

@@ -75,6 +75,14 @@ enum Last {
     Closed,
 }
 
+// The first character of a punctuator, which no other has, and a blank for what is none.
+fn mark_of(kind: TokenKind, spelling: &str) -> u8 {
+    if !kind.is_punct() {
+        return b' ';
+    }
+    spelling.as_bytes().first().copied().unwrap_or(b' ')
+}
+
 /// The tokens of a text up to one of them.
 #[derive(Debug, Drop)]
 pub struct Walk {
@@ -99,45 +107,47 @@ impl Walk {
 
     /// Passes the next token. It fails only where memory runs out.
     pub fn step(&mut self, kind: TokenKind, spelling: &str) -> Result<Step, AllocError> {
-        let role = self.role(kind, spelling);
+        let mark = mark_of(kind, spelling);
+        let opens = self.opened(mark);
+        let role = self.role(kind, mark, spelling, opens);
         let step = Step {
             role,
             is_first: matches!(self.last, Last::Start | Last::Opening),
             describes: self.describes(role, kind),
-            opens: self.opened(kind, spelling),
+            opens,
         };
         self.note_name(role, kind, spelling);
         if role == Role::Closing {
             self.open.pop();
         }
-        self.last = self.after(&step, kind, spelling);
+        self.last = self.after(&step, kind, mark, spelling);
         if let Some(bracket) = step.opens {
             self.open.push(bracket)?;
         }
         Ok(step)
     }
 
-    fn role(&self, kind: TokenKind, spelling: &str) -> Role {
+    fn role(&self, kind: TokenKind, mark: u8, spelling: &str, opens: Option<Bracket>) -> Role {
         if kind.is_end() {
             return Role::End;
         }
-        if kind.is_punct() && matches!(spelling, ")" | "]" | "}") {
+        if matches!(mark, b')' | b']' | b'}') {
             return Role::Closing;
         }
         if self.last == Last::Description {
             return Role::Described;
         }
-        if self.begins(kind, spelling) {
+        if self.begins(kind, mark, spelling) {
             return if self.open.is_empty() {
                 Role::Definition
             } else {
                 Role::Member
             };
         }
-        if self.opened(kind, spelling) == Some(Bracket::Set) {
+        if opens == Some(Bracket::Set) {
             return Role::Body;
         }
-        if self.touches(kind, spelling) {
+        if self.touches(kind, mark, spelling) {
             Role::Touching
         } else {
             Role::Apart
@@ -145,22 +155,22 @@ impl Walk {
     }
 
     // Whether a definition or a member begins.
-    fn begins(&self, kind: TokenKind, spelling: &str) -> bool {
+    fn begins(&self, kind: TokenKind, mark: u8, spelling: &str) -> bool {
         match self.last {
             Last::Start | Last::Opening | Last::Closed => true,
-            Last::Whole => self.begins_after_whole(kind, spelling),
+            Last::Whole => self.begins_after_whole(kind, mark, spelling),
             _ => false,
         }
     }
 
-    fn begins_after_whole(&self, kind: TokenKind, spelling: &str) -> bool {
+    fn begins_after_whole(&self, kind: TokenKind, mark: u8, spelling: &str) -> bool {
         match kind {
             TokenKind::Name => {
                 !self.open.is_empty() || !matches!(spelling, "implements" | "on" | "repeatable")
             }
-            TokenKind::Punct => match spelling {
-                "..." | "$" | "[" => true,
-                "{" => self.is_in(Bracket::List),
+            TokenKind::Punct => match mark {
+                b'.' | b'$' | b'[' => true,
+                b'{' => self.is_in(Bracket::List),
                 _ => false,
             },
             _ => true,
@@ -168,12 +178,14 @@ impl Walk {
     }
 
     // Whether nothing stands between the token before and this one, which belongs to it.
-    fn touches(&self, kind: TokenKind, spelling: &str) -> bool {
-        match spelling {
-            ":" | "!" => true,
-            "(" => self.last != Last::Wanting,
-            "on" => self.last == Last::Sigil,
-            _ => self.last == Last::Sigil || self.last == Last::Dots && kind.is_name(),
+    fn touches(&self, kind: TokenKind, mark: u8, spelling: &str) -> bool {
+        match mark {
+            b':' | b'!' => true,
+            b'(' => self.last != Last::Wanting,
+            _ => {
+                self.last == Last::Sigil
+                    || self.last == Last::Dots && kind.is_name() && spelling != "on"
+            }
         }
     }
 
@@ -188,19 +200,16 @@ impl Walk {
     }
 
     // The bracket that this token opens.
-    fn opened(&self, kind: TokenKind, spelling: &str) -> Option<Bracket> {
-        if !kind.is_punct() {
-            return None;
-        }
-        match spelling {
-            "[" => Some(Bracket::List),
-            "(" if self.is_in(Bracket::Set) && self.is_request && !self.is_directive => {
+    fn opened(&self, mark: u8) -> Option<Bracket> {
+        match mark {
+            b'[' => Some(Bracket::List),
+            b'(' if self.is_in(Bracket::Set) && self.is_request && !self.is_directive => {
                 Some(Bracket::Call)
             }
-            "(" => Some(Bracket::Other),
-            "{" if self.open.is_empty() => Some(Bracket::Set),
-            "{" if self.is_in(Bracket::Set) && self.last != Last::Wanting => Some(Bracket::Set),
-            "{" => Some(Bracket::Object),
+            b'(' => Some(Bracket::Other),
+            b'{' if self.open.is_empty() => Some(Bracket::Set),
+            b'{' if self.is_in(Bracket::Set) && self.last != Last::Wanting => Some(Bracket::Set),
+            b'{' => Some(Bracket::Object),
             _ => None,
         }
     }
@@ -219,22 +228,22 @@ impl Walk {
     }
 
     // What this token is to the next one.
-    fn after(&self, step: &Step, kind: TokenKind, spelling: &str) -> Last {
+    fn after(&self, step: &Step, kind: TokenKind, mark: u8, spelling: &str) -> Last {
         match kind {
             _ if step.describes => Last::Description,
-            TokenKind::Punct => self.after_punct(spelling),
+            TokenKind::Punct => self.after_punct(mark),
             TokenKind::Name => self.after_name(step.role, spelling),
             _ => Last::Whole,
         }
     }
 
-    fn after_punct(&self, spelling: &str) -> Last {
-        match spelling {
-            "(" | "[" | "{" => Last::Opening,
-            "}" if self.open.is_empty() => Last::Closed,
-            ")" | "]" | "}" | "!" => Last::Whole,
-            "@" | "$" => Last::Sigil,
-            "..." => Last::Dots,
+    fn after_punct(&self, mark: u8) -> Last {
+        match mark {
+            b'(' | b'[' | b'{' => Last::Opening,
+            b'}' if self.open.is_empty() => Last::Closed,
+            b')' | b']' | b'}' | b'!' => Last::Whole,
+            b'@' | b'$' => Last::Sigil,
+            b'.' => Last::Dots,
             _ => Last::Wanting,
         }
     }
