@@ -15,20 +15,18 @@ use Rattle.graphql_reading.specs.grammar.Limits.{Limits}
 use Rattle.graphql_reading.specs.grammar.Relations.{between_of, given}
 use Rattle.graphql_reading.specs.grammar.Tests.{Test, punct, any_name}
 use Rattle.graphql_reading.specs.reading.Ahead.{Ahead, tokens}
-use Rattle.graphql_reading.specs.reading.Outcome.{Outcome, Reader, Takes, Read, Refused, ◌>>=◌, one_at, between_at, then_at, mapped_at, take_at, choose_at, none_at, opt_at, many_at, plus_at}
+use Rattle.graphql_reading.specs.reading.Outcome.{Outcome, Reader, Takes, Read, Refused, ◌>>=◌, one_at, between_at, then_at, mapped_at, opt_at, many_at, plus_at}
 use Rattle.graphql_reading.proofs.Loop.{pair-read, cons-read, many-more, many-stops, many-plus}
 use Rattle.graphql_reading.proofs.TokenTests.{punct-is}
 use Rattle.graphql_grammar.specs.grammar.Arguments.{argument_of, directive_of}
 use Rattle.graphql_grammar.specs.grammar.Values.{Value}
 use Rattle.graphql_grammar.specs.reading.Arguments.{argument_at, maybe_arguments_at, directive_at, directives_at}
-use Rattle.graphql_grammar.specs.reading.OpenValues.{Opened, in_list, in_object, node_of, node_at, open_rest, enters_at, enter_at, key_at}
+use Rattle.graphql_grammar.specs.reading.OpenValues.{Opened, in_list, in_object, node_of, open_rest, enters_at, enter_at, key_at}
 use Rattle.graphql_grammar.specs.reading.Values.{simple_at, value_at}
 use Rattle.graphql_grammar.proofs.ArgumentProductions.{takes-argument, takes-directive}
 use Rattle.graphql_grammar.proofs.ValueFrames.{value-law, begun}
-use Rattle.graphql_requests.specs.reading.Selections.{selection_first}
 use Rattle.graphql_requests.specs.reading.SelectionSteps.{Heading, Names, maybe_brace_at, may_nest, names_at, given_arguments_at, bare_field, field_head_at, dots_head_at}
-use Rattle.graphql_check.specs.Checked.{rest_of, ended}
-use Rattle.graphql_check.specs.Heads.{entered_at}
+use Rattle.graphql_check.specs.Checked.{ended}
 use Rattle.graphql_check.specs.Levels.{opens, is_none, end_at, Met, closes, passes, enters, after_enter, after_end, step_at}
 use Rattle.graphql_check.specs.OpenSets.{sets}
 use Rattle.graphql_check.proofs.Levels.{is_object, object-opens, rests, went, front-none, step-law, step-room, step-shorter}

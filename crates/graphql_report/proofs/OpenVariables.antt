@@ -1,29 +1,28 @@
 -- How an operation is read on from within its variable definitions: each step of a walk that goes into their default values.
-use Rattle.std.proofs.Common.{◌≡◌, ℕ, zero, suc, ◌+◌, Bool, true, false, cond, Some, None, List, [], ◌∷◌, ◌++◌, reverse, length, ◌<◌, refl, sym, ap, ◌∙◌, length-append, arith}
+use Rattle.std.proofs.Common.{◌≡◌, ℕ, Bool, true, false, cond, Some, List, [], ◌∷◌, reverse, length, ◌<◌, refl, sym, ap, ◌∙◌, length-append, arith}
 use Rattle.graphql_tokens.specs.tokens.Token.{Bare, Token}
 use Rattle.graphql_reading.specs.grammar.Fronts.{syntax}
 use Rattle.graphql_reading.specs.grammar.Limits.{Limits}
-use Rattle.graphql_reading.specs.grammar.Relations.{between_of, after_of}
+use Rattle.graphql_reading.specs.grammar.Relations.{after_of}
 use Rattle.graphql_reading.specs.grammar.Tests.{Test, punct, keyword, any_name}
 use Rattle.graphql_reading.specs.reading.Ahead.{Ahead, tokens}
-use Rattle.graphql_reading.specs.reading.Outcome.{Outcome, Reader, Read, Refused, ◌>>=◌, one_at, then_at, mapped_at, opt_at, many_at, plus_at}
-use Rattle.graphql_reading.proofs.Loop.{many-more, many-stops, many-plus}
+use Rattle.graphql_reading.specs.reading.Outcome.{Outcome, Reader, Read, Refused, ◌>>=◌, one_at, then_at, mapped_at, opt_at}
+use Rattle.graphql_reading.proofs.Loop.{many-more, many-stops}
 use Rattle.graphql_reading.proofs.TokenTests.{punct-is}
 use Rattle.graphql_grammar.specs.reading.Arguments.{directive_at, directives_at}
-use Rattle.graphql_grammar.specs.reading.OpenValues.{Opened, enter_at}
 use Rattle.graphql_grammar.specs.reading.Operations.{operation_type_at}
 use Rattle.graphql_grammar.specs.reading.Types.{type_at}
 use Rattle.graphql_grammar.specs.reading.Values.{value_at}
 use Rattle.graphql_requests.specs.grammar.Variables.{variable_definition_of}
 use Rattle.graphql_requests.specs.reading.Request.{own_set_at, definition_first}
-use Rattle.graphql_requests.specs.reading.Variables.{turned, default_and_directives_at, variable_definition_at, variable_definitions_at}
+use Rattle.graphql_requests.specs.reading.Variables.{default_and_directives_at, variable_definition_at, variable_definitions_at}
 use Rattle.graphql_requests.proofs.VariableProductions.{takes-variable_definition}
 use Rattle.graphql_check.specs.Checked.{rest_of, ended}
-use Rattle.graphql_check.specs.Levels.{opens, Met, closes, passes, enters, after_enter, after_end, step_at}
-use Rattle.graphql_check.proofs.Levels.{is_object, object-opens, step-room}
+use Rattle.graphql_check.specs.Levels.{opens, Met, passes, enters, after_end, step_at}
+use Rattle.graphql_check.proofs.Levels.{object-opens, step-room}
 use Rattle.graphql_check.proofs.Rests.{is-read}
-use Rattle.graphql_report.specs.inner.OpenFronts.{in_sight, no_tree, operation_opening_at, fragment_opening_at, opening_at, read_whole, after_definition, from_open, Passes, IsReadTo}
-use Rattle.graphql_report.specs.inner.OpenValues.{after_variables, from_variables, after_type, after_default, through, from_values, IsReadInto, IsReadIn}
+use Rattle.graphql_report.specs.inner.OpenFronts.{in_sight, no_tree, operation_opening_at, fragment_opening_at, read_whole, after_definition, from_open, Passes, IsReadTo}
+use Rattle.graphql_report.specs.inner.OpenValues.{after_variables, from_variables, after_type, after_default, from_values, IsReadInto, IsReadIn}
 use Rattle.graphql_report.proofs.Local.{IsLocal, local-one, local-opt}
 use Rattle.graphql_report.proofs.LocalReaders.{local-operation_type, local-type}
 use Rattle.graphql_report.proofs.OpenFronts.{set-after, definition-law, others-after, whole-law}

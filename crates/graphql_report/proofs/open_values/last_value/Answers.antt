@@ -1,5 +1,4 @@
-use Rattle.std.proofs.Common.{sym}
-use Rattle.graphql_report.proofs.OpenValues.{walk-marked, walk-goes, found-in}
+use Rattle.graphql_report.proofs.OpenValues.{walk-marked, walk-goes}
 use Rattle.graphql_report.proofs.open_values.last_value.Goals as goal
 
 pub loop-parser-preserved : goal.loop-parser-preserved
