@@ -206,7 +206,11 @@ fn around<'a>(text: &str, rest: &'a str, start: usize, spelling: &str) -> (&'a s
 fn has_same_comments(gap: &str, other: &str) -> bool {
     let mut rest = gap;
     let mut rest_of_other = other;
-    while let Some((_, from)) = rest.split_once('#') {
+    // Each comment is a character long at least.
+    for _ in 0..=gap.len() {
+        let Some((_, from)) = rest.split_once('#') else {
+            return !rest_of_other.contains('#');
+        };
         let Some((_, from_other)) = rest_of_other.split_once('#') else {
             return false;
         };
@@ -218,7 +222,7 @@ fn has_same_comments(gap: &str, other: &str) -> bool {
         rest = after;
         rest_of_other = after_other;
     }
-    !rest_of_other.contains('#')
+    false
 }
 
 fn first_line(text: &str) -> (&str, &str) {
