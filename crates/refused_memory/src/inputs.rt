@@ -45,7 +45,7 @@ impl Call {
             | Call::DirectivesMut
             | Call::Compare => Input::Request(request(alloc, text)?),
             Call::ErrorPlaces => match parse_query(alloc, text) {
-                Ok(_) => return Err(AllocError),
+                Ok(_) | Err(Error::OutOfMemory) => return Err(AllocError),
                 Err(error) => Input::Error(error),
             },
             Call::CloneFile => match parse_schema(alloc, text) {
