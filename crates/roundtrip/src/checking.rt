@@ -176,30 +176,20 @@ fn in_lines(alloc: Global, text: &str) -> Result<String, AllocError> {
 // Whether two texts have the same tokens, and before each the same comments, but for the blanks at their ends.
 fn has_same_items(text: &str, other: &str) -> bool {
     let mut others = Tokens::new(other);
-    let mut rest = text;
-    let mut rest_of_other = other;
+    let (mut end, mut end_of_other) = (0, 0);
     for token in Tokens::new(text) {
         let Some(same) = others.next() else {
             return false;
         };
-        let (gap, after) = around(text, rest, token.start, token.text);
-        let (gap_of_other, after_other) = around(other, rest_of_other, same.start, same.text);
+        let gap = text.get(end..token.start).unwrap_or("");
+        let gap_of_other = other.get(end_of_other..same.start).unwrap_or("");
         if token.text != same.text || !has_same_comments(gap, gap_of_other) {
             return false;
         }
-        rest = after;
-        rest_of_other = after_other;
+        end = token.start.saturating_add(token.text.len());
+        end_of_other = same.start.saturating_add(same.text.len());
     }
     true
-}
-
-// What is before a token of a text, of which this is the rest, and after it.
-fn around<'a>(text: &str, rest: &'a str, start: usize, spelling: &str) -> (&'a str, &'a str) {
-    let end = text.len().saturating_sub(rest.len());
-    match rest.split_at_checked(start.saturating_sub(end)) {
-        Some((gap, from)) => (gap, from.strip_prefix(spelling).unwrap_or(from)),
-        None => (rest, ""),
-    }
 }
 
 // Whether two gaps between tokens have the same comments, but for the blanks at their ends.
