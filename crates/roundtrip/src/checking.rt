@@ -132,8 +132,8 @@ fn rewritten_failure<L: Language>(
     if rewriting == Rewriting::Minified && written.len() > text.len() {
         return told(alloc, "the minified text is longer", text, seen, &other);
     }
-    if rewriting == Rewriting::Formatted && !has_same_items(text, written.as_str()) {
-        return told(alloc, "comments or tokens differ", text, seen, &other);
+    if rewriting == Rewriting::Formatted && !has_same_tokens(text, written.as_str()) {
+        return told(alloc, "the formatted tokens differ", text, seen, &other);
     }
     let is_same = match language.rewritten(alloc, rewriting, written.as_str()) {
         Ok(again) => again == written,
@@ -173,48 +173,16 @@ fn in_lines(alloc: Global, text: &str) -> Result<String, AllocError> {
     lines.finish()
 }
 
-// Whether two texts have the same tokens, and before each the same comments, but for the blanks at their ends.
-fn has_same_items(text: &str, other: &str) -> bool {
+// Whether two texts have the same tokens, one for one as they are spelled.
+fn has_same_tokens(text: &str, other: &str) -> bool {
     let mut others = Tokens::new(other);
-    let (mut end, mut end_of_other) = (0, 0);
     for token in Tokens::new(text) {
         let Some(same) = others.next() else {
             return false;
         };
-        let gap = text.get(end..token.start).unwrap_or("");
-        let gap_of_other = other.get(end_of_other..same.start).unwrap_or("");
-        if token.text != same.text || !has_same_comments(gap, gap_of_other) {
+        if token.text != same.text {
             return false;
         }
-        end = token.start.saturating_add(token.text.len());
-        end_of_other = same.start.saturating_add(same.text.len());
     }
-    true
-}
-
-// Whether two gaps between tokens have the same comments, but for the blanks at their ends.
-fn has_same_comments(gap: &str, other: &str) -> bool {
-    let mut rest = gap;
-    let mut rest_of_other = other;
-    // Each comment is a character long at least.
-    for _ in 0..=gap.len() {
-        let Some((_, from)) = rest.split_once('#') else {
-            return !rest_of_other.contains('#');
-        };
-        let Some((_, from_other)) = rest_of_other.split_once('#') else {
-            return false;
-        };
-        let (comment, after) = first_line(from);
-        let (comment_of_other, after_other) = first_line(from_other);
-        if comment.trim_end_matches(['\t', ' ']) != comment_of_other {
-            return false;
-        }
-        rest = after;
-        rest_of_other = after_other;
-    }
-    false
-}
-
-fn first_line(text: &str) -> (&str, &str) {
-    text.split_at(text.find(['\n', '\r']).unwrap_or(text.len()))
+    others.is_ended()
 }

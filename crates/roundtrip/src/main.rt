@@ -4,9 +4,10 @@
 //! `example_printer`; the printed text has the same tree, and is printed the same again. Each text has the same answer by
 //! each form of its call, and when each of its tokens stands on a line of its own; within narrow limits it has that answer,
 //! or nests too deep. Each check answers as its parser. The minified text has the same tree, is no longer, and is minified the
-//! same again; the formatted text has the same tree, tokens and comments, and is formatted the same again. Half of the texts are made by the grammar and are accepted, or break a rule for documents; the others have one
-//! edit. Of as many random values each is printed, and read as an argument or a default again. Printers, minifiers, formatters
-//! and calls with a mistake are tried last: each mistake has to be found, so that COUNT has to be some hundreds at least.
+//! same again; the formatted text has the same tree and tokens, and is formatted the same again. Half of the texts are made by
+//! the grammar and are accepted, or break a rule for documents; the others have one edit. Of as many random values each is
+//! printed, and read as an argument or a default again. Printers, minifiers, formatters and calls with a mistake are tried last:
+//! each mistake has to be found, so that COUNT has to be some hundreds at least.
 #![tactic(auto)]
 
 mod checking;
