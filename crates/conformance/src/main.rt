@@ -1,5 +1,5 @@
 //! Tables of cases with expected answers: requests and schema files, what the calls of their trees and of their errors give,
-//! their JSON, what they are minified to, the reports of refused texts, and what the program `gql` does. The answers were
+//! their JSON, what they are minified and formatted to, the reports of refused texts, and what the program `gql` does. The answers were
 //! worked out by hand from the rules of `docs/GRAMMAR.md`, and never taken from what the crates print.
 //!
 //! The tables are the files of `data/tables`, in the notation of the crate `rows`, and the runs of `gql` are the file
@@ -12,14 +12,15 @@ mod errors;
 mod json;
 mod kept;
 mod made;
-mod minified;
 mod parser;
 mod readme;
 mod reports;
+mod rewritten;
 mod seeds;
 
 use commands::judge_runs;
 use parser::Parser;
+use rewritten::Rewriting;
 use rows::{Subject, judge};
 use std::alloc::Global;
 use std::test::Fail;
@@ -30,11 +31,12 @@ struct Calls;
 impl Subject for Calls {
     fn answer(&self, alloc: Global, call: &str, text: &str) -> Result<String, Fail> {
         match call.split_once(' ') {
-            Some(("minified", asked)) => match asked.split_once(' ') {
-                Some(("query", asked)) => minified::answer(alloc, Parser::Query, asked, text),
-                Some(("schema", asked)) => minified::answer(alloc, Parser::Schema, asked, text),
-                _ => Err(Fail::new("no such language")),
-            },
+            Some(("minified", asked)) => {
+                rewritten::answer(alloc, Rewriting::Minified, asked, text)
+            }
+            Some(("formatted", asked)) => {
+                rewritten::answer(alloc, Rewriting::Formatted, asked, text)
+            }
             Some(("query", asked)) => parser::answer(alloc, Parser::Query, asked, text),
             Some(("schema", "kept")) => kept::of_file(alloc, text),
             Some(("schema", "long")) => kept::of_long_file(alloc, text),

@@ -3,6 +3,7 @@
 use Rattle.std.proofs.Common.{rules, ◌≡◌, ◌≢◌, ℕ, Bool, true, false, ◌&&◌, IsTrue, inl, inr, List, [], ◌∷◌, ◌++◌, length, eqb, refl, sym, ap, ◌∙◌, subst, append_assoc}
 use Rattle.std.proofs.lemmas.List.{same_from_push}
 use Rattle.std.proofs.lemmas.Str.{chars-append, chars-encodes, chars-IsAscii, IsUtf8-append}
+use Rattle.graphql_report.proofs.Buffers.{line-feed-utf8}
 use Rattle.std.specs.Char.{IsScalar}
 use Rattle.std.specs.List.{AllByRecursion}
 use Rattle.std.specs.Str.{chars, IsUtf8}
@@ -84,14 +85,15 @@ word-cut front kind w h = (
 )
 
 -- the tokens of a line, the token of a word after it, and the end
-record Sampled (line : List ℕ) (tokens : List Token) (kind : TokenKind) (bytes : List ℕ) : Type 0 where
-  sample : Token
-  last : Token
-  is : record { kind = kind; spelling = bytes } ≡ sample.bare
-  ends : last.bare.kind ≡ End
-  cut : IsCutInto (with_sample line bytes) (tokens ++ sample ∷ last ∷ [])
+pub record Sampled (line : List ℕ) (tokens : List Token) (kind : TokenKind) (bytes : List ℕ) : Type 0 where
+  pub sample : Token
+  pub last : Token
+  pub is : record { kind = kind; spelling = bytes } ≡ sample.bare
+  pub ends : last.bare.kind ≡ End
+  pub utf8 : IsUtf8 (with_sample line bytes)
+  pub cut : IsCutInto (with_sample line bytes) (tokens ++ sample ∷ last ∷ [])
 
-sampled : (line : List ℕ) (tokens : List Token) (end : Token) → IsUtf8 line → LastIsLineFeed (chars line) → IsCutInto line (tokens ++ end ∷ []) → end.bare.kind ≡ End → (kind : TokenKind) (bytes : List ℕ) → Spells kind bytes → Sampled line tokens kind bytes
+pub sampled : (line : List ℕ) (tokens : List Token) (end : Token) → IsUtf8 line → LastIsLineFeed (chars line) → IsCutInto line (tokens ++ end ∷ []) → end.bare.kind ≡ End → (kind : TokenKind) (bytes : List ℕ) → Spells kind bytes → Sampled line tokens kind bytes
 sampled line tokens end utf8 lined line-cut ends kind bytes spells =
     let w : List ℕ = spells.0 in
     let here : List ℕ = chars line in
@@ -112,6 +114,7 @@ sampled line tokens end utf8 lined line-cut ends kind bytes spells =
       last = last;
       is = ap (λ (l : List ℕ). record { kind = kind; spelling = l }) spells.2;
       ends = refl;
+      utf8 = IsUtf8-append (line ++ bytes) (10 ∷ []) (IsUtf8-append line bytes utf8 bytes-utf8) line-feed-utf8;
       cut = subst (λ (l : List ℕ). Cuts Current [] l (tokens ++ u ∷ last ∷ [])) (sym text) cut;
     }
 
@@ -137,7 +140,7 @@ proper-of Block bytes h = h
 proper-of Fault bytes h = absurd h.3
 proper-of End bytes h = absurd h.3
 
-inner-of : (kind : TokenKind) (bytes : List ℕ) → Spells kind bytes → kind ≢ End
+pub inner-of : (kind : TokenKind) (bytes : List ℕ) → Spells kind bytes → kind ≢ End
 inner-of kind bytes h e = subst (λ (kind : TokenKind). IsSpelling Current kind h.0) e h.3
 
 -- the token of a text that can stand

@@ -41,7 +41,7 @@ proper-of : (t : Token) → (t.bare.kind ≡ Fault → ⊥) → (t.bare.kind ≡
 proper-of t other (inl fault) = absurd (other fault)
 proper-of t other (inr proper) = proper
 
-last-proper : (u : List Token) (e : Token) → e.bare.kind ≡ End → AreProperButFaults (u ++ e ∷ []) → IsProper e
+pub last-proper : (u : List Token) (e : Token) → e.bare.kind ≡ End → AreProperButFaults (u ++ e ∷ []) → IsProper e
 last-proper [] e is p = proper-of e (λ fault. clash (sym is ∙ fault)) p.0
   where
     clash : End ≡ Fault → ⊥
@@ -54,7 +54,7 @@ front-proper [] e ends p = tt
 front-proper (t ∷ []) e ends p = (proper-of t (no-fault t.bare.kind ends.0) p.0, tt)
 front-proper (t ∷ s ∷ u) e ends p = (proper-of t (no-fault t.bare.kind ends.0) p.0, front-proper (s ∷ u) e ends.1 p.1)
 
-last-ends : (u : List Token) (e : Token) (after : List Token) → is_last e.bare.kind ≡ true → EndsOnce (u ++ e ∷ after) → after ≡ []
+pub last-ends : (u : List Token) (e : Token) (after : List Token) → is_last e.bare.kind ≡ true → EndsOnce (u ++ e ∷ after) → after ≡ []
 last-ends [] e [] c h = refl
 last-ends [] e (t ∷ after) c h = absurd cc
 last-ends (t ∷ []) e after c h = last-ends [] e after c h.1
@@ -71,7 +71,7 @@ shorter {p = p} u w proper m = record { begun = u; after = w ++ m.tail; tree = m
 
 -- ---- lists that have a tree, or are refused
 
-tree-front : {D Document : Type 0} (language : Language D Document) (limits : Limits) (ts : List Token) (ds : List D) → AreProperButFaults ts → grammar language Current limits ts ds → IsFront language limits ts
+pub tree-front : {D Document : Type 0} (language : Language D Document) (limits : Limits) (ts : List Token) (ds : List D) → AreProperButFaults ts → grammar language Current limits ts ds → IsFront language limits ts
 tree-front language limits ts ds proper h =
     let w = ends-well (language.definitions Current) limits ts ds h in
     record {
@@ -90,7 +90,7 @@ end-front language limits ts v ends r is =
     record { front = r.before; last = r.token; split = split; ends = is; viable = subst (λ (l : List Token). Viable (grammar language Current) limits l) front (r.refused.viable_before (length r.before) (omega arith)) }
 
 -- where a token before the end is refused, the tokens are no front
-not-front : {D Document : Type 0} (language : Language D Document) (reader : Limits → Reader (List D)) → IsRead language reader → (limits : Limits) (ts : List Token) (v : Verdict) → EndsOnce ts → AreProperButFaults ts → (r : RefusedToken (grammar language Current) limits ts v) → (r.token.bare.kind ≡ End → ⊥) → IsFront language limits ts → ⊥
+pub not-front : {D Document : Type 0} (language : Language D Document) (reader : Limits → Reader (List D)) → IsRead language reader → (limits : Limits) (ts : List Token) (v : Verdict) → EndsOnce ts → AreProperButFaults ts → (r : RefusedToken (grammar language Current) limits ts v) → (r.token.bare.kind ≡ End → ⊥) → IsFront language limits ts → ⊥
 not-front language reader read limits ts v ends proper r other f = go r.after r.split
   where
     go : (after : List Token) → ts ≡ r.before ++ r.token ∷ after → ⊥

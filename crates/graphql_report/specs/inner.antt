@@ -1,10 +1,6 @@
 -- Inner: what private clauses cite.
 pub mod Called
 pub mod Told
-pub mod Parted
 pub mod Strings
 pub mod Carets
-pub mod OpenFronts
-pub mod OpenValues
-pub mod Reaches
-pub mod OpenBodies
+pub mod Left

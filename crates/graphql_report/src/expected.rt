@@ -1,15 +1,17 @@
 //! What could have stood in place of the refused token.
-ghost use Rattle.std.specs.Prelude.{◌≡◌, IfOk, OnOk, string_bytes};
+ghost use Rattle.std.specs.Prelude.{◌≡◌, IfOk, IfSome, OnOk, string_bytes};
 ghost use Rattle.std.specs.Str.{chars};
 ghost use Rattle.graphql_tokens.specs.tokens.Place.{place_after};
+ghost use Rattle.graphql_report.specs.fronts.Front.{LastIsLineFeed};
+ghost use Rattle.graphql_report.specs.inner.Left.{IsLeftOf};
 ghost use Rattle.graphql_report.specs.reports.Expected.{AreExpected, AreTaken, value_names};
 ghost use Rattle.graphql_report.specs.inner.Called.{NamesAll, NamesOnly, samples_of, texts};
 
-use crate::apart::last_definition;
 use crate::fronts::{Language, end_of, is_whole};
+use crate::left::left_after;
+use crate::phrases::Phrase;
 use crate::probes::{line_of, takes};
 use crate::samples::{END, KEYWORDS, LITERALS, NAME, NAME_TEXT, PUNCTUATORS, Sample, VALUE};
-use crate::shorter::shorter;
 use graphql_parser::{Limits, Pos};
 use std::alloc::{AllocError, Global};
 
@@ -18,11 +20,14 @@ fn taken(
     alloc: Global,
     language: Language,
     limits: Limits,
+    left: &Option<Vec<Phrase>>,
     buffer: &mut String,
     end: Pos,
     samples: &[Sample],
 ) -> Result<Vec<&'static str>, AllocError>
-    requires { end ≡ place_after (chars (string_bytes buffer.old)) }
+    requires end { end ≡ place_after (chars (string_bytes buffer.old)) }
+    requires line { LastIsLineFeed (chars (string_bytes buffer.old)) }
+    requires left { IfSome left.now (λ left. IsLeftOf language limits (string_bytes buffer.old) left.items) }
     ensures names { IfOk result (λ names.
         AreTaken language limits (string_bytes buffer.old) (samples_of samples.now)
         (texts names.items)) }
@@ -31,7 +36,7 @@ fn taken(
     let mut taken = Vec::new(alloc);
     for sample in samples {
         let (text, name) = *sample;
-        if takes(alloc, language, limits, buffer, end, text)? {
+        if takes(alloc, language, limits, left, buffer, end, text)? {
             taken.push(name)?;
         }
     }
@@ -43,8 +48,7 @@ fn taken(
 /// If the front has no fault, each token that can stand on the line after it is called by one of the names, and each name is
 /// that of such a token, or of the end.
 ///
-/// In a schema file the samples are tried after the last definition that has begun alone, where one check sees that those
-/// before it are whole.
+/// The front is read once, to find what is left of a document after it; each sample is tried with that.
 pub fn expected_after(
     alloc: Global,
     language: Language,
@@ -55,38 +59,10 @@ pub fn expected_after(
     ensures all { IfOk result (λ names. NamesAll language limits front.now (texts names.items)) }
     ensures only { IfOk result (λ names. NamesOnly language limits front.now (texts names.items)) }
 {
-    expected_after_last(alloc, language, front, limits)
+    expected_in(alloc, language, front, limits)
 }
 
-// The same, after the last definition.
-fn expected_after_last(
-    alloc: Global,
-    language: Language,
-    front: &str,
-    limits: Limits,
-) -> Result<Vec<&'static str>, AllocError>
-    ensures { IfOk result (λ names. AreExpected language limits front.now (texts names.items)) }
-{
-    let part = last_definition(alloc, language, front, limits)?;
-    expected_by_less(alloc, language, part, limits)
-}
-
-// The same, by a shorter front, where one is found after which the same is expected.
-fn expected_by_less(
-    alloc: Global,
-    language: Language,
-    front: &str,
-    limits: Limits,
-) -> Result<Vec<&'static str>, AllocError>
-    ensures { IfOk result (λ names. AreExpected language limits front.now (texts names.items)) }
-{
-    match shorter(alloc, language, front, limits)? {
-        Some(text) => expected_in(alloc, language, text.as_str(), limits),
-        None => expected_in(alloc, language, front, limits),
-    }
-}
-
-// What is expected after a front: each sample is tried after all of it.
+// What is expected after a front.
 fn expected_in(
     alloc: Global,
     language: Language,
@@ -97,13 +73,22 @@ fn expected_in(
 {
     let mut buffer = line_of(alloc, front)?;
     let end = end_of(buffer.as_str());
-    let has_name = takes(alloc, language, limits, &mut buffer, end, NAME_TEXT)?;
-    let literals = taken(alloc, language, limits, &mut buffer, end, &LITERALS)?;
-    let punctuators = taken(alloc, language, limits, &mut buffer, end, &PUNCTUATORS)?;
+    let left = left_after(alloc, language, buffer.as_str(), limits)?;
+    let has_name = takes(alloc, language, limits, &left, &mut buffer, end, NAME_TEXT)?;
+    let literals = taken(alloc, language, limits, &left, &mut buffer, end, &LITERALS)?;
+    let punctuators = taken(
+        alloc,
+        language,
+        limits,
+        &left,
+        &mut buffer,
+        end,
+        &PUNCTUATORS,
+    )?;
     let keywords = if has_name {
         Vec::new(alloc)
     } else {
-        taken(alloc, language, limits, &mut buffer, end, &KEYWORDS)?
+        taken(alloc, language, limits, &left, &mut buffer, end, &KEYWORDS)?
     };
     let mut names = names_of_values(alloc, has_name, literals.as_slice())?;
     names.extend_from_slice(punctuators.as_slice())?;

@@ -8,19 +8,12 @@
 //! [`finding_of`] gives the same in parts, for a program that shows it in its own way: the place, where the refused token
 //! ends, the name of the error's status, and the message. [`refused_token`] gives the refused token itself.
 //!
-//! The checks give all of this themselves. A sample is expected where the text before the refused token, with the sample
-//! after it, is a viable front, and one check of these tells that ([`is_front`]). So a report of a refused text costs some
-//! twenty checks, or some forty where no name can stand there; each is linear, and one copy of the text is kept at a time.
-//! One check of the text more finds that token. Of a schema file only what begins with the last definition that has begun is
-//! checked, if one check more finds that those before it are whole; and where that definition has a body it is read once
-//! more, up to where the last field or the like begins, or the last argument of a field or a directive, or the end of these:
-//! the samples are tried after a short body of that kind and what stands from there on. A request is read once more too, up
-//! to where its last selection or the end of a set begins, and where that selection or a definition that begins is long, once
-//! more up to the last value in the arguments of the field or of its directives, or in the variable definitions: the samples
-//! are tried after as many open selection sets, lists and objects and what stands from there on. So a long text costs no more
-//! of these checks than a short one, unless the directives of a definition, a variable or a fragment are long, or the last
-//! phrase of a body, or what stands before a body. A caller that read a text from a later line on says so, and what stands
-//! before isn't checked again: it has the refused token from [`refused_token_from`], and hands it on with what it knows
+//! One check of the text finds the refused token. The text before it is read once more, which gives what is left to be read of
+//! a document after it, as a list of phrases of the grammar; each sample that begins what is left is expected. Where that text
+//! is no viable front, each sample is asked of a check, and so is whether the text is a whole document. So a report of a refused
+//! text takes three readings of it, whatever the text is, and a fourth for a limit; the list of phrases is as long as the text
+//! nests, and one copy of the text is kept. A caller that read a text from a later line on says so, and what stands before
+//! isn't checked again: it has the refused token from [`refused_token_from`], and hands it on with what it knows
 //! ([`ReadUpTo`], [`explain_from`], [`finding_from`]).
 //!
 //! Proved of it, unless memory runs out: `is_front` answers true exactly where the tokens of a text are a viable front, in
@@ -33,25 +26,22 @@
 //! tested, in `conformance`.
 #![tactic(auto)]
 
-mod apart;
-mod bodies;
 mod definitions;
 mod excerpt;
 mod expected;
 mod faults;
-mod fewer_values;
 mod findings;
 mod fronts;
 mod hints;
-mod open_sets;
-mod open_values;
+mod left;
+mod phrases;
+mod pieces;
 mod probes;
 mod refused;
 mod report;
 mod rests;
 mod samples;
-mod shorter;
-mod shorter_schemas;
+mod steps;
 mod style;
 mod words;
 

@@ -1,10 +1,14 @@
 //! A front with samples after it, of which the parsers are asked.
-ghost use Rattle.std.specs.Prelude.{◌≡◌, [], ◌∷◌, ◌++◌, IfOk, OnOk, string_bytes};
+ghost use Rattle.std.specs.Prelude.{◌≡◌, [], ◌∷◌, ◌++◌, IfOk, IfSome, OnOk, string_bytes};
 ghost use Rattle.std.specs.Str.{chars};
 ghost use Rattle.graphql_tokens.specs.tokens.Place.{place_after};
+ghost use Rattle.graphql_report.specs.fronts.Front.{LastIsLineFeed};
+ghost use Rattle.graphql_report.specs.inner.Left.{IsLeftOf};
 ghost use Rattle.graphql_report.specs.reports.Expected.{TellsFrontOf, with_sample};
 
 use crate::fronts::{Language, end_of, is_front_to};
+use crate::left::can_go_on;
+use crate::phrases::Phrase;
 use graphql_parser::{Limits, Pos};
 use std::alloc::{AllocError, Global};
 
@@ -21,9 +25,34 @@ pub fn line_of(alloc: Global, front: &str) -> Result<String, AllocError>
     Ok(line)
 }
 
-/// Whether some document within the limits begins with the front that the buffer holds and this sample. The sample is put
-/// after the front, which ends at this place, and cut off again.
+/// Whether some document within the limits begins with the front that the buffer holds and this sample. That is told by what
+/// is left after the front, where it is known, and else by a check.
 pub fn takes(
+    alloc: Global,
+    language: Language,
+    limits: Limits,
+    left: &Option<Vec<Phrase>>,
+    buffer: &mut String,
+    end: Pos,
+    sample: &str,
+) -> Result<bool, AllocError>
+    requires end { end ≡ place_after (chars (string_bytes buffer.old)) }
+    requires line { LastIsLineFeed (chars (string_bytes buffer.old)) }
+    requires left { IfSome left.now (λ left. IsLeftOf language limits (string_bytes buffer.old) left.items) }
+    ensures answer { IfOk result (TellsFrontOf language limits
+        (with_sample (string_bytes buffer.old) sample.now)) }
+    ensures kept { OnOk result (string_bytes buffer.new ≡ string_bytes buffer.old) }
+{
+    if let Some(left) = left {
+        if let Some(answer) = can_go_on(alloc, left.as_slice(), limits, sample)? {
+            return Ok(answer);
+        }
+    }
+    passes(alloc, language, limits, buffer, end, sample)
+}
+
+/// The same by a check: the sample is put after the front, which ends at this place, and cut off again.
+pub fn passes(
     alloc: Global,
     language: Language,
     limits: Limits,

@@ -7,7 +7,7 @@ ghost use Rattle.graphql_report.specs.reports.Refused.{IsOfAToken, IsItsToken};
 ghost use Rattle.graphql_report.specs.reports.Rests.{BeginsAt, top};
 
 use crate::fronts::{Language, end_of};
-use crate::probes::{line_of, takes};
+use crate::probes::{line_of, passes};
 use crate::rests::{ReadFrom, read_before};
 use crate::samples::NUMBER_TEXT;
 use graphql_parser::lexer::Token;
@@ -150,7 +150,7 @@ pub fn reached_limit(
 ) -> Result<Depth, AllocError> {
     let mut line = line_of(alloc, read_before(text, from, token.start))?;
     let end = end_of(line.as_str());
-    let (what, most) = if takes(alloc, language, limits, &mut line, end, NUMBER_TEXT)? {
+    let (what, most) = if passes(alloc, language, limits, &mut line, end, NUMBER_TEXT)? {
         ("lists and objects", limits.values())
     } else if token.text == "[" {
         ("list types", limits.types())

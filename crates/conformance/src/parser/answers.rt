@@ -2,11 +2,12 @@
 use super::documents::Document;
 use super::errors::shown;
 use super::views::View;
-use graphql_parser::lexer::Tokens;
+use graphql_parser::lexer::{Token, Tokens};
 use graphql_parser::{
-    Limits, Result as Answer, check_query, check_query_from, check_query_limited, check_schema,
-    check_schema_from, check_schema_limited, parse_query, parse_query_from, parse_query_limited,
-    parse_schema, parse_schema_from, parse_schema_limited,
+    Limits, Memory, Result as Answer, check_query, check_query_from, check_query_limited,
+    check_query_to, check_schema, check_schema_from, check_schema_limited, check_schema_to,
+    parse_query, parse_query_from, parse_query_limited, parse_schema, parse_schema_from,
+    parse_schema_limited,
 };
 use std::alloc::{AllocError, Global};
 
@@ -93,6 +94,15 @@ impl Parser {
             return String::from_str(alloc, OTHERWISE);
         }
         Ok(seen)
+    }
+
+    /// What its check answers to a text, and the token at which the text is refused, if it is refused at one.
+    pub fn checked_to<'a>(self, alloc: Global, text: &'a str) -> (Answer<()>, Option<Token<'a>>) {
+        let memory = &mut Memory::new(alloc);
+        match self {
+            Parser::Query => check_query_to(memory, text, Limits::default()),
+            Parser::Schema => check_schema_to(memory, text, Limits::default()),
+        }
     }
 
     /// What is seen of the answer to a text. The call with limits, at the default, and the one over fresh tokens have

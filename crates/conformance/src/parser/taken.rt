@@ -1,7 +1,8 @@
 //! How many tokens a parser takes of those that it is handed, and what is left of them. Its check has a list of them of its
-//! own, and takes as many.
-use super::answers::Parser;
+//! own, and takes as many. The last token that is taken of a text is the one at which the check refuses it.
+use super::answers::{OTHERWISE, Parser};
 use super::views::View;
+use graphql_parser::Error;
 use graphql_parser::lexer::Tokens;
 use rows::Shown;
 use std::alloc::{AllocError, Global};
@@ -14,7 +15,23 @@ pub fn counted(
     text: &str,
 ) -> Result<String, AllocError> {
     let (tokens, others) = (&mut Tokens::new(text), &mut Tokens::new(text));
-    told(alloc, parser, view, tokens, others)
+    let answer = told(alloc, parser, view, tokens, others)?;
+    if is_refused_at(alloc, parser, text, tokens.taken()) {
+        return Ok(answer);
+    }
+    String::from_str(alloc, OTHERWISE)
+}
+
+// Whether the check tells the token of this number, the first being 1, where it refuses a text at one; and else none.
+fn is_refused_at(alloc: Global, parser: Parser, text: &str, number: usize) -> bool {
+    let (answer, token) = parser.checked_to(alloc, text);
+    let Err(Error::Syntax { .. } | Error::RecursionLimitExceeded) = answer else {
+        return token.is_none();
+    };
+    match (Tokens::new(text).nth(number.saturating_sub(1)), token) {
+        (Some(last), Some(token)) => last.start == token.start && last.text == token.text,
+        _ => false,
+    }
 }
 
 fn told(

@@ -3,9 +3,22 @@ use Rattle.std.specs.Borrow.{Bor}
 use Rattle.std.specs.String.{string_bytes}
 use Rattle.graphql_report.specs.reports.Expected.{TellsFrontOf, with_sample, name_text, end_name, literals, punctuators, keywords, AreTaken, value_names}
 use Rattle.graphql_report.specs.inner.Called.{texts}
+use Rattle.graphql_report.proofs.Buffers.{pushed-line-feed}
 use Rattle.graphql_report.proofs.ExpectedNames.{joined}
 use Rattle.graphql_report.proofs.expected.expected_in.Goals as goal
 use Rattle.graphql_report.proofs.expected.expected_in.Goals.{then-has_name, else-has_name+in_ok-keywords, then-branch+in_ok-push, else-branch}
+
+pub takes-requires-clause-line : goal.takes-requires-clause-line
+takes-requires-clause-line c = pushed-line-feed c.args.front.now (string_bytes c.in_ok-buffer.buffer) c.utf8.front c.in_ok-buffer.ensures
+
+pub taken-requires-clause-line : goal.taken-requires-clause-line
+taken-requires-clause-line c = pushed-line-feed c.args.front.now (string_bytes c.takes.new.buffer) c.utf8.front (c.in_ok-has_name.ensures.kept ∙ c.in_ok-buffer.ensures)
+
+pub taken-requires-2-clause-line : goal.taken-requires-2-clause-line
+taken-requires-2-clause-line c = pushed-line-feed c.args.front.now (string_bytes c.taken.new.buffer) c.utf8.front (c.in_ok-literals.ensures.kept ∙ c.in_ok-has_name.ensures.kept ∙ c.in_ok-buffer.ensures)
+
+pub taken-requires-else-has_name-clause-line : goal.taken-requires-else-has_name-clause-line
+taken-requires-else-has_name-clause-line c = pushed-line-feed c.args.front.now (string_bytes c.taken-2.new.buffer) c.utf8.front (c.in_ok-punctuators.ensures.kept ∙ c.in_ok-literals.ensures.kept ∙ c.in_ok-has_name.ensures.kept ∙ c.in_ok-buffer.ensures)
 
 pub returns : goal.returns
 returns c =
