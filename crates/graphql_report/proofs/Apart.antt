@@ -1,12 +1,12 @@
 -- Readers taken apart: what is read one after the other, made from what their parts read.
-use Rattle.std.proofs.Common.{◌≡◌, Bool, true, false, cond, Option, Some, None, List, [], ◌∷◌, ◌++◌, refl, sym, ap, ◌∙◌, subst}
+use Rattle.std.proofs.Common.{◌≡◌, Bool, true, false, cond, Some, None, List, [], ◌∷◌, ◌++◌, refl, sym, ap, ◌∙◌, subst}
 use Rattle.std.proofs.lemmas.List.{reverse-append, reverse-reverse}
 use Rattle.std.specs.Prelude.{reverse, Result, Ok, Err, OnOk}
 use Rattle.graphql_tokens.specs.tokens.Token.{Bare, Token}
 use Rattle.graphql_reading.specs.grammar.Limits.{Limits}
-use Rattle.graphql_reading.specs.grammar.Relations.{cons, between_of, after_of, separated_of}
+use Rattle.graphql_reading.specs.grammar.Relations.{cons, separated_of}
 use Rattle.graphql_reading.specs.grammar.Tests.{Test}
-use Rattle.graphql_reading.specs.reading.Outcome.{Outcome, Reader, Read, Refused, Takes, ◌>>=◌, one_at, then_at, mapped_at, between_at, after_at, choose_at, none_at, opt_at, many_at, plus_at, separated_at}
+use Rattle.graphql_reading.specs.reading.Outcome.{Outcome, Reader, Read, Refused, Takes, ◌>>=◌, one_at, then_at, mapped_at, after_at, choose_at, none_at, opt_at, many_at, plus_at, separated_at}
 use Rattle.graphql_reading.proofs.Loop.{many-plus, many-stops}
 use Rattle.graphql_check.specs.Checked.{ended}
 use Rattle.graphql_report.specs.declared.phrases.Phrase.{Phrase}

@@ -1,6 +1,5 @@
 -- Where no token is left, each phrase is read, or refused there.
 use Rattle.std.proofs.Common.{◌≡◌, ℕ, zero, suc, Bool, List, [], ◌∷◌, refl}
-use Rattle.graphql_tokens.specs.tokens.Token.{Token}
 use Rattle.graphql_reading.specs.grammar.Limits.{Limits}
 use Rattle.graphql_reading.specs.reading.Outcome.{Outcome, Read, Refused, ◌>>=◌, opt_at, many_at, plus_at, separated_at}
 use Rattle.graphql_grammar.specs.reading.Types.{type_at}

@@ -1,10 +1,10 @@
 -- What is left after a front tells what can stand after it.
-use Rattle.std.proofs.Common.{◌≡◌, ℕ, zero, suc, ◌<◌, ◌≤◌, Bool, true, false, not, cond, ◌↔◌, ◌≢◌, IsTrue, inl, inr, Option, Some, None, List, [], ◌∷◌, ◌++◌, length, refl, sym, ap, ◌∙◌, subst, append_assoc, append-nil, length-append, arith}
+use Rattle.std.proofs.Common.{◌≡◌, ℕ, Bool, true, false, not, cond, ◌↔◌, ◌≢◌, IsTrue, inl, inr, Option, Some, None, List, [], ◌∷◌, ◌++◌, length, refl, sym, ap, ◌∙◌, subst, append_assoc, append-nil, length-append, arith}
 use Rattle.std.proofs.lemmas.List.{same_from_push, reverse-reverse}
 use Rattle.std.specs.Prelude.{reverse, Result, Ok, Err, IfOk, IfSome}
 use Rattle.std.proofs.lemmas.Slice.Eq.{bytes_eq-Decides}
 use Rattle.std.specs.Str.{bytes_eq, IsUtf8, chars}
-use Rattle.graphql_tokens.specs.tokens.Cuts.{is_last, Cuts, IsCutInto, EndsOnce}
+use Rattle.graphql_tokens.specs.tokens.Cuts.{is_last, IsCutInto, EndsOnce}
 use Rattle.graphql_tokens.specs.tokens.Edition.{Current}
 use Rattle.graphql_tokens.specs.tokens.Kinds.{is_end}
 use Rattle.graphql_tokens.specs.tokens.Proper.{Spells, IsProper, IsProperBare, AreProperButFaults}
@@ -14,9 +14,8 @@ use Rattle.graphql_tokens.specs.declared.lexer.TokenKind.TheVariants.{Punct, Nam
 use Rattle.graphql_tokens.specs.inner.Reading.{tokens}
 use Rattle.graphql_tokens.proofs.Lists.{tokens_cuts, tokens_only, cuts_ends}
 use Rattle.graphql_tokens.proofs.Propers.{cuts_proper, text_scalars}
-use Rattle.graphql_reading.specs.grammar.Fronts.{Verdict, syntax, limit, Completes, RefusedToken}
+use Rattle.graphql_reading.specs.grammar.Fronts.{Verdict, syntax}
 use Rattle.graphql_reading.specs.grammar.Limits.{Limits}
-use Rattle.graphql_reading.specs.grammar.Relations.{Then, one}
 use Rattle.graphql_reading.specs.grammar.Tests.{the_end}
 use Rattle.graphql_reading.specs.reading.Ahead.{Ahead, tokens as ahead}
 use Rattle.graphql_reading.specs.reading.Outcome.{Outcome, Read, Refused, Reader, ◌>>=◌, one_at, whole_at}
@@ -34,7 +33,7 @@ use Rattle.graphql_report.specs.declared.fronts.Language.TheVariants.{Requests, 
 use Rattle.graphql_report.specs.fronts.Front.{LastIsLineFeed, IsFront, IsFrontOf}
 use Rattle.graphql_report.specs.declared.phrases.Phrase.{Phrase}
 use Rattle.graphql_report.specs.declared.phrases.Phrase.TheVariants as phrases
-use Rattle.graphql_report.specs.inner.Left.{phrase_at, phrases_at, Steps, whole_of, IsLeftOf}
+use Rattle.graphql_report.specs.inner.Left.{phrases_at, Steps, whole_of, IsLeftOf}
 use Rattle.graphql_report.specs.reports.Expected.{TellsFrontOf, with_sample}
 use Rattle.graphql_report.proofs.Apart.{phrase-is, mapped-is, then-is, plus-is}
 use Rattle.graphql_report.proofs.LeftSpent.{IsSpent, phrases-spent}

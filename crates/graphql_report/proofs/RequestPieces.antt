@@ -1,16 +1,16 @@
 -- What the phrases of requests consist of.
-use Rattle.std.proofs.Common.{◌≡◌, ℕ, zero, suc, pred, Bool, true, false, cond, ◌||◌, Option, Some, None, List, [], ◌∷◌, ◌++◌, refl, sym, ap, ◌∙◌, subst}
+use Rattle.std.proofs.Common.{◌≡◌, ℕ, zero, suc, pred, Bool, true, false, cond, Some, None, List, [], ◌∷◌, refl, sym, ap, ◌∙◌, subst}
 use Rattle.graphql_tokens.specs.tokens.Token.{Bare, Token}
 use Rattle.graphql_reading.specs.grammar.Limits.{Limits}
-use Rattle.graphql_reading.specs.grammar.Tests.{Test, punct, keyword, any_name}
-use Rattle.graphql_reading.specs.reading.Outcome.{Outcome, Reader, Read, Refused, ◌>>=◌, one_at, then_at, mapped_at, choose_at, none_at, deep_at, opt_at, many_at, plus_at}
-use Rattle.graphql_grammar.specs.reading.Arguments.{maybe_arguments_at, directives_at, maybe_default_at}
+use Rattle.graphql_reading.specs.grammar.Tests.{punct, keyword, any_name}
+use Rattle.graphql_reading.specs.reading.Outcome.{one_at, then_at, mapped_at, none_at, deep_at, opt_at}
+use Rattle.graphql_grammar.specs.reading.Arguments.{maybe_arguments_at, maybe_default_at}
 use Rattle.graphql_grammar.specs.reading.Operations.{operation_type_at}
-use Rattle.graphql_requests.specs.grammar.Request.{Definition, query_of, operation_of, fragment_of}
+use Rattle.graphql_requests.specs.grammar.Request.{query_of, operation_of, fragment_of}
 use Rattle.graphql_requests.specs.grammar.Selections.{Set, fragment_name, field_of, condition_of, selection_set_of}
 use Rattle.graphql_requests.specs.grammar.Variables.{variable_definition_of}
-use Rattle.graphql_requests.specs.reading.Request.{own_set_at, short_operation_at, full_operation_at, fragment_at, definition_first, definition_at}
-use Rattle.graphql_requests.specs.reading.Selections.{as_alias, aliased_at, field_at, type_condition_at, Inline, inline_first, inline_at, AfterDots, a_name, an_inline, dotted, dots_at, selection_first, selection_at, a_set_at, selection_set_at}
+use Rattle.graphql_requests.specs.reading.Request.{own_set_at, full_operation_at, fragment_at, definition_first, definition_at}
+use Rattle.graphql_requests.specs.reading.Selections.{aliased_at, field_at, type_condition_at, Inline, inline_first, inline_at, a_name, an_inline, dotted, dots_at, selection_first, a_set_at, selection_set_at}
 use Rattle.graphql_requests.specs.reading.SelectionSteps.{deeper_at, rest_at, item_at}
 use Rattle.graphql_requests.specs.reading.Variables.{turned, default_and_directives_at, variable_definition_at, variable_definitions_at}
 use Rattle.graphql_requests.proofs.HeadTakes.{item-takes}
@@ -20,10 +20,9 @@ use Rattle.graphql_check.specs.Checked.{ended}
 use Rattle.graphql_report.specs.declared.phrases.Keyword.{Keyword}
 use Rattle.graphql_report.specs.declared.phrases.Keyword.TheVariants as words
 use Rattle.graphql_report.specs.declared.phrases.Mark.TheVariants as marks
-use Rattle.graphql_report.specs.declared.phrases.Phrase.{Phrase}
 use Rattle.graphql_report.specs.declared.phrases.Phrase.TheVariants as phrases
-use Rattle.graphql_report.specs.inner.Left.{in_sight, keyword_text, after_dots_at, worded_at, phrase_at, phrases_at}
-use Rattle.graphql_report.proofs.Apart.{mapped-ended, chosen, Is, phrase-is, mapped-is, then-is, plus-is, IsAt, at, mapped-at, choose-by, choose-at, none-at, opt-at, many-at, Consists}
+use Rattle.graphql_report.specs.inner.Left.{keyword_text, after_dots_at, worded_at, phrase_at, phrases_at}
+use Rattle.graphql_report.proofs.Apart.{Is, phrase-is, mapped-is, then-is, plus-is, at, mapped-at, choose-by, choose-at, none-at, opt-at, many-at, Consists}
 use Rattle.graphql_report.proofs.ValuePieces.{mark-is, name-is, directives-is, own_type-is, deep-at}
 
 module _ (limits : Limits) where

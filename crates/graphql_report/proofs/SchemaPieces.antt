@@ -1,13 +1,12 @@
 -- What the phrases of schema files consist of.
-use Rattle.std.proofs.Common.{◌≡◌, ℕ, ◌<◌, Bool, true, false, cond, not, ◌&&◌, ◌||◌, Option, Some, None, List, [], ◌∷◌, ◌++◌, length, refl, sym, ap, ◌∙◌, subst, arith}
+use Rattle.std.proofs.Common.{◌≡◌, ◌<◌, Bool, true, false, cond, not, ◌&&◌, ◌||◌, Option, Some, None, List, [], ◌∷◌, length, refl, sym, ap, ◌∙◌, subst, arith}
 use Rattle.graphql_tokens.specs.tokens.Token.{Bare, Token}
 use Rattle.graphql_reading.specs.grammar.Fronts.{syntax}
 use Rattle.graphql_reading.specs.grammar.Limits.{Limits}
 use Rattle.graphql_reading.specs.grammar.Relations.{after_of}
 use Rattle.graphql_reading.specs.grammar.Tests.{Test, punct, keyword, any_name}
-use Rattle.graphql_reading.specs.reading.Outcome.{Outcome, Reader, Read, Refused, ◌>>=◌, one_at, then_at, mapped_at, between_at, after_at, choose_at, opt_at, many_at, plus_at, separated_at, Takes, meant}
+use Rattle.graphql_reading.specs.reading.Outcome.{Outcome, Reader, Read, Refused, ◌>>=◌, one_at, between_at, after_at, choose_at, opt_at, many_at, plus_at, separated_at, Takes, meant}
 use Rattle.graphql_grammar.specs.reading.Arguments.{directives_at, maybe_default_at}
-use Rattle.graphql_grammar.specs.reading.Operations.{operation_type_at}
 use Rattle.graphql_schemas.specs.declared.types.Word.{Word}
 use Rattle.graphql_schemas.specs.declared.types.Word.TheVariants as kinds
 use Rattle.graphql_reading.specs.grammar.Places.{name_of}
@@ -25,8 +24,8 @@ use Rattle.graphql_schemas.specs.reading.Fields.{field_definition_at, fields_at}
 use Rattle.graphql_schemas.specs.reading.InputValues.{member_first, input_value_at, arguments_definition_at, input_fields_at}
 use Rattle.graphql_schemas.specs.reading.Members.{name_at, implements_at, members_at, enum_value_first, enum_value_at, enum_values_at}
 use Rattle.graphql_schemas.specs.reading.Schema.{root_first, root_at, roots_at, schema_rest_at, extended_schema_at}
-use Rattle.graphql_schemas.specs.reading.SchemaFile.{undescribed_at, with_description, described_at, definition_first, definition_at, extension_of, extension_at, of_schema, of_type, of_directive, a_schema, a_type}
-use Rattle.graphql_schemas.specs.reading.Types.{owed_at, parts_at, part_first, some_parts_at, field_parts_at, field_part_first, some_field_parts_at, a_body_at, body_at}
+use Rattle.graphql_schemas.specs.reading.SchemaFile.{undescribed_at, with_description, definition_first, definition_at, extension_of, of_schema, of_type, of_directive, a_schema, a_type}
+use Rattle.graphql_schemas.specs.reading.Types.{owed_at, parts_at, part_first, some_parts_at, field_parts_at, field_part_first, a_body_at, body_at}
 use Rattle.graphql_schemas.proofs.FieldProductions.{takes-field_definition}
 use Rattle.graphql_schemas.proofs.InputValueProductions.{takes-input_value}
 use Rattle.graphql_schemas.proofs.MemberProductions.{takes-enum_value}
@@ -40,7 +39,7 @@ use Rattle.graphql_report.specs.declared.phrases.Mark.TheVariants as marks
 use Rattle.graphql_report.specs.declared.phrases.Phrase.{Phrase}
 use Rattle.graphql_report.specs.declared.phrases.Phrase.TheVariants as phrases
 use Rattle.graphql_report.specs.inner.Left.{in_sight, mark_text, keyword_text, word_by, extended_at, no_schema_at, phrase_at, phrases_at}
-use Rattle.graphql_report.proofs.Apart.{mapped-ended, chosen, Is, phrase-is, mapped-is, then-is, plus-is, separated-is, IsAt, at, mapped-at, choose-by, choose-at, none-at, opt-at, many-at, Consists}
+use Rattle.graphql_report.proofs.Apart.{chosen, Is, phrase-is, mapped-is, then-is, plus-is, separated-is, IsAt, at, mapped-at, choose-at, opt-at, many-at, Consists}
 use Rattle.graphql_report.proofs.ValuePieces.{mark-is, name-is, directives-is, own_type-is}
 use Rattle.graphql_report.proofs.RequestPieces.{keyword-is, operation_type-is}
 

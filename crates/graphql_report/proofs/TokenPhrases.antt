@@ -1,15 +1,15 @@
 -- Which phrases are a token, and where they are read.
-use Rattle.std.proofs.Common.{◌≡◌, ℕ, Bool, true, false, cond, ◌&&◌, ◌||◌, Option, Some, None, is_some, List, [], ◌∷◌, refl, sym, ap, ◌∙◌, subst}
+use Rattle.std.proofs.Common.{◌≡◌, ℕ, Bool, true, false, cond, ◌&&◌, ◌||◌, Option, Some, None, is_some, List, ◌∷◌, refl, sym, ap, ◌∙◌, subst}
 use Rattle.graphql_tokens.specs.declared.lexer.TokenKind.{TokenKind}
 use Rattle.graphql_tokens.specs.declared.lexer.TokenKind.TheVariants.{String as Quoted}
 use Rattle.graphql_tokens.specs.tokens.Cuts.{is_last}
-use Rattle.graphql_tokens.specs.tokens.Kinds.{is_string, is_block}
+use Rattle.graphql_tokens.specs.tokens.Kinds.{is_string}
 use Rattle.graphql_tokens.specs.tokens.Proper.{IsProperBare}
 use Rattle.graphql_tokens.specs.tokens.Token.{Bare, Token}
 use Rattle.graphql_reading.specs.grammar.Fronts.{Verdict, syntax, limit}
 use Rattle.graphql_reading.specs.grammar.Limits.{Limits}
 use Rattle.graphql_reading.specs.grammar.Tests.{Test, keyword, any_name, any_number, any_string, any_block}
-use Rattle.graphql_reading.specs.reading.Outcome.{Outcome, Read, Refused, Reader, ◌>>=◌, one_at, meant, meaning_at, mapped_at, choose_at}
+use Rattle.graphql_reading.specs.reading.Outcome.{Read, Refused, Reader, one_at, meant, meaning_at, mapped_at, choose_at}
 use Rattle.graphql_grammar.specs.grammar.Operations.{kind_of}
 use Rattle.graphql_grammar.specs.grammar.Values.{Value, number_of, string_of}
 use Rattle.graphql_grammar.specs.reading.Values.{string_text, block_text, number_at, string_at, block_at}
@@ -18,14 +18,14 @@ use Rattle.graphql_syntax.specs.declared.types.OperationType.TheVariants.{Query,
 use Rattle.graphql_schemas.specs.grammar.Descriptions.{Text, text_of}
 use Prim.Native.String.{String}
 use Rattle.graphql_schema_trees.specs.declared.service.DirectiveLocation.{DirectiveLocation}
-use Rattle.graphql_schemas.specs.reading.Descriptions.{is_text, description_at}
-use Rattle.graphql_schemas.specs.reading.Directives.{location_named, location_at}
+use Rattle.graphql_schemas.specs.reading.Descriptions.{is_text}
+use Rattle.graphql_schemas.specs.reading.Directives.{location_named}
 use Rattle.graphql_schemas.specs.reading.Schema.{root_first}
 use Rattle.graphql_check.specs.Checked.{ended}
 use Rattle.graphql_check.proofs.Strings.{string-stands}
 use Rattle.graphql_report.specs.declared.phrases.Phrase.{Phrase}
 use Rattle.graphql_report.specs.declared.phrases.Phrase.TheVariants as phrases
-use Rattle.graphql_report.specs.inner.Left.{in_sight, literal_at, phrase_at, TellsToken}
+use Rattle.graphql_report.specs.inner.Left.{phrase_at, TellsToken}
 use Rattle.graphql_report.proofs.Apart.{mapped-ended}
 
 module _ (limits : Limits) where

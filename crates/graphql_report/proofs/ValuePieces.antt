@@ -1,31 +1,30 @@
 -- What the phrases of values, arguments, directives and types consist of.
-use Rattle.std.proofs.Common.{◌≡◌, ℕ, zero, suc, pred, Bool, true, false, cond, not, ◌&&◌, ◌||◌, Option, Some, None, List, [], ◌∷◌, ◌++◌, refl, sym, ap, ◌∙◌, subst, codes}
+use Rattle.std.proofs.Common.{◌≡◌, ℕ, zero, suc, pred, Bool, true, false, cond, ◌&&◌, ◌||◌, List, [], ◌∷◌, refl, sym, ap, ◌∙◌, subst, codes}
 use Rattle.std.specs.Str.{bytes_eq}
 use Rattle.graphql_tokens.specs.tokens.Kinds.{is_punct, is_name, is_number, is_string, is_block}
 use Rattle.graphql_syntax.specs.trees.TypeTree.{TypeTree}
 use Rattle.graphql_tokens.specs.declared.pos.Positioned.{Positioned}
 use Rattle.graphql_tokens.specs.tokens.Token.{Bare, Token}
 use Rattle.graphql_tokens.specs.declared.lexer.TokenKind.{TokenKind}
-use Rattle.graphql_tokens.specs.declared.lexer.TokenKind.TheVariants.{Punct, Name, Number, String as Quoted, Block, Fault, End}
+use Rattle.graphql_tokens.specs.declared.lexer.TokenKind.TheVariants.{Punct}
 use Rattle.graphql_reading.specs.grammar.Fronts.{syntax, limit}
 use Rattle.graphql_reading.specs.grammar.Limits.{Limits}
-use Rattle.graphql_reading.specs.grammar.Tests.{Test, punct, keyword, name_but, any_name, any_number, any_string, any_block}
-use Rattle.graphql_reading.specs.reading.Outcome.{Outcome, Reader, Read, Refused, ◌>>=◌, one_at, then_at, mapped_at, choose_at, deep_at, opt_at, many_at, plus_at, meaning_at, meant}
+use Rattle.graphql_reading.specs.grammar.Tests.{Test, punct, any_name, any_number, any_string, any_block}
+use Rattle.graphql_reading.specs.reading.Outcome.{Outcome, Reader, Read, Refused, ◌>>=◌, one_at, choose_at, deep_at, many_at, meaning_at, meant}
 use Rattle.graphql_grammar.specs.grammar.Arguments.{argument_of, directive_of}
 use Rattle.graphql_grammar.specs.grammar.Types.{named_of, list_type_of}
-use Rattle.graphql_grammar.specs.grammar.Values.{Value, true_of, false_of, null_of, enumeration_of, number_of, string_of, variable_of, list_of, object_field_of, object_of, dollar}
-use Rattle.graphql_grammar.specs.reading.Arguments.{argument_at, arguments_at, maybe_arguments_at, directive_at, directives_at, default_at, maybe_default_at}
+use Rattle.graphql_grammar.specs.grammar.Values.{Value, string_of, variable_of, list_of, object_field_of, object_of, dollar}
+use Rattle.graphql_grammar.specs.reading.Arguments.{argument_at, arguments_at, maybe_arguments_at, directive_at, directives_at}
 use Rattle.graphql_grammar.specs.reading.Types.{mark_at, named_type_at, list_type_at, type_at}
-use Rattle.graphql_grammar.specs.reading.Values.{block_text, word_at, number_at, string_at, block_at, variable_at, simple_at, simple_first, value_first, list_at, field_at, object_at, by_first, value_at}
+use Rattle.graphql_grammar.specs.reading.Values.{block_text, word_at, number_at, string_at, block_at, variable_at, simple_at, simple_first, value_first, list_at, field_at, object_at, value_at}
 use Rattle.graphql_grammar.proofs.ArgumentProductions.{takes-argument, takes-directive}
 use Rattle.graphql_grammar.proofs.ValueProductions.{takes-value, takes-field}
 use Rattle.graphql_check.specs.Checked.{ended}
 use Rattle.graphql_report.specs.declared.phrases.Mark.{Mark}
 use Rattle.graphql_report.specs.declared.phrases.Mark.TheVariants as marks
-use Rattle.graphql_report.specs.declared.phrases.Phrase.{Phrase}
 use Rattle.graphql_report.specs.declared.phrases.Phrase.TheVariants as phrases
-use Rattle.graphql_report.specs.inner.Left.{in_sight, mark_text, literal_at, unnamed_at, bracketed_at, phrase_at, phrases_at}
-use Rattle.graphql_report.proofs.Apart.{mapped-ended, chosen, Is, phrase-is, mapped-is, then-is, plus-is, IsAt, at, mapped-at, choose-by, choose-at, none-at, opt-at, many-at, Consists}
+use Rattle.graphql_report.specs.inner.Left.{in_sight, mark_text, literal_at, unnamed_at, bracketed_at, phrases_at}
+use Rattle.graphql_report.proofs.Apart.{mapped-ended, chosen, Is, phrase-is, mapped-is, then-is, plus-is, IsAt, at, choose-by, choose-at, opt-at, many-at, Consists}
 
 -- one token
 module _ (limits : Limits) where

@@ -11,7 +11,7 @@
 //! One check of the text finds the refused token. The text before it is read once more, which gives what is left to be read of
 //! a document after it, as a list of phrases of the grammar; each sample that begins what is left is expected. Where that text
 //! is no viable front, each sample is asked of a check, and so is whether the text is a whole document. So a report of a refused
-//! text takes three readings of it, whatever the text is, and a fourth for a limit; the list of phrases is as long as the text
+//! text takes three readings by the grammar, whatever the text is, and a fourth for a limit; the list is as long as the text
 //! nests, and one copy of the text is kept. A caller that read a text from a later line on says so, and what stands before
 //! isn't checked again: it has the refused token from [`refused_token_from`], and hands it on with what it knows
 //! ([`ReadUpTo`], [`explain_from`], [`finding_from`]).

@@ -1,13 +1,13 @@
 -- What is left to be read of a document, as phrases of its grammar.
 -- Source: this project's choice.
-use Rattle.std.specs.Prelude.{◌≡◌, ℕ, zero, suc, Bool, true, false, cond, not, ◌&&◌, ◌||◌, Option, Some, None, List, [], ◌∷◌, ◌++◌, reverse}
+use Rattle.std.specs.Prelude.{◌≡◌, ℕ, zero, suc, Bool, true, false, cond, List, [], ◌∷◌, ◌++◌, reverse}
 use Rattle.graphql_tokens.specs.tokens.Cuts.{IsCutInto}
 use Rattle.graphql_tokens.specs.tokens.Token.{Bare, Token}
 use Rattle.graphql_tokens.specs.declared.lexer.TokenKind.TheVariants.{End as AtEnd}
 use Rattle.graphql_reading.specs.grammar.Fronts.{Verdict}
 use Rattle.graphql_reading.specs.grammar.Limits.{Limits}
-use Rattle.graphql_reading.specs.grammar.Tests.{Test, punct, keyword, any_name, any_number, any_string, any_block, the_end}
-use Rattle.graphql_reading.specs.reading.Outcome.{Outcome, Read, Refused, Reader, ◌>>=◌, one_at, then_at, mapped_at, after_at, choose_at, deep_at, opt_at, many_at, whole_at}
+use Rattle.graphql_reading.specs.grammar.Tests.{punct, keyword, any_name, any_number, any_string, any_block, the_end}
+use Rattle.graphql_reading.specs.reading.Outcome.{Read, Refused, Reader, ◌>>=◌, one_at, then_at, mapped_at, after_at, choose_at, deep_at, opt_at, many_at, whole_at}
 use Rattle.graphql_grammar.specs.grammar.Values.{Value as ValueTree, dollar}
 use Rattle.graphql_grammar.specs.reading.Arguments.{argument_at, maybe_arguments_at, directives_at, maybe_default_at}
 use Rattle.graphql_grammar.specs.reading.Operations.{operation_type_at}
@@ -16,7 +16,7 @@ use Rattle.graphql_grammar.specs.reading.Values.{number_at, string_at, block_at,
 use Rattle.graphql_requests.specs.grammar.Request.{Definition as RequestTree}
 use Rattle.graphql_requests.specs.grammar.Selections.{fragment_name}
 use Rattle.graphql_requests.specs.reading.Request as request
-use Rattle.graphql_requests.specs.reading.Selections.{type_condition_at, inline_first, selection_first, selection_set_at, AfterDots, a_name, an_inline}
+use Rattle.graphql_requests.specs.reading.Selections.{type_condition_at, selection_first, selection_set_at, AfterDots, a_name, an_inline}
 use Rattle.graphql_requests.specs.reading.SelectionSteps.{deeper_at, rest_at as inline_rest_at, item_at}
 use Rattle.graphql_requests.specs.reading.Variables.{default_and_directives_at, variable_definition_at, variable_definitions_at}
 use Rattle.graphql_schemas.specs.declared.types.Word.{Word}

@@ -1,4 +1,4 @@
-use Rattle.std.proofs.Common.{ap, sym, ◌∙◌, false, not}
+use Rattle.std.proofs.Common.{ap, sym, ◌∙◌}
 use Rattle.graphql_tokens.specs.tokens.Cuts.{is_last}
 use Rattle.graphql_tokens.specs.tokens.Token.{Token}
 use Rattle.graphql_report.proofs.LeftTexts.{step-told, same-bytes}

@@ -1,4 +1,4 @@
-use Rattle.std.proofs.Common.{Bool, true, Option, Some, sym, ap, ◌∙◌, subst}
+use Rattle.std.proofs.Common.{Bool, Option, sym, ap, ◌∙◌, subst}
 use Rattle.std.specs.Prelude.{IfSome}
 use Rattle.graphql_tokens.specs.tokens.Token.{Bare, Token}
 use Rattle.graphql_reading.specs.grammar.Tests.{the_end}

@@ -1,4 +1,4 @@
-use Rattle.graphql_report.proofs.Apart.{put-so, either-so, put-always, either-always}
+use Rattle.graphql_report.proofs.Apart.{put-so, either-so}
 use Rattle.graphql_report.proofs.ValuePieces.{value-pieces, simple-pieces, unnamed-pieces, values-pieces, fields-pieces, arguments-pieces, maybe_arguments-pieces, directives-pieces, default-pieces}
 use Rattle.graphql_report.proofs.RequestPieces.{maybe_name-pieces}
 use Rattle.graphql_report.proofs.SchemaPieces.{maybe_mark-pieces}

@@ -1,4 +1,4 @@
-use Rattle.graphql_report.proofs.Apart.{put-so, either-so, put-always, either-always}
+use Rattle.graphql_report.proofs.Apart.{put-always, either-always}
 use Rattle.graphql_report.proofs.SchemaPieces.{input_fields-pieces, maybe_arguments-pieces, input_value-pieces, input_values-pieces}
 use Rattle.graphql_report.proofs.pieces.take_input_apart.Goals as goal
 

@@ -1,4 +1,4 @@
-use Rattle.graphql_report.proofs.Apart.{put-so, either-so, put-always, either-always}
+use Rattle.graphql_report.proofs.Apart.{put-always, either-always}
 use Rattle.graphql_report.proofs.RequestPieces.{variables-pieces, variable_definition-pieces, variable_definitions-pieces, after_type-pieces, set-pieces, selections-pieces, selection-pieces, aliased-pieces, after_dots-pieces, condition-pieces, request_definition-pieces, worded-pieces, request_definitions-pieces}
 use Rattle.graphql_report.proofs.pieces.take_request_apart.Goals as goal
 

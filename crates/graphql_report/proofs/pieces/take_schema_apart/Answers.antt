@@ -1,4 +1,4 @@
-use Rattle.graphql_report.proofs.Apart.{put-so, either-so, put-always, either-always}
+use Rattle.graphql_report.proofs.Apart.{put-always, either-always}
 use Rattle.graphql_report.proofs.SchemaPieces.{schema_definitions-pieces, schema_definition-pieces, extended-pieces, root_parts-pieces, undescribed-pieces, no_schema-pieces, repeatable-pieces, locations-pieces, maybe_roots-pieces, roots-pieces, root-pieces, description-pieces}
 use Rattle.graphql_report.proofs.pieces.take_schema_apart.Goals as goal
 

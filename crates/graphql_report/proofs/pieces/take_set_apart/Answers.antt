@@ -1,6 +1,6 @@
-use Rattle.std.proofs.Common.{◌≡◌, ◌-◌, ℕ, refl, suc, ap, arith}
+use Rattle.std.proofs.Common.{◌≡◌, ◌-◌, refl, ap, arith}
 use Rattle.graphql_report.specs.declared.phrases.Phrase.TheVariants as phrases
-use Rattle.graphql_report.proofs.Apart.{put-always, either-always}
+use Rattle.graphql_report.proofs.Apart.{either-always}
 use Rattle.graphql_report.proofs.RequestPieces.{deep_set-pieces, maybe_set-pieces}
 use Rattle.graphql_report.proofs.pieces.take_set_apart.Goals as goal
 

@@ -1,4 +1,4 @@
-use Rattle.std.proofs.Common.{◌≡◌, ◌-◌, ◌∙◌, sym, refl, suc, ap, arith}
+use Rattle.std.proofs.Common.{◌≡◌, ◌-◌, ◌∙◌, sym, refl, ap, arith}
 use Rattle.graphql_report.specs.declared.phrases.Phrase.TheVariants as phrases
 use Rattle.graphql_report.proofs.Apart.{put-always, either-always}
 use Rattle.graphql_report.proofs.ValuePieces.{named-pieces, deep_type-pieces, list_type-pieces}

@@ -1,4 +1,4 @@
-use Rattle.graphql_report.proofs.Apart.{put-so, either-so, put-always, either-always}
+use Rattle.graphql_report.proofs.Apart.{put-always, either-always}
 use Rattle.graphql_report.proofs.SchemaPieces.{implements-pieces, names-pieces, maybe_fields-pieces, field-pieces, fields-pieces, members-pieces, maybe_values-pieces, enum_value-pieces, enum_values-pieces}
 use Rattle.graphql_report.proofs.SchemaPieces.{body-pieces}
 use Rattle.graphql_report.proofs.pieces.take_type_definition_apart.Goals as goal

@@ -1,5 +1,4 @@
-use Rattle.std.proofs.Common.{List, ◌++◌, ◌∷◌, [], subst}
-use Rattle.graphql_report.specs.declared.phrases.Phrase.{Phrase}
+use Rattle.std.proofs.Common.{subst}
 use Rattle.graphql_report.specs.inner.Left.{Becomes}
 use Rattle.graphql_report.proofs.Apart.{steps-so}
 use Rattle.graphql_report.proofs.steps.step.Goals as goal
