@@ -1,12 +1,12 @@
 /* graphql_parser: a parser of GraphQL requests and schema files whose every function is proved.
  *
- * Three calls for each language, and two of them within a budget of memory. A check tells by a status, and by up to two
+ * Five calls for each language, and two of them within a budget of memory. A check tells by a status, and by up to two
  * places, whether a text is a request or a schema file. A parse tells the same, and hands over the tree, or the error, as
- * JSON. An explanation tells the same, and hands over a report of the error for people. A fourth, at the end, is for the
- * wrapper in Rust.
+ * JSON. An explanation tells the same, and hands over a report of the error for people. Two more hand over the text of a
+ * good one minified or formatted. A sixth, at the end, is for the wrapper in Rust.
  *
  * After every parse, whatever it tells and whatever stood in its `json` before, `free(json.start)` is right, and so is
- * `free(report.start)` after every explanation.
+ * `free(report.start)` after every explanation, and likewise after every other call that hands over a block.
  *
  * Needs Linux on x86-64-v2 (Intel from Nehalem on, AMD from Bulldozer on). Of the C library it calls `malloc`, `realloc`,
  * `free`, `memcpy`, `memmove` and `memset`, and nothing else. README.md, beside this file, says how to link it.
@@ -211,14 +211,40 @@ uint32_t graphql_parser_parse_schema_within(
  *                          way. A refused token is told with what was expected in its place. At a bad escape in a string
  *                          the report begins with the place of the escape, and `places` has that of the string.
  *
- * The words of a report may change with any version. Explaining a refused text takes at most as long as some twenty to forty
- * checks of the text before the refused token. `text`, `places` and `report` don't overlap. */
+ * The words of a report may change with any version. Explaining a refused text takes at most as long as some five checks of
+ * it. `text`, `places` and `report` don't overlap. */
 uint32_t graphql_parser_explain_query(
     const uint8_t *text, size_t length, size_t selections, size_t values, size_t types, graphql_parser_places *places,
     graphql_parser_report *report);
 uint32_t graphql_parser_explain_schema(
     const uint8_t *text, size_t length, size_t selections, size_t values, size_t types, graphql_parser_places *places,
     graphql_parser_report *report);
+
+/* The same as a check, and hands over the text without what isn't needed in it: comments, and all blanks, line ends, commas
+ * and byte order marks but for one blank where two tokens would be read as others if they touched.
+ *
+ * minified                 is written on every call; what stood there isn't read. After any status but
+ *                          GRAPHQL_PARSER_ACCEPTED it is null, and its length 0. What is handed over is UTF-8 with the
+ *                          tokens of the text, as they were spelled, and no longer than the text.
+ *
+ * `text`, `places` and `minified` don't overlap. */
+uint32_t graphql_parser_minify_query(
+    const uint8_t *text, size_t length, size_t selections, size_t values, size_t types, graphql_parser_places *places,
+    graphql_parser_block *minified);
+uint32_t graphql_parser_minify_schema(
+    const uint8_t *text, size_t length, size_t selections, size_t values, size_t types, graphql_parser_places *places,
+    graphql_parser_block *minified);
+
+/* The same, and hands over the text laid out anew: two blanks for each level, a selection, a field and a value a line, a blank
+ * line between definitions, with the comments of the text, and no line end after the last. The layout may change with any
+ * version; the tokens and comments don't. `formatted` is written as `minified` is; `text`, `places` and `formatted` don't
+ * overlap. */
+uint32_t graphql_parser_format_query(
+    const uint8_t *text, size_t length, size_t selections, size_t values, size_t types, graphql_parser_places *places,
+    graphql_parser_block *formatted);
+uint32_t graphql_parser_format_schema(
+    const uint8_t *text, size_t length, size_t selections, size_t values, size_t types, graphql_parser_places *places,
+    graphql_parser_block *formatted);
 
 /* For a wrapper that comes with this library: the same as a parse, and hands over the tree in bytes that mean something to that
  * wrapper alone and may change with any version. `packed` is written on every call. It is null, and its length 0, after any

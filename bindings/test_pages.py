@@ -82,7 +82,7 @@ class Pages(unittest.TestCase):
 
     def test_c(self):
         found = blocks("c/README.md", "c")
-        self.assertEqual(len(found), 3)
+        self.assertEqual(len(found), 4)
         for block in found:
             program = block if "int main" in block else AROUND.format(block=block)
             with tempfile.TemporaryDirectory() as folder:

@@ -56,19 +56,54 @@ static const char *fault_of_explaining(const row *row, const uint8_t *text, size
     return NULL;
 }
 
-/* What is wrong with what a pack tells of a row, and hands over, with places and without; null where nothing is. */
-static const char *fault_of_packing(const row *row, const uint8_t *text, size_t length) {
+/* What is wrong with what a call tells of a row that hands over something of a good text alone, and with that, with places and
+ * without; null where nothing is. */
+static const char *fault_of_handing(handing_call *call, const row *row, const uint8_t *text, size_t length) {
     size_t limit = row->limit;
-    graphql_parser_block packed = garbage;
+    graphql_parser_block block = garbage;
     for (int round = 0; round < 2; round++) {
         graphql_parser_places places = unwritten;
-        uint32_t status = row->language->pack(text, length, limit, limit, limit, round ? NULL : &places, &packed);
-        bool is_handed = packed.start && packed.length;
-        bool is_right = status == GRAPHQL_PARSER_ACCEPTED ? is_handed : is_nothing(&packed);
-        free(packed.start);
-        if (status != row->status) return "status of pack";
-        if (!round && !are_same(&places, &row->places)) return "places of pack";
-        if (!is_right) return "what is packed";
+        uint32_t status = call(text, length, limit, limit, limit, round ? NULL : &places, &block);
+        bool is_handed = block.start && block.length;
+        bool is_right = status == GRAPHQL_PARSER_ACCEPTED ? is_handed : is_nothing(&block);
+        free(block.start);
+        if (status != row->status) return "status of a call that hands over a block";
+        if (!round && !are_same(&places, &row->places)) return "places of a call that hands over a block";
+        if (!is_right) return "what is handed over of a good text";
+    }
+    return NULL;
+}
+
+/* Texts with what each is minified and formatted to. */
+static const struct {
+    const language *language;
+    const char *text, *minified, *formatted;
+} rewritten[] = {
+    {&requests, "{ a, b } # c", "{a b}", "{\n  a\n  b\n} # c"},
+    {&requests, "query Q($a:Int=1){f(x:$a,y:[1 -2]){...on T{g}}}", "query Q($a:Int=1){f(x:$a y:[1-2]){...on T{g}}}",
+     "query Q($a: Int = 1) {\n  f(x: $a, y: [1, -2]) {\n    ... on T {\n      g\n    }\n  }\n}"},
+    {&schema_files, "\"d\" type A{b(c:D=1):E!}\n\nscalar F", "\"d\"type A{b(c:D=1):E!}scalar F",
+     "\"d\"\ntype A {\n  b(c: D = 1): E!\n}\n\nscalar F"},
+};
+
+static bool is_text(const graphql_parser_block *block, const char *text) {
+    return block->length == strlen(text) && !memcmp(block->start, text, block->length);
+}
+
+/* The text that isn't written anew as it should be; null where there is none. */
+static const char *fault_of_rewriting(void) {
+    for (size_t i = 0; i < sizeof rewritten / sizeof *rewritten; i++) {
+        const language *language = rewritten[i].language;
+        const uint8_t *text = (const uint8_t *)rewritten[i].text;
+        size_t length = strlen(rewritten[i].text);
+        graphql_parser_block minified, formatted;
+        uint32_t minify = language->minify(text, length, 64, 64, 64, NULL, &minified);
+        uint32_t format = language->format(text, length, 64, 64, 64, NULL, &formatted);
+        bool is_right = minify == GRAPHQL_PARSER_ACCEPTED && format == GRAPHQL_PARSER_ACCEPTED &&
+            is_text(&minified, rewritten[i].minified) && is_text(&formatted, rewritten[i].formatted);
+        free(minified.start);
+        free(formatted.start);
+        if (!is_right) return rewritten[i].text;
     }
     return NULL;
 }
@@ -262,7 +297,9 @@ static size_t failures(void) {
         const char *wrong = fault(&rows[i], text, length);
         if (!wrong) wrong = fault_without_places(&rows[i], text, length);
         if (!wrong) wrong = fault_of_explaining(&rows[i], text, length);
-        if (!wrong) wrong = fault_of_packing(&rows[i], text, length);
+        if (!wrong) wrong = fault_of_handing(rows[i].language->pack, &rows[i], text, length);
+        if (!wrong) wrong = fault_of_handing(rows[i].language->minify, &rows[i], text, length);
+        if (!wrong) wrong = fault_of_handing(rows[i].language->format, &rows[i], text, length);
         if (!wrong) wrong = fault_within(&rows[i], text, length);
         if (wrong) {
             printf("wrong at %.60s: %s\n", shown(&rows[i]), wrong);
@@ -286,6 +323,7 @@ int main(void) {
     if (!wrong) wrong = fault_of_names();
     if (!wrong) wrong = fault_of_reports();
     if (!wrong) wrong = fault_of_budgets();
+    if (!wrong) wrong = fault_of_rewriting();
     if (!wrong && graphql_parser_version() != GRAPHQL_PARSER_VERSION_NUMBER) wrong = "the version";
     if (wrong) {
         printf("wrong: %s\n", wrong);

@@ -1,7 +1,7 @@
 /* Has each request for memory of each call refused, one after the other, until the call meets no refusal. A call must
  * tell then that memory was refused, hand nothing over, and have given back all that it took. But a request that makes a
- * block smaller asks for no memory: where it is refused, the call must answer as if nothing had been. So may an explanation
- * in any case, since a list in it that may not double asks for less.
+ * block smaller asks for no memory: where it is refused, the call must answer as if nothing had been. So may an explanation, or
+ * a text written anew, in any case, since a list in it that may not double asks for less.
  *
  * Linked with --wrap for `malloc`, `realloc` and `free`, so that the functions below stand in their place, in the library
  * and in this program, and in nothing else. */
@@ -55,7 +55,7 @@ void __wrap_free(void *block) {
 }
 
 /* The calls of a language. */
-typedef enum { CHECK, PARSE, EXPLAIN, PACK, CALLS } call;
+typedef enum { CHECK, PARSE, PACK, EXPLAIN, MINIFY, FORMAT, CALLS } call;
 
 /* A call on the text of a row, in which the request of this number is refused, or none where it is 0. */
 typedef struct {
@@ -73,6 +73,8 @@ static uint32_t made(call call, const row *row, const uint8_t *text, size_t leng
     case PARSE: return row->language->parse(text, length, limit, limit, limit, true, &outcome->places, &outcome->block);
     case EXPLAIN: return row->language->explain(text, length, limit, limit, limit, &outcome->places, &outcome->block);
     case PACK: return row->language->pack(text, length, limit, limit, limit, &outcome->places, &outcome->block);
+    case MINIFY: return row->language->minify(text, length, limit, limit, limit, &outcome->places, &outcome->block);
+    case FORMAT: return row->language->format(text, length, limit, limit, limit, &outcome->places, &outcome->block);
     default: return row->language->check(text, length, limit, limit, limit, &outcome->places);
     }
 }
@@ -95,7 +97,7 @@ static outcome called(call call, const row *row, const uint8_t *text, size_t len
 /* Whether the call answers as if no request had been refused, when it handed over what this block has. */
 static bool is_whole(call call, const row *row, const outcome *outcome, const graphql_parser_block *whole) {
     bool is_handed = (call == PARSE && is_of_the_text(row->status)) || (call == EXPLAIN && is_explained(row->status)) ||
-        (call == PACK && row->status == GRAPHQL_PARSER_ACCEPTED);
+        (call != CHECK && call != EXPLAIN && row->status == GRAPHQL_PARSER_ACCEPTED);
     return outcome->status == row->status && are_same(&outcome->places, &row->places) &&
         is_nothing(&outcome->block) == !is_handed && outcome->kept_blocks == (is_handed ? 1 : 0) &&
         outcome->block.length == whole->length && (!is_handed || !memcmp(outcome->block.start, whole->start, whole->length));
@@ -119,7 +121,7 @@ int main(void) {
                 outcome outcome = called(call, &rows[i], text, length, number);
                 goes_on = outcome.is_refused;
                 bool is_right = outcome.lacks_memory && tells_refusal(&outcome);
-                if (!outcome.lacks_memory || call == EXPLAIN) is_right |= is_whole(call, &rows[i], &outcome, &whole);
+                if (!outcome.lacks_memory || call >= EXPLAIN) is_right |= is_whole(call, &rows[i], &outcome, &whole);
                 if (!is_right && wrong++ < 5)
                     printf("wrong at %.60s, call %d, request %ld refused: status %u, %ld blocks kept\n", shown(&rows[i]),
                            call, number, (unsigned)outcome.status, outcome.kept_blocks);

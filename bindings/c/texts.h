@@ -17,7 +17,7 @@ typedef uint32_t check_within_call(const uint8_t *, size_t, size_t, size_t, size
 typedef uint32_t parse_within_call(
     const uint8_t *, size_t, size_t, size_t, size_t, size_t, bool, graphql_parser_places *, graphql_parser_json *);
 
-/* An explanation, or a pack. */
+/* An explanation, a text written anew, or a pack. */
 typedef uint32_t handing_call(
     const uint8_t *, size_t, size_t, size_t, size_t, graphql_parser_places *, graphql_parser_block *);
 
@@ -26,15 +26,19 @@ typedef struct {
     parse_call *parse;
     handing_call *explain;
     handing_call *pack;
+    handing_call *minify;
+    handing_call *format;
     check_within_call *check_within;
     parse_within_call *parse_within;
 } language;
 
 static const language requests = {
     graphql_parser_check_query, graphql_parser_parse_query, graphql_parser_explain_query, graphql_parser_pack_query,
+    graphql_parser_minify_query, graphql_parser_format_query,
     graphql_parser_check_query_within, graphql_parser_parse_query_within};
 static const language schema_files = {
     graphql_parser_check_schema, graphql_parser_parse_schema, graphql_parser_explain_schema, graphql_parser_pack_schema,
+    graphql_parser_minify_schema, graphql_parser_format_schema,
     graphql_parser_check_schema_within, graphql_parser_parse_schema_within};
 
 /* A text of a language, and what it gives. */

@@ -37,6 +37,10 @@ SCALAR = (
 
 REQUEST = (graphql_parser.check_query, graphql_parser.parse_query)
 SCHEMA_FILE = (graphql_parser.check_schema, graphql_parser.parse_schema)
+ANEW = {
+    REQUEST: (graphql_parser.minify_query, graphql_parser.format_query),
+    SCHEMA_FILE: (graphql_parser.minify_schema, graphql_parser.format_schema),
+}
 EXPLAIN = {REQUEST: graphql_parser.explain_query, SCHEMA_FILE: graphql_parser.explain_schema}
 
 REFUSED = [
@@ -83,6 +87,19 @@ class Calls(unittest.TestCase):
         )
         self.assertIsNone(graphql_parser.explain_query("{a}"))
         self.assertIsNone(graphql_parser.explain_schema("scalar A"))
+
+    def test_a_text_is_written_anew(self):
+        query, schema = "query A { b(c: [1 -2]) } # d", '"e" scalar F, type G { h: I! }'
+        self.assertEqual(graphql_parser.minify_query(query), "query A{b(c:[1-2])}")
+        self.assertEqual(graphql_parser.format_query(query.encode()), "query A {\n  b(c: [1, -2])\n} # d")
+        self.assertEqual(graphql_parser.minify_schema(schema), '"e"scalar F type G{h:I!}')
+        self.assertEqual(graphql_parser.format_schema(schema), '"e"\nscalar F\n\ntype G {\n  h: I!\n}')
+        for language, text, kind, places in REFUSED:
+            for call in ANEW[language]:
+                with self.subTest(text=text, call=call.__name__):
+                    with self.assertRaises(GraphQLError) as caught:
+                        call(text)
+                    self.assertEqual((caught.exception.kind, caught.exception.places), (kind, places))
 
     def test_an_accepted_text_gives_its_tree(self):
         self.assertIsNone(graphql_parser.check_query("{a}"))

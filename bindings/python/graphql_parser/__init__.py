@@ -8,7 +8,8 @@
     graphql_parser.GraphQLError: syntax error at 1:7
 
 `check_query` and `check_schema` raise an error or return None. `explain_query` and `explain_schema` return a report for people
-of what is wrong with a text. `parse_query` and `parse_schema` return the tree in the form of GraphQL.js, as dicts and lists;
+of what is wrong with a text. `minify_query`, `format_query` and those of schema files return a text written anew.
+`parse_query` and `parse_schema` return the tree in the form of GraphQL.js, as dicts and lists;
 `query_json` and `schema_json` return it as the JSON that it is handed over in. `parse` stands in for `graphql.parse` of
 graphql-core: it returns graphql-core's nodes and raises its errors.
 
@@ -33,6 +34,10 @@ __all__ = [
     "check_schema",
     "explain_query",
     "explain_schema",
+    "format_query",
+    "format_schema",
+    "minify_query",
+    "minify_schema",
     "parse",
     "parse_query",
     "parse_schema",
@@ -73,6 +78,41 @@ def explain_query(text, *, selections=64, values=64, types=64):
 def explain_schema(text, *, selections=64, values=64, types=64):
     """A report for people of what is wrong with a schema file, as `explain_query` gives one; None where nothing is."""
     return _library.explain(_library.explain_schema, text, (selections, values, types))
+
+
+def minify_query(text, *, selections=64, values=64, types=64):
+    """A request without what isn't needed in it: comments, and all blanks, line ends, commas and byte order marks, but for one
+    blank where two tokens would be read as others if they touched. Its tokens stay as they are spelled, so it means the same.
+
+    >>> minify_query("{ hero { name } } # all")
+    '{hero{name}}'
+    """
+    return _library.rewrite(_library.minify_query, text, (selections, values, types))
+
+
+def minify_schema(text, *, selections=64, values=64, types=64):
+    """A schema file without what isn't needed in it, as `minify_query` leaves it out."""
+    return _library.rewrite(_library.minify_schema, text, (selections, values, types))
+
+
+def format_query(text, *, selections=64, values=64, types=64):
+    """A request laid out anew: two blanks for each level, a selection a line, a blank line between definitions. Its comments
+    stay, each between the same tokens, and its tokens are as they were spelled. No line feed stands at the end. The layout may
+    change with any version of the library.
+
+    >>> print(format_query("{hero(id:7){name}} # all"))
+    {
+      hero(id: 7) {
+        name
+      }
+    } # all
+    """
+    return _library.rewrite(_library.format_query, text, (selections, values, types))
+
+
+def format_schema(text, *, selections=64, values=64, types=64):
+    """A schema file laid out anew, as `format_query` lays out a request: a field, a value, a root a line."""
+    return _library.rewrite(_library.format_schema, text, (selections, values, types))
 
 
 def query_json(text, *, selections=64, values=64, types=64, places=False):

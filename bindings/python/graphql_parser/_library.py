@@ -63,6 +63,10 @@ parse_query = _call("parse_query", _PARSE, ctypes.c_uint32)
 parse_schema = _call("parse_schema", _PARSE, ctypes.c_uint32)
 explain_query = _call("explain_query", _EXPLAIN, ctypes.c_uint32)
 explain_schema = _call("explain_schema", _EXPLAIN, ctypes.c_uint32)
+minify_query = _call("minify_query", _EXPLAIN, ctypes.c_uint32)
+minify_schema = _call("minify_schema", _EXPLAIN, ctypes.c_uint32)
+format_query = _call("format_query", _EXPLAIN, ctypes.c_uint32)
+format_schema = _call("format_schema", _EXPLAIN, ctypes.c_uint32)
 version = _call("version", [], ctypes.c_uint32)
 # The `free` that goes with the library's `malloc`: both are bound in the shared object. A `free` that is looked up from here
 # isn't the same one where another allocator was loaded before the C library.
@@ -130,6 +134,18 @@ def explain(call, text, limits):
     if status and report is None:
         refuse(status, places, None)
     return report and report.decode()
+
+
+def rewrite(call, text, limits):
+    """A text minified or formatted; a GraphQLError where it is refused."""
+    asked = _asked(text, limits)
+    places = Places()
+    block = Block()
+    status = call(*asked, ctypes.byref(places), ctypes.byref(block))
+    written = _taken(block)
+    if status:
+        refuse(status, places, None)
+    return written.decode()
 
 
 def parse_bytes(call, text, limits, with_places):

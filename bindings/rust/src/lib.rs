@@ -3,7 +3,8 @@
 //! [`parse_query`] and [`parse_schema`] give the tree of a text, in plain Rust: the types of [`types`] and [`value`], each
 //! node with its line and its column. They have the names of async-graphql-parser 7.2.1, so that a program that was
 //! written for that crate changes its imports. [`check_query`] and [`check_schema`] tell whether a text is good, and make
-//! no tree. [`explain_query`] and [`explain_schema`] tell people what is wrong with a text. [`json`] hands over trees as JSON.
+//! no tree. [`explain_query`] and [`explain_schema`] tell people what is wrong with a text. [`minify_query`], [`format_query`]
+//! and those of schema files write a text anew. [`json`] hands over trees as JSON.
 //!
 //! All of them borrow the text, may be called from any number of threads, and never panic. Selection sets, values and types
 //! nest 64 deep each, unless [`Limits`] say otherwise.
@@ -42,7 +43,7 @@ pub mod value;
 pub use error::{Error, ErrorPositions, Result};
 use json::Places;
 pub use pos::{Pos, Positioned};
-use raw::{Block, CheckCall, Outcome, ParseCall, Text};
+use raw::{Block, CheckCall, HandingCall, Outcome, ParseCall, Text};
 use types::{ExecutableDocument, ServiceDocument};
 
 /// How deep a text may nest: three numbers, each at most [`Limits::LARGEST`].
@@ -148,7 +149,7 @@ pub fn check_schema<T: AsRef<str>>(input: T, limits: Limits) -> Result<()> {
 ///
 /// It tells what was found and what was expected, with the line of the place and a caret under it, and with a second place
 /// where the error has two. Each line ends in a line feed. The words may change with any version of the library. It takes at
-/// most as long as some twenty to forty checks.
+/// most as long as some five checks.
 ///
 /// ```
 /// use graphql_parser::{explain_query, Limits};
@@ -180,6 +181,80 @@ pub fn explain_schema<T: AsRef<str>>(input: T, limits: Limits) -> Result<Option<
     explained(raw::explain_schema(input.as_ref(), limits))
 }
 
+/// The request without what isn't needed in it: comments, and all blanks, line ends, commas and byte order marks, but for one
+/// blank where two tokens would be read as others if they touched. Its tokens stay as they are spelled, so it means the same.
+///
+/// ```
+/// use graphql_parser::{minify_query, Limits};
+///
+/// assert_eq!(minify_query("{ hero { name } } # all", Limits::default())?, "{hero{name}}");
+/// # Ok::<(), graphql_parser::Error>(())
+/// ```
+///
+/// # Errors
+///
+/// Why the text isn't a request within the limits, or that one of them is too large.
+pub fn minify_query<T: AsRef<str>>(input: T, limits: Limits) -> Result<String> {
+    rewritten(
+        raw::graphql_parser_minify_query,
+        raw::graphql_parser_parse_query,
+        input.as_ref(),
+        limits,
+    )
+}
+
+/// The schema file without what isn't needed in it, as [`minify_query`] leaves it out.
+///
+/// # Errors
+///
+/// Why the text isn't a schema file within the limits, or that one of them is too large.
+pub fn minify_schema<T: AsRef<str>>(input: T, limits: Limits) -> Result<String> {
+    rewritten(
+        raw::graphql_parser_minify_schema,
+        raw::graphql_parser_parse_schema,
+        input.as_ref(),
+        limits,
+    )
+}
+
+/// The request laid out anew: two blanks for each level, a selection a line, a blank line between definitions. Its comments
+/// stay, each between the same tokens, and its tokens are as they were spelled. No line feed stands at the end. The layout may
+/// change with any version of the library.
+///
+/// ```
+/// use graphql_parser::{format_query, Limits};
+///
+/// let formatted = format_query("{hero(id:7){name}} # all", Limits::default())?;
+/// assert_eq!(formatted, "{\n  hero(id: 7) {\n    name\n  }\n} # all");
+/// # Ok::<(), graphql_parser::Error>(())
+/// ```
+///
+/// # Errors
+///
+/// Why the text isn't a request within the limits, or that one of them is too large.
+pub fn format_query<T: AsRef<str>>(input: T, limits: Limits) -> Result<String> {
+    rewritten(
+        raw::graphql_parser_format_query,
+        raw::graphql_parser_parse_query,
+        input.as_ref(),
+        limits,
+    )
+}
+
+/// The schema file laid out anew, as [`format_query`] lays out a request: a field, a value, a root a line.
+///
+/// # Errors
+///
+/// Why the text isn't a schema file within the limits, or that one of them is too large.
+pub fn format_schema<T: AsRef<str>>(input: T, limits: Limits) -> Result<String> {
+    rewritten(
+        raw::graphql_parser_format_schema,
+        raw::graphql_parser_parse_schema,
+        input.as_ref(),
+        limits,
+    )
+}
+
 /// The three numbers of the version of the library that is linked, such as 1, 0 and 0.
 #[must_use]
 pub fn version() -> (u32, u32, u32) {
@@ -200,6 +275,15 @@ fn check(call: CheckCall, parse: ParseCall, text: &str, limits: Limits) -> Resul
 fn packed(outcome: Outcome<Block>, parse: ParseCall, text: &str, limits: Limits) -> Result<Block> {
     match (outcome.status, outcome.handed) {
         (0, Some(bytes)) => Ok(bytes),
+        (status, _) => Err(named_error(status, outcome.places, parse, text, limits)),
+    }
+}
+
+// A text that is written anew. The name in an error is told by the parse of the same text.
+fn rewritten(call: HandingCall, parse: ParseCall, text: &str, limits: Limits) -> Result<String> {
+    let outcome = raw::rewrite(call, text, limits);
+    match (outcome.status, outcome.handed) {
+        (0, Some(text)) => Ok(text.to_owned()),
         (status, _) => Err(named_error(status, outcome.places, parse, text, limits)),
     }
 }

@@ -66,7 +66,11 @@ functions! {
     graphql_parser_explain_query,
     graphql_parser_explain_schema,
     graphql_parser_pack_query,
-    graphql_parser_pack_schema
+    graphql_parser_pack_schema,
+    graphql_parser_minify_query,
+    graphql_parser_minify_schema,
+    graphql_parser_format_query,
+    graphql_parser_format_schema
 }
 
 extern "C" {
@@ -214,6 +218,11 @@ pub fn pack_schema(text: &str, limits: Limits) -> Outcome<Block> {
     hand(graphql_parser_pack_schema, text, limits)
 }
 
+/// The status of a text, its places, and what it is minified or formatted to.
+pub fn rewrite(call: HandingCall, text: &str, limits: Limits) -> Outcome<Text> {
+    text_of(hand(call, text, limits))
+}
+
 fn hand(call: HandingCall, text: &str, limits: Limits) -> Outcome<Block> {
     let (start, length) = (text.as_ptr(), text.len());
     handed(limits, |[selections, values, types], places, block| {
@@ -222,7 +231,7 @@ fn hand(call: HandingCall, text: &str, limits: Limits) -> Outcome<Block> {
     })
 }
 
-// What is handed over, as text: parses and explanations hand over UTF-8.
+// What is handed over, as text: parses, explanations and texts written anew are UTF-8.
 fn text_of(outcome: Outcome<Block>) -> Outcome<Text> {
     let Outcome {
         status,

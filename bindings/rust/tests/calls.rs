@@ -3,7 +3,8 @@ use graphql_parser::json::{self, Places};
 use graphql_parser::types::{DocumentOperations, OperationType, Selection};
 use graphql_parser::value::Name;
 use graphql_parser::{
-    check_query, check_schema, explain_query, explain_schema, parse_query, parse_query_limited,
+    check_query, check_schema, explain_query, explain_schema, format_query, format_schema, minify_query, minify_schema,
+    parse_query, parse_query_limited,
     parse_schema, parse_schema_limited, Error, Limits, Pos,
 };
 use std::thread;
@@ -172,6 +173,29 @@ fn each_refused_text_is_explained() {
         "   |             ^\n"
     );
     assert_eq!(report.as_deref(), Some(lines));
+}
+
+#[test]
+fn a_text_is_written_anew() {
+    let (query, schema) = ("query A { b(c: [1 -2]) } # d", "\"e\" scalar F, type G { h: I! }");
+    assert_eq!(minify_query(query, Limits::default()), Ok("query A{b(c:[1-2])}".to_owned()));
+    assert_eq!(format_query(query, Limits::default()), Ok("query A {\n  b(c: [1, -2])\n} # d".to_owned()));
+    assert_eq!(minify_schema(schema, Limits::default()), Ok("\"e\"scalar F type G{h:I!}".to_owned()));
+    assert_eq!(
+        format_schema(schema, Limits::default()),
+        Ok("\"e\"\nscalar F\n\ntype G {\n  h: I!\n}".to_owned())
+    );
+    // Errors are those of a check.
+    for row in refused() {
+        let (text, limits) = (&row.text, limits(row.limit));
+        let (minified, formatted) = if row.is_request {
+            (minify_query(text, limits), format_query(text, limits))
+        } else {
+            (minify_schema(text, limits), format_schema(text, limits))
+        };
+        assert_eq!(minified.as_ref(), Err(&row.error), "{text}");
+        assert_eq!(formatted.as_ref(), Err(&row.error), "{text}");
+    }
 }
 
 #[test]

@@ -5,5 +5,6 @@ pub mod Explaining
 pub mod Handing
 pub mod Lending
 pub mod Packing
+pub mod Rewriting
 pub mod Statuses
 pub mod Telling

@@ -1,5 +1,5 @@
 //! What the calls of both languages share.
-ghost use Rattle.std.specs.Prelude.{◌≡◌, length, IfOk};
+ghost use Rattle.std.specs.Prelude.{◌≡◌, length, string_bytes, IfOk};
 ghost use Rattle.graphql_json.specs.nodes.Nodes.{json_text};
 ghost use Rattle.graphql_parser.specs.answers.Language.{Language as DocumentLanguage};
 ghost use Rattle.graphql_parser.specs.Checking.{checked};
@@ -8,6 +8,7 @@ ghost use Rattle.graphql_parser.specs.requests.Requests.{requests};
 ghost use Rattle.graphql_parser.specs.schemas.SchemaFile.{Definition as SchemaDefinition};
 ghost use Rattle.graphql_parser.specs.schemas.Schemas.{schemas};
 ghost use Rattle.graphql_parser_c.specs.Documents.{executable_bytes, executable_value, service_bytes, service_value};
+ghost use Rattle.graphql_parser_c.specs.Rewriting.{LaysOut, Minifies};
 ghost use Rattle.graphql_parser_c.specs.Telling.{AnswersText, IsWithin};
 ghost use Rattle.graphql_report.specs.declared.fronts.Language.{Language as ReadAs};
 ghost use Rattle.graphql_report.specs.declared.fronts.Language.TheVariants.{Requests, Schemas};
@@ -19,10 +20,11 @@ use graphql_parser::{
     Limits, Memory, Result, check_query_within, check_schema_within, parse_query_within,
     parse_schema_within,
 };
+use graphql_printer::{format_query, format_schema, minify_query, minify_schema};
 use graphql_report::Language;
 use std::alloc::{AllocError, Global};
 
-/// The documents of a language: how a text is read, its tree written and packed, and an error in it explained.
+/// The documents of a language: how a text is read and written anew, its tree written and packed, and an error in it explained.
 pub trait Document: Drop {
     ghost use Rattle.graphql_json.specs.declared.place.Places.{Places as WrittenPlaces};
     ghost use Rattle.graphql_packed.specs.packed.Bytes.{Bytes};
@@ -63,6 +65,22 @@ pub trait Document: Drop {
     /// The tree as bytes for a wrapper.
     fn packed(&self, alloc: Global) -> std::result::Result<Vec<u8>, AllocError>
         ensures { IfOk result (λ packed. packed.items ≡ Self.bytes self.now) };
+
+    /// An accepted text without what isn't needed in it.
+    fn minified(
+        alloc: Global,
+        text: &str,
+        limits: Limits,
+    ) -> std::result::Result<String, AllocError>
+        ensures { IfOk result (λ s. Minifies Self.language limits text.now (string_bytes s)) };
+
+    /// An accepted text laid out anew.
+    fn formatted(
+        alloc: Global,
+        text: &str,
+        limits: Limits,
+    ) -> std::result::Result<String, AllocError>
+        ensures { IfOk result (λ s. LaysOut Self.language limits text.now (string_bytes s)) };
 }
 
 impl Document for ExecutableDocument {
@@ -95,6 +113,28 @@ impl Document for ExecutableDocument {
     fn packed(&self, alloc: Global) -> std::result::Result<Vec<u8>, AllocError> {
         packed_request(alloc, self)
     }
+
+    fn minified(
+        alloc: Global,
+        text: &str,
+        limits: Limits,
+    ) -> std::result::Result<String, AllocError> {
+        match minify_query(alloc, text, limits) {
+            Ok(minified) => Ok(minified),
+            Err(_) => Err(AllocError),
+        }
+    }
+
+    fn formatted(
+        alloc: Global,
+        text: &str,
+        limits: Limits,
+    ) -> std::result::Result<String, AllocError> {
+        match format_query(alloc, text, limits) {
+            Ok(formatted) => Ok(formatted),
+            Err(_) => Err(AllocError),
+        }
+    }
 }
 
 impl Document for ServiceDocument {
@@ -126,5 +166,27 @@ impl Document for ServiceDocument {
 
     fn packed(&self, alloc: Global) -> std::result::Result<Vec<u8>, AllocError> {
         packed_schema(alloc, self)
+    }
+
+    fn minified(
+        alloc: Global,
+        text: &str,
+        limits: Limits,
+    ) -> std::result::Result<String, AllocError> {
+        match minify_schema(alloc, text, limits) {
+            Ok(minified) => Ok(minified),
+            Err(_) => Err(AllocError),
+        }
+    }
+
+    fn formatted(
+        alloc: Global,
+        text: &str,
+        limits: Limits,
+    ) -> std::result::Result<String, AllocError> {
+        match format_schema(alloc, text, limits) {
+            Ok(formatted) => Ok(formatted),
+            Err(_) => Err(AllocError),
+        }
     }
 }

@@ -1,9 +1,10 @@
-//! `graphql_parser` for callers that are not Rattle: a static library with six functions of C for each language.
+//! `graphql_parser` for callers that are not Rattle: a static library with eight functions of C for each language.
 //!
 //! A check tells whether a text is a request or a schema file, by a status and up to two places, and keeps no tree. A
 //! parse tells the same, and hands over the tree, or the error, as JSON. An explanation tells the same, and hands over
 //! a report of the error for people. A pack tells the same as a parse, and hands over the tree as bytes for a wrapper
-//! that makes trees of its own. Checks and parses within a budget of memory stand beside these.
+//! that makes trees of its own. A text that is accepted is minified or formatted. Checks and parses within a budget of memory
+//! stand beside these.
 //! `bindings/graphql_parser.h` declares the functions and says what a caller owes;
 //! `bindings/README.md` says how to link them.
 //!
@@ -13,7 +14,8 @@
 //! text, what a parse hands over is the JSON of that answer's tree or error, as `graphql_json` defines it, and these
 //! bytes lie where the pointer says; else null is handed over, with no bytes. Of an answer that is an error, an
 //! explanation hands over a report as `graphql_report` defines it, of a text in a file without a name; else nothing. Of
-//! an accepted text a pack hands over the bytes of that answer's tree, as `graphql_packed` defines them, else nothing.
+//! an accepted text a pack hands over the bytes of that answer's tree, as `graphql_packed` defines them, else nothing; and what
+//! is minified or formatted has the tokens of the text, and so the same tree, except for places.
 //! What was there before makes no difference. The places are written where the caller's pointer isn't null, and the text
 //! is the caller's own again after the call. That what is handed over lies in a block that `free` takes is tested, by
 //! `bindings/check.sh`.
@@ -28,6 +30,7 @@ ghost use Rattle.graphql_parser_c.specs.Explaining.{IsExplained};
 ghost use Rattle.graphql_report.specs.declared.fronts.Language.TheVariants.{Requests, Schemas};
 ghost use Rattle.graphql_parser_c.specs.Handing.{IsAnswered, places_asked};
 ghost use Rattle.graphql_parser_c.specs.Packing.{IsPacked};
+ghost use Rattle.graphql_parser_c.specs.Rewriting.{IsRewritten, LaysOut, Minifies};
 ghost use Rattle.graphql_parser_c.specs.Telling.{IsBack, IsTold, IsWithin, limits_of};
 
 mod block;
@@ -37,6 +40,7 @@ mod explaining;
 mod handing;
 mod lending;
 mod packing;
+mod rewriting;
 mod status;
 mod telling;
 mod writing;
@@ -47,6 +51,7 @@ use explaining::Report;
 use graphql_parser::types::{ExecutableDocument, ServiceDocument};
 pub use lending::{Room, Text, Told};
 use packing::Packed;
+use rewriting::{Formatted, Minified};
 use std::alloc::Global;
 use telling::Bounds;
 pub use telling::{Place, Places};
@@ -335,4 +340,98 @@ pub extern "C" fn graphql_parser_pack_schema(
 {
     let bounds = Bounds(selections, values, types, usize::MAX);
     call::<ServiceDocument, Packed>(alloc, text, bounds, &Packed, places, packed)
+}
+
+/// Checks a request as [`graphql_parser_check_query`] does, and hands over the text without what isn't needed in it.
+///
+/// Comments, blanks, line ends, commas and byte order marks are left out, and one blank stands where two tokens would be
+/// read as others if they touched, as `minify_query` of `graphql_printer` does. The text is handed over in a block of the
+/// program's `malloc`, which the caller gives back by `free`. For a text that isn't accepted it is null and has no bytes.
+/// `minified` is written on every call, and what stood there isn't looked at.
+#[unsafe(no_mangle)]
+pub extern "C" fn graphql_parser_minify_query(
+    alloc: Global,
+    text: Text,
+    selections: usize,
+    values: usize,
+    types: usize,
+    places: Room,
+    minified: &mut Block,
+) -> Told
+    ensures told { IsTold (checked requests) (limits_of selections values types) text.bytes
+        result.number result.places }
+    ensures handed { IsRewritten Minifies requests (limits_of selections values types) text.bytes
+        result.number minified.new }
+    ensures back { IsBack text places result }
+{
+    let bounds = Bounds(selections, values, types, usize::MAX);
+    call::<ExecutableDocument, Minified>(alloc, text, bounds, &Minified, places, minified)
+}
+
+/// Checks a schema file as [`graphql_parser_check_schema`] does, and hands over the text without what isn't needed in it, as
+/// [`graphql_parser_minify_query`] does of a request.
+#[unsafe(no_mangle)]
+pub extern "C" fn graphql_parser_minify_schema(
+    alloc: Global,
+    text: Text,
+    selections: usize,
+    values: usize,
+    types: usize,
+    places: Room,
+    minified: &mut Block,
+) -> Told
+    ensures told { IsTold (checked schemas) (limits_of selections values types) text.bytes
+        result.number result.places }
+    ensures handed { IsRewritten Minifies schemas (limits_of selections values types) text.bytes
+        result.number minified.new }
+    ensures back { IsBack text places result }
+{
+    let bounds = Bounds(selections, values, types, usize::MAX);
+    call::<ServiceDocument, Minified>(alloc, text, bounds, &Minified, places, minified)
+}
+
+/// Checks a request as [`graphql_parser_check_query`] does, and hands over the text laid out anew.
+///
+/// Its tokens and comments are kept, as `format_query` of `graphql_printer` keeps them. The text is handed over as
+/// [`graphql_parser_minify_query`] hands over its own; `formatted` is written on every call.
+#[unsafe(no_mangle)]
+pub extern "C" fn graphql_parser_format_query(
+    alloc: Global,
+    text: Text,
+    selections: usize,
+    values: usize,
+    types: usize,
+    places: Room,
+    formatted: &mut Block,
+) -> Told
+    ensures told { IsTold (checked requests) (limits_of selections values types) text.bytes
+        result.number result.places }
+    ensures handed { IsRewritten LaysOut requests (limits_of selections values types) text.bytes
+        result.number formatted.new }
+    ensures back { IsBack text places result }
+{
+    let bounds = Bounds(selections, values, types, usize::MAX);
+    call::<ExecutableDocument, Formatted>(alloc, text, bounds, &Formatted, places, formatted)
+}
+
+/// Checks a schema file as [`graphql_parser_check_schema`] does, and hands over the text laid out anew, as
+/// [`graphql_parser_format_query`] does of a request.
+#[unsafe(no_mangle)]
+pub extern "C" fn graphql_parser_format_schema(
+    alloc: Global,
+    text: Text,
+    selections: usize,
+    values: usize,
+    types: usize,
+    places: Room,
+    formatted: &mut Block,
+) -> Told
+    ensures told { IsTold (checked schemas) (limits_of selections values types) text.bytes
+        result.number result.places }
+    ensures handed { IsRewritten LaysOut schemas (limits_of selections values types) text.bytes
+        result.number formatted.new }
+    ensures back { IsBack text places result }
+{
+    let bounds = Bounds(selections, values, types, usize::MAX);
+    call::<ServiceDocument, Formatted>(alloc, text, bounds, &Formatted, places, formatted)
 }
