@@ -34,7 +34,7 @@ use Rattle.graphql_report.specs.fronts.Front.{LastIsLineFeed, IsFront, IsFrontOf
 use Rattle.graphql_report.specs.declared.phrases.Phrase.{Phrase}
 use Rattle.graphql_report.specs.declared.phrases.Phrase.TheVariants as phrases
 use Rattle.graphql_report.specs.inner.Left.{phrases_at, Steps, whole_of, IsLeftOf}
-use Rattle.graphql_report.specs.reports.Expected.{TellsFrontOf, with_sample}
+use Rattle.graphql_report.specs.reports.Expected.{HasTree, HasTreeOf, TellsFrontOf, TellsTreeOf, with_sample}
 use Rattle.graphql_report.proofs.Apart.{phrase-is, mapped-is, then-is, plus-is}
 use Rattle.graphql_report.proofs.LeftSpent.{IsSpent, phrases-spent}
 use Rattle.graphql_report.proofs.SampleTexts.{Sampled, sampled, inner-of}
@@ -265,3 +265,89 @@ step-told limits left copy new sample hand (Ok (Some answer)) same inner proper 
     told-by-left language limits line sample left new kind answer utf8 lined l
     (spells-of kind sample inner (subst (λ (w : List ℕ). IsProperBare kind w) text proper))
     (subst (λ (b : Bare). Steps limits b left new answer) bare (subst (λ (l : List Phrase). Steps limits hand.bare l new answer) same h))
+
+-- ---- what the code tells of the end
+
+module _ {D Document : Type 0} {language : Described D Document} {reader : Limits → Reader (List D)} (read : IsRead language reader) (limits : Limits) (ts : List Token) (once : EndsOnce ts) (proper : AreProperButFaults ts) where
+  said : Says (grammar language Current) language.placeless limits ts (whole_at (reader limits) ts)
+  said = whole-answers read.has_phrase read.ignores_places (read.reads_exactly limits) ts once proper
+
+  tree-read : ended (whole_at (reader limits) ts) ≡ Read tt [] → HasTree language limits ts
+  tree-read e = go (whole_at (reader limits) ts) said e
+    where
+      go : (o : Outcome (List D)) → Says (grammar language Current) language.placeless limits ts o → ended o ≡ Read tt [] → HasTree language limits ts
+      go (Read ds rest) h e = (ds, h.1.tree.within)
+      go (Refused v rest) h e = absurd cc
+
+  no-tree-read : (v : Verdict) (rest : List Token) → ended (whole_at (reader limits) ts) ≡ Refused v rest → HasTree language limits ts → ⊥
+  no-tree-read v rest e = go (whole_at (reader limits) ts) said e
+    where
+      go : (o : Outcome (List D)) → Says (grammar language Current) language.placeless limits ts o → ended o ≡ Refused v rest → HasTree language limits ts → ⊥
+      go (Read ds rest') h e t = absurd cc
+      go (Refused w []) h e t = absurd h
+      go (Refused w (t' ∷ after)) h e t = h.none t.0 t.1
+
+tree-of : (language : Language) (limits : Limits) (ts : List Token) → EndsOnce ts → AreProperButFaults ts → whole_of language limits ts ≡ Read tt [] → HasTreeOf language limits ts
+tree-of Requests limits ts once proper = tree-read requests-are-read limits ts once proper
+tree-of Schemas limits ts once proper = tree-read schemas-are-read limits ts once proper
+
+no-tree-of : (language : Language) (limits : Limits) (ts : List Token) → EndsOnce ts → AreProperButFaults ts → (v : Verdict) (rest : List Token) → whole_of language limits ts ≡ Refused v rest → HasTreeOf language limits ts → ⊥
+no-tree-of Requests limits ts once proper = no-tree-read requests-are-read limits ts once proper
+no-tree-of Schemas limits ts once proper = no-tree-read schemas-are-read limits ts once proper
+
+abbrev at-end : Bare
+at-end = record { kind = End; spelling = [] }
+
+-- the answer is right of each line after which this is left
+abbrev pub EndIsToldOf : Limits → List Phrase → Bool → Type 0
+EndIsToldOf limits left answer = (language : Language) (line : List ℕ) → IsUtf8 line → IsLeftOf language limits line left → TellsTreeOf language limits line answer
+
+abbrev IfTaken : Bool → List Phrase → Type 0
+IfTaken answer new = answer ≡ true → new ≡ []
+
+ended-by-left : (limits : Limits) (left new : List Phrase) (answer : Bool) → IfTaken answer new → Steps limits at-end left new answer → EndIsToldOf limits left answer
+ended-by-left limits left new answer taken steps language line utf8 l = λ ts cut. by answer taken steps ts (tokens_only [] (chars line) ts cut ∙ sym (tokens_only [] (chars line) all l.cut))
+  where
+    all : List Token
+    all = l.tokens ++ l.last ∷ []
+
+    once : EndsOnce all
+    once = cuts_ends Current [] (chars line) all l.cut
+
+    proper : AreProperButFaults all
+    proper = cuts_proper [] (chars line) all (text_scalars line utf8) l.cut
+
+    spelled : (b : Bare) → b.kind ≡ End → IsProperBare b.kind b.spelling → b ≡ at-end
+    spelled b ends h = by-kind b.kind b.spelling ends h
+      where
+        by-kind : (kind : TokenKind) (bytes : List ℕ) → kind ≡ End → IsProperBare kind bytes → record { kind = kind; spelling = bytes } ≡ at-end
+        by-kind End bytes e h = ap (λ (w : List ℕ). record { kind = End; spelling = w }) h
+        by-kind other bytes e h = absurd cc
+
+    bare : l.last.bare ≡ at-end
+    bare = spelled l.last.bare l.ends (last-proper l.tokens l.last l.ends proper)
+
+    by : (answer : Bool) → IfTaken answer new → Steps limits at-end left new answer → (ts : List Token) → ts ≡ all → IsTrue answer ↔ HasTreeOf language limits ts
+    by true none steps ts same =
+        let read : whole_of language limits all ≡ Read tt [] = l.same (l.last ∷ []) ∙ steps l.last [] bare ∙ ap (λ (ps : List Phrase). phrases_at limits (reverse ps) []) (none refl) in
+        (λ _. subst (HasTreeOf language limits) (sym same) (tree-of language limits all once proper read), λ _. refl)
+    by false none steps ts same =
+        let here = steps l.last [] bare in
+        (λ t. absurd cc, λ h. absurd (no-tree-of language limits all once proper here.0 (l.last ∷ []) (l.same (l.last ∷ []) ∙ here.1) (subst (HasTreeOf language limits) same h)))
+
+-- where nothing is left, or the end is refused
+pub end-told : (limits : Limits) (left copy new : List Phrase) (b : Bare) (found : Option Bool) → copy ≡ left → b.kind ≡ End → b.spelling ≡ [] → new ≡ [] → IfSome found (Steps limits b copy new) → IfSome found (EndIsToldOf limits left)
+end-told limits left copy new b None same kind text none h = tt
+end-told limits left copy new b (Some answer) same kind text none h = ended-by-left limits left new answer (λ _. none) (subst (λ (b : Bare). Steps limits b left new answer) (bare-end b kind text) (subst (λ (l : List Phrase). Steps limits b l new answer) same h))
+  where
+    bare-end : (b : Bare) → b.kind ≡ End → b.spelling ≡ [] → b ≡ at-end
+    bare-end b e f = ap (λ (k : TokenKind). record { kind = k; spelling = b.spelling }) e ∙ ap (λ (w : List ℕ). record { kind = End; spelling = w }) f
+
+pub end-refused : (limits : Limits) (left copy new : List Phrase) (b : Bare) (found answer : Option Bool) → copy ≡ left → b.kind ≡ End → b.spelling ≡ [] → IfSome answer (λ is. (is ≡ false) × (found ≡ Some false)) → IfSome found (Steps limits b copy new) → IfSome answer (EndIsToldOf limits left)
+end-refused limits left copy new b found None same kind text is h = tt
+end-refused limits left copy new b found (Some answer) same kind text is h =
+    subst (EndIsToldOf limits left) (sym is.0)
+    (ended-by-left limits left new false (λ e. absurd cc) (subst (λ (b : Bare). Steps limits b left new false) (bare-end b kind text) (subst (λ (l : List Phrase). Steps limits b l new false) same (subst (λ (o : Option Bool). IfSome o (Steps limits b copy new)) is.1 h))))
+  where
+    bare-end : (b : Bare) → b.kind ≡ End → b.spelling ≡ [] → b ≡ at-end
+    bare-end b e f = ap (λ (k : TokenKind). record { kind = k; spelling = b.spelling }) e ∙ ap (λ (w : List ℕ). record { kind = End; spelling = w }) f

@@ -2,7 +2,6 @@ pub mod Buffers
 mod Lines
 mod Joins
 mod Depths
-mod Ends
 mod Spots
 mod LaterLines
 mod ToldFronts

@@ -172,7 +172,7 @@ keyword-of-token {language} {limits} {front} {names} facts h name c = go h.has_n
     go false e = taken-of-token facts keywords h.of_keywords name keywords-called (h.are_keywords e) c
 
 abbrev IsOfEnd : Language → Limits → List ℕ → List ℕ → Type 0
-IsOfEnd language limits front name = (name ≡ end_name) × ((whole : List Token) → IsCutInto front whole → HasTreeOf language limits whole)
+IsOfEnd language limits front name = (name ≡ end_name) × ((whole : List Token) → IsCutInto (front ++ 10 ∷ []) whole → HasTreeOf language limits whole)
 
 the-end : {language : Language} {limits : Limits} {front : List ℕ} {names : List (List ℕ)} (h : AreExpected language limits front names) (name : List ℕ) (b : Bool) → h.is_whole ≡ b → Contains (cond b (end_name ∷ []) []) name → IsOfEnd language limits front name
 the-end h name true e c = (sym (only-one c), λ whole cut. (h.tells_whole whole cut).0 e)

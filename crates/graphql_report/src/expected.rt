@@ -1,42 +1,37 @@
 //! What could have stood in place of the refused token.
-ghost use Rattle.std.specs.Prelude.{◌≡◌, IfOk, IfSome, OnOk, string_bytes};
+ghost use Rattle.std.specs.Prelude.{◌≡◌, IfOk, IfSome};
 ghost use Rattle.std.specs.Str.{chars};
-ghost use Rattle.graphql_tokens.specs.tokens.Place.{place_after};
 ghost use Rattle.graphql_report.specs.fronts.Front.{LastIsLineFeed};
 ghost use Rattle.graphql_report.specs.inner.Left.{IsLeftOf};
 ghost use Rattle.graphql_report.specs.reports.Expected.{AreExpected, AreTaken, value_names};
 ghost use Rattle.graphql_report.specs.inner.Called.{NamesAll, NamesOnly, samples_of, texts};
 
-use crate::fronts::{Language, end_of, is_whole};
+use crate::fronts::Language;
 use crate::left::left_after;
 use crate::phrases::Phrase;
-use crate::probes::{line_of, takes};
+use crate::probes::{ends, line_of, takes};
 use crate::samples::{END, KEYWORDS, LITERALS, NAME, NAME_TEXT, PUNCTUATORS, Sample, VALUE};
-use graphql_parser::{Limits, Pos};
+use graphql_parser::Limits;
 use std::alloc::{AllocError, Global};
 
-// The names of those of the samples that `takes` takes after what the buffer holds, which ends at this place.
+// The names of those of the samples that can stand after this line, after which this is left, where it is known.
 fn taken(
     alloc: Global,
     language: Language,
     limits: Limits,
+    line: &str,
     left: &Option<Vec<Phrase>>,
-    buffer: &mut String,
-    end: Pos,
     samples: &[Sample],
 ) -> Result<Vec<&'static str>, AllocError>
-    requires end { end ≡ place_after (chars (string_bytes buffer.old)) }
-    requires line { LastIsLineFeed (chars (string_bytes buffer.old)) }
-    requires left { IfSome left.now (λ left. IsLeftOf language limits (string_bytes buffer.old) left.items) }
-    ensures names { IfOk result (λ names.
-        AreTaken language limits (string_bytes buffer.old) (samples_of samples.now)
-        (texts names.items)) }
-    ensures kept { OnOk result (string_bytes buffer.new ≡ string_bytes buffer.old) }
+    requires line { LastIsLineFeed (chars line.now) }
+    requires left { IfSome left.now (λ left. IsLeftOf language limits line.now left.items) }
+    ensures { IfOk result (λ names.
+        AreTaken language limits line.now (samples_of samples.now) (texts names.items)) }
 {
     let mut taken = Vec::new(alloc);
     for sample in samples {
         let (text, name) = *sample;
-        if takes(alloc, language, limits, left, buffer, end, text)? {
+        if takes(alloc, language, limits, line, left, text)? {
             taken.push(name)?;
         }
     }
@@ -71,29 +66,21 @@ fn expected_in(
 ) -> Result<Vec<&'static str>, AllocError>
     ensures { IfOk result (λ names. AreExpected language limits front.now (texts names.items)) }
 {
-    let mut buffer = line_of(alloc, front)?;
-    let end = end_of(buffer.as_str());
-    let left = left_after(alloc, language, buffer.as_str(), limits)?;
-    let has_name = takes(alloc, language, limits, &left, &mut buffer, end, NAME_TEXT)?;
-    let literals = taken(alloc, language, limits, &left, &mut buffer, end, &LITERALS)?;
-    let punctuators = taken(
-        alloc,
-        language,
-        limits,
-        &left,
-        &mut buffer,
-        end,
-        &PUNCTUATORS,
-    )?;
+    let text = line_of(alloc, front)?;
+    let line = text.as_str();
+    let left = left_after(alloc, language, line, limits)?;
+    let has_name = takes(alloc, language, limits, line, &left, NAME_TEXT)?;
+    let literals = taken(alloc, language, limits, line, &left, &LITERALS)?;
+    let punctuators = taken(alloc, language, limits, line, &left, &PUNCTUATORS)?;
     let keywords = if has_name {
         Vec::new(alloc)
     } else {
-        taken(alloc, language, limits, &left, &mut buffer, end, &KEYWORDS)?
+        taken(alloc, language, limits, line, &left, &KEYWORDS)?
     };
     let mut names = names_of_values(alloc, has_name, literals.as_slice())?;
     names.extend_from_slice(punctuators.as_slice())?;
     names.extend_from_slice(keywords.as_slice())?;
-    if is_whole(alloc, language, front, limits)? {
+    if ends(alloc, language, limits, line, &left)? {
         names.push(END)?;
     }
     Ok(names)

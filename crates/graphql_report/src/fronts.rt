@@ -36,25 +36,9 @@ pub fn is_front(
     ensures { IfOk result (λ answer. (tokens : List SpecToken) → IsCutInto text.now tokens →
         IsTrue answer ↔ IsFrontOf language limits tokens) }
 {
-    is_front_to(alloc, language, text, limits, end_of(text))
-}
-
-/// The same, with the place after the last character.
-pub(crate) fn is_front_to(
-    alloc: Global,
-    language: Language,
-    text: &str,
-    limits: Limits,
-    end: Pos,
-) -> Result<bool, AllocError>
-    requires line { LastIsLineFeed (chars text.now) }
-    requires end { end ≡ place_after (chars text.now) }
-    ensures { IfOk result (λ answer. (tokens : List SpecToken) → IsCutInto text.now tokens →
-        IsTrue answer ↔ IsFrontOf language limits tokens) }
-{
     match check(alloc, language, text, limits) {
         Ok(_) => Ok(true),
-        Err(error) => goes_on(&error, end),
+        Err(error) => goes_on(&error, end_of(text)),
     }
 }
 

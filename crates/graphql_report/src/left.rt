@@ -1,5 +1,5 @@
 //! What is left to be read of a document after a front, and what can stand there.
-ghost use Rattle.std.specs.Prelude.{◌≡◌, List, ℕ, IfOk, IfSome, reverse};
+ghost use Rattle.std.specs.Prelude.{◌≡◌, false, List, ℕ, Some, IfOk, IfSome, reverse};
 ghost use Rattle.std.specs.Str.{IsUtf8, chars};
 ghost use Rattle.graphql_tokens.specs.tokens.Cuts.{is_last as is_last_kind};
 ghost use Rattle.graphql_report.specs.declared.fronts.Language.{Language as Of};
@@ -7,7 +7,7 @@ ghost use Rattle.graphql_reading.specs.grammar.Limits.{Limits as Budgets};
 ghost use Rattle.graphql_tokens.specs.tokens.Token.{Token as SpecToken};
 ghost use Rattle.graphql_report.specs.fronts.Front.{LastIsLineFeed};
 ghost use Rattle.graphql_report.specs.inner.Left.{IsLeftOf, whole_of, phrases_at};
-ghost use Rattle.graphql_report.specs.reports.Expected.{TellsFrontOf, with_sample};
+ghost use Rattle.graphql_report.specs.reports.Expected.{TellsFrontOf, TellsTreeOf, with_sample};
 
 use crate::fronts::Language;
 use crate::phrases::Phrase;
@@ -108,6 +108,38 @@ pub fn can_go_on(
     }
     let mut left = copy(alloc, left)?;
     step(&mut left, limits, &parser)
+}
+
+/// Whether the line after which this is left is a whole document.
+pub fn can_end(alloc: Global, left: &[Phrase], limits: Limits) -> Result<Option<bool>, AllocError>
+    ensures { IfOk result (λ found. IfSome found (λ answer. (language : Of) (line : List ℕ) → IsUtf8 line →
+        IsLeftOf language limits line left.now → TellsTreeOf language limits line answer)) }
+{
+    let parser = Parser::new(Memory::new(alloc), Tokens::new(""));
+    let end = parser.hand();
+    if !end.kind.is_end() {
+        return Ok(None);
+    }
+    if end.text != "" {
+        return Ok(None);
+    }
+    let mut left = copy(alloc, left)?;
+    let ends = step(&mut left, limits, &parser)?;
+    if left.is_empty() {
+        Ok(ends)
+    } else {
+        Ok(if_false(ends))
+    }
+}
+
+// The answer, if it is false.
+fn if_false(answer: Option<bool>) -> Option<bool>
+    ensures { IfSome result (λ is. (is ≡ false) × (answer ≡ Some false)) }
+{
+    match answer {
+        Some(false) => Some(false),
+        _ => None,
+    }
 }
 
 // The same phrases.

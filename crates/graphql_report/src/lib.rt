@@ -9,12 +9,12 @@
 //! ends, the name of the error's status, and the message. [`refused_token`] gives the refused token itself.
 //!
 //! One check of the text finds the refused token. The text before it is read once more, which gives what is left to be read of
-//! a document after it, as a list of phrases of the grammar; each sample that begins what is left is expected. Where that text
-//! is no viable front, each sample is asked of a check, and so is whether the text is a whole document. So a report of a refused
-//! text takes three readings by the grammar, whatever the text is, and a fourth for a limit; the list is as long as the text
-//! nests, and one copy of the text is kept. A caller that read a text from a later line on says so, and what stands before
-//! isn't checked again: it has the refused token from [`refused_token_from`], and hands it on with what it knows
-//! ([`ReadUpTo`], [`explain_from`], [`finding_from`]).
+//! a document after it, as a list of phrases of the grammar: what begins that list is expected, and the end where it is empty
+//! but for the end. Where that text is no viable front, each sample is asked of a check. So a report of a refused text takes two
+//! readings by the grammar, whatever the text is, and a third for a limit; the list is as long as the text nests, and one copy of
+//! the text is kept. A caller that read a text from a later line on says so, and what stands before isn't checked again: it has
+//! the refused token from [`refused_token_from`], and hands it on with what it knows ([`ReadUpTo`], [`explain_from`],
+//! [`finding_from`]).
 //!
 //! Proved of it, unless memory runs out: `is_front` answers true exactly where the tokens of a text are a viable front, in
 //! both languages and at all limits; the token that is given is the one at which the text is refused; what is expected is

@@ -6,7 +6,7 @@ ghost use Rattle.graphql_report.specs.inner.Told.{ReadsTo};
 ghost use Rattle.graphql_report.specs.reports.Refused.{IsOfAToken, IsItsToken};
 ghost use Rattle.graphql_report.specs.reports.Rests.{BeginsAt, top};
 
-use crate::fronts::{Language, end_of};
+use crate::fronts::Language;
 use crate::probes::{line_of, passes};
 use crate::rests::{ReadFrom, read_before};
 use crate::samples::NUMBER_TEXT;
@@ -148,9 +148,8 @@ pub fn reached_limit(
     limits: Limits,
     token: &Token<'_>,
 ) -> Result<Depth, AllocError> {
-    let mut line = line_of(alloc, read_before(text, from, token.start))?;
-    let end = end_of(line.as_str());
-    let (what, most) = if passes(alloc, language, limits, &mut line, end, NUMBER_TEXT)? {
+    let line = line_of(alloc, read_before(text, from, token.start))?;
+    let (what, most) = if passes(alloc, language, limits, line.as_str(), NUMBER_TEXT)? {
         ("lists and objects", limits.values())
     } else if token.text == "[" {
         ("list types", limits.types())

@@ -77,4 +77,4 @@ abbrev pub NamesOnly : Language → Limits → List ℕ → List (List ℕ) → 
 NamesOnly language limits front names =
     (tokens : List Token) (last : Token) → IsCutInto (front ++ 10 ∷ []) (tokens ++ last ∷ []) → last.bare.kind ≡ End → (name : List ℕ) → Contains names name
     → ((t : Token) × CanStand language limits (front ++ 10 ∷ []) t × Calls t.bare name)
-    ⊎ ((name ≡ end_name) × ((whole : List Token) → IsCutInto front whole → HasTreeOf language limits whole))
+    ⊎ ((name ≡ end_name) × ((whole : List Token) → IsCutInto (front ++ 10 ∷ []) whole → HasTreeOf language limits whole))

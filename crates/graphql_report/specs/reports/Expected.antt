@@ -106,7 +106,7 @@ abbrev pub value_names : Bool → List (List ℕ) → List (List ℕ)
 value_names has_name names = cond (has_name && (length names == length literals)) (value_name ∷ []) (cond has_name (name_name ∷ []) [] ++ names)
 
 -- What is expected after a front: of each table the samples that can stand on the line after it, but keywords only where
--- a name can't; and the end of the text, where the front has a tree.
+-- a name can't; and the end of the text, where the front has a tree, as it has with the line feed.
 pub record AreExpected (language : Language) (limits : Limits) (front : List ℕ) (names : List (List ℕ)) : Type 0 where
   pub has_name : Bool
   pub tells_name : TellsFrontOf language limits (with_sample (front ++ 10 ∷ []) name_text) has_name
@@ -118,5 +118,5 @@ pub record AreExpected (language : Language) (limits : Limits) (front : List ℕ
   pub none_beside_a_name : has_name ≡ true → of_keywords ≡ []
   pub are_keywords : has_name ≡ false → AreTaken language limits (front ++ 10 ∷ []) keywords of_keywords
   pub is_whole : Bool
-  pub tells_whole : TellsTreeOf language limits front is_whole
+  pub tells_whole : TellsTreeOf language limits (front ++ 10 ∷ []) is_whole
   pub are_names : names ≡ value_names has_name of_literals ++ of_punctuators ++ of_keywords ++ cond is_whole (end_name ∷ []) []
