@@ -3,35 +3,54 @@
 #
 #   tests/refuse_each.sh [FIRST [LAST]]
 #
-# For N from FIRST (1) to LAST, or until a run meets no refusal, the Nth request of the call of each row is refused, by
-# `rt try --fail-alloc`: without any proof, compiled with checks and on an interpreter. Each row must then answer as it
-# says, or tell that memory was refused. Each N takes two minutes or three, and a request of 64 nested sets asks for memory
-# more than a hundred times; FIRST and LAST choose a part.
+# A first run, which refuses none, tells how many requests each row makes. Then for N from FIRST (1) to LAST, or to the
+# most requests of a row, the Nth request of each row that makes as many is refused, by `rt try --fail-alloc`: without any
+# proof, compiled with checks and on an interpreter. Each row must then answer as it says, or tell that memory was refused.
+# A run takes half a minute and half a second a row, all of them an hour; FIRST and LAST choose a part.
 set -eu
 crate=$(dirname -- "$(readlink -f -- "$0")")/../crates/refused_memory
 cases=$(mktemp -d)
-trap 'rm -rf "$cases" "$cases.log"' EXIT
+log=$cases.log
+trap 'rm -rf "$cases" "$log" "$cases.requests"' EXIT
 cd "$crate"
+
+# Refuses the request of the given number in each row of $cases. Each must end well, and answer or be out of memory.
+refuse() {
+    rt try --fail-alloc "$1" --cases "$cases" >"$log" 2>&1 || true
+    rows=$(ls "$cases" | wc -l)
+    answered=$(grep -c '^row [0-9]*: answered$' "$log" || true)
+    refused=$(grep -c ': out of memory$' "$log" || true)
+    if [ $((answered + refused)) -ne "$rows" ] ||
+        ! grep -q "^cases=$rows ended=$rows fault=0 differs=0 no-answer=0 " "$log"; then
+        cat "$log" >&2
+        exit 1
+    fi
+}
+
 # A row has a number of its own, which stands on standard input; how many rows there are stands in the file stdout.
-rows=$(cut -d" " -f1 stdout)
 row=0
-while [ "$row" -lt "$rows" ]; do
+while [ "$row" -lt "$(cut -d" " -f1 stdout)" ]; do
     echo "$row" >"$cases/$row"
     row=$((row + 1))
 done
+refuse 1000000
+echo "none refused: $answered rows answered, $refused out of memory"
+[ "$refused" -eq 0 ]
+# The rows by number, and how many requests each makes.
+sed -n 's/^== //p; s/^allocations: //p' "$log" | paste -d" " - - >"$cases.requests"
+most=$(cut -d" " -f2 "$cases.requests" | sort -n | tail -1)
 nth=${1:-1}
-while [ "$nth" -le "${2:-10000}" ]; do
-    rt try --fail-alloc "$nth" --cases "$cases" >"$cases.log" 2>&1 || true
-    answered=$(grep -c '^row [0-9]*: answered$' "$cases.log" || true)
-    refused=$(grep -c ': out of memory$' "$cases.log" || true)
-    echo "request $nth refused: $answered rows answered, $refused out of memory"
-    if [ $((answered + refused)) -ne "$rows" ] ||
-        ! grep -q "^cases=$rows ended=$rows fault=0 differs=0 no-answer=0 " "$cases.log"; then
-        cat "$cases.log" >&2
-        exit 1
-    fi
-    if [ "$refused" -eq 0 ]; then
+while [ "$nth" -le "${2:-$most}" ]; do
+    while read -r row requests; do
+        if [ "$requests" -lt "$nth" ]; then
+            rm -f "$cases/$row"
+        fi
+    done <"$cases.requests"
+    if [ "$(ls "$cases" | wc -l)" -eq 0 ]; then
         exit 0
     fi
+    refuse "$nth"
+    echo "request $nth refused: of $rows rows $answered answered, $refused out of memory"
+    [ "$refused" -gt 0 ]
     nth=$((nth + 1))
 done
