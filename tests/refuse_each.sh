@@ -51,6 +51,5 @@ while [ "$nth" -le "${2:-$most}" ]; do
     fi
     refuse "$nth"
     echo "request $nth refused: of $rows rows $answered answered, $refused out of memory"
-    [ "$refused" -gt 0 ]
     nth=$((nth + 1))
 done
