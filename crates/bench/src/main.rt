@@ -7,11 +7,15 @@
 #![tactic(auto)]
 
 use graphql_parser::lexer::{Token, Tokens};
+use graphql_parser::types::{ExecutableDocument, ServiceDocument};
 use graphql_parser::{
     Limits, Memory, check_query, check_query_within, check_schema, check_schema_within,
     parse_query, parse_query_within, parse_schema, parse_schema_within,
 };
-use std::alloc::Global;
+use graphql_printer::{
+    format_query, format_schema, minify_query, minify_schema, print_query, print_schema,
+};
+use std::alloc::{AllocError, Global};
 use std::time::Instant;
 use std::{env, io};
 
@@ -20,7 +24,8 @@ use std::{env, io};
 const BYTES: usize = 10_000_000;
 
 const USAGE: &str =
-    "usage: bench tokens < TEXT, or bench query|check|schema|check-schema [memory] < TEXT";
+    "usage: bench tokens < TEXT, or bench query|check|schema|check-schema [memory] < TEXT, or
+       bench format|format-schema|minify|minify-schema|print|print-schema < TEXT";
 
 fn main(rt: HostRuntime) -> io::Result<()> {
     let mut words = env::args(&rt)?;
@@ -33,6 +38,12 @@ fn main(rt: HostRuntime) -> io::Result<()> {
         Some("check") => Parser::Check,
         Some("schema") => Parser::Schema,
         Some("check-schema") => Parser::CheckSchema,
+        Some("format") => return time_writer(&rt, Writer::FormatQuery),
+        Some("format-schema") => return time_writer(&rt, Writer::FormatSchema),
+        Some("minify") => return time_writer(&rt, Writer::MinifyQuery),
+        Some("minify-schema") => return time_writer(&rt, Writer::MinifySchema),
+        Some("print") => return time_printing(&rt, false),
+        Some("print-schema") => return time_printing(&rt, true),
         _ => return println!(rt; "{USAGE}"),
     };
     match measured.as_ref().map(|word| word.as_str()) {
@@ -114,6 +125,93 @@ fn time_parser(rt: &HostRuntime, parser: Parser) -> io::Result<()> {
         let time = start.elapsed(rt)?.as_nanos();
         let answer = told(is_accepted);
         println!(rt; "parse {time} {answer}")?;
+    }
+    Ok(())
+}
+
+// What writes a text anew.
+#[derive(Clone, Copy)]
+enum Writer {
+    FormatQuery,
+    FormatSchema,
+    MinifyQuery,
+    MinifySchema,
+}
+
+impl Writer {
+    // How many bytes it writes; 0 for a text that is refused. What is written is dropped.
+    fn length(self, alloc: Global, text: &str) -> usize {
+        let limits = Limits::default();
+        let written = match self {
+            Writer::FormatQuery => format_query(alloc, text, limits),
+            Writer::FormatSchema => format_schema(alloc, text, limits),
+            Writer::MinifyQuery => minify_query(alloc, text, limits),
+            Writer::MinifySchema => minify_schema(alloc, text, limits),
+        };
+        match written {
+            Ok(written) => written.len(),
+            Err(_) => 0,
+        }
+    }
+}
+
+fn time_writer(rt: &HostRuntime, writer: Writer) -> io::Result<()> {
+    let text = io::read_to_string(rt.alloc(), rt.stdin())?;
+    for _ in 0..rounds(text.as_str()) {
+        let start = Instant::now(rt)?;
+        let length = writer.length(rt.alloc(), text.as_str());
+        let time = start.elapsed(rt)?.as_nanos();
+        println!(rt; "write {time} {length}")?;
+    }
+    Ok(())
+}
+
+// The tree of a text.
+#[derive(Drop)]
+enum Tree {
+    Request(ExecutableDocument),
+    File(ServiceDocument),
+    // It is refused.
+    Nothing,
+}
+
+impl Tree {
+    fn of_request(alloc: Global, text: &str) -> Tree {
+        match parse_query(alloc, text) {
+            Ok(document) => Tree::Request(document),
+            Err(_) => Tree::Nothing,
+        }
+    }
+
+    fn of_file(alloc: Global, text: &str) -> Tree {
+        match parse_schema(alloc, text) {
+            Ok(document) => Tree::File(document),
+            Err(_) => Tree::Nothing,
+        }
+    }
+
+    // How many bytes are printed of it. What is printed is dropped.
+    fn length(&self, alloc: Global) -> Result<usize, AllocError> {
+        match self {
+            Tree::Request(document) => Ok(print_query(alloc, document)?.len()),
+            Tree::File(document) => Ok(print_schema(alloc, document)?.len()),
+            Tree::Nothing => Ok(0),
+        }
+    }
+}
+
+fn time_printing(rt: &HostRuntime, is_schema: bool) -> io::Result<()> {
+    let text = io::read_to_string(rt.alloc(), rt.stdin())?;
+    let tree = if is_schema {
+        Tree::of_file(rt.alloc(), text.as_str())
+    } else {
+        Tree::of_request(rt.alloc(), text.as_str())
+    };
+    for _ in 0..rounds(text.as_str()) {
+        let start = Instant::now(rt)?;
+        let length = tree.length(rt.alloc())?;
+        let time = start.elapsed(rt)?.as_nanos();
+        println!(rt; "write {time} {length}")?;
     }
     Ok(())
 }

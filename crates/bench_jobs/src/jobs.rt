@@ -10,7 +10,12 @@ use crate::stamped::{Stamped, Texts, keep, no_texts};
 use crate::walks::{add_request, add_schema};
 use graphql_json::{Places, request_json, schema_json};
 use graphql_packed::{packed_request, packed_schema};
-use graphql_parser::{check_query, check_schema, parse_query, parse_schema};
+use graphql_parser::{
+    Limits, Result as Answer, check_query, check_schema, parse_query, parse_schema,
+};
+use graphql_printer::{
+    format_query, format_schema, minify_query, minify_schema, print_query, print_schema,
+};
 use std::alloc::{AllocError, Global};
 
 /// What is done with texts.
@@ -23,6 +28,7 @@ pub enum Job {
     Awkward,
     Reports,
     Remarks,
+    Printing,
 }
 
 /// What a text is.
@@ -103,7 +109,7 @@ fn schemas_of(alloc: Global, job: Job, random: &mut Random) -> Result<Texts, All
         Job::Requests | Job::Awkward | Job::Reports | Job::Remarks => &[],
         Job::Schemas => &[50_000, 80_000, 120_000, 200_000, 300_000, 1_200_000],
         Job::Checks => &[50_000, 120_000, 300_000],
-        Job::Trees => &[50_000, 150_000],
+        Job::Trees | Job::Printing => &[50_000, 150_000],
     };
     for size in sizes {
         keep(&mut texts, schema_of(alloc, random.bits(), *size)?)?;
@@ -124,6 +130,8 @@ fn read(
         (Job::Checks, Kind::Schema) => check_file(alloc, text, digest),
         (Job::Trees, Kind::Request) => return give_request(alloc, text, digest),
         (Job::Trees, Kind::Schema) => return give_schema(alloc, text, digest),
+        (Job::Printing, Kind::Request) => return write_request(alloc, text, digest),
+        (Job::Printing, Kind::Schema) => return write_schema(alloc, text, digest),
         (_, Kind::Request) => walk_request(alloc, text, digest),
         (_, Kind::Schema) => walk_schema(alloc, text, digest),
     }
@@ -186,4 +194,33 @@ fn give_schema(alloc: Global, text: &str, digest: &mut Digest) -> Result<(), All
         Err(error) => digest.add_error(&error),
     }
     Ok(())
+}
+
+// Lays a request out anew, minifies it, and prints its tree.
+fn write_request(alloc: Global, text: &str, digest: &mut Digest) -> Result<(), AllocError> {
+    add_written(format_query(alloc, text, Limits::default()), digest);
+    add_written(minify_query(alloc, text, Limits::default()), digest);
+    match parse_query(alloc, text) {
+        Ok(document) => digest.add_bytes(print_query(alloc, &document)?.as_bytes()),
+        Err(error) => digest.add_error(&error),
+    }
+    Ok(())
+}
+
+// Lays a schema file out anew, minifies it, and prints its tree.
+fn write_schema(alloc: Global, text: &str, digest: &mut Digest) -> Result<(), AllocError> {
+    add_written(format_schema(alloc, text, Limits::default()), digest);
+    add_written(minify_schema(alloc, text, Limits::default()), digest);
+    match parse_schema(alloc, text) {
+        Ok(document) => digest.add_bytes(print_schema(alloc, &document)?.as_bytes()),
+        Err(error) => digest.add_error(&error),
+    }
+    Ok(())
+}
+
+fn add_written(written: Answer<String>, digest: &mut Digest) {
+    match written {
+        Ok(text) => digest.add_bytes(text.as_bytes()),
+        Err(error) => digest.add_error(&error),
+    }
 }

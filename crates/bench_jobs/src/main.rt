@@ -3,9 +3,10 @@
 //!
 //! `bench_jobs JOB SEED ROUNDS`, where a job is one of `requests` and `schemas`, which parse, walk and drop; `checks`, which
 //! make no tree; `trees`, which give trees as JSON and as bytes; `awkward`, texts that strangers send, and reports of what is
-//! wrong; `reports`, of a mistake late in a text; and `remarks`, which cut texts full of comments, line ends and blanks of
-//! all kinds into tokens, check them and parse them. A job makes its texts once; each round changes the names in all of them
-//! before it reads them, so no text is read twice. Nothing is claimed of it but that it is safe and ends.
+//! wrong; `reports`, of a mistake late in a text; `remarks`, which cut texts full of comments, line ends and blanks of
+//! all kinds into tokens, check them and parse them; and `printing`, which lays texts out anew, minifies them, and prints their
+//! trees. A job makes its texts once; each round changes the names in all of them before it reads them, so no text is read
+//! twice. Nothing is claimed of it but that it is safe and ends.
 #![tactic(auto)]
 
 mod awkward;
@@ -24,7 +25,7 @@ use jobs::{Job, digest_of};
 use std::{env, io};
 
 const USAGE: &str =
-    "usage: bench_jobs requests|schemas|checks|trees|awkward|reports|remarks SEED ROUNDS";
+    "usage: bench_jobs requests|schemas|checks|trees|awkward|reports|remarks|printing SEED ROUNDS";
 
 fn main(rt: HostRuntime) -> io::Result<()> {
     let words: Vec<String> = env::args(&rt)?.skip(1).collect(rt.alloc())?;
@@ -52,6 +53,7 @@ fn job_named(word: &str) -> Option<Job> {
         "awkward" => Some(Job::Awkward),
         "reports" => Some(Job::Reports),
         "remarks" => Some(Job::Remarks),
+        "printing" => Some(Job::Printing),
         _ => None,
     }
 }

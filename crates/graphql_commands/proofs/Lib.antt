@@ -1,3 +1,5 @@
 mod Chains
 mod Furthest
 mod Lacking
+mod LineFeeds
+mod SameMeaning

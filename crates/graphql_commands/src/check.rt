@@ -30,17 +30,17 @@ pub struct Outcome {
     pub tally: Tally,
 }
 
-// What was found of a file.
+/// What was found of a file.
 #[derive(Clone, Copy, PartialEq, Eq)]
-enum Found {
+pub enum Found {
     Good,
     Refused,
     Unread,
 }
 
 impl Found {
-    // The exit status where all files are so.
-    fn status(self) -> u8
+    /// The exit status where all files are so.
+    pub fn status(self) -> u8
         ensures least { (result ≡ 0) ↔ (self ≡ Good) }
         ensures most { result ≤ 2 }
     {
@@ -176,8 +176,8 @@ fn check_text<E: Write>(
     }
 }
 
-// What is found of a text. Where memory is refused, a budget stops the check of this text alone.
-fn check_source<E: Write>(
+/// What is found of a text, and tells what is wrong with it. Where memory is refused, a budget stops the check of this text alone.
+pub fn check_source<E: Write>(
     call: &Call<'_>,
     source: &Source<'_>,
     teller: &mut Teller,
@@ -209,16 +209,22 @@ pub fn tell_tally(teller: &mut Teller, tally: Tally) -> Result<(), AllocError> {
         refused,
         unread,
     } = tally;
-    let findings = teller.findings;
     let count = good.saturating_add(refused).saturating_add(unread);
     let files = if count == 1 { "file" } else { "files" };
     write!(teller.lines, "{count} {files}: {good} good")?;
-    if refused > 0 {
-        let word = if findings == 1 { "finding" } else { "findings" };
-        write!(teller.lines, ", {refused} refused ({findings} {word})")?;
-    }
+    push_refused(teller, refused)?;
     if unread > 0 {
         write!(teller.lines, ", {unread} not read")?;
     }
     teller.lines.push('\n')
+}
+
+/// Adds how many files were refused, if some were, and how many findings were told.
+pub fn push_refused(teller: &mut Teller, refused: usize) -> Result<(), AllocError> {
+    let findings = teller.findings;
+    if refused > 0 {
+        let word = if findings == 1 { "finding" } else { "findings" };
+        write!(teller.lines, ", {refused} refused ({findings} {word})")?;
+    }
+    Ok(())
 }

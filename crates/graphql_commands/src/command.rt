@@ -13,6 +13,10 @@ use std::alloc::{AllocError, Global};
 pub enum Command {
     /// `check`: what is wrong with each of them is reported.
     Check,
+    /// `format`: each of them is laid out anew, in its place.
+    Format,
+    /// `minify`: one is printed without what it doesn't need.
+    Minify,
     /// `tree`: the tree of one is printed as JSON.
     Tree,
     /// `tokens`: the tokens of one are printed.
@@ -34,14 +38,16 @@ pub enum Format {
 #[derive(Drop)]
 pub struct Call<'a> {
     pub command: Command,
-    /// The names of the files, and for `check` of folders too; `-` is standard input.
+    /// The names of the files, and for `check` and `format` of folders too; `-` is standard input.
     pub files: Vec<&'a str>,
     /// What the texts are read as; None where each file tells it.
     pub language: Option<Language>,
     pub limits: Limits,
     /// `--memory`: how many bytes the check of a text may take; None where it may take what there is.
     pub memory: Option<usize>,
-    /// `-v`: a line for each good text.
+    /// `--check`: no file is written, and those that would be are listed.
+    pub only_checks: bool,
+    /// `-v`: a line for each good text, or each that is written.
     pub is_verbose: bool,
     /// A request that lacks nothing but an operation is good: so it is without `--executable`.
     pub takes_fragments: bool,
@@ -53,6 +59,13 @@ pub struct Call<'a> {
     pub is_quiet: bool,
     /// `--color`: how reports are written; None where that depends on the terminal.
     pub style: Option<Style>,
+}
+
+impl Call<'_> {
+    /// Whether standard input is read alone.
+    pub fn reads_input(&self) -> bool {
+        self.files.len() == 1 && self.files.contains(&"-")
+    }
 }
 
 /// An option that a value follows.
@@ -79,12 +92,16 @@ pub enum Wrong<'a> {
     NoCommand,
     UnknownCommand(&'a str),
     UnknownOption(&'a str),
+    /// An option of other commands.
+    OtherOption(&'a str),
     /// The last word is an option that a value follows.
     NoValue(Valued),
     /// The value of an option is none that it takes.
     WrongValue(Valued, &'a str),
     /// A second file for a command that takes one.
     SecondFile(&'a str),
+    /// Standard input among the files of `format`.
+    NotAlone,
     /// An argument is no text.
     NotText,
 }
@@ -99,6 +116,8 @@ pub fn command_of<'a>(alloc: Global, words: &'a [String]) -> Result<Asked<'a>, A
     };
     let command = match first.as_str() {
         "check" => Command::Check,
+        "format" => Command::Format,
+        "minify" => Command::Minify,
         "tree" => Command::Tree,
         "tokens" => Command::Tokens,
         "--help" | "-h" | "help" => return Ok(Asked::Help),
@@ -112,6 +131,7 @@ pub fn command_of<'a>(alloc: Global, words: &'a [String]) -> Result<Asked<'a>, A
         language: None,
         limits: Limits::default(),
         memory: None,
+        only_checks: false,
         is_verbose: false,
         takes_fragments: true,
         has_places: false,
@@ -125,12 +145,20 @@ pub fn command_of<'a>(alloc: Global, words: &'a [String]) -> Result<Asked<'a>, A
     if call.files.is_empty() {
         call.files.push("-")?;
     }
-    if command != Command::Check
-        && let Some(second) = call.files.get(1)
-    {
-        return Ok(Asked::Wrong(Wrong::SecondFile(second)));
+    if let Some(wrong) = wrong_files(command, call.files.as_slice()) {
+        return Ok(Asked::Wrong(wrong));
     }
     Ok(Asked::Call(call))
+}
+
+// What is wrong with the number of files of this command, if something is.
+fn wrong_files<'a>(command: Command, files: &[&'a str]) -> Option<Wrong<'a>> {
+    let second = files.get(1)?;
+    match command {
+        Command::Check => None,
+        Command::Format => files.contains(&"-").then_some(Wrong::NotAlone),
+        Command::Minify | Command::Tree | Command::Tokens => Some(Wrong::SecondFile(second)),
+    }
 }
 
 fn is_option(word: &str) -> bool
@@ -192,12 +220,31 @@ fn read_word<'a>(
         Next::Any if is_option(word) => match word {
             "--" => Ok(Ok(Next::File)),
             "--help" | "-h" => Ok(Err(Asked::Help)),
-            _ => Ok(read_option(call, word).map_err(Asked::Wrong)),
+            _ => match read_option(call, word) {
+                Ok(_) if !takes(call.command, word) => {
+                    Ok(Err(Asked::Wrong(Wrong::OtherOption(word))))
+                }
+                read => Ok(read.map_err(Asked::Wrong)),
+            },
         },
         Next::Any | Next::File => {
             call.files.push(word)?;
             Ok(Ok(next))
         }
+    }
+}
+
+// Whether the command takes this option, which some command takes. Those that came first pass over what isn't theirs.
+fn takes(command: Command, word: &str) -> bool {
+    let option = match word.split_once('=') {
+        Some((option, _)) => option,
+        None => word,
+    };
+    match option {
+        "--query" | "--schema" | "--limits" | "--color" => true,
+        "-v" | "--verbose" | "-q" | "--quiet" => command != Command::Minify,
+        "--check" => command == Command::Format,
+        _ => !matches!(command, Command::Format | Command::Minify),
     }
 }
 
@@ -210,6 +257,7 @@ fn read_option<'a>(call: &mut Call<'a>, word: &'a str) -> Result<Next, Wrong<'a>
     match word {
         "--query" => call.language = Some(Language::Requests),
         "--schema" => call.language = Some(Language::Schemas),
+        "--check" => call.only_checks = true,
         "-v" | "--verbose" => call.is_verbose = true,
         "-q" | "--quiet" => call.is_quiet = true,
         "--executable" => call.takes_fragments = false,

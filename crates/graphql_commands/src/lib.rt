@@ -1,12 +1,14 @@
 //! The work of the program `gql`, over any source of texts and any writers.
 //!
 //! [`run`] does all that a call of the program asks for. The modules have its parts: what a call asks for ([`command`]),
-//! where texts come from ([`texts`]), what each is read as ([`language`]), whether it is good ([`check`]), what is told of one
-//! that isn't ([`telling`]), where reading goes on after a refused token ([`recovery`]), and lists of tokens ([`listed`]).
+//! where texts come from and go to ([`texts`]), what each is read as ([`language`]), whether it is good ([`check`]), what is told
+//! of one that isn't ([`telling`]), where reading goes on after a refused token ([`recovery`]), texts that are written anew
+//! ([`rewriting`]), and lists of tokens ([`listed`]).
 //!
 //! Proved of it: it is safe and ends on every input; the status is 0, 1 or 2; a text is found good only where its tokens
 //! have a tree, in the language that the options or the file's name say, and the files that are checked end with status 0
-//! only where each of them was found good. What it prints is tested, in `conformance`.
+//! only where each of them was found good; only a good text is written anew, and it means the same then. What it prints is
+//! tested, in `conformance`.
 #![tactic(auto)]
 
 pub mod check;
@@ -16,6 +18,8 @@ pub mod listed;
 mod output;
 mod program;
 pub mod recovery;
+mod replacing;
+pub mod rewriting;
 pub mod telling;
 pub mod texts;
 

@@ -34,12 +34,14 @@ pub fn complain_of_call<E: Write>(
         Wrong::NoCommand => ("a command is missing", None),
         Wrong::UnknownCommand(word) => ("unknown command", Some(word)),
         Wrong::UnknownOption(word) => ("unknown option", Some(word)),
+        Wrong::OtherOption(word) => ("this command takes no option", Some(word)),
         Wrong::NoValue(option) => (needs(option), None),
         Wrong::WrongValue(option, word) => (needs(option), Some(word)),
         Wrong::SecondFile(word) => (
             "this command takes one file, and there is a second",
             Some(word),
         ),
+        Wrong::NotAlone => ("standard input is formatted alone", None),
         Wrong::NotText => ("an argument is not UTF-8", None),
     };
     let mut lines = format!(in alloc; "gql: {what}")?;

@@ -1,11 +1,12 @@
 //! The program's work, over any source of texts and any writers.
-ghost use Rattle.std.specs.Prelude.{◌≤◌, IfOk};
+ghost use Rattle.std.specs.Prelude.{◌≡◌, ◌≤◌, IfOk};
 
 use crate::check::{check_files, names_of, tell_tally};
 use crate::command::{Asked, Call, Command, Format, Wrong, command_of};
 use crate::language::read_as;
 use crate::listed::token_lines;
 use crate::output::{complain, complain_of_call, put, shown_name};
+use crate::rewriting::{format_files, tell_format_tally, written_anew};
 use crate::telling::{Names, Source, Teller};
 use crate::texts::Texts;
 use graphql_json::{Places, request_json, schema_json};
@@ -16,13 +17,17 @@ use std::io::Write;
 
 const VERSION: &str = "gql 1.0.0\n";
 
-const USAGE: &str = "usage: gql check|tree|tokens [OPTION].. [FILE].. (gql --help tells more)\n";
+const USAGE: &str =
+    "usage: gql check|format|minify|tree|tokens [OPTION].. [FILE].. (gql --help tells more)\n";
 
 const HELP: &str = "usage: gql COMMAND [OPTION].. [FILE]..
 
 Commands:
   check    tells what is wrong with each file, and with each file named *.graphql, *.graphqls or *.gql below a folder:
            the first error of each definition, 100 of a file at most
+  format   lays out each file anew in its place, with its comments, and each such file below a folder; a file with an
+           error stays, and is told as by check. Standard input is laid out on standard output
+  minify   prints a file without comments, and without blanks and line ends that it doesn't need
   tree     prints the tree of a file as JSON, as GraphQL.js has it
   tokens   prints the tokens of a file, a line for each
 
@@ -35,31 +40,33 @@ Options:
   --limits S,V,T   how deep selection sets, values and list types may nest; 64,64,64 without it, 256 at most
   --memory BYTES   check: how much memory the check of a file may take; one that needs more counts as not read. No request
                    of N bytes needs more than 1105 N + 1161, and no schema file more than 57
+  --check          format: writes no file, and prints the names of those that it would; where it would, the status is 1
   --executable     check: a request needs an operation; without it fragments alone are good, as --fragments says
   --format FORMAT  check: text for people, which is so without it; json, a line for each finding, which has its file,
                    severity, status and message, and line, column, endLine and endColumn where they are known; or
                    github, a line for each, with which GitHub shows it where it is
   --color WHEN     always, never or auto, which is so without it: if standard error is a terminal, NO_COLOR is not set
                    or empty, and TERM is not dumb
-  -v, --verbose    check: a line for each good file
-  -q, --quiet      check: nothing but the status
+  -v, --verbose    check: a line for each good file; format: one for each that is written
+  -q, --quiet      check, format: nothing but the status
   --places         tree: with the line and the column of each node that has a place
   --               each word after it is a file
   -h, --help       prints this
   -V, --version    prints the version
 
 Reports for people go to standard error, and how many files there were to standard output, as do the lines of json and
-github. The status is 0 where all files are good, 1 where one is refused, and 2 where one can't be read, where the output
-can't be written, and for a wrong call. Where the reader of standard output has gone away, as head does, the status is the
-same as if it had stayed.
+github. The status is 0 where all files are good, 1 where one is refused, and 2 where one can't be read or written, where
+the output can't be written, and for a wrong call. Where the reader of standard output has gone away, as head does, the
+status is the same as if it had stayed.
 ";
 
-/// Does the work of the program, and gives the exit status: 0, or 1 where a text is refused, or 2 for wrong arguments, a
-/// file that can't be read or is no UTF-8, output that can't be written, and memory that is refused. That the reader of
-/// `out` has gone away changes no status.
+/// Does the work of the program, and gives the exit status: 0, or 1 where a text is refused, or would be written anew and
+/// is only checked, or 2 for wrong arguments, a file that can't be read or written or is no UTF-8, output that can't be
+/// written, and memory that is refused. That the reader of `out` has gone away changes no status.
 ///
-/// `words` are the arguments without the program's name; None where they are no text. Texts are read from `texts`, lists
-/// and trees go to `out`, reports and complaints to `err`, the reports in this style.
+/// `words` are the arguments without the program's name; None where they are no text. Texts are read from `texts`, and put
+/// there in the place of others; lists, trees and other texts go to `out`, reports and complaints to `err`, the reports in
+/// this style.
 pub fn run<T: Texts, O: Write, E: Write>(
     alloc: Global,
     words: Option<&[String]>,
@@ -146,17 +153,37 @@ fn answer_to_call<T: Texts, E: Write>(
 ) -> Result<Answer, AllocError>
     ensures { IfOk result (λ answer. answer.status ≤ 2) }
 {
-    if call.command == Command::Check {
-        let teller = Teller::new(alloc, call.format, style, call.is_quiet);
-        return check(call, texts, teller, err);
+    let mut teller = Teller::new(alloc, call.format, style, call.is_quiet);
+    match call.command {
+        Command::Check => check(call, texts, teller, err),
+        Command::Format if call.only_checks || !call.reads_input() => {
+            format(call, texts, teller, err)
+        }
+        Command::Format => answer_to_text(call, texts, &mut teller, err),
+        Command::Minify | Command::Tree | Command::Tokens => {
+            let mut teller = Teller::new(alloc, Format::Text, style, false);
+            answer_to_text(call, texts, &mut teller, err)
+        }
     }
-    let mut teller = Teller::new(alloc, Format::Text, style, false);
+}
+
+// What is printed of the text of the one file of a call.
+fn answer_to_text<T: Texts, E: Write>(
+    call: &Call<'_>,
+    texts: &mut T,
+    teller: &mut Teller,
+    err: &mut E,
+) -> Result<Answer, AllocError>
+    ensures { IfOk result (λ answer. answer.status ≤ 2) }
+{
+    let alloc = teller.alloc;
     let name = call.files.first().copied().unwrap_or("-");
     let shown = shown_name(alloc, name)?;
     let names = names_of(name, shown.as_str());
     match texts.text(alloc, name) {
         Ok(text) if call.command == Command::Tokens => tokens(alloc, text.as_str()),
-        Ok(text) => tree(call, names, text.as_str(), &mut teller, err),
+        Ok(text) if call.command == Command::Tree => tree(call, names, text.as_str(), teller, err),
+        Ok(text) => anew(call, names, text.as_str(), teller, err),
         Err(why) => {
             teller.tell_unread(names, why, err)?;
             Ok(Answer {
@@ -165,6 +192,23 @@ fn answer_to_call<T: Texts, E: Write>(
             })
         }
     }
+}
+
+// `minify`, and `format` of standard input: the text written anew, or what is wrong with it.
+fn anew<E: Write>(
+    call: &Call<'_>,
+    names: Names<'_>,
+    text: &str,
+    teller: &mut Teller,
+    err: &mut E,
+) -> Result<Answer, AllocError>
+    ensures { IfOk result (λ answer. answer.status ≤ 2) }
+{
+    let (status, printed) = match written_anew(call, names, text, teller, err)? {
+        Ok(text) => (0, Printed::Lines(text)),
+        Err(found) => (found.status(), Printed::Nothing),
+    };
+    Ok(Answer { status, printed })
 }
 
 // `check`: what is wrong with each file that is refused, and how many there were of each kind.
@@ -187,12 +231,42 @@ fn check<T: Texts, E: Write>(
         tell_tally(&mut teller, tally)?;
     }
     let status = if unlisted > 0 { 2 } else { outcome.status };
-    let printed = if call.is_quiet {
+    Ok(told(status, teller))
+}
+
+// `format`: each file is written anew, or listed, and how many there were of each kind.
+fn format<T: Texts, E: Write>(
+    call: &Call<'_>,
+    texts: &mut T,
+    teller: Teller,
+    err: &mut E,
+) -> Result<Answer, AllocError>
+    ensures { IfOk result (λ answer. answer.status ≤ 2) }
+{
+    let mut teller = teller;
+    let mut files: Vec<String> = Vec::new(teller.alloc);
+    let unlisted = push_files(call, texts, &mut files, &mut teller, err)?;
+    let names = texts_of(teller.alloc, &files)?;
+    let outcome = format_files(call, &names, texts, &mut teller, err)?;
+    let mut tally = outcome.tally;
+    tally.unread = tally.unread.saturating_add(unlisted);
+    if !call.only_checks {
+        tell_format_tally(&mut teller, tally)?;
+    }
+    let status = if unlisted > 0 { 2 } else { outcome.status };
+    Ok(told(status, teller))
+}
+
+// What was told for standard output, and nothing of it where only the status is asked for.
+fn told(status: u8, teller: Teller) -> Answer
+    ensures { result.status ≡ status }
+{
+    let printed = if teller.is_quiet {
         Printed::Nothing
     } else {
         Printed::Lines(teller.lines)
     };
-    Ok(Answer { status, printed })
+    Answer { status, printed }
 }
 
 fn texts_of<'a>(alloc: Global, strings: &'a Vec<String>) -> Result<Vec<&'a str>, AllocError> {
@@ -203,7 +277,7 @@ fn texts_of<'a>(alloc: Global, strings: &'a Vec<String>) -> Result<Vec<&'a str>,
     Ok(texts)
 }
 
-// Adds the files that are checked: those of the call, and in place of a folder those below it. Tells of each folder that
+// Adds the files that are read: those of the call, and in place of a folder those below it. Tells of each folder that
 // has none or can't be listed, and gives how many there were.
 fn push_files<T: Texts, E: Write>(
     call: &Call<'_>,

@@ -6,7 +6,7 @@ use crate::check::error_of;
 use crate::command::Format;
 use crate::output::complain;
 use crate::recovery::{next_definition, probable_opening, rest_at, unclosed_string};
-use crate::texts::Unread;
+use crate::texts::{Unread, Unwritten};
 use graphql_parser::lexer::{Token, TokenKind};
 use graphql_parser::pos::PositionCalculator;
 use graphql_parser::{Error, Limits, Memory, Pos};
@@ -186,10 +186,7 @@ impl Teller {
             return Ok(());
         }
         if self.format == Format::Text {
-            let shown = names.shown;
-            let line = format!(in self.alloc; "gql: {shown} {why_told}\n")?;
-            complain(err, line.as_str());
-            return Ok(());
+            return complain_of_file(self.alloc, names, why_told, err);
         }
         let finding = Finding {
             place: None,
@@ -200,6 +197,20 @@ impl Teller {
         self.push_finding(names, &finding)
     }
 
+    /// Tells people why a file isn't written.
+    pub fn tell_unwritten<E: Write>(
+        &mut self,
+        names: Names<'_>,
+        why: Unwritten,
+        err: &mut E,
+    ) -> Result<(), AllocError> {
+        let why_told = why.words().ok_or(AllocError)?;
+        if self.is_quiet {
+            return Ok(());
+        }
+        complain_of_file(self.alloc, names, why_told, err)
+    }
+
     // Adds the line of a finding for programs.
     fn push_finding(&mut self, names: Names<'_>, finding: &Finding) -> Result<(), AllocError> {
         if self.format == Format::Github {
@@ -208,6 +219,18 @@ impl Teller {
             push_json(self.alloc, names.name, finding, &mut self.lines)
         }
     }
+}
+
+fn complain_of_file<E: Write>(
+    alloc: Global,
+    names: Names<'_>,
+    why: &str,
+    err: &mut E,
+) -> Result<(), AllocError> {
+    let shown = names.shown;
+    let line = format!(in alloc; "gql: {shown} {why}\n")?;
+    complain(err, line.as_str());
+    Ok(())
 }
 
 impl<'a> Source<'a> {

@@ -1,9 +1,10 @@
-//! Where the texts come from: files, and standard input.
+//! Where the texts come from, and where they are written: files, and standard input.
 ghost use Rattle.std.specs.Prelude.{ℕ, List, Result};
 ghost use Rattle.std.specs.declared.alloc.Global.{Global};
 ghost use Rattle.std.specs.declared.string.String.{String as Text};
 ghost use Rattle.graphql_commands.specs.declared.texts.Unread.{Unread};
 
+use crate::replacing::replace;
 use std::alloc::{AllocError, Global};
 use std::io::{ErrorKind, Read};
 use std::{fs, io};
@@ -60,7 +61,38 @@ impl From<AllocError> for Unread {
     }
 }
 
-/// What texts are read from by their names.
+/// Why a file isn't written.
+#[derive(Clone, Copy)]
+pub enum Unwritten {
+    /// It isn't there any more.
+    Missing,
+    /// It may not be written, or no file beside it.
+    Forbidden,
+    /// Nothing may be written where it is.
+    ReadOnly,
+    /// There is no room.
+    Full,
+    /// It can't be written for another reason.
+    Unwritable,
+    /// Memory was refused.
+    NoMemory,
+}
+
+impl Unwritten {
+    /// What is said of it after the file's name; None where memory was refused, which stops the program.
+    pub fn words(self) -> Option<&'static str> {
+        match self {
+            Unwritten::Missing => Some("cannot be written: no such file"),
+            Unwritten::Forbidden => Some("cannot be written: permission denied"),
+            Unwritten::ReadOnly => Some("cannot be written: read-only file system"),
+            Unwritten::Full => Some("cannot be written: no space left"),
+            Unwritten::Unwritable => Some("cannot be written"),
+            Unwritten::NoMemory => None,
+        }
+    }
+}
+
+/// What texts are read from by their names, and written to.
 pub trait Texts {
     // What may be read under a name at a state of these, and the state after that.
     ghost gives: { Self → List ℕ → Result (Text Global) Unread → Self → Type 0 };
@@ -71,6 +103,9 @@ pub trait Texts {
 
     /// The names of the GraphQL files below the folder of this name, in their order; None where it isn't a folder.
     fn files_below(&mut self, alloc: Global, name: &str) -> Result<Option<Vec<String>>, Unread>;
+
+    /// Puts this text in the place of the one under this name, which is no standard input. Where that fails, the old one is there.
+    fn replace(&mut self, alloc: Global, name: &str, text: &str) -> Result<(), Unwritten>;
 }
 
 // The extensions of the files that are looked for in folders.
@@ -137,6 +172,10 @@ impl Texts for Disk<'_> {
         }
         files.sort()?;
         Ok(Some(files))
+    }
+
+    fn replace(&mut self, alloc: Global, name: &str, text: &str) -> Result<(), Unwritten> {
+        replace(self.rt, alloc, name, text)
     }
 }
 

@@ -1,7 +1,7 @@
 -- What the readers of single tokens give.
 use Rattle.std.proofs.Common.{◌≡◌, ℕ, true, false, Option, Some, None, List, ◌∷◌, refl, sym, ap, ◌∙◌, subst}
 use Rattle.std.specs.Str.{chars, encode_utf8_all}
-use Rattle.graphql_tokens.specs.calls.Contents.{content_value}
+use Rattle.graphql_tokens.specs.inner.Contents.{content_value}
 use Rattle.graphql_tokens.specs.tokens.BlockText.{block_value}
 use Rattle.graphql_tokens.specs.tokens.Cuts.{is_last}
 use Rattle.graphql_tokens.specs.tokens.Edition.{Current}

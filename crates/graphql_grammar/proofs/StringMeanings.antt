@@ -1,7 +1,7 @@
 -- What strings and block strings stand for is what the readers make of them.
 use Rattle.std.proofs.Common.{◌≡◌, ℕ, Option, Some, None, List, refl, sym, ap, ◌∙◌, option_map}
 use Rattle.std.specs.Str.{chars, encode_utf8_all}
-use Rattle.graphql_tokens.specs.calls.Contents.{content_value}
+use Rattle.graphql_tokens.specs.inner.Contents.{content_value}
 use Rattle.graphql_tokens.specs.tokens.Edition.{Current}
 use Rattle.graphql_tokens.specs.tokens.Token.{Bare}
 use Rattle.graphql_tokens.proofs.Meanings.{content_means, means_content}

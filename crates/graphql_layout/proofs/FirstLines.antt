@@ -1,66 +1,85 @@
--- What `find` tells of the first line of a text, and of the first `#` in it.
-use Rattle.std.proofs.Common.{◌≡◌, ℕ, ◌≤◌, Bool, false, Option, Some, None, MatchOption, List, [], ◌∷◌, ◌++◌, length, take, drop, refl, sym, ap, ◌∙◌, subst, append-nil, arith, length-drop, length-take}
+-- Where the first line of a text ends.
+use Rattle.std.proofs.Common.{◌≡◌, ℕ, ◌<◌, ◌≤◌, Bool, true, false, not, Option, Some, None, List, [], ◌∷◌, ◌++◌, length, take, drop, get_or, refl, sym, ap, ◌∙◌, subst, arith, length-drop, length-take, one-add}
 use Rattle.std.proofs.lemmas.Bool.Decides.{nat_tests}
-use Rattle.std.proofs.lemmas.List.{drop_all, take_all}
-use Rattle.std.proofs.lemmas.Str.{chars-nil, chars_from_encodes, chars_past_char, IsUtf8-nil, IsUtf8-take, IsUtf8-drop}
-use Rattle.std.specs.Char.{char_set_contains}
-use Rattle.std.specs.List.{AllByRecursion}
+use Rattle.std.proofs.lemmas.List.{append_cancel_right, take-append-drop}
+use Rattle.std.proofs.lemmas.List.Sums.{prefix_len_is}
+use Rattle.std.proofs.lemmas.Str.{IsUtf8-take, IsUtf8-drop, IsCharBoundary-before_ascii, IsCharBoundary-end}
+use Rattle.std.specs.List.{AllByRecursion, prefix_len}
 use Rattle.std.specs.Option.{unwrap_or}
-use Rattle.std.specs.Str.{chars, IsUtf8, IsCharBoundary, NonePass, NoCharPasses}
-use Rattle.std.specs.Str.Pattern.{FindsBy, HasPassingCharAt}
+use Rattle.std.specs.Str.{chars, IsUtf8, IsCharBoundary}
+use Rattle.memchr.specs.Find.{IsFirstByte, is_byte2}
 use Rattle.graphql_tokens.specs.tokens.Ignored.{EndsLine}
-use Rattle.graphql_tokens.specs.tokens.Place.{is_line_end}
+use Rattle.graphql_tokens.specs.tokens.Place.{is_line_end, is_in_line}
 use Rattle.graphql_tokens.proofs.Chars.{chars_split}
+use Rattle.graphql_tokens.proofs.Scan.{IsAlike, span_chars}
 use Rattle.graphql_layout.specs.inner.FirstLine.{IsFirstLine}
 
--- ---- the first line
+alike : IsAlike is_in_line
+alike c d h k = grind (arith, nat_tests)
 
-abbrev is_end : ℕ → Bool
-is_end c = char_set_contains (10 ∷ 13 ∷ []) c
+stops_here : (c : ℕ) → is_byte2 10 13 c ≡ true → is_in_line c ≡ false
+stops_here c e = ap not e
 
-same_class : (c : ℕ) → is_end c ≡ is_line_end c
-same_class c = grind (arith, nat_tests)
+goes_on : (c : ℕ) → ¬ (is_byte2 10 13 c ≡ true) → is_in_line c ≡ true
+goes_on c n = by (is_line_end c) refl
+  where
+    by : (b : Bool) → is_line_end c ≡ b → not (is_line_end c) ≡ true
+    by true e = absurd (n e)
+    by false e = ap not e
 
-in_line : (cs : List ℕ) → NonePass is_end cs → AllByRecursion (λ c. is_line_end c ≡ false) cs
-in_line [] h = tt
-in_line (c ∷ cs) h = (sym (same_class c) ∙ h.0, in_line cs h.1)
+is_ascii : (c : ℕ) → is_byte2 10 13 c ≡ true → c < 128
+is_ascii c e = grind (arith, nat_tests)
 
-no_end : (text : List ℕ) → IsUtf8 text → NoCharPasses is_end text → AllByRecursion (λ c. is_line_end c ≡ false) (chars text)
-no_end text u h = subst (λ (cs : List ℕ). AllByRecursion (λ c. is_line_end c ≡ false) cs) (chars_from_encodes h.0 text u h.1) (in_line h.0 h.2)
+-- the place where the first line ends
+pub record IsEnd (text : List ℕ) (n : ℕ) : Type 0 where
+  pub within : n ≤ length text
+  pub passed : prefix_len is_in_line text ≡ n
+  pub boundary : IsCharBoundary text n
 
-abbrev Lines : List ℕ → Option (ℕ × ℕ) → Type 0
-Lines s o = (k : ℕ → Bool) → ((c : ℕ) → char_set_contains (10 ∷ 13 ∷ []) c ≡ k c) → FindsBy k s o
-
-whole_line : (text : List ℕ) → IsUtf8 text → NoCharPasses is_end text → IsFirstLine text text []
-whole_line text u h = record {
-  whole = sym (append-nil (chars text)) ∙ ap (λ (l : List ℕ). chars text ++ l) (sym chars-nil);
-  in_line = no_end text u h;
-  ends = subst EndsLine (sym chars-nil) tt;
-  utf8 = u;
-  rest_utf8 = IsUtf8-nil;
-  long = omega arith;
+line_end : (text : List ℕ) (found : Option ℕ) (n : ℕ) → IsUtf8 text → IsFirstByte (is_byte2 10 13) text found → n ≡ unwrap_or found (length text) → IsEnd text n
+line_end text None n u f e = record {
+  within = omega (arith, e);
+  passed = prefix_len_is is_in_line text n 0 (omega (arith, e)) (λ k l. goes_on (get_or text k 0) (f k (omega arith) (omega (arith, e)))) (λ l. absurd (omega (arith, e)));
+  boundary = rw e (IsCharBoundary-end text);
+}
+line_end text (Some i) n u f e = rw e record {
+  within = omega (arith, f.0.high);
+  passed = prefix_len_is is_in_line text i 0 (omega (arith, f.0.high)) (λ k l. goes_on (get_or text k 0) (f.0.before k (omega arith) l)) (λ l. stops_here (get_or text i 0) f.1);
+  boundary = IsCharBoundary-before_ascii text i f.0.high (is_ascii (get_or text i 0) f.1);
 }
 
-part_line : (text : List ℕ) (i j : ℕ) → IsUtf8 text → IsCharBoundary text i → NoCharPasses is_end (take i text) → HasPassingCharAt is_end text i j → IsFirstLine text (take i text) (drop i text)
-part_line text i j u b none at =
-    let rest = IsUtf8-drop text i u b in
-    let first = IsUtf8-take text i u b in
-    record {
-      whole = chars_split text i u b;
-      in_line = no_end (take i text) first none;
-      ends = subst EndsLine (sym (chars_past_char (drop i text) (drop j text) at.0 rest at.2.split)) (sym (same_class at.0) ∙ at.1);
-      utf8 = first;
-      rest_utf8 = rest;
-      long = omega (arith, length-drop i text, length-take i text, b.0);
-    }
+pub ended : (text bytes : List ℕ) (found : Option ℕ) (n : ℕ) → IsUtf8 text → bytes ≡ text → IsFirstByte (is_byte2 10 13) bytes found → n ≡ unwrap_or found (length bytes) → IsEnd text n
+ended text bytes found n u same f e =
+    line_end text found n u (subst (λ (l : List ℕ). IsFirstByte (is_byte2 10 13) l found) same f) (e ∙ ap (λ (l : List ℕ). unwrap_or found (length l)) same)
 
-pub first_line : (text first rest : List ℕ) (r : Option ℕ) (n : ℕ) → IsUtf8 text
-    → MatchOption r (Lines text None) (λ i. (j : ℕ) × Lines text (Some (i, j)) × (i ≤ j) × IsCharBoundary text i × IsCharBoundary text j)
-    → n ≡ unwrap_or r (length text) → first ≡ take n text → rest ≡ drop n text → IsFirstLine text first rest
-first_line text first rest None n u h e f g =
-    let all : first ≡ text = f ∙ take_all n text (omega (arith, e)) in
-    let nothing : rest ≡ [] = g ∙ drop_all n text (omega (arith, e)) in
-    rw (all, nothing) (whole_line text u (h is_end (λ c. refl)))
-first_line text first rest (Some i) n u h e f g =
-    let l = h.1 is_end (λ c. refl) in
-    rw (f, g, e) (part_line text i h.0 u h.3 l.0 l.1)
+passing : (cs : List ℕ) → AllByRecursion (λ c. is_line_end c ≡ false) (take (prefix_len is_in_line cs) cs)
+passing [] = tt
+passing (c ∷ cs) = by (is_line_end c) refl (passing cs)
+  where
+    by : (b : Bool) → is_line_end c ≡ b → AllByRecursion (λ c. is_line_end c ≡ false) (take (prefix_len is_in_line cs) cs) → AllByRecursion (λ c. is_line_end c ≡ false) (take (prefix_len is_in_line (c ∷ cs)) (c ∷ cs))
+    by true e more = rw e tt
+    by false e more = rw (e, one-add (prefix_len is_in_line cs)) (e, more)
+
+stopped : (cs : List ℕ) → EndsLine (drop (prefix_len is_in_line cs) cs)
+stopped [] = tt
+stopped (c ∷ cs) = by (is_line_end c) refl (stopped cs)
+  where
+    by : (b : Bool) → is_line_end c ≡ b → EndsLine (drop (prefix_len is_in_line cs) cs) → EndsLine (drop (prefix_len is_in_line (c ∷ cs)) (c ∷ cs))
+    by true e more = rw e e
+    by false e more = rw (e, one-add (prefix_len is_in_line cs)) more
+
+pub first_line : (text first rest : List ℕ) (n : ℕ) → IsUtf8 text → IsEnd text n → first ≡ take n text → rest ≡ drop n text → IsFirstLine text first rest
+first_line text first rest n u end f g =
+    let cs = chars text in
+    let m = prefix_len is_in_line cs in
+    let after : chars (drop n text) ≡ drop m cs = ap (λ (k : ℕ). chars (drop k text)) (sym end.passed) ∙ span_chars is_in_line alike text u in
+    let before : chars (take n text) ≡ take m cs =
+    append_cancel_right (chars (take n text)) (take m cs) (drop m cs) (ap (λ (l : List ℕ). chars (take n text) ++ l) (sym after) ∙ sym (chars_split text n u end.boundary) ∙ sym (take-append-drop m cs)) in
+    rw (f, g) record {
+      whole = chars_split text n u end.boundary;
+      in_line = subst (λ (l : List ℕ). AllByRecursion (λ c. is_line_end c ≡ false) l) (sym before) (passing cs);
+      ends = subst EndsLine (sym after) (stopped cs);
+      utf8 = IsUtf8-take text n u end.boundary;
+      rest_utf8 = IsUtf8-drop text n u end.boundary;
+      long = omega (arith, length-drop n text, length-take n text, end.within);
+    }

@@ -34,7 +34,7 @@ ArePrintable [] = ⊥
 ArePrintable (b ∷ []) = b ≡ bare_end
 ArePrintable (b ∷ c ∷ bs) = ((w : List ℕ) × IsSpelled b w) × ArePrintable (c ∷ bs)
 
-scalars_all : (w : List ℕ) → AllByRecursion IsScalar w → all_scalars w ≡ true
+pub scalars_all : (w : List ℕ) → AllByRecursion IsScalar w → all_scalars w ≡ true
 scalars_all [] h = refl
 scalars_all (c ∷ cs) h = ap (λ b. b && all_scalars cs) h.0 ∙ scalars_all cs h.1
 

@@ -1,3 +1,11 @@
+pub mod BlockBodies
+pub mod BlockChoices
+pub mod BlockFlags
+pub mod BlockLayouts
+pub mod BlockMeanings
+pub mod BlockPushes
+pub mod BlockTexts
+pub mod CharLoops
 pub mod Hashes
 pub mod FirstLines
 pub mod Firsts

@@ -2,7 +2,9 @@
 use Rattle.std.proofs.Common.{◌≡◌, ℕ, Bool, true, false, not, List, [], ◌∷◌, ◌++◌, refl, sym, ap, ◌∙◌, subst, append_assoc, append-nil, arith, rules}
 use Rattle.std.proofs.lemmas.Str.{chars-append, chars-IsAscii, chars-nil, encode_ascii}
 use lib.Utf8.{encode}
-use Rattle.std.specs.Str.{chars, IsUtf8}
+use Rattle.std.specs.List.{AllByRecursion}
+use Rattle.std.specs.Str.{chars, IsUtf8, IsAscii}
+use Rattle.graphql_tokens.specs.tokens.Classes.{is_ignored}
 use Rattle.graphql_tokens.specs.tokens.Ignored.{IsComment, EndsLine}
 use Rattle.graphql_tokens.specs.tokens.Place.{is_line_end}
 use Rattle.graphql_tokens.specs.tokens.Edition.{Current}
@@ -104,6 +106,16 @@ pub comma_added : (text new : List ℕ) (ending : Ending) → IsUtf8 text → Is
 comma_added text new ending u s e =
     gap_added text new (Other ending) 44 (44 ∷ []) u s (chars-IsAscii (44 ∷ []) (search rules)) (λ rest others h. ignored_item 44 rest others refl h) (comma_allowed ending)
     (e ∙ ap (λ (x : List ℕ). text ++ x) (encode_ascii 44 (omega arith)))
+
+blanks_item : (blanks rest : List ℕ) (others : List Item) → AllByRecursion (λ c. c ≡ 32) blanks → IsItems rest others → IsItems (blanks ++ rest) others
+blanks_item [] rest others b h = h
+blanks_item (c ∷ blanks) rest others b h = ignored_item c (blanks ++ rest) others (ap is_ignored b.0) (blanks_item blanks rest others b.1 h)
+
+pub blanks_added : (text new blanks : List ℕ) → IsUtf8 text → IsSheet text (Other endings.Open) → AllByRecursion (λ c. c ≡ 32) blanks → IsAscii blanks → new ≡ text ++ blanks → Holds new (Other endings.Open) (items_in text)
+blanks_added text new blanks u s b a e =
+    holds new (Other endings.Open) (items_in text) (λ rest others m h.
+    subst (λ (x : List ℕ). IsItems x (items_in text ++ others)) (sym (seam text blanks blanks rest new u (chars-IsAscii blanks a) e))
+    (s.goes (blanks ++ rest) others (open_comes (blanks ++ rest)) (blanks_item blanks rest others b h)))
 
 comes_allows : (ending : Ending) (rest : List ℕ) → MayCome (Other ending) rest → Allows ending rest
 comes_allows ending [] a = tt

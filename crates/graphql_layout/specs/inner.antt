@@ -1,3 +1,4 @@
+pub mod Blocks
 pub mod Endings
 pub mod Written
 pub mod ItemsIn

@@ -8,13 +8,15 @@ ghost use Rattle.graphql_layout.specs.texts.LaidOut.{trimmed, tidied};
 use crate::layout::gaps::Place;
 use crate::layout::lines::{Before, begin_comment};
 use crate::sheet::Sheet;
+use memchr::memchr2;
 use std::alloc::AllocError;
 
 // The first line of the text, without its end, and the rest.
 fn split_line(text: &str) -> (&str, &str)
     ensures { IsFirstLine text.now result.0.now result.1.now }
 {
-    let end = text.find(['\n', '\r']).unwrap_or(text.len());
+    let bytes = text.as_bytes();
+    let end = memchr2(b'\n', b'\r', bytes).unwrap_or(bytes.len());
     text.split_at(end)
 }
 

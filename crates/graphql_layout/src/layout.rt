@@ -25,7 +25,7 @@ pub fn format(alloc: Global, text: &str) -> Result<Option<String>, AllocError>
         MatchOption r (HasFault text.now) (λ s. IsLaidOut text.now (string_bytes s))) }
 {
     let mut layout = Layout::new(alloc, broken_brackets(alloc, text)?);
-    let mut sheet = Sheet::new(alloc);
+    let mut sheet = Sheet::with_room(alloc, text.len())?;
     let mut rest = text;
     for token in Tokens::new(text) {
         if token.kind == TokenKind::Fault {

@@ -9,6 +9,9 @@
 //! A [`Sheet`](sheet::Sheet) is a text that is written token after token and comment after comment, with blanks and line feeds
 //! between them. Proved: it has these tokens and comments and no others, however it is laid out.
 //!
+//! [`blocks`] writes values as block strings. Proved: each is one, and [`may_be_block`](blocks::may_be_block) tells whether it has
+//! the value.
+//!
 //! Users name `graphql_printer`, whose calls read the text by a grammar first.
 #![tactic(auto)]
 
@@ -18,6 +21,7 @@ ghost use Rattle.graphql_layout.specs.texts.SameTokens.{HasFault};
 ghost use Rattle.graphql_layout.specs.texts.Minified.{IsMinified};
 ghost use Rattle.graphql_layout.specs.inner.Endings.{ending_of, gap_before};
 
+pub mod blocks;
 mod comments;
 mod ending;
 mod layout;

@@ -89,6 +89,20 @@ fn push_line(text: &mut String, last: Last) -> Result<(), AllocError>
     text.push('\n')
 }
 
+// Writes so many levels of two blanks.
+fn push_levels(text: &mut String, depth: usize) -> Result<(), AllocError>
+    requires { IsSheet (string_bytes text.old) (Last.Other Ending.Open) }
+    ensures { Holds (string_bytes text.new) (Last.Other Ending.Open) (items_in (string_bytes text.old)) }
+{
+    for _ in 0..depth / 4 {
+        text.push_str("        ")?;
+    }
+    for _ in 0..depth % 4 {
+        text.push_str("  ")?;
+    }
+    Ok(())
+}
+
 // Writes a blank or ends the line of a comment where this token may not come next, and gives what is then last.
 fn make_room(text: &mut String, last: Last, spelling: &str) -> Result<Last, AllocError>
     requires { IsSheet (string_bytes text.old) last }
@@ -133,6 +147,16 @@ impl Sheet {
         }
     }
 
+    /// A sheet with nothing on it, and room for so many bytes. It fails only where memory runs out.
+    pub fn with_room(alloc: Global, room: usize) -> Result<Sheet, AllocError>
+        ensures { IfOk result (λ sheet. sheet ≡ []) }
+    {
+        Ok(Sheet {
+            text: String::with_capacity(alloc, room)?,
+            last: Last::Other(Ending::Open),
+        })
+    }
+
     /// Writes a blank, or ends the line of a comment. It fails only where memory runs out.
     pub fn blank(&mut self) -> Result<(), AllocError>
         ensures { self.new ≡ self.old }
@@ -140,6 +164,15 @@ impl Sheet {
         push_blank(&mut self.text, self.last)?;
         self.last = Last::Other(Ending::Open);
         Ok(())
+    }
+
+    /// Begins a line, so many levels of two blanks deep. It fails only where memory runs out.
+    pub fn begin_line(&mut self, depth: usize) -> Result<(), AllocError>
+        ensures { self.new ≡ self.old }
+    {
+        push_line(&mut self.text, self.last)?;
+        self.last = Last::Other(Ending::Open);
+        push_levels(&mut self.text, depth)
     }
 
     /// Writes a comma, which is as good as a blank (GraphQL October 2021, section 2.1.5), or ends the line of a comment. It fails

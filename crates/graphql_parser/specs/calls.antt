@@ -1,6 +1,4 @@
 -- Public: what accessors and conversions give.
-pub use Rattle.graphql_tokens.specs.calls.Contents
-pub use Rattle.graphql_tokens.specs.calls.Escapes
 pub use Rattle.graphql_tokens.specs.calls.Integers
 pub use Rattle.graphql_syntax.specs.calls.Constants
 pub use Rattle.graphql_syntax.specs.calls.Named

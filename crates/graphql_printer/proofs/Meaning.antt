@@ -12,7 +12,7 @@ use Rattle.graphql_reading.specs.grammar.Fronts.{bares}
 use Rattle.graphql_reading.specs.grammar.Limits.{Limits}
 use Rattle.graphql_reading.specs.reading.Outcome.{Reader}
 use Rattle.graphql_check.specs.Checking.{checked}
-use Rattle.graphql_grammar.specs.answers.Answers.{AreTheDefinitions}
+use Rattle.graphql_grammar.specs.answers.Answers.{AreTheDefinitions, BreakAlike}
 use Rattle.graphql_grammar.specs.answers.Language.{Language}
 use Rattle.graphql_grammar.specs.answers.Reads.{ReadsText}
 use Rattle.graphql_grammar.specs.reading.ReadBy.{IsReadBy}
@@ -24,31 +24,50 @@ use Rattle.graphql_printer.specs.Rewritten.{MeanTheSame}
 one_cut : (text : List ℕ) (ts us : List Token) → IsCutInto text ts → IsCutInto text us → ts ≡ us
 one_cut text ts us c d = tokens_only [] (chars text) ts c ∙ sym (tokens_only [] (chars text) us d)
 
-pub mean_the_same : {D Document : Type 0} (language : Language D Document) (reader : Limits → Reader (List D)) → IsReadBy language reader → (limits : Limits) (text other : List ℕ) → IsUtf8 other
-    → ReadsText (checked language) limits text (Ok tt) → HaveSameTokens text other → MeanTheSame language limits text other
-mean_the_same {D} {Document} language reader read limits text other utf8 reads m =
+-- The definitions are the one tree of the text; the other text has its one tree too, the same but for its places, and it breaks
+-- the same rules.
+pub record IsToldAgain {D Document : Type 0} (language : Language D Document) (limits : Limits) (text other : List ℕ) (definitions : List D) : Type 0 where
+  pub other_definitions : List D
+  pub tree : (tokens : List Token) → IsCutInto text tokens → AreTheDefinitions language limits tokens definitions
+  pub other_tree : (tokens : List Token) → IsCutInto other tokens → AreTheDefinitions language limits tokens other_definitions
+  pub same : language.placeless definitions ≡ language.placeless other_definitions
+  pub breaks : BreakAlike language definitions other_definitions
+
+pub told_again : {D Document : Type 0} (language : Language D Document) (reader : Limits → Reader (List D)) → IsReadBy language reader → (limits : Limits) (text other : List ℕ) → IsUtf8 other
+    → (m : HaveSameTokens text other) (definitions : List D) → AreTheDefinitions language limits m.of_text.0 definitions → IsToldAgain language limits text other definitions
+told_again {D} {Document} language reader read limits text other utf8 m definitions is =
     let ts = m.of_text.0 in
     let us = m.of_other.0 in
-    let cut = m.of_text.1 in
     let cut_other = m.of_other.1 in
     let alike : bares ts ≡ bares us = m.of_text.2 ∙ sym m.of_other.2 in
-    let a = reads.answer ts cut in
     let ends : EndsOnce us = cuts_ends Current [] (chars other) us cut_other in
     let proper : AreProperButFaults us = cuts_proper [] (chars other) us (text_scalars other utf8) cut_other in
     let rests = read.bare limits ts in
-    let t = rests.has_tree us alike a.0 a.1.within in
-    let breaks = rests.same_breach us alike a.0 t.0 a.1.within t.1 in
+    let t = rests.has_tree us alike definitions is.within in
     record {
-      definitions = a.0;
       other_definitions = t.0;
-      tree = λ vs c. subst (λ (l : List Token). AreTheDefinitions language limits l a.0) (one_cut text ts vs cut c) a.1;
+      tree = λ vs c. subst (λ (l : List Token). AreTheDefinitions language limits l definitions) (one_cut text ts vs m.of_text.1 c) is;
       other_tree = λ vs c. subst (λ (l : List Token). AreTheDefinitions language limits l t.0) (one_cut other us vs cut_other c) (read.only limits us ends proper t.0 t.1);
-      same = rests.same_tree us alike a.0 t.0 a.1.within t.1;
-      sound = (a.2.unbroken, a.2.complete);
-      other_sound = (breaks.unbroken a.2.unbroken, breaks.complete a.2.complete);
+      same = rests.same_tree us alike definitions t.0 is.within t.1;
+      breaks = rests.same_breach us alike definitions t.0 is.within t.1;
     }
 
-alike : (text other : List ℕ) → IsMinified text other → HaveSameTokens text other
+pub mean_the_same : {D Document : Type 0} (language : Language D Document) (reader : Limits → Reader (List D)) → IsReadBy language reader → (limits : Limits) (text other : List ℕ) → IsUtf8 other
+    → ReadsText (checked language) limits text (Ok tt) → HaveSameTokens text other → MeanTheSame language limits text other
+mean_the_same language reader read limits text other utf8 reads m =
+    let a = reads.answer m.of_text.0 m.of_text.1 in
+    let t = told_again language reader read limits text other utf8 m a.0 a.1 in
+    record {
+      definitions = a.0;
+      other_definitions = t.other_definitions;
+      tree = t.tree;
+      other_tree = t.other_tree;
+      same = t.same;
+      sound = (a.2.unbroken, a.2.complete);
+      other_sound = (t.breaks.unbroken a.2.unbroken, t.breaks.complete a.2.complete);
+    }
+
+pub alike : (text other : List ℕ) → IsMinified text other → HaveSameTokens text other
 alike text other m = record { tokens = m.tokens; of_text = m.of_text; of_other = m.of_other }
 
 pub minified_means_the_same : {D Document E : Type 0} (language : Language D Document) (reader : Limits → Reader (List D)) → IsReadBy language reader → (limits : Limits) (text : List ℕ) (result : Result (String Global) E)

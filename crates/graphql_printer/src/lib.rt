@@ -7,6 +7,10 @@
 //! Proved of [`format_query`] and [`format_schema`], unless memory runs out: they answer as the checks do; a text that they give
 //! has the tokens of the text that they are given, one for one in kind and spelling, and its comments in their order, each before
 //! the same token, less the blanks at its end; and so it has the same tree, except for places.
+//!
+//! Proved of [`print_query`] and [`print_schema`], unless memory runs out: of the document of a text, within some limits, they
+//! give a text that has one tree within these limits; that tree breaks no rule, lacks nothing and makes the document again,
+//! except for places.
 #![tactic(auto)]
 
 ghost use Rattle.std.specs.Prelude.{◌≡◌, List, ℕ, IfOk, IfErr, string_bytes};
@@ -19,11 +23,24 @@ ghost use Rattle.graphql_printer.specs.Rewritten.{judgement_of, MeanTheSame};
 ghost use Rattle.graphql_requests.specs.grammar.Requests.{requests};
 ghost use Rattle.graphql_schemas.specs.grammar.Schemas.{schemas};
 
+mod documents;
 mod formatting;
+mod lists;
+mod nodes;
+mod parts;
+mod places;
+mod requests;
+#[cfg(test)]
+mod schema_tests;
+mod schemas;
+#[cfg(test)]
+mod tests;
 
 pub use formatting::{format_query, format_schema};
 use graphql_layout::minify;
 use graphql_parser::{Limits, Result, check_query_limited, check_schema_limited};
+pub use requests::print_query;
+pub use schemas::print_schema;
 use std::alloc::Global;
 
 /// The request without what is ignored in it (GraphQL October 2021, section 2.1.7) and isn't needed: comments, and all blanks,

@@ -11,7 +11,7 @@ use Rattle.std.proofs.lemmas.List.Folds.{concat-append}
 use Rattle.graphql_tokens.specs.tokens.Edition.{Current}
 use Rattle.graphql_tokens.specs.tokens.Place.{is_line_end}
 use Rattle.graphql_tokens.specs.tokens.Strings.{is_plain, AreHexDigits, UnitMeans, UnitsMean, IsContent}
-use Rattle.graphql_tokens.specs.calls.Escapes.{escape_at}
+use Rattle.graphql_tokens.specs.inner.Escapes.{escape_at}
 use Rattle.graphql_tokens.proofs.Contents.{escape_front}
 use Rattle.graphql_tokens.proofs.EscapeUnits.{escape_reads}
 use Rattle.graphql_report.specs.inner.Strings.{HasNoUnit, Passes, IsBad, Ends}

@@ -24,9 +24,9 @@ mod Escapes
 mod StringTexts
 mod Carets
 mod Apart
-mod ValuePieces
-mod RequestPieces
-mod SchemaPieces
+mod ValueProductions
+mod RequestProductions
+mod SchemaProductions
 mod TokenPhrases
 mod LeftSpent
 mod LeftTexts

@@ -11,7 +11,7 @@ ghost use Rattle.graphql_report.specs.reports.Expected.{TellsFrontOf, TellsTreeO
 
 use crate::fronts::Language;
 use crate::phrases::Phrase;
-use crate::pieces::put;
+use crate::productions::put;
 use crate::steps::step;
 use graphql_parser::lexer::{Token, TokenKind, Tokens};
 use graphql_parser::{Limits, Memory};

@@ -52,11 +52,9 @@ const OF_NAMESAKES: Remarks = Remarks {
 /// error's, but for a bad escape in a string, where it is that of the first one. An error without a place has the one line
 /// `FILE: ` and the message. Where `file_name` is empty, `FILE:` is left out everywhere. (This project's own call.)
 ///
-/// `limits` are those that the parser was given, `Limits::default()` for the calls without limits. What was expected is
-/// found by some twenty to forty checks of what stands before the refused token: of a schema file that is all, or the
-/// definition in which the token stands if that begins with a line after others; of a request only as many selection sets as
-/// are open, and the last selection; and where that is long, or variable definitions are, only as many lists and objects as are
-/// open there, and the last value. One check of the text finds the refused token. An error says that memory was refused.
+/// `limits` are those that the parser was given, `Limits::default()` for the calls without limits. The text is read twice: one
+/// check finds the refused token, and what stands before it is read once to find what was expected; a limit takes a third
+/// reading. An error says that memory was refused.
 pub fn explain(
     alloc: Global,
     language: Language,

@@ -8,7 +8,7 @@ ghost use Rattle.graphql_report.specs.declared.phrases.Phrase.TheVariants as phr
 ghost use Rattle.graphql_report.specs.inner.Left.{TellsToken, Steps, keyword_text, mark_text};
 
 use crate::phrases::{Keyword, Mark, Phrase};
-use crate::pieces::take_apart;
+use crate::productions::take_apart;
 use graphql_parser::Limits;
 use graphql_parser::lexer::TokenKind;
 use graphql_reading::parser::Parser;

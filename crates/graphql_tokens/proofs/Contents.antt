@@ -11,7 +11,7 @@ use Rattle.std.specs.List.{AllByRecursion, concat, prefix_len}
 use Rattle.std.specs.Str.{chars, IsUtf8, IsCharBoundary, encode_utf8_all}
 use Rattle.graphql_tokens.specs.tokens.Edition.{Former, Current}
 use Rattle.graphql_tokens.specs.tokens.Strings.{is_plain, Escape, quote, backslash, slash, backspace, form_feed, line_feed, carriage_return, tab, UnitMeans, UnitsMean, StringMeans, IsContent}
-use Rattle.graphql_tokens.specs.calls.Escapes.{escape_at}
+use Rattle.graphql_tokens.specs.inner.Escapes.{escape_at}
 use Rattle.graphql_tokens.proofs.Chars.{chars_split}
 use Rattle.graphql_tokens.proofs.Scan.{ascii_char}
 use Rattle.graphql_tokens.proofs.EscapeChars.{escape_ascii}

@@ -5,7 +5,7 @@ use Rattle.std.proofs.lemmas.List.{get_or-drop}
 use Rattle.std.proofs.lemmas.Str.{IsCharBoundary-after_ascii}
 use Rattle.std.specs.Str.{chars, IsUtf8, IsCharBoundary}
 use Rattle.graphql_tokens.specs.tokens.Place.{is_in_line}
-use Rattle.graphql_tokens.specs.calls.Escapes.{escape_at}
+use Rattle.graphql_tokens.specs.inner.Escapes.{escape_at}
 use Rattle.graphql_tokens.specs.inner.Running.{ahead, IsRunning, IsRunOfAscii}
 use Rattle.graphql_tokens.specs.inner.Lexing.{RunsOver}
 use Rattle.graphql_tokens.specs.declared.pos.running.RunningPlace.{RunningPlace}

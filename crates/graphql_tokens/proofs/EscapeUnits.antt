@@ -9,7 +9,7 @@ use Rattle.std.specs.List.{AllByRecursion, list_all, prefix_len}
 use lib.Utf8.{scalar, scalar_cases}
 use Rattle.graphql_tokens.specs.tokens.Edition.{Current}
 use Rattle.graphql_tokens.specs.tokens.Strings.{Escape, quote, backslash, slash, backspace, form_feed, line_feed, carriage_return, tab, IsEscape, AreHexDigits, hex_value, IsFourDigitEscape, IsBracedEscape, IsHighHalf, IsLowHalf, IsPair, IsCurrentEscape}
-use Rattle.graphql_tokens.specs.calls.Escapes.{letter_value, hex_number, four_digits, pair_value, scalar_of, with_len, braced_by, braced_at, low_half_at, pair_with, pair_at, numbered_by, numbered_at, number_at, escape_at}
+use Rattle.graphql_tokens.specs.inner.Escapes.{letter_value, hex_number, four_digits, pair_value, scalar_of, with_len, braced_by, braced_at, low_half_at, pair_with, pair_at, numbered_by, numbered_at, number_at, escape_at}
 use Rattle.graphql_tokens.proofs.Options.{some_same}
 use Rattle.graphql_tokens.proofs.Escapes.{hex_digit_only}
 

@@ -5,7 +5,7 @@ use Rattle.std.proofs.lemmas.Bool.Decides.{nat_tests}
 use Rattle.std.proofs.lemmas.List.{take_more}
 use Rattle.std.specs.Char.{is_ascii_hexdigit, digit_value}
 use Rattle.graphql_tokens.specs.tokens.Strings.{hex_value}
-use Rattle.graphql_tokens.specs.calls.Escapes.{four_digits, scalar_of, braced_at, pair_at, numbered_by, numbered_at, number_at}
+use Rattle.graphql_tokens.specs.inner.Escapes.{four_digits, scalar_of, braced_at, pair_at, numbered_by, numbered_at, number_at}
 
 -- ---- numbers in hexadecimal digits
 

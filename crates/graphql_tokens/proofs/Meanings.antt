@@ -5,8 +5,8 @@ use Rattle.std.proofs.Math.Seq.{drop-append_seam}
 use Rattle.std.specs.List.{concat}
 use Rattle.graphql_tokens.specs.tokens.Edition.{Current}
 use Rattle.graphql_tokens.specs.tokens.Strings.{is_plain, UnitMeans, UnitsMean, StringMeans}
-use Rattle.graphql_tokens.specs.calls.Escapes.{escape_at}
-use Rattle.graphql_tokens.specs.calls.Contents.{onto, with_escape, content_from, content_value}
+use Rattle.graphql_tokens.specs.inner.Escapes.{escape_at}
+use Rattle.graphql_tokens.specs.inner.Contents.{onto, with_escape, content_from, content_value}
 use Rattle.graphql_tokens.proofs.EscapeUnits.{EscapeMeans, escape_reads, escape_found}
 use Rattle.graphql_tokens.proofs.Contents.{escape_front}
 

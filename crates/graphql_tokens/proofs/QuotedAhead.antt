@@ -4,7 +4,7 @@ use Rattle.std.proofs.Math.Seq.{take-length}
 use Rattle.std.proofs.lemmas.Bool.Decides.{nat_tests}
 use Rattle.std.proofs.lemmas.Str.{IsUtf8-drop}
 use Rattle.graphql_tokens.specs.tokens.Strings.{is_plain}
-use Rattle.graphql_tokens.specs.calls.Escapes.{escape_at}
+use Rattle.graphql_tokens.specs.inner.Escapes.{escape_at}
 use Rattle.graphql_tokens.specs.inner.Quoted.{past_string, past_block}
 use Rattle.graphql_tokens.specs.inner.Running.{ahead}
 use Rattle.graphql_tokens.specs.inner.Lexing.{RunsOver, IsFirstByte}

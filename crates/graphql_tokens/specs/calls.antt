@@ -1,4 +1,2 @@
--- Public: what accessors give, and what strings mean, as a function.
-pub mod Contents
-pub mod Escapes
+-- Public: what accessors give.
 pub mod Integers

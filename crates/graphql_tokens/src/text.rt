@@ -4,7 +4,6 @@ ghost use Rattle.std.specs.Prelude.{◌≡◌, ◌≤◌, ◌<◌, Bool, ◌+◌
 ghost use Rattle.std.specs.List.{prefix_len};
 ghost use Rattle.std.specs.Str.{chars};
 ghost use Rattle.graphql_memory.specs.Memory.{Refused, Takes};
-ghost use Rattle.graphql_tokens.specs.calls.Contents.{content_value};
 ghost use Rattle.graphql_tokens.specs.tokens.BlockText.{block_value};
 ghost use Rattle.graphql_tokens.specs.tokens.Edition.{Former, Current};
 ghost use Rattle.graphql_tokens.specs.tokens.Strings.{is_plain as is_plain_char, StringMeans, IsContent};
@@ -72,12 +71,6 @@ pub fn string_value(alloc: Global, content: &str) -> Result<Option<String>, Allo
         (λ s. (other : List ℕ) → StringMeans Current (chars content.now) other →
         other ≡ chars (string_bytes s))) }
     ensures none { IfOk result (λ value. IfNone value (¬ IsContent Current (chars content.now))) }
-    // The function `content_value` gives no value but that of the content,
-    ensures sound { (value : List ℕ) → content_value (chars content.now) ≡ Some value →
-        StringMeans Current (chars content.now) value }
-    // and gives it wherever there is one.
-    ensures complete { (value : List ℕ) → StringMeans Current (chars content.now) value →
-        content_value (chars content.now) ≡ Some value }
     // What a content meant in the former edition, it means now.
     ensures former { (value : List ℕ) → StringMeans Former (chars content.now) value →
         StringMeans Current (chars content.now) value }
@@ -86,7 +79,7 @@ pub fn string_value(alloc: Global, content: &str) -> Result<Option<String>, Allo
 }
 
 /// As [`string_value`], in this memory.
-#[tactic(auto, using(crate::proofs::Contents::former_means, crate::proofs::Meanings::content_means))]
+#[tactic(auto, using(crate::proofs::Contents::former_means))]
 pub fn string_value_in(memory: &mut Memory, content: &str) -> Result<Option<String>, AllocError>
     // What it gives is the value of the content,
     ensures some { IfOk result (λ value.
@@ -97,12 +90,6 @@ pub fn string_value_in(memory: &mut Memory, content: &str) -> Result<Option<Stri
         (λ s. (other : List ℕ) → StringMeans Current (chars content.now) other →
         other ≡ chars (string_bytes s))) }
     ensures none { IfOk result (λ value. IfNone value (¬ IsContent Current (chars content.now))) }
-    // The function `content_value` gives no value but that of the content,
-    ensures sound { (value : List ℕ) → content_value (chars content.now) ≡ Some value →
-        StringMeans Current (chars content.now) value }
-    // and gives it wherever there is one.
-    ensures complete { (value : List ℕ) → StringMeans Current (chars content.now) value →
-        content_value (chars content.now) ≡ Some value }
     // What a content meant in the former edition, it means now.
     ensures former { (value : List ℕ) → StringMeans Former (chars content.now) value →
         StringMeans Current (chars content.now) value }

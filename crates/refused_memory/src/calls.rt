@@ -10,7 +10,9 @@ use graphql_parser::{
     check_schema, check_schema_from, check_schema_limited, parse_query, parse_query_from,
     parse_query_limited, parse_schema, parse_schema_from, parse_schema_limited,
 };
-use graphql_printer::{format_query, format_schema, minify_query, minify_schema};
+use graphql_printer::{
+    format_query, format_schema, minify_query, minify_schema, print_query, print_schema,
+};
 use rows::Shown;
 use rows::trees::Written;
 use std::alloc::{AllocError, Global};
@@ -41,6 +43,8 @@ pub enum Call {
     MinifySchema,
     FormatQuery,
     FormatSchema,
+    PrintQuery,
+    PrintSchema,
     StringValue,
     BlockStringValue,
     NewType,
@@ -123,10 +127,14 @@ impl Call {
                 Call::Operations => free::show_operations(shown, document),
                 Call::DirectivesMut => free::show_changed(shown, document),
                 Call::Compare => free::show_compared(shown, document),
+                Call::PrintQuery => shown.item("", &print_query(alloc, document)?),
                 _ => show_copy(document, shown)?,
             },
             Input::Error(error) => free::show_error_places(shown, error),
-            Input::File(document) => show_copy(document, shown)?,
+            Input::File(document) => match self {
+                Call::PrintSchema => shown.item("", &print_schema(alloc, document)?),
+                _ => show_copy(document, shown)?,
+            },
         }
         Ok(())
     }

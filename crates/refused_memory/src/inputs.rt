@@ -43,12 +43,13 @@ impl Call {
             | Call::LookUp
             | Call::Operations
             | Call::DirectivesMut
+            | Call::PrintQuery
             | Call::Compare => Input::Request(request(alloc, text)?),
             Call::ErrorPlaces => match parse_query(alloc, text) {
                 Ok(_) | Err(Error::OutOfMemory) => return Err(AllocError),
                 Err(error) => Input::Error(error),
             },
-            Call::CloneFile => match parse_schema(alloc, text) {
+            Call::CloneFile | Call::PrintSchema => match parse_schema(alloc, text) {
                 Ok(document) => Input::File(document),
                 Err(_) => return Err(AllocError),
             },

@@ -166,6 +166,16 @@ pub const TABLES: &[Table] = &[
         rows: FORMAT_SCHEMA,
     },
     Table {
+        call: Call::PrintQuery,
+        is_free: false,
+        rows: PRINT_QUERY,
+    },
+    Table {
+        call: Call::PrintSchema,
+        is_free: false,
+        rows: PRINT_SCHEMA,
+    },
+    Table {
         call: Call::StringValue,
         is_free: false,
         rows: STRING_VALUE,
@@ -509,6 +519,14 @@ const FORMAT_QUERY: &str = r#"
 const FORMAT_SCHEMA: &str = r#"
 # c␊"d" type A { "e" f(␊#g␊h:I): [ B ! ] } ⇒ # c␊"d"␊type A {␊␠␠"e"␊␠␠f(␊␠␠␠␠#g␊␠␠␠␠h: I␊␠␠): [B!]␊}
 extend type A {} ⇒ syntax error at 1:16 1:16
+"#;
+
+const PRINT_QUERY: &str = r#"
+query Q ( $v : [ Int ! ] = [ 1 ] ) { a : f ( x : { y : "z\n" } ) @d } fragment F on T { ... @e { b } ...F } ⇒ query Q($v: [Int!] = [1]) {␊␠␠a: f(x: {y: "z\n"}) @d␊}␊␊fragment F on T {␊␠␠... @e {␊␠␠␠␠b␊␠␠}␊␠␠...F␊}
+"#;
+
+const PRINT_SCHEMA: &str = r#"
+schema { query : Q } union U = | A | B directive @d ( x : Int = 1 ) repeatable on FIELD | QUERY ⇒ schema {␊␠␠query: Q␊}␊␊union U = A | B␊␊directive @d(x: Int = 1) repeatable on FIELD | QUERY
 "#;
 
 const STRING_VALUE: &str = r#"

@@ -98,7 +98,20 @@ pub fn failure<L: Language>(
     if other.placeless != seen.placeless || other.printed != seen.printed {
         return told(alloc, "the printed text differs", text, seen, &other);
     }
-    Ok(None)
+    let is_same = match language.rewritten(alloc, Rewriting::Formatted, seen.printed.as_str()) {
+        Ok(formatted) => formatted == seen.printed,
+        Err(_error) => false,
+    };
+    if is_same {
+        return Ok(None);
+    }
+    told(
+        alloc,
+        "the printed text is formatted otherwise",
+        text,
+        seen,
+        &other,
+    )
 }
 
 // What is wrong with the text written anew, or with the error in its place; None where nothing is.

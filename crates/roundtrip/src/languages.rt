@@ -1,6 +1,5 @@
 //! The two languages: their grammars, and what their parsers and checks answer.
 use crate::grammars;
-use example_printer::{print_request, print_schema};
 use graphql_parser::lexer::Tokens;
 use graphql_parser::types::{ExecutableDocument, ServiceDocument};
 use graphql_parser::{
@@ -8,7 +7,9 @@ use graphql_parser::{
     check_schema, check_schema_from, check_schema_limited, parse_query, parse_query_from,
     parse_query_limited, parse_schema, parse_schema_from, parse_schema_limited,
 };
-use graphql_printer::{format_query, format_schema, minify_query, minify_schema};
+use graphql_printer::{
+    format_query, format_schema, minify_query, minify_schema, print_query, print_schema,
+};
 use rows::Shown;
 use rows::trees::Written;
 use std::alloc::{AllocError, Global};
@@ -53,7 +54,7 @@ pub struct Seen {
     pub placed: String,
     /// The tree or the error, without places.
     pub placeless: String,
-    /// The tree as `example_printer` prints it; empty for an error.
+    /// The tree as it is printed; empty for an error.
     pub printed: String,
 }
 
@@ -177,7 +178,7 @@ trait Tree: Written + Drop {
 
 impl Tree for ExecutableDocument {
     fn print(&self, alloc: Global) -> Result<String, AllocError> {
-        print_request(alloc, self)
+        print_query(alloc, self)
     }
 }
 

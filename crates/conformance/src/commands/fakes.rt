@@ -1,9 +1,9 @@
 //! Texts and writers over memory.
-use graphql_commands::texts::{Texts, Unread, text_of};
+use graphql_commands::texts::{Texts, Unread, Unwritten, text_of};
 use std::alloc::{AllocError, Global};
 use std::io::{Error, ErrorKind, Result as IoResult, Write};
 
-// What is read under these names; under another there is no file.
+// What is read under these names, until it is replaced; under another there is no file.
 const FILES: &[(&str, &[u8])] = &[
     ("-", b"{a}"),
     ("good.graphql", b"query Q{a}"),
@@ -59,20 +59,46 @@ const FILES: &[(&str, &[u8])] = &[
         "last.graphqls",
         b"type A {\n  b: C\n}\n\"\"\" of D\ntype D {\n  e F\n}\n",
     ),
+    ("neat.graphql", b"{\n  a\n}\n"),
+    ("noisy.graphql", b"# one\n{a # two\n}"),
+    ("kept.graphql", b"{a}"),
+    ("gone.graphql", b"{a}"),
+    ("fixed.graphql", b"{a}"),
+    ("full.graphql", b"{a}"),
+    ("odd.graphql", b"{a}"),
+    ("spent.graphql", b"{a}"),
+    ("sources/a.graphql", b"{a b}"),
+    ("sources/b.graphql", b"{a()}"),
+    ("sources/c.gql", b"{\n  c\n}\n"),
+    ("sources/d.graphqls", b"type D{e:F}"),
     (
         "deep.graphql",
         b"{\n  a {\n    b\n  }\n}\nquery C {\n  d(e: \"\"\" f)\n}\n",
     ),
 ];
 
-/// These files.
+/// These files, and what was written in the place of some of them.
 #[derive(Drop)]
-pub struct Files;
+pub struct Files {
+    pub written: Vec<Written>,
+}
+
+/// A file that was written: its name and its text.
+#[derive(Drop)]
+pub struct Written {
+    pub name: String,
+    pub text: String,
+}
 
 impl Texts for Files {
     ghost gives = { λ _ _ _ _. Unit {0} };
 
     fn text(&mut self, alloc: Global, name: &str) -> Result<String, Unread> {
+        for written in self.written.iter().rev() {
+            if written.name.as_str() == name {
+                return Ok(String::from_str(alloc, written.text.as_str())?);
+            }
+        }
         for (known, contents) in FILES {
             if *known == name {
                 return text_of(Vec::from_slice(alloc, contents)?);
@@ -82,19 +108,41 @@ impl Texts for Files {
             "secret.graphql" => Unread::Forbidden,
             "folder" => Unread::Folder,
             "disk.graphql" => Unread::Unreadable,
+            "huge.graphql" => Unread::NoMemory,
             _ => Unread::Missing,
         })
     }
 
     fn files_below(&mut self, alloc: Global, name: &str) -> Result<Option<Vec<String>>, Unread> {
         match name {
-            "folder" => {}
-            "empty" => return Err(Unread::NoFiles),
-            "locked" => return Err(Unread::Forbidden),
-            _ => return Ok(None),
+            "folder" => Ok(Some(files_of(alloc, "folder/")?)),
+            "sources" => Ok(Some(files_of(alloc, "sources/")?)),
+            "empty" => Err(Unread::NoFiles),
+            "locked" => Err(Unread::Forbidden),
+            _ => Ok(None),
         }
-        Ok(Some(files_of(alloc, "folder/")?))
     }
+
+    fn replace(&mut self, alloc: Global, name: &str, text: &str) -> Result<(), Unwritten> {
+        match name {
+            "kept.graphql" => return Err(Unwritten::Forbidden),
+            "gone.graphql" => return Err(Unwritten::Missing),
+            "fixed.graphql" => return Err(Unwritten::ReadOnly),
+            "full.graphql" => return Err(Unwritten::Full),
+            "odd.graphql" => return Err(Unwritten::Unwritable),
+            "spent.graphql" => return Err(Unwritten::NoMemory),
+            _ => {}
+        }
+        let written = written_file(alloc, name, text).map_err(|_| Unwritten::NoMemory)?;
+        self.written.push(written).map_err(|_| Unwritten::NoMemory)
+    }
+}
+
+fn written_file(alloc: Global, name: &str, text: &str) -> Result<Written, AllocError> {
+    Ok(Written {
+        name: String::from_str(alloc, name)?,
+        text: String::from_str(alloc, text)?,
+    })
 }
 
 // The names of the files that begin so.

@@ -9,14 +9,17 @@ use std::str;
 use std::test::Fail;
 
 // What help speaks of.
-const TOLD: [&str; 12] = [
+const TOLD: [&str; 15] = [
     "check",
+    "format",
+    "minify",
     "tree",
     "tokens",
     "--query",
     "--schema",
     "--limits S,V,T",
     "--memory BYTES",
+    "--check",
     "--executable",
     "--format FORMAT",
     "--color WHEN",

@@ -2,7 +2,8 @@
 //!
 //! The file `runs` has them, with an empty line between two, in the notation of the crate `rows`. The first line of a run has its
 //! arguments, with blanks between them, after `$`, or after `%` where reports have colours. Then come the lines that it writes to
-//! standard output, after `> `, those that it writes to standard error, after `! `, and after `= ` its status.
+//! standard output, after `> `, those that it writes to standard error, after `! `, after `+ ` the name of each file that it
+//! writes, with the lines of that file after `| `, and after `= ` its status.
 use super::fakes::{Files, Sheet};
 use graphql_commands::{Style, run};
 use rows::meant;
@@ -26,12 +27,27 @@ pub fn ended(
     out: &mut Sheet,
     err: &mut Sheet,
 ) -> Result<u8, AllocError> {
+    let mut files = Files {
+        written: Vec::new(alloc),
+    };
+    ended_over(alloc, words, style, &mut files, out, err)
+}
+
+// The same over these files.
+fn ended_over(
+    alloc: Global,
+    words: Option<&str>,
+    style: Style,
+    files: &mut Files,
+    out: &mut Sheet,
+    err: &mut Sheet,
+) -> Result<u8, AllocError> {
     let mut strings = Vec::new(alloc);
     for word in words.unwrap_or("").split_ascii_whitespace() {
         strings.push(String::from_str(alloc, word)?)?;
     }
     let words = words.map(|_| strings.as_slice());
-    Ok(run(alloc, words, style, &mut Files, out, err))
+    Ok(run(alloc, words, style, files, out, err))
 }
 
 /// Prints how many runs the file has, and those that make something else, each with what it makes.
@@ -61,18 +77,25 @@ fn made(alloc: Global, row: &str) -> Result<String, Fail> {
     };
     let mut out = patient(alloc);
     let mut err = patient(alloc);
-    let status = ended(alloc, Some(words), style, &mut out, &mut err)?;
+    let mut files = Files {
+        written: Vec::new(alloc),
+    };
+    let status = ended_over(alloc, Some(words), style, &mut files, &mut out, &mut err)?;
     let mut made = String::from_str(alloc, head)?;
     made.push('\n')?;
-    push_lines(&mut made, "> ", &out)?;
-    push_lines(&mut made, "! ", &err)?;
+    push_lines(&mut made, "> ", str::from_utf8(out.held.as_slice())?)?;
+    push_lines(&mut made, "! ", str::from_utf8(err.held.as_slice())?)?;
+    for written in &files.written {
+        let name = written.name.as_str();
+        writeln!(made, "+ {name}")?;
+        push_lines(&mut made, "| ", written.text.as_str())?;
+    }
     write!(made, "= {status}")?;
     Ok(made)
 }
 
 // Adds what was written, each line after this mark.
-fn push_lines(made: &mut String, mark: &str, sheet: &Sheet) -> Result<(), Fail> {
-    let text = str::from_utf8(sheet.held.as_slice())?;
+fn push_lines(made: &mut String, mark: &str, text: &str) -> Result<(), AllocError> {
     for line in text.split_inclusive('\n') {
         made.push_str(mark)?;
         made.push_str(line)?;

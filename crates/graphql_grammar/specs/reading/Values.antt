@@ -1,7 +1,7 @@
 -- Reading values from lists of tokens.
 use Rattle.std.specs.Prelude.{ℕ, zero, suc, Bool, ◌||◌, Option, Some, option_map, List, [], ◌∷◌}
 use Rattle.std.specs.Str.{chars, encode_utf8_all}
-use Rattle.graphql_tokens.specs.calls.Contents.{content_value}
+use Rattle.graphql_tokens.specs.inner.Contents.{content_value}
 use Rattle.graphql_tokens.specs.tokens.BlockText.{block_value}
 use Rattle.graphql_tokens.specs.tokens.Token.{Bare}
 use Rattle.graphql_syntax.specs.trees.ValueTree.{Tree}

@@ -66,18 +66,6 @@ fn line_ends(blanks: &str) -> usize {
     ends
 }
 
-// Begins a line, so deep.
-fn begin_line(sheet: &mut Sheet, depth: usize) -> Result<(), AllocError>
-    ensures { sheet.new ≡ sheet.old }
-{
-    sheet.line()?;
-    for _ in 0..depth {
-        sheet.blank()?;
-        sheet.blank()?;
-    }
-    Ok(())
-}
-
 /// Writes what stands before a comment, before a token that stands there: nothing or a blank on the line of the token before it, or
 /// else a line's end, and the blank line that was there.
 pub fn begin_comment(sheet: &mut Sheet, place: &Place, before: Before) -> Result<(), AllocError>
@@ -93,7 +81,7 @@ pub fn begin_comment(sheet: &mut Sheet, place: &Place, before: Before) -> Result
     if parts_definitions || before.keeps_line(place) {
         sheet.line()?;
     }
-    begin_line(sheet, place.comments)
+    sheet.begin_line(place.comments)
 }
 
 /// Writes what stands before a token.
@@ -103,7 +91,7 @@ pub fn begin_token(sheet: &mut Sheet, place: &Place, before: Before) -> Result<(
     match place.gap {
         Gap::Start if before.is_commented => begin_spread(sheet, place, before),
         Gap::Nothing | Gap::Blank | Gap::Comma if before.is_commented => {
-            begin_line(sheet, place.depth)
+            sheet.begin_line(place.depth)
         }
         Gap::Start | Gap::Nothing => Ok(()),
         Gap::Blank => sheet.blank(),
@@ -111,12 +99,12 @@ pub fn begin_token(sheet: &mut Sheet, place: &Place, before: Before) -> Result<(
             sheet.comma()?;
             sheet.blank()
         }
-        Gap::Line => begin_line(sheet, place.depth),
+        Gap::Line => sheet.begin_line(place.depth),
         Gap::Spread => begin_spread(sheet, place, before),
         Gap::BlankLine if before.has_own_line => begin_spread(sheet, place, before),
         Gap::BlankLine => {
             sheet.line()?;
-            begin_line(sheet, place.depth)
+            sheet.begin_line(place.depth)
         }
     }
 }
@@ -128,5 +116,5 @@ fn begin_spread(sheet: &mut Sheet, place: &Place, before: Before) -> Result<(), 
     if before.keeps_line(place) {
         sheet.line()?;
     }
-    begin_line(sheet, place.depth)
+    sheet.begin_line(place.depth)
 }

@@ -5,7 +5,7 @@ use Rattle.std.specs.Str.{byte}
 use Rattle.graphql_tokens.specs.tokens.Strings.{is_plain}
 use Rattle.graphql_tokens.specs.tokens.BlockText.{begins_quotes}
 use Rattle.graphql_tokens.specs.tokens.Blocks.{closes}
-use Rattle.graphql_tokens.specs.calls.Escapes.{escape_at}
+use Rattle.graphql_tokens.specs.inner.Escapes.{escape_at}
 
 -- an escape, of which the first character is passed
 abbrev pub past_unit : Option (ℕ × ℕ) → (ℕ → Option (List ℕ)) → Option (List ℕ)

@@ -3,7 +3,7 @@
 ghost use Rattle.std.specs.Prelude.{◌≡◌, ◌<◌};
 ghost use Rattle.std.specs.Char.{is_ascii_hexdigit};
 ghost use Rattle.std.specs.List.{prefix_len};
-ghost use Rattle.graphql_tokens.specs.calls.Escapes as escapes;
+ghost use Rattle.graphql_tokens.specs.inner.Escapes as escapes;
 
 use super::{byte, past_while};
 
@@ -119,7 +119,7 @@ fn number_at(text: &[u8]) -> Option<(char, usize)>
 }
 
 // The escape at the text's front: the character for which it stands, and how many bytes it has.
-#[tactic(auto, unfolding(crate::specs::calls::Escapes::escape_at))]
+#[tactic(auto, unfolding(crate::specs::inner::Escapes::escape_at))]
 pub fn escape_at(text: &[u8]) -> Option<(char, usize)>
     ensures { result ≡ escapes.escape_at text.now }
 {

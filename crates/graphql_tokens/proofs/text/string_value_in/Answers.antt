@@ -5,9 +5,8 @@ use Rattle.std.proofs.lemmas.List.{take_all, take_rest}
 use Rattle.std.proofs.lemmas.Str.{IsUtf8-string_bytes, IsUtf8-nil, IsCharBoundary-start}
 use Rattle.graphql_tokens.specs.tokens.Edition.{Current}
 use Rattle.graphql_tokens.specs.tokens.Strings.{StringMeans}
-use Rattle.graphql_tokens.specs.calls.Escapes.{escape_at}
+use Rattle.graphql_tokens.specs.inner.Escapes.{escape_at}
 use Rattle.graphql_tokens.proofs.Contents.{past_run, past_push, no_content, means_once, all_plain, nothing, escape_some, escape_wide}
-use Rattle.graphql_tokens.proofs.Meanings.{means_content}
 use Rattle.graphql_tokens.proofs.text.string_value_in.Goals as goal
 
 -- the character of an escape has no more bytes than the escape
@@ -180,29 +179,3 @@ returns-clause-some c = whole c
 
 pub returns-clause-only : goal.returns-clause-only
 returns-clause-only c other m = means_once _ _ other (whole c) m
-
--- ---- the function that is the relation
-
-pub returns-in_err-text_of-clause-complete : goal.returns-in_err-text_of-clause-complete
-returns-in_err-text_of-clause-complete c value m = means_content _ value m
-
-pub returns-then-at-bytes-clause-complete : goal.returns-then-at-bytes-clause-complete
-returns-then-at-bytes-clause-complete c value m = means_content _ value m
-
-pub returns-in_err-value-clause-complete : goal.returns-in_err-value-clause-complete
-returns-in_err-value-clause-complete c value m = means_content _ value m
-
-pub returns-in_default-clause-complete : goal.returns-in_default-clause-complete
-returns-in_default-clause-complete c value m = means_content _ value m
-
-pub returns-in_err-push_char-clause-complete : goal.returns-in_err-push_char-clause-complete
-returns-in_err-push_char-clause-complete c value m = means_content _ value m
-
-pub returns-in_err-push_text-2-clause-complete : goal.returns-in_err-push_text-2-clause-complete
-returns-in_err-push_text-2-clause-complete c value m = means_content _ value m
-
-pub returns-clause-complete : goal.returns-clause-complete
-returns-clause-complete c value m = means_content _ value m
-
-pub returns-in_err-push_text-clause-complete : goal.returns-in_err-push_text-clause-complete
-returns-in_err-push_text-clause-complete c value m = means_content _ value m

@@ -1,6 +1,6 @@
 use Rattle.std.proofs.Common.{◌≡◌, Some, None, sym, ap, ◌∙◌}
 use Rattle.std.proofs.lemmas.List.{take_rest}
-use Rattle.graphql_tokens.specs.calls.Escapes.{four_digits, scalar_of, pair_at}
+use Rattle.graphql_tokens.specs.inner.Escapes.{four_digits, scalar_of, pair_at}
 use Rattle.graphql_tokens.proofs.Escapes.{number_at_pair}
 use Rattle.graphql_tokens.proofs.text.escape.number_at.Goals as goal
 

@@ -1,0 +1,225 @@
+-- The lines of what stands between the quotes of a block string.
+use Rattle.std.proofs.Common.{◌≡◌, ℕ, zero, suc, ◌+◌, ◌≤◌, Bool, true, false, cond, eqb, ltb, ◌||◌, List, [], ◌∷◌, ◌++◌, map, length, drop, get_or, refl, sym, ap, ap₂, ◌∙◌, append-nil, length-append, arith}
+use Rattle.std.proofs.lemmas.Bool.Decides.{nat_tests}
+use Rattle.std.proofs.lemmas.List.{length-replicate}
+use Rattle.std.specs.List.{AllByRecursion}
+use Rattle.graphql_tokens.specs.tokens.Place.{is_line_end}
+use Rattle.graphql_tokens.specs.tokens.BlockText.{onto_line, lines_of, is_blank, indent, least, common_indent, dedented, joined}
+use Rattle.graphql_tokens.proofs.BlockIndents.{indents, indents_blank, indents_text}
+use Rattle.graphql_tokens.proofs.BlockLines.{lines_some}
+use Rattle.graphql_layout.specs.inner.Blocks.{has, blanks, line_break}
+use Rattle.graphql_layout.proofs.BlockBodies.{lined}
+
+abbrev pub InLine : List ℕ → Type 0
+InLine line = AllByRecursion (λ c. is_line_end c ≡ false) line
+
+abbrev pub AreLines : List (List ℕ) → Type 0
+AreLines lines = AllByRecursion InLine lines
+
+-- ---- lines that are joined
+
+onto : (c : ℕ) (cs : List ℕ) → is_line_end c ≡ false → lines_of (c ∷ cs) ≡ onto_line c (lines_of cs)
+onto c cs h =
+    let a : eqb c 10 ≡ false = grind (arith, nat_tests) in
+    let b : eqb c 13 ≡ false = grind (arith, nat_tests) in
+    rw (a, b) refl
+
+line_then : (line rest : List ℕ) → InLine line → lines_of (line ++ (10 ∷ rest)) ≡ line ∷ lines_of rest
+line_then [] rest h = refl
+line_then (c ∷ line) rest h = onto c (line ++ (10 ∷ rest)) h.0 ∙ ap (onto_line c) (line_then line rest h.1)
+
+pub line_alone : (line : List ℕ) → InLine line → lines_of line ≡ line ∷ []
+line_alone [] h = refl
+line_alone (c ∷ line) h = onto c line h.0 ∙ ap (onto_line c) (line_alone line h.1)
+
+pub lines_joined : (line : List ℕ) (lines : List (List ℕ)) → AreLines (line ∷ lines) → lines_of (joined (line ∷ lines)) ≡ line ∷ lines
+lines_joined line [] h = line_alone line h.0
+lines_joined line (next ∷ lines) h = line_then line (joined (next ∷ lines)) h.0 ∙ ap (λ (l : List (List ℕ)). line ∷ l) (lines_joined next lines h.1)
+
+-- ---- the lines of a text
+
+or_false : (a b : Bool) → (a || b) ≡ false → (a ≡ false) × (b ≡ false)
+or_false true b h = absurd (cc)
+or_false false b h = (refl, h)
+
+pub none_of : (w c : ℕ) (cs : List ℕ) → has w (c ∷ cs) ≡ false → (eqb c w ≡ false) × (has w cs ≡ false)
+none_of w c cs h = or_false (eqb c w) (has w cs) h
+
+inside : (c : ℕ) → eqb c 10 ≡ false → eqb c 13 ≡ false → is_line_end c ≡ false
+inside c a b = rw (a, b) refl
+
+onto_lines : (c : ℕ) (lines : List (List ℕ)) → is_line_end c ≡ false → AreLines lines → AreLines (onto_line c lines)
+onto_lines c [] h k = ((h, tt), tt)
+onto_lines c (line ∷ lines) h k = ((h, k.0), k.1)
+
+pub are_lines : (t : List ℕ) → AreLines (lines_of t)
+are_lines [] = (tt, tt)
+are_lines (c ∷ cs) = by (eqb c 10) (eqb c 13) (eqb (get_or cs 0 0) 10) refl refl (are_lines cs)
+  where
+    by : (a b d : Bool) → eqb c 10 ≡ a → eqb c 13 ≡ b → AreLines (lines_of cs) → AreLines (cond a ([] ∷ lines_of cs) (cond b (cond d (lines_of cs) ([] ∷ lines_of cs)) (onto_line c (lines_of cs))))
+    by true b d x y r = (tt, r)
+    by false true true x y r = r
+    by false true false x y r = (tt, r)
+    by false false d x y r = onto_lines c (lines_of cs) (inside c x y) r
+
+pub one_line : (cs : List ℕ) → has 10 cs ≡ false → has 13 cs ≡ false → lines_of cs ≡ cs ∷ []
+one_line cs h k = line_alone cs (all cs h k)
+  where
+    all : (cs : List ℕ) → has 10 cs ≡ false → has 13 cs ≡ false → InLine cs
+    all [] h k = tt
+    all (c ∷ cs) h k = let a = none_of 10 c cs h in let b = none_of 13 c cs k in (inside c a.0 b.0, all cs a.1 b.1)
+
+joined_onto : (c : ℕ) (lines : List (List ℕ)) → joined (onto_line c lines) ≡ c ∷ joined lines
+joined_onto c [] = refl
+joined_onto c (line ∷ []) = refl
+joined_onto c (line ∷ next ∷ lines) = refl
+
+joined_nil : (t : List ℕ) → joined ([] ∷ lines_of t) ≡ 10 ∷ joined (lines_of t)
+joined_nil t = let s = lines_some t in ap (λ (l : List (List ℕ)). joined ([] ∷ l)) s.2 ∙ ap (λ (l : List (List ℕ)). 10 ∷ joined l) (sym s.2)
+
+-- without a carriage return, they joined are the text
+pub joined_lines : (t : List ℕ) → has 13 t ≡ false → joined (lines_of t) ≡ t
+joined_lines [] h = refl
+joined_lines (c ∷ cs) h = let n = none_of 13 c cs h in by (eqb c 10) (eqb c 13) refl n.0 (joined_lines cs n.1)
+  where
+    by : (a b : Bool) → eqb c 10 ≡ a → b ≡ false → joined (lines_of cs) ≡ cs
+        → joined (cond a ([] ∷ lines_of cs) (cond b (cond (eqb (get_or cs 0 0) 10) (lines_of cs) ([] ∷ lines_of cs)) (onto_line c (lines_of cs)))) ≡ c ∷ cs
+    by true b e f r = let is : 10 ≡ c = grind (arith, nat_tests) in joined_nil cs ∙ ap (λ (l : List ℕ). 10 ∷ l) r ∙ ap (λ (x : ℕ). x ∷ cs) is
+    by false true e f r = absurd (cc)
+    by false false e f r = joined_onto c (lines_of cs) ∙ ap (λ (l : List ℕ). c ∷ l) r
+
+-- a text with a line feed in it
+onto_append : (c : ℕ) (t : List ℕ) (more : List (List ℕ)) → onto_line c (lines_of t ++ more) ≡ onto_line c (lines_of t) ++ more
+onto_append c t more = let s = lines_some t in ap (λ (l : List (List ℕ)). onto_line c (l ++ more)) s.2 ∙ ap (λ (l : List (List ℕ)). onto_line c l ++ more) (sym s.2)
+
+pub lines_append : (x y : List ℕ) → has 13 x ≡ false → lines_of (x ++ (10 ∷ y)) ≡ lines_of x ++ lines_of y
+lines_append [] y h = refl
+lines_append (c ∷ cs) y h = let n = none_of 13 c cs h in by (eqb c 10) (eqb c 13) n.0 (lines_append cs y n.1)
+  where
+    by : (a b : Bool) → b ≡ false → lines_of (cs ++ (10 ∷ y)) ≡ lines_of cs ++ lines_of y
+        → cond a ([] ∷ lines_of (cs ++ (10 ∷ y))) (cond b (cond (eqb (get_or (cs ++ (10 ∷ y)) 0 0) 10) (lines_of (cs ++ (10 ∷ y))) ([] ∷ lines_of (cs ++ (10 ∷ y)))) (onto_line c (lines_of (cs ++ (10 ∷ y)))))
+        ≡ cond a ([] ∷ lines_of cs) (cond b (cond (eqb (get_or cs 0 0) 10) (lines_of cs) ([] ∷ lines_of cs)) (onto_line c (lines_of cs))) ++ lines_of y
+    by true b f r = ap (λ (l : List (List ℕ)). [] ∷ l) r
+    by false true f r = absurd (cc)
+    by false false f r = ap (onto_line c) r ∙ onto_append c cs (lines_of y)
+
+-- ---- an indent
+
+abbrev pub indented : ℕ → List ℕ → List ℕ
+indented n line = blanks n ++ line
+
+pub lines_blanks : (n : ℕ) (t line : List ℕ) (lines : List (List ℕ)) → lines_of t ≡ line ∷ lines → lines_of (blanks n ++ t) ≡ indented n line ∷ lines
+lines_blanks zero t line lines e = e
+lines_blanks (suc n) t line lines e = ap (onto_line 32) (lines_blanks n t line lines e)
+
+pub blanks_alone : (n : ℕ) → lines_of (blanks n) ≡ blanks n ∷ []
+blanks_alone n = ap lines_of (sym (append-nil (blanks n))) ∙ lines_blanks n [] [] [] refl ∙ ap (λ (l : List ℕ). l ∷ []) (append-nil (blanks n))
+
+-- the lines, each but the first indented
+abbrev pub hung : ℕ → List (List ℕ) → List (List ℕ)
+hung n [] = []
+hung n (line ∷ lines) = line ∷ map (indented n) lines
+
+hung_onto : (n c : ℕ) (lines : List (List ℕ)) → onto_line c (hung n lines) ≡ hung n (onto_line c lines)
+hung_onto n c [] = refl
+hung_onto n c (line ∷ lines) = refl
+
+pub lines_lined : (n : ℕ) (cs : List ℕ) → has 13 cs ≡ false → lines_of (lined n cs) ≡ hung n (lines_of cs)
+lines_lined n [] h = refl
+lines_lined n (c ∷ cs) h = let e = none_of 13 c cs h in by (eqb c 10) refl e.0 (lines_lined n cs e.1)
+  where
+    by : (a : Bool) → eqb c 10 ≡ a → eqb c 13 ≡ false → lines_of (lined n cs) ≡ hung n (lines_of cs)
+        → lines_of (cond a (line_break n) (c ∷ []) ++ lined n cs) ≡ hung n (cond a ([] ∷ lines_of cs) (cond (eqb c 13) (cond (eqb (get_or cs 0 0) 10) (lines_of cs) ([] ∷ lines_of cs)) (onto_line c (lines_of cs))))
+    by true e f r =
+        let s = lines_some cs in
+        ap (λ (l : List (List ℕ)). [] ∷ l) (lines_blanks n (lined n cs) s.0 (map (indented n) s.1) (r ∙ ap (hung n) s.2))
+        ∙ ap (λ (l : List (List ℕ)). hung n ([] ∷ l)) (sym s.2)
+    by false e f r =
+        onto c (lined n cs) (inside c e f) ∙ ap (onto_line c) r ∙ hung_onto n c (lines_of cs)
+        ∙ ap (λ b. hung n (cond b (cond (eqb (get_or cs 0 0) 10) (lines_of cs) ([] ∷ lines_of cs)) (onto_line c (lines_of cs)))) (sym f)
+
+no_returns : (n : ℕ) (t : List ℕ) → has 13 (blanks n ++ t) ≡ has 13 t
+no_returns zero t = refl
+no_returns (suc n) t = no_returns n t
+
+pub no_return : (n : ℕ) (cs : List ℕ) → has 13 cs ≡ false → has 13 (lined n cs) ≡ false
+no_return n [] h = refl
+no_return n (c ∷ cs) h = let e = none_of 13 c cs h in by (eqb c 10) e.0 (no_return n cs e.1)
+  where
+    by : (a : Bool) → eqb c 13 ≡ false → has 13 (lined n cs) ≡ false → has 13 (cond a (line_break n) (c ∷ []) ++ lined n cs) ≡ false
+    by true e r = no_returns n (lined n cs) ∙ r
+    by false e r = ap (λ b. b || has 13 (lined n cs)) e ∙ r
+
+-- no line feed, and nothing is indented
+pub lined_flat : (n : ℕ) (cs : List ℕ) → has 10 cs ≡ false → lined n cs ≡ cs
+lined_flat n [] h = refl
+lined_flat n (c ∷ cs) h = let e = none_of 10 c cs h in ap (λ b. cond b (line_break n) (c ∷ []) ++ lined n cs) e.0 ∙ ap (λ (l : List ℕ). c ∷ l) (lined_flat n cs e.1)
+
+-- ---- lines that are all indented
+
+-- and the indent of the closing quotes
+abbrev pub spread : ℕ → List (List ℕ) → List (List ℕ)
+spread n lines = map (indented n) lines ++ blanks n ∷ []
+
+-- on lines of their own
+pub lines_spread : (n : ℕ) (cs line : List ℕ) (lines : List (List ℕ)) → has 13 cs ≡ false → lines_of cs ≡ line ∷ lines
+    → lines_of (line_break n ++ (lined n cs ++ line_break n)) ≡ [] ∷ spread n (line ∷ lines)
+lines_spread n cs line lines h e =
+    let below : lines_of (lined n cs ++ line_break n) ≡ line ∷ spread n lines =
+    lines_append (lined n cs) (blanks n) (no_return n cs h) ∙ ap₂ (λ (k l : List (List ℕ)). k ++ l) (lines_lined n cs h ∙ ap (hung n) e) (blanks_alone n) in
+    ap (λ (l : List (List ℕ)). [] ∷ l) (lines_blanks n (lined n cs ++ line_break n) line (spread n lines) below)
+
+-- the first right after the opening quotes
+pub lines_open : (n : ℕ) (cs : List ℕ) → has 10 cs ≡ false → has 13 cs ≡ false → lines_of (lined n cs ++ line_break n) ≡ cs ∷ blanks n ∷ []
+lines_open n cs h k =
+    ap (λ (l : List ℕ). lines_of (l ++ line_break n)) (lined_flat n cs h) ∙ lines_append cs (blanks n) k ∙ ap₂ (λ (x y : List (List ℕ)). x ++ y) (one_line cs h k) (blanks_alone n)
+
+pub blank_indented : (n : ℕ) (line : List ℕ) → is_blank (indented n line) ≡ is_blank line
+blank_indented zero line = refl
+blank_indented (suc n) line = blank_indented n line
+
+pub blank_blanks : (n : ℕ) → is_blank (blanks n) ≡ true
+blank_blanks zero = refl
+blank_blanks (suc n) = blank_blanks n
+
+indent_indented : (n : ℕ) (line : List ℕ) → indent (indented n line) ≡ n + indent line
+indent_indented zero line = omega arith
+indent_indented (suc n) line = let h = indent_indented n line in omega (arith, h)
+
+indents_spread : (n : ℕ) (lines : List (List ℕ)) → indents (spread n lines) ≡ map (λ k. n + k) (indents lines)
+indents_spread n [] = indents_blank (blanks n) [] (blank_blanks n)
+indents_spread n (line ∷ lines) = by (is_blank line) refl (indents_spread n lines)
+  where
+    by : (b : Bool) → is_blank line ≡ b → indents (spread n lines) ≡ map (λ k. n + k) (indents lines) → indents (indented n line ∷ spread n lines) ≡ map (λ k. n + k) (indents (line ∷ lines))
+    by true e h = indents_blank (indented n line) (spread n lines) (blank_indented n line ∙ e) ∙ h ∙ ap (map (λ k. n + k)) (sym (indents_blank line lines e))
+    by false e h =
+        indents_text (indented n line) (spread n lines) (blank_indented n line ∙ e)
+        ∙ ap₂ (λ (k : ℕ) (l : List ℕ). k ∷ l) (indent_indented n line) h ∙ ap (map (λ k. n + k)) (sym (indents_text line lines e))
+
+least_more : (n x : ℕ) (xs : List ℕ) → least (map (λ k. n + k) (x ∷ xs)) ≡ n + least (x ∷ xs)
+least_more n x [] = refl
+least_more n x (y ∷ ys) = let h = least_more n y ys in omega (arith, h)
+
+pub common_spread : (n : ℕ) (line : List ℕ) (lines : List (List ℕ)) → is_blank line ≡ false → common_indent (spread n (line ∷ lines)) ≡ n + common_indent (line ∷ lines)
+common_spread n line lines h =
+    let e = indents_text line lines h in
+    ap least (indents_spread n (line ∷ lines) ∙ ap (map (λ k. n + k)) e) ∙ least_more n (indent line) (indents lines) ∙ ap (λ (l : List ℕ). n + least l) (sym e)
+
+-- ---- and without it
+
+drop_blanks : (n k : ℕ) (line : List ℕ) → drop (n + k) (blanks n ++ line) ≡ drop k line
+drop_blanks zero k line = let z : 0 + k ≡ k = omega arith in ap (λ (m : ℕ). drop m line) z
+drop_blanks (suc n) k line = let z : suc n + k ≡ suc (n + k) = omega arith in ap (λ (m : ℕ). drop m (blanks (suc n) ++ line)) z ∙ drop_blanks n k line
+
+pub dedented_indented : (n k : ℕ) (line : List ℕ) → k ≤ length line → dedented (n + k) (indented n line) ≡ drop k line
+dedented_indented n k line h =
+    let long : n + k ≤ length (blanks n ++ line) = omega (arith, length-append (blanks n) line, length-replicate {A = ℕ} n 32) in
+    let b : ltb (length (blanks n ++ line)) (n + k) ≡ false = grind (arith, nat_tests) in
+    ap (λ (t : Bool). cond t (blanks n ++ line) (drop (n + k) (blanks n ++ line))) b ∙ drop_blanks n k line
+
+dedented_blanks : (n : ℕ) → dedented (n + 0) (blanks n) ≡ []
+dedented_blanks n = ap (dedented (n + 0)) (sym (append-nil (blanks n))) ∙ dedented_indented n 0 [] (omega arith)
+
+pub dedented_spread : (n : ℕ) (lines : List (List ℕ)) → map (dedented (n + 0)) (spread n lines) ≡ lines ++ [] ∷ []
+dedented_spread n [] = ap (λ (l : List ℕ). l ∷ []) (dedented_blanks n)
+dedented_spread n (line ∷ lines) = ap₂ (λ (l : List ℕ) (ls : List (List ℕ)). l ∷ ls) (dedented_indented n 0 line (omega arith)) (dedented_spread n lines)

@@ -1,0 +1,7 @@
+use Rattle.std.proofs.Common.{◌≡◌, false, length, drop}
+use Rattle.std.specs.Str.{chars}
+use Rattle.graphql_layout.specs.inner.Blocks.{ends_in_mark}
+use Rattle.graphql_layout.proofs.blocks.ends_in_mark.Given as goal
+
+abbrev pub invariant-loop-c : goal.invariant-loop-c
+invariant-loop-c l = ends_in_mark l.ends (drop (length l.yielded) (chars l.value)) ≡ ends_in_mark false (chars l.value)

@@ -1,0 +1,89 @@
+-- A text with the tokens of what is shown makes the document again.
+use Rattle.std.proofs.Common.{◌≡◌, ℕ, List, [], ◌∷◌, ◌++◌, refl, sym, ap, ◌∙◌, subst}
+use Rattle.std.proofs.lemmas.List.{map-append}
+use Rattle.std.specs.Str.{chars, IsUtf8}
+use Rattle.graphql_tokens.specs.tokens.Cuts.{EndsOnce, HasNoFault}
+use Rattle.graphql_tokens.specs.tokens.Edition.{Current}
+use Rattle.graphql_tokens.specs.tokens.Proper.{AreProperButFaults}
+use Rattle.graphql_tokens.specs.tokens.Token.{Bare, Token}
+use Rattle.graphql_tokens.specs.declared.lexer.TokenKind.TheVariants.{End}
+use Rattle.graphql_tokens.proofs.Editions.{no_fault}
+use Rattle.graphql_tokens.proofs.Lists.{cuts_ends}
+use Rattle.graphql_tokens.proofs.Propers.{cuts_proper, text_scalars}
+use Rattle.graphql_layout.specs.texts.SameTokens.{bare_end, HasTokens}
+use Rattle.graphql_layout.proofs.Joined.{spells_of, proper_of}
+use Rattle.graphql_reading.specs.grammar.Fronts.{bares}
+use Rattle.graphql_reading.specs.grammar.Limits.{Limits}
+use Rattle.graphql_reading.specs.grammar.Places.{nowhere}
+use Rattle.graphql_reading.specs.reading.Outcome.{Reader}
+use Rattle.graphql_reading.proofs.TokenTests.{the_end-is}
+use Rattle.graphql_grammar.proofs.Alike.{break-alike}
+use Rattle.graphql_grammar.proofs.Languages.{IsRead, is-read-by}
+use Rattle.graphql_grammar.specs.answers.Answers.{AreTheDefinitions}
+use Rattle.graphql_grammar.specs.answers.Language.{Language, grammar}
+use Rattle.graphql_printer.specs.Printed.{IsDocumentOf, MakesTheSame}
+use Rattle.graphql_printer.specs.Rewritten.{AreSound}
+use Rattle.graphql_printer.specs.inner.SpelledTexts.{AreSpellings}
+use Rattle.graphql_printer.proofs.Reprints.{AreSpelled, Again}
+use Rattle.graphql_printer.proofs.SpelledTexts.{one_cut}
+
+the_end : Token
+the_end = record { bare = bare_end; start = 0; pos = nowhere }
+
+pub makes_the_same : {D Document T : Type 0} (language : Language D Document) (reader : Limits → Reader (List D)) → IsRead language reader → (made_of : List D → T) (limits : Limits) (bs : List Bare) (ds es : List D)
+    → Again (language.definitions Current limits) language.placeless bs es → AreSound language es → made_of (language.placeless ds) ≡ made_of (language.placeless es)
+    → (printed : List ℕ) → IsUtf8 printed → HasTokens printed bs → MakesTheSame language made_of limits ds printed
+unfolding the_end
+makes_the_same language reader read made_of limits bs ds es again sound same printed utf8 has =
+    let reads = is-read-by language reader read in
+    let ys = again.tokens ++ the_end ∷ [] in
+    let us = has.0 in
+    let phrase : grammar language Current limits ys again.tree = record { value = (again.tree, the_end); holds = record { front = again.tokens; back = the_end ∷ []; joined = refl; first = again.holds; second = (refl, refl) }; is = refl } in
+    let alike : bares ys ≡ bares us = map-append (λ (t : Token). t.bare) again.tokens (the_end ∷ []) ∙ ap (λ (l : List Bare). l ++ bare_end ∷ []) again.are ∙ sym has.2 in
+    let rests = reads.bare limits ys in
+    let t = rests.has_tree us alike again.tree phrase in
+    let equal : language.placeless es ≡ language.placeless t.0 = sym again.same ∙ rests.same_tree us alike again.tree t.0 phrase t.1 in
+    let breaks = break-alike language read.judges es t.0 equal in
+    let ends : EndsOnce us = cuts_ends Current [] (chars printed) us has.1 in
+    let proper : AreProperButFaults us = cuts_proper [] (chars printed) us (text_scalars printed utf8) has.1 in
+    record {
+      other_definitions = t.0;
+      tree = λ vs c. subst (λ (l : List Token). AreTheDefinitions language limits l t.0) (one_cut printed us vs has.1 c) (reads.only limits us ends proper t.0 t.1);
+      sound = (breaks.unbroken sound.0, breaks.complete sound.1);
+      same = same ∙ ap made_of equal;
+    }
+
+-- ---- the tokens of a text that has a tree
+
+-- the tokens before the end are spelled as their kinds are
+front_spelled : (front : List Token) (last : Token) → EndsOnce (front ++ last ∷ []) → HasNoFault (front ++ last ∷ []) → AreProperButFaults (front ++ last ∷ []) → AreSpelled front
+front_spelled [] last e n p = tt
+front_spelled (t ∷ []) last e n p = (spells_of t.bare.kind t.bare.spelling e.0 (proper_of t n.0 p.0), tt)
+front_spelled (t ∷ u ∷ front) last e n p = (spells_of t.bare.kind t.bare.spelling e.0 (proper_of t n.0 p.0), front_spelled (u ∷ front) last e.1 n.1 p.1)
+
+pub record HasPhrase {D Document : Type 0} (language : Language D Document) (limits : Limits) (ds : List D) : Type 0 where
+  pub tokens : List Token
+  pub holds : language.definitions Current limits tokens ds
+  pub spelled : AreSpelled tokens
+
+-- the definitions of a text have tokens with spellings
+pub of_text : {D Document : Type 0} (language : Language D Document) (limits : Limits) (text : List ℕ) (document : Document) (of : IsDocumentOf language limits text document) → HasPhrase language limits of.definitions
+of_text language limits text document of =
+    let h = of.tree.within in
+    let whole : of.tokens ≡ h.holds.front ++ h.value.1 ∷ [] = h.holds.joined ∙ ap (λ (l : List Token). h.holds.front ++ l) h.holds.second.0 in
+    let ends : EndsOnce of.tokens = cuts_ends Current [] (chars text) of.tokens of.cut in
+    let proper : AreProperButFaults of.tokens = cuts_proper [] (chars text) of.tokens (text_scalars text of.utf8) of.cut in
+    let is_end : h.value.1.bare.kind ≡ End = ap (λ (b : Bare). b.kind) (the_end-is h.value.1.bare h.holds.second.1) in
+    record {
+      tokens = h.holds.front;
+      holds = subst (λ (l : List _). language.definitions Current limits h.holds.front l) (sym h.is) h.holds.first;
+      spelled = front_spelled h.holds.front h.value.1 (subst EndsOnce whole ends) (no_fault h.holds.front h.value.1 (subst EndsOnce whole ends) is_end) (subst AreProperButFaults whole proper);
+    }
+
+-- what is shown of such tokens has spellings
+pub again_spellings : {A : Type 0} (p : _) (f : A → A) (bs : List Bare) (a : A) → Again p f bs a → AreSpellings bs
+again_spellings p f bs a again = subst AreSpellings again.are (go again.tokens again.spelled)
+  where
+    go : (ts : List Token) → AreSpelled ts → AreSpellings (bares ts)
+    go [] h = tt
+    go (t ∷ ts) h = (h.0, go ts h.1)

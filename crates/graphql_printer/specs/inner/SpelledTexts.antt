@@ -1,0 +1,15 @@
+-- Bare tokens with spellings, and the texts that have them.
+use Rattle.std.specs.Prelude.{◌≡◌, ℕ, List}
+use Rattle.std.specs.List.{AllByRecursion}
+use Rattle.graphql_tokens.specs.tokens.Proper.{Spells}
+use Rattle.graphql_tokens.specs.tokens.Token.{Bare}
+use Rattle.graphql_layout.specs.texts.SameTokens.{HasTokens}
+use Rattle.graphql_printer.specs.inner.Shown.{spelled}
+
+-- each is spelled as its kind is
+abbrev pub AreSpellings : List Bare → Type 0
+AreSpellings bs = AllByRecursion (λ b. Spells b.kind b.spelling) bs
+
+-- where the first text is such tokens with blanks, the other has these tokens
+abbrev pub KeepsTokens : List ℕ → List ℕ → Type 0
+KeepsTokens text other = (bs : List Bare) → AreSpellings bs → text ≡ spelled bs → HasTokens other bs

@@ -1,0 +1,86 @@
+//! Nodes that are printed as tokens, each with a blank after it.
+ghost use Rattle.std.specs.Prelude.{◌≡◌, ◌++◌, ◌∷◌, [], OnOk, List, string_bytes, codes, map, option_map, flat_map};
+ghost use Rattle.graphql_tokens.specs.declared.lexer.TokenKind.TheVariants.{Punct};
+ghost use Rattle.graphql_syntax.specs.trees.Parts.{placed};
+ghost use Rattle.graphql_printer.specs.inner.Prints.{Prints};
+ghost use Rattle.graphql_printer.specs.inner.Shown.{word as word_token, shown_between, shown_node, shown_part};
+
+use graphql_parser::Positioned;
+use std::alloc::AllocError;
+
+// What a call that prints answers: an error says that memory was refused.
+pub type Outcome = Result<(), AllocError>;
+
+/// What is printed as some tokens.
+pub trait Print {
+    ghost use Rattle.graphql_printer.specs.inner.Prints.{Form};
+
+    /// The tree of a node, and the tokens that a tree is shown by.
+    ghost form: { Form Self };
+
+    /// Prints the node.
+    fn print(&self, out: &mut String) -> Outcome
+        ensures { Prints result (string_bytes out.old) (string_bytes out.new)
+            (form.shown (form.tree self.now)) };
+}
+
+// A token, and a blank after it.
+fn token(out: &mut String, spelling: &str) -> Outcome
+    ensures { OnOk result (string_bytes out.new ≡ string_bytes out.old
+        ++ (spelling.now ++ codes " ")) }
+{
+    out.push_str(spelling)?;
+    out.push(' ')
+}
+
+/// A name or a keyword.
+pub fn word(out: &mut String, name: &str) -> Outcome
+    ensures { Prints result (string_bytes out.old) (string_bytes out.new)
+        (word_token name.now ∷ []) }
+{
+    token(out, name)
+}
+
+/// A punctuator.
+pub fn sign(out: &mut String, sign: &str) -> Outcome
+    ensures { Prints result (string_bytes out.old) (string_bytes out.new)
+        (record { kind = Punct; spelling = sign.now } ∷ []) }
+{
+    token(out, sign)
+}
+
+/// A node, where there is one.
+pub fn maybe<N: Print>(out: &mut String, node: &Option<Positioned<N>>) -> Outcome
+    ensures { Prints result (string_bytes out.old) (string_bytes out.new)
+        (shown_part (shown_node N.form.shown) (option_map (placed N.form.tree) node.now)) }
+{
+    match node {
+        Some(node) => node.node.print(out),
+        None => Ok(()),
+    }
+}
+
+/// Nodes, one after another.
+pub fn each<N: Print>(out: &mut String, nodes: &Vec<Positioned<N>>) -> Outcome
+    ensures { Prints result (string_bytes out.old) (string_bytes out.new)
+        (flat_map (shown_node N.form.shown) (map (placed N.form.tree) nodes.now.items)) }
+{
+    for node in nodes {
+        node.node.print(out)?;
+    }
+    Ok(())
+}
+
+/// Nodes in parentheses; nothing for none.
+pub fn in_parentheses<N: Print>(out: &mut String, nodes: &Vec<Positioned<N>>) -> Outcome
+    ensures { Prints result (string_bytes out.old) (string_bytes out.new)
+        (shown_between "(" ")" (shown_node N.form.shown)
+        (map (placed N.form.tree) nodes.now.items)) }
+{
+    if nodes.is_empty() {
+        return Ok(());
+    }
+    sign(out, "(")?;
+    each(out, nodes)?;
+    sign(out, ")")
+}

@@ -1,0 +1,379 @@
+//! Schema files, printed as tokens.
+ghost use Rattle.std.specs.Prelude.{◌≡◌, [], IfOk, flat_map, map, option_map, string_bytes};
+ghost use Rattle.std.specs.Str.{chars};
+ghost use Rattle.graphql_layout.specs.inner.Blocks.{may_be_block as may_be_block_of};
+ghost use Rattle.graphql_syntax.specs.trees.Parts.{placed};
+ghost use Rattle.graphql_syntax.specs.calls.Words.{operation_word as operation_word_of};
+ghost use Rattle.graphql_schema_trees.specs.trees.SchemaViews.{definition_tree, directive_definition_tree, enum_value_tree, field_definition_tree, input_value_tree, kind_tree, schema_definition_tree, schema_document_tree, type_definition_tree};
+ghost use Rattle.graphql_schemas.specs.grammar.Documents.{document_of};
+ghost use Rattle.graphql_schemas.specs.grammar.Schemas.{schemas};
+ghost use Rattle.graphql_printer.specs.Printed.{IsPrinted};
+ghost use Rattle.graphql_printer.specs.inner.PrintedRoots.{and_then, are_none as are_none_of, goes_before as goes_before_of, shown_maybe_root};
+ghost use Rattle.graphql_printer.specs.inner.Prints.{Prints, form};
+ghost use Rattle.graphql_printer.specs.inner.Shown.{shown_between, shown_node};
+ghost use Rattle.graphql_printer.specs.inner.ShownSchemas.{Root, shown_text, shown_description, shown_parameters, shown_name, shown_input_value, shown_field, shown_enum_value, kind_word as kind_word_of, shown_interfaces, shown_contents, shown_extend, shown_type_definition, with_root, roots_of, shown_root, shown_schema, shown_repeatable, shown_location, shown_directive_definition, shown_definition, shown_file};
+
+use crate::documents::lay_out;
+use crate::lists::{in_braces, separated};
+use crate::nodes::{Outcome, Print, each, in_parentheses, sign, word};
+use crate::parts::print_default;
+use crate::places::stands_before;
+use graphql_layout::blocks::{may_be_block, push_block};
+use graphql_parser::Positioned;
+use graphql_parser::types::{
+    DirectiveDefinition, DirectiveLocation, EnumValueDefinition, FieldDefinition,
+    InputValueDefinition, OperationType, SchemaDefinition, ServiceDocument, TypeDefinition,
+    TypeKind, TypeSystemDefinition,
+};
+use graphql_parser::value::{Name, ValueView};
+use std::alloc::{AllocError, Global};
+
+/// The schema file as a text, laid out as [`format_schema`](crate::format_schema) lays out others: its definitions and
+/// extensions in their order, the roots of a schema in the order of their places, descriptions as block strings where these keep
+/// them, and else as strings in quotes. A tree keeps no comments, so there are none.
+///
+/// Each tree is printed, also one that no text has, as that of a caller with a name that is none: where such a part makes a bad
+/// token, the text is not laid out. It fails only where memory runs out.
+pub fn print_schema(alloc: Global, document: &ServiceDocument) -> Result<String, AllocError>
+    // If the tree is that of a text within some limits, the printed text has the same within them, but for places.
+    ensures { IfOk result (λ s. IsPrinted schemas document_of document.now (string_bytes s)) }
+{
+    let mut tokens = String::new(alloc);
+    print_file(&mut tokens, document)?;
+    lay_out(alloc, tokens)
+}
+
+// The definitions and extensions in their order.
+fn print_file(out: &mut String, document: &ServiceDocument) -> Outcome
+    ensures { Prints result (string_bytes out.old) (string_bytes out.new)
+        (shown_file (schema_document_tree document.now)) }
+{
+    for definition in &document.definitions {
+        print_definition(out, definition)?;
+    }
+    Ok(())
+}
+
+fn print_definition(out: &mut String, definition: &TypeSystemDefinition) -> Outcome
+    ensures { Prints result (string_bytes out.old) (string_bytes out.new)
+        (shown_definition (definition_tree definition.now)) }
+{
+    match definition {
+        TypeSystemDefinition::Schema(schema) => print_schema_definition(out, &schema.node),
+        TypeSystemDefinition::TypeDef(ty) => print_type_definition(out, &ty.node),
+        TypeSystemDefinition::Directive(directive) => print_directive(out, &directive.node),
+    }
+}
+
+// The keyword of an extension, where it is one.
+fn print_extend(out: &mut String, is_extension: bool) -> Outcome
+    ensures { Prints result (string_bytes out.old) (string_bytes out.new)
+        (shown_extend is_extension) }
+{
+    if !is_extension {
+        return Ok(());
+    }
+    word(out, "extend")
+}
+
+fn print_schema_definition(out: &mut String, schema: &SchemaDefinition) -> Outcome
+    ensures { Prints result (string_bytes out.old) (string_bytes out.new)
+        (shown_schema (schema_definition_tree schema.now)) }
+{
+    print_description(out, &schema.description, 0)?;
+    print_extend(out, schema.extend)?;
+    word(out, "schema")?;
+    each(out, &schema.directives)?;
+    print_roots(out, schema)
+}
+
+// A kind of operation, and the name of the type that it begins at, where there is one.
+type Root<'a> = (OperationType, &'a Option<Positioned<Name>>);
+
+type Roots<'a> = (Root<'a>, Root<'a>, Root<'a>);
+
+// The roots in the order of their places; nothing for none.
+fn print_roots(out: &mut String, schema: &SchemaDefinition) -> Outcome
+    ensures { Prints result (string_bytes out.old) (string_bytes out.new)
+        (shown_between "{" "}" shown_root (roots_of (schema_definition_tree schema.now))) }
+{
+    let roots = ordered_roots(schema);
+    if are_none(roots) {
+        return Ok(());
+    }
+    sign(out, "{")?;
+    print_root(out, roots.0)?;
+    print_root(out, roots.1)?;
+    print_root(out, roots.2)?;
+    sign(out, "}")
+}
+
+fn are_none(roots: Roots<'_>) -> bool
+    ensures { result ≡ are_none_of roots.entry.0.1.now roots.entry.1.1.now roots.entry.2.1.now }
+{
+    roots.0.1.is_none() && roots.1.1.is_none() && roots.2.1.is_none()
+}
+
+fn ordered_roots(schema: &SchemaDefinition) -> Roots<'_>
+    ensures { and_then result.0.0 result.0.1.now
+        (and_then result.1.0 result.1.1.now (and_then result.2.0 result.2.1.now []))
+        ≡ roots_of (schema_definition_tree schema.now) }
+{
+    let query = (OperationType::Query, &schema.query);
+    let mutation = (OperationType::Mutation, &schema.mutation);
+    let subscription = (OperationType::Subscription, &schema.subscription);
+    if goes_before(&schema.mutation, &schema.query) {
+        with_third(mutation, query, subscription)
+    } else {
+        with_third(query, mutation, subscription)
+    }
+}
+
+// The third root goes before the first whose place is larger.
+fn with_third<'a>(first: Root<'a>, second: Root<'a>, third: Root<'a>) -> Roots<'a>
+    ensures { and_then result.0.0 result.0.1.now
+        (and_then result.1.0 result.1.1.now (and_then result.2.0 result.2.1.now []))
+        ≡ with_root third.entry.0 third.entry.1.now
+        (and_then first.entry.0 first.entry.1.now
+        (and_then second.entry.0 second.entry.1.now [])) }
+{
+    if goes_before(third.1, first.1) {
+        (third, first, second)
+    } else if goes_before(third.1, second.1) {
+        (first, third, second)
+    } else {
+        (first, second, third)
+    }
+}
+
+// Whether both are there, and the place of the first is smaller.
+fn goes_before(one: &Option<Positioned<Name>>, other: &Option<Positioned<Name>>) -> bool
+    ensures { result ≡ goes_before_of one.now other.now }
+{
+    match (one, other) {
+        (Some(one), Some(other)) => stands_before(one.pos, other.pos),
+        _ => false,
+    }
+}
+
+fn print_root(out: &mut String, root: Root<'_>) -> Outcome
+    ensures { Prints result (string_bytes out.old) (string_bytes out.new)
+        (shown_maybe_root root.entry.0 root.entry.1.now) }
+{
+    let Some(name) = root.1 else {
+        return Ok(());
+    };
+    word(out, operation_word(root.0))?;
+    sign(out, ":")?;
+    word(out, name.node.as_str())
+}
+
+fn print_type_definition(out: &mut String, ty: &TypeDefinition) -> Outcome
+    ensures { Prints result (string_bytes out.old) (string_bytes out.new)
+        (shown_type_definition (type_definition_tree ty.now)) }
+{
+    print_description(out, &ty.description, 0)?;
+    print_extend(out, ty.extend)?;
+    word(out, kind_word(&ty.kind))?;
+    word(out, ty.name.node.as_str())?;
+    print_interfaces(out, &ty.kind)?;
+    each(out, &ty.directives)?;
+    print_contents(out, &ty.kind)
+}
+
+fn kind_word(kind: &TypeKind) -> &'static str
+    ensures { result.now ≡ kind_word_of (kind_tree kind.now) }
+{
+    match kind {
+        TypeKind::Scalar => "scalar",
+        TypeKind::Object(_) => "type",
+        TypeKind::Interface(_) => "interface",
+        TypeKind::Union(_) => "union",
+        TypeKind::Enum(_) => "enum",
+        TypeKind::InputObject(_) => "input",
+    }
+}
+
+fn print_interfaces(out: &mut String, kind: &TypeKind) -> Outcome
+    ensures { Prints result (string_bytes out.old) (string_bytes out.new)
+        (shown_interfaces (kind_tree kind.now)) }
+{
+    match kind {
+        TypeKind::Object(object) => separated(out, "implements", "&", &object.implements),
+        TypeKind::Interface(interface) => separated(out, "implements", "&", &interface.implements),
+        _ => Ok(()),
+    }
+}
+
+// What stands after the directives of a type.
+fn print_contents(out: &mut String, kind: &TypeKind) -> Outcome
+    ensures { Prints result (string_bytes out.old) (string_bytes out.new)
+        (shown_contents (kind_tree kind.now)) }
+{
+    match kind {
+        TypeKind::Scalar => Ok(()),
+        TypeKind::Object(object) => in_braces(out, &object.fields),
+        TypeKind::Interface(interface) => in_braces(out, &interface.fields),
+        TypeKind::Union(union) => separated(out, "=", "|", &union.members),
+        TypeKind::Enum(values) => in_braces(out, &values.values),
+        TypeKind::InputObject(input) => in_braces(out, &input.fields),
+    }
+}
+
+// The keyword of a kind of operation.
+fn operation_word(kind: OperationType) -> &'static str
+    ensures { result.now ≡ operation_word_of kind }
+{
+    match kind {
+        OperationType::Query => "query",
+        OperationType::Mutation => "mutation",
+        OperationType::Subscription => "subscription",
+    }
+}
+
+// A description that stands so many blanks deep.
+fn print_description(
+    out: &mut String,
+    description: &Option<Positioned<String>>,
+    indent: usize,
+) -> Outcome
+    ensures { Prints result (string_bytes out.old) (string_bytes out.new)
+        (shown_description indent (option_map (placed string_bytes) description.now)) }
+{
+    match description {
+        Some(text) => print_text(out, text.node.as_str(), indent),
+        None => Ok(()),
+    }
+}
+
+// A text as a block string where that keeps it, and else in quotes.
+fn print_text(out: &mut String, text: &str, indent: usize) -> Outcome
+    ensures { Prints result (string_bytes out.old) (string_bytes out.new) (shown_text indent text.now) }
+{
+    if is_in_block(text) {
+        push_block(out, text, indent)?;
+        return out.push(' ');
+    }
+    let shown = ValueView::String(text);
+    write!(out, "{shown} ")
+}
+
+fn is_in_block(text: &str) -> bool
+    ensures { result ≡ may_be_block_of (chars text.now) }
+{
+    !text.is_empty() && may_be_block(text)
+}
+
+impl Print for Name {
+    ghost form = { form (λ name. name) shown_name };
+
+    fn print(&self, out: &mut String) -> Outcome {
+        word(out, self.as_str())
+    }
+}
+
+impl Print for FieldDefinition {
+    ghost form = { form field_definition_tree shown_field };
+
+    fn print(&self, out: &mut String) -> Outcome {
+        print_description(out, &self.description, 2)?;
+        word(out, self.name.node.as_str())?;
+        print_parameters(out, &self.arguments, 4)?;
+        sign(out, ":")?;
+        self.ty.node.print(out)?;
+        each(out, &self.directives)
+    }
+}
+
+impl Print for InputValueDefinition {
+    ghost form = { form input_value_tree (shown_input_value 2) };
+
+    fn print(&self, out: &mut String) -> Outcome {
+        print_input_value(out, self, 2)
+    }
+}
+
+fn print_input_value(out: &mut String, value: &InputValueDefinition, indent: usize) -> Outcome
+    ensures { Prints result (string_bytes out.old) (string_bytes out.new)
+        (shown_input_value indent (input_value_tree value.now)) }
+{
+    print_description(out, &value.description, indent)?;
+    word(out, value.name.node.as_str())?;
+    sign(out, ":")?;
+    value.ty.node.print(out)?;
+    print_default(out, &value.default_value)?;
+    each(out, &value.directives)
+}
+
+// The arguments of a field, which stand so many blanks deep where they are described.
+fn print_parameters(
+    out: &mut String,
+    values: &Vec<Positioned<InputValueDefinition>>,
+    indent: usize,
+) -> Outcome
+    ensures { Prints result (string_bytes out.old) (string_bytes out.new)
+        (shown_parameters indent (map (placed input_value_tree) values.now.items)) }
+{
+    if values.is_empty() {
+        return Ok(());
+    }
+    sign(out, "(")?;
+    print_input_values(out, values, indent)?;
+    sign(out, ")")
+}
+
+fn print_input_values(
+    out: &mut String,
+    values: &Vec<Positioned<InputValueDefinition>>,
+    indent: usize,
+) -> Outcome
+    ensures { Prints result (string_bytes out.old) (string_bytes out.new)
+        (flat_map (shown_node (shown_input_value indent))
+        (map (placed input_value_tree) values.now.items)) }
+{
+    for value in values {
+        print_input_value(out, &value.node, indent)?;
+    }
+    Ok(())
+}
+
+impl Print for EnumValueDefinition {
+    ghost form = { form enum_value_tree shown_enum_value };
+
+    fn print(&self, out: &mut String) -> Outcome {
+        print_description(out, &self.description, 2)?;
+        word(out, self.value.node.as_str())?;
+        each(out, &self.directives)
+    }
+}
+
+fn print_directive(out: &mut String, directive: &DirectiveDefinition) -> Outcome
+    ensures { Prints result (string_bytes out.old) (string_bytes out.new)
+        (shown_directive_definition (directive_definition_tree directive.now)) }
+{
+    print_description(out, &directive.description, 0)?;
+    word(out, "directive")?;
+    sign(out, "@")?;
+    word(out, directive.name.node.as_str())?;
+    in_parentheses(out, &directive.arguments)?;
+    print_repeatable(out, directive.is_repeatable)?;
+    separated(out, "on", "|", &directive.locations)
+}
+
+fn print_repeatable(out: &mut String, is_repeatable: bool) -> Outcome
+    ensures { Prints result (string_bytes out.old) (string_bytes out.new)
+        (shown_repeatable is_repeatable) }
+{
+    if !is_repeatable {
+        return Ok(());
+    }
+    word(out, "repeatable")
+}
+
+impl Print for DirectiveLocation {
+    ghost form = { form (λ location. location) shown_location };
+
+    fn print(&self, out: &mut String) -> Outcome {
+        word(out, self.as_str())
+    }
+}
