@@ -15,7 +15,7 @@ use Rattle.graphql_tokens.specs.declared.lexer.Token.{Token as LentToken}
 use Rattle.graphql_tokens.specs.declared.lexer.TokenKind.{TokenKind}
 use Rattle.graphql_tokens.specs.declared.lexer.TokenKind.TheVariants as kinds
 use Rattle.graphql_tokens.proofs.Meanings.{means_content}
-use Rattle.graphql_grammar.specs.grammar.Values.{inside}
+use Rattle.graphql_tokens.specs.tokens.Alike.{inside}
 use Rattle.graphql_grammar.specs.reading.Values.{string_text, string_at}
 use Rattle.graphql_check.specs.Checked.{rest_of}
 

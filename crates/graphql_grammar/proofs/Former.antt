@@ -5,7 +5,8 @@ use Rattle.graphql_tokens.specs.tokens.Edition.{Former, Current}
 use Rattle.graphql_tokens.specs.tokens.Token.{Bare}
 use Rattle.graphql_tokens.proofs.Contents.{former_means}
 use Rattle.graphql_grammar.specs.grammar.Arguments.{an_argument, arguments, a_directive, directives, a_default}
-use Rattle.graphql_grammar.specs.grammar.Values.{inside, StringStands, a_string, a_word, a_number, a_block, a_variable, a_simple_value, value}
+use Rattle.graphql_tokens.specs.tokens.Alike.{inside}
+use Rattle.graphql_grammar.specs.grammar.Values.{StringStands, a_string, a_word, a_number, a_block, a_variable, a_simple_value, value}
 use Rattle.graphql_reading.specs.grammar.Relations.{one}
 use Rattle.graphql_reading.specs.grammar.Tests.{punct, any_name, any_string}
 use Rattle.graphql_reading.proofs.Includes.{Includes, includes-same, includes-meaning, includes-then, includes-either, includes-mapped, includes-opt, includes-star, includes-plus, includes-between, includes-after}

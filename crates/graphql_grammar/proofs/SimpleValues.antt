@@ -16,7 +16,7 @@ use Rattle.graphql_tokens.specs.declared.lexer.TokenKind.TheVariants as kinds
 use Rattle.graphql_tokens.proofs.Meanings.{content_means, means_content}
 use Rattle.graphql_reading.specs.grammar.Fronts.{syntax}
 use Rattle.graphql_tokens.specs.tokens.Kinds.{is_number, is_string, is_block}
-use Rattle.graphql_grammar.specs.grammar.Values.{inside}
+use Rattle.graphql_tokens.specs.tokens.Alike.{inside}
 use Rattle.graphql_reading.specs.reading.Outcome.{Read, Refused}
 use Rattle.graphql_reading.specs.reading.Spelled.{IsQuoted}
 use Rattle.graphql_grammar.specs.reading.Values.{string_value_at, block_value_at}

@@ -5,7 +5,8 @@ use Rattle.graphql_tokens.specs.inner.Contents.{content_value}
 use Rattle.graphql_tokens.specs.tokens.Edition.{Current}
 use Rattle.graphql_tokens.specs.tokens.Token.{Bare}
 use Rattle.graphql_tokens.proofs.Meanings.{content_means, means_content}
-use Rattle.graphql_grammar.specs.grammar.Values.{inside, StringStands, BlockStands}
+use Rattle.graphql_tokens.specs.tokens.Alike.{inside}
+use Rattle.graphql_grammar.specs.grammar.Values.{StringStands, BlockStands}
 use Rattle.graphql_grammar.specs.reading.Values.{string_text, block_text}
 use Rattle.graphql_reading.proofs.Meaning.{Decides}
 

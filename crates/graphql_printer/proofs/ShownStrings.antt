@@ -17,7 +17,8 @@ use Rattle.graphql_tokens.specs.tokens.Token.{Bare}
 use Rattle.graphql_tokens.proofs.Propers.{text_scalars}
 use Rattle.graphql_syntax.specs.trees.ValueText.{letters, unit_with, unit_for, content_for, string_text}
 use Rattle.graphql_syntax.proofs.StringTexts.{content_means}
-use Rattle.graphql_grammar.specs.grammar.Values.{inside, StringStands, BlockStands}
+use Rattle.graphql_tokens.specs.tokens.Alike.{inside}
+use Rattle.graphql_grammar.specs.grammar.Values.{StringStands, BlockStands}
 use Rattle.graphql_printer.specs.inner.Shown.{quoted}
 use Rattle.graphql_printer.proofs.Scalars.{AreScalars, scalars_append, scalars_split, scalars_all, string_scalars, block_scalars}
 

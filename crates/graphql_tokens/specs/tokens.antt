@@ -1,4 +1,5 @@
 -- Public: places, and the token list of a text.
+pub mod Alike
 pub mod BlockText
 pub mod Blocks
 pub mod Calculator

@@ -1,8 +1,8 @@
 -- Values, and their places (GraphQL October 2021, section 2.9).
-use Rattle.std.specs.Prelude.{◌≡◌, ℕ, zero, suc, Bool, true, false, ◌-◌, ◌&&◌, List, [], ◌∷◌, length, take, drop, map}
+use Rattle.std.specs.Prelude.{◌≡◌, ℕ, zero, suc, Bool, true, false, ◌&&◌, List, [], ◌∷◌, map}
 use Rattle.std.specs.Str.{chars, encode_utf8_all}
 use Rattle.graphql_tokens.specs.declared.pos.Positioned.{Positioned}
-use Rattle.graphql_tokens.specs.tokens.BlockText.{block_value}
+use Rattle.graphql_tokens.specs.tokens.Alike.{inside, value_of_block}
 use Rattle.graphql_tokens.specs.tokens.Edition.{Edition}
 use Rattle.graphql_tokens.specs.tokens.Strings.{StringMeans}
 use Rattle.graphql_tokens.specs.tokens.Token.{Bare, Token}
@@ -47,17 +47,13 @@ number_of t = at t (number t.bare.spelling)
 abbrev pub a_number : Rel Value
 a_number = mapped number_of (one any_number)
 
--- what is left without so many bytes at each end
-abbrev pub inside : ℕ → List ℕ → List ℕ
-inside quotes spelling = drop quotes (take (length spelling - quotes) spelling)
-
 -- the bytes of the one value of a string's content
 abbrev pub StringStands : Edition → Bare → List ℕ → Type 0
 StringStands edition t bytes = (value : List ℕ) × StringMeans edition (chars (inside 1 t.spelling)) value × (bytes ≡ encode_utf8_all value)
 
 -- the bytes of the value of a block string's raw text
 abbrev pub BlockStands : Bare → List ℕ → Type 0
-BlockStands t bytes = bytes ≡ encode_utf8_all (block_value (chars (inside 3 t.spelling)))
+BlockStands t bytes = bytes ≡ encode_utf8_all (value_of_block t.spelling)
 
 abbrev pub string_of : Token × List ℕ → Value
 string_of (t, bytes) = at t (string bytes)

@@ -2,11 +2,11 @@
 use Rattle.std.specs.Prelude.{ℕ, zero, suc, Bool, ◌||◌, Option, Some, option_map, List, [], ◌∷◌}
 use Rattle.std.specs.Str.{chars, encode_utf8_all}
 use Rattle.graphql_tokens.specs.inner.Contents.{content_value}
-use Rattle.graphql_tokens.specs.tokens.BlockText.{block_value}
 use Rattle.graphql_tokens.specs.tokens.Token.{Bare}
 use Rattle.graphql_syntax.specs.trees.ValueTree.{Tree}
 use Rattle.graphql_reading.specs.grammar.Tests.{Test, punct, keyword, any_name, name_but, any_number, any_string, any_block}
-use Rattle.graphql_grammar.specs.grammar.Values.{Value, inside, true_of, false_of, null_of, enumeration_of, number_of, string_of, dollar, variable_of, list_of, object_field_of, object_of}
+use Rattle.graphql_tokens.specs.tokens.Alike.{inside, value_of_block}
+use Rattle.graphql_grammar.specs.grammar.Values.{Value, true_of, false_of, null_of, enumeration_of, number_of, string_of, dollar, variable_of, list_of, object_field_of, object_of}
 use Rattle.graphql_reading.specs.reading.Outcome.{Reader, one_at, meaning_at, then_at, mapped_at, choose_at, many_at, deep_at}
 
 -- ---- what stands alone
@@ -27,7 +27,7 @@ abbrev pub string_text : Bare → Option (List ℕ)
 string_text t = option_map encode_utf8_all (content_value (chars (inside 1 t.spelling)))
 
 abbrev pub block_text : Bare → Option (List ℕ)
-block_text t = Some (encode_utf8_all (block_value (chars (inside 3 t.spelling))))
+block_text t = Some (encode_utf8_all (value_of_block t.spelling))
 
 -- what a string, or a block string, stands for
 abbrev pub string_value_at : Reader (List ℕ)

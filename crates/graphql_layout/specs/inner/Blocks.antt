@@ -1,11 +1,12 @@
 -- Values that are written as block strings.
 -- Source: GraphQL October 2021, section 2.9.4 (String Value). How they are laid out is this project's choice: as GraphQL.js 16
 -- prints them.
-use Rattle.std.specs.Prelude.{◌≡◌, ℕ, zero, suc, Bool, false, true, not, ◌-◌, ◌&&◌, ◌||◌, ◌==◌, nat_lt, if◌then◌else◌, List, [], ◌∷◌, ◌++◌, length, take, drop, replicate, codes}
+use Rattle.std.specs.Prelude.{◌≡◌, ℕ, zero, suc, Bool, false, true, not, ◌&&◌, ◌||◌, ◌==◌, nat_lt, if◌then◌else◌, List, [], ◌∷◌, ◌++◌, length, replicate, codes}
 use Rattle.std.specs.List.{list_any}
 use Rattle.std.specs.Str.{byte, chars, encode_utf8_all}
 use Rattle.graphql_tokens.specs.tokens.Blocks.{closes}
-use Rattle.graphql_tokens.specs.tokens.BlockText.{is_blank_char, block_value}
+use Rattle.graphql_tokens.specs.tokens.Alike.{value_of_block}
+use Rattle.graphql_tokens.specs.tokens.BlockText.{is_blank_char}
 use Rattle.graphql_layout.specs.declared.blocks.Form.{Form}
 use Rattle.graphql_layout.specs.declared.blocks.Form.TheVariants.{Inline, Open, Spread}
 
@@ -107,4 +108,4 @@ may_be_block cs =
 
 -- what is left of a block string without its quotes means the value
 abbrev pub HasValue : List ℕ → List ℕ → Type 0
-HasValue spelling value = block_value (chars (drop 3 (take (length spelling - 3) spelling))) ≡ chars value
+HasValue spelling value = value_of_block spelling ≡ chars value
