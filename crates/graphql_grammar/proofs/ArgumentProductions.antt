@@ -36,7 +36,7 @@ pub has-argument : (vars : Bool) → HasPhrase (λ c. an_argument Current vars c
 has-argument vars = has-map (has-pair (has-token name-sample) (has-pair has-colon (has-value vars)))
 
 pub ignores-argument : (vars : Bool) → IgnoresPlaces (λ c. an_argument Current vars c.values) placeless_argument
-ignores-argument vars = ignores-mapped (λ x. refl) (ignores-then (ignores-one any_name) (ignores-then (ignores-one (punct ":")) (ignores-value vars)))
+ignores-argument vars = ignores-mapped (λ x. refl) (ignores-then (ignores-one any_name (λ spelling. refl)) (ignores-then (ignores-one (punct ":") (λ spelling. refl)) (ignores-value vars)))
 
 pub exact-arguments : (vars : Bool) {b : Limits} {f : Test} → ReadsExactly (λ c. arguments Current vars c.values) b f (arguments_at vars b.values)
 exact-arguments vars = exact-between "(" ")" has-close (has-plus (has-argument vars)) (exact-plus (begins-argument vars) (punct-within ")" refl) (exact-argument vars))
@@ -76,7 +76,7 @@ has-directive vars = has-map (has-pair has-at (has-pair (has-token name-sample) 
 pub ignores-directive : (vars : Bool) → IgnoresPlaces (λ c. a_directive Current vars c.values) (unplaced placeless_directive)
 ignores-directive vars =
     ignores-mapped (λ x. ap (λ (l : trees.Arguments). at {A = Directive} (without_place x.0) (record { name = name_of (without_place x.1.0); arguments = l })) (map-given placeless_argument x.1.1))
-    (ignores-then (ignores-one (punct "@")) (ignores-then (ignores-one any_name) (ignores-maybe_arguments vars)))
+    (ignores-then (ignores-one (punct "@") (λ spelling. refl)) (ignores-then (ignores-one any_name (λ spelling. refl)) (ignores-maybe_arguments vars)))
 
 pub exact-directives : (vars : Bool) {b : Limits} {f : Test} → IsSubset f (outside (punct "(")) → IsSubset f (outside (punct "@")) → ReadsExactly (λ c. directives Current vars c.values) b f (directives_at vars b.values)
 exact-directives vars away last = exact-many-ahead {g = outside (punct "(")} (begins-directive vars) (punct-within "@" refl) away last (exact-directive vars itself)
@@ -99,7 +99,7 @@ pub begins-default : BeginsWith (λ c. a_default Current c.values) (punct "=")
 begins-default = begins-after
 
 pub ignores-default : IgnoresPlaces (λ c. a_default Current c.values) bare_node
-ignores-default = ignores-after (punct "=") (ignores-value false)
+ignores-default = ignores-after (punct "=") (λ spelling. refl) (ignores-value false)
 
 pub takes-argument : (vars : Bool) (values : ℕ) → Takes (argument_at vars values)
 takes-argument vars values = takes-one {b = budget values 0} {f = anything} (exact-argument vars) (begins-argument vars)

@@ -3,6 +3,7 @@
 use Rattle.std.proofs.Common.{◌≡◌, ℕ, ◌⊎◌, inl, inr, Result, List, [], ◌∷◌, ◌++◌, refl, sym, ap, ◌∙◌, subst}
 use Rattle.std.specs.Str.{chars}
 use Rattle.graphql_tokens.specs.declared.lexer.TokenKind.TheVariants.{End}
+use Rattle.graphql_tokens.specs.tokens.Alike.{AreAlike}
 use Rattle.graphql_tokens.specs.tokens.Cuts.{Cuts, EndsOnce, HasNoFault, IsCutInto}
 use Rattle.graphql_tokens.specs.tokens.Edition.{Former, Current}
 use Rattle.graphql_tokens.specs.tokens.Proper.{AreProperButFaults}
@@ -12,18 +13,18 @@ use Rattle.graphql_grammar.specs.answers.Answers.{Answers, AreTheDefinitions, Ha
 use Rattle.graphql_grammar.specs.answers.Language.{Language, grammar}
 use Rattle.graphql_grammar.specs.answers.Reads.{ReadsText, ReadsTokens}
 use Rattle.graphql_grammar.specs.declared.error.Error.{Error}
-use Rattle.graphql_grammar.specs.reading.ReadBy.{RefusedHere, IsReadBy}
+use Rattle.graphql_grammar.specs.reading.ReadBy.{RefusedHere, RestsOnAlikeTokens, IsReadBy}
 use Rattle.graphql_grammar.proofs.Alike.{JudgesAlike, break-alike}
-use Rattle.graphql_reading.specs.grammar.Fronts.{IsRefused, RefusedToken, Verdict, without_places, whole}
+use Rattle.graphql_reading.specs.grammar.Fronts.{bares, IsRefused, RefusedToken, Verdict, without_places, whole}
 use Rattle.graphql_reading.specs.grammar.Limits.{Limits}
 use Rattle.graphql_reading.specs.grammar.Relations.{Rel}
 use Rattle.graphql_reading.specs.grammar.Tests.{the_end}
 use Rattle.graphql_reading.specs.reading.Outcome.{Outcome, Read, Refused, Reader, whole_at}
-use Rattle.graphql_reading.proofs.IgnoresPlaces.{IgnoresPlaces}
+use Rattle.graphql_reading.proofs.IgnoresPlaces.{IgnoresPlaces, alike-same}
 use Rattle.graphql_reading.proofs.ReadsExactly.{ReadsExactly, HasPhrase}
 use Rattle.graphql_reading.proofs.Includes.{Includes, includes-whole}
 use Rattle.graphql_reading.proofs.TokenTests.{the_end-is}
-use Rattle.graphql_reading.proofs.Whole.{Says, whole-answers, one-tree, ignores-whole, one-refusal, refusal-bare, trees-bare}
+use Rattle.graphql_reading.proofs.Whole.{Says, whole-answers, one-tree, ignores-whole, one-refusal, refusal-bare, trees-alike}
 
 -- What is known of a language and of the reader of its definitions: each budget has a phrase, places don't matter,
 -- the reader follows the current grammar exactly up to the end of the text, the former grammar is part of it, and the
@@ -92,13 +93,26 @@ is-decided {D} language reader read limits ts ends proper = record {
     never (Refused w []) e ds h k v r = says language reader read limits ts (Refused w []) ends proper e
     never (Refused w (t ∷ after)) e ds h k v r = (says language reader read limits ts (Refused w (t ∷ after)) ends proper e).none ds h
 
+rests-on-alike-tokens : {D Document : Type 0} (language : Language D Document) (reader : Limits → Reader (List D)) → IsRead language reader → (limits : Limits) (ts : List Token) → RestsOnAlikeTokens language limits ts
+rests-on-alike-tokens language reader read limits ts = record {
+  has_tree = λ us e ds h. let s = (ignores-whole read.ignores_places).by limits ts us ds h e in (s.tree, s.holds);
+  same_tree = λ us e ds es h k. trees-alike read.ignores_places (read.reads_exactly limits) ts us ds es e h k;
+  same_breach = λ us e ds es h k. break-alike language read.judges ds es (trees-alike read.ignores_places (read.reads_exactly limits) ts us ds es e h k);
+}
+
 rests-on-bare-tokens : {D Document : Type 0} (language : Language D Document) (reader : Limits → Reader (List D)) → IsRead language reader → (limits : Limits) (ts : List Token) → RestsOnBareTokens language limits ts
 rests-on-bare-tokens language reader read limits ts = record {
-  has_tree = λ us e ds h. let s = (ignores-whole read.ignores_places).by limits ts us ds h e in (s.tree, s.holds);
-  same_tree = λ us e ds es h k. trees-bare read.ignores_places (read.reads_exactly limits) ts us ds es e h k;
-  same_breach = λ us e ds es h k. break-alike language read.judges ds es (trees-bare read.ignores_places (read.reads_exactly limits) ts us ds es e h k);
+  has_tree = λ us e ds h. alike.has_tree us (are-alike us e) ds h;
+  same_tree = λ us e ds es h k. alike.same_tree us (are-alike us e) ds es h k;
+  same_breach = λ us e ds es h k. alike.same_breach us (are-alike us e) ds es h k;
   same_refusal = λ us e count v r. refusal-bare (grammar language Current) limits ts us count v e r;
 }
+  where
+    alike : RestsOnAlikeTokens language limits ts
+    alike = rests-on-alike-tokens language reader read limits ts
+
+    are-alike : (us : List Token) → bares ts ≡ bares us → AreAlike (bares ts) (bares us)
+    are-alike us e = alike-same (bares ts) (bares us) e
 
 -- ---- the former edition
 
@@ -130,6 +144,7 @@ is-read-by language reader read = record {
   decided = λ limits ts ends proper. is-decided language reader read limits ts ends proper;
   one_tree = has-one-tree language reader read;
   bare = rests-on-bare-tokens language reader read;
+  alike = rests-on-alike-tokens language reader read;
 }
 
 -- ---- what is said of a text

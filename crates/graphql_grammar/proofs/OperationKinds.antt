@@ -36,4 +36,4 @@ abbrev pub without-keyword-place : Token × OperationType → Token × Operation
 without-keyword-place x = (without_place x.0, x.1)
 
 pub ignores-operation_type : IgnoresPlaces (λ c. operation_type) without-keyword-place
-ignores-operation_type = ignores-either (ignores-mapped (λ t. refl) (ignores-one (keyword "query"))) (ignores-either (ignores-mapped (λ t. refl) (ignores-one (keyword "mutation"))) (ignores-mapped (λ t. refl) (ignores-one (keyword "subscription"))))
+ignores-operation_type = ignores-either (ignores-mapped (λ t. refl) (ignores-one (keyword "query") (λ spelling. refl))) (ignores-either (ignores-mapped (λ t. refl) (ignores-one (keyword "mutation") (λ spelling. refl))) (ignores-mapped (λ t. refl) (ignores-one (keyword "subscription") (λ spelling. refl))))

@@ -5,7 +5,7 @@ use Rattle.graphql_tokens.specs.inner.Contents.{content_value}
 use Rattle.graphql_tokens.specs.tokens.Edition.{Current}
 use Rattle.graphql_tokens.specs.tokens.Token.{Bare}
 use Rattle.graphql_tokens.proofs.Meanings.{content_means, means_content}
-use Rattle.graphql_tokens.specs.tokens.Alike.{inside}
+use Rattle.graphql_tokens.specs.tokens.Alike.{inside, AreOneBlock}
 use Rattle.graphql_grammar.specs.grammar.Values.{StringStands, BlockStands}
 use Rattle.graphql_grammar.specs.reading.Values.{string_text, block_text}
 use Rattle.graphql_reading.proofs.Meaning.{Decides}
@@ -29,3 +29,7 @@ string-decides = record { sound = string-sound; complete = string-complete }
 
 pub block-decides : Decides block_text BlockStands
 block-decides = record { sound = λ t bytes e. sym cc; complete = λ t bytes e. ap Some (sym e) }
+
+-- block strings of one value stand for the same
+pub block-stands : (t u : Bare) (bytes : List ℕ) → AreOneBlock t u → BlockStands t bytes → BlockStands u bytes
+block-stands t u bytes e h = h ∙ ap encode_utf8_all e.value

@@ -98,12 +98,12 @@ nullable-same (Some t) = refl
 ignores-named_type : IgnoresPlaces (λ c. a_named_type) bare_node
 ignores-named_type =
     ignores-mapped (λ x. ap (λ w. at {A = TypeTree} (without_place x.0) (named x.0.bare.spelling w)) (sym (nullable-same x.1)))
-    (ignores-then (ignores-one any_name) (ignores-opt (ignores-one (punct "!"))))
+    (ignores-then (ignores-one any_name (λ spelling. refl)) (ignores-opt (ignores-one (punct "!") (λ spelling. refl))))
 
 ignores-list_type : {item : Limits → Rel (Positioned TypeTree)} → IgnoresPlaces item bare_node → IgnoresPlaces (λ c. a_list_type (item c)) bare_node
 ignores-list_type h =
     ignores-mapped (λ x. ap (λ w. at {A = TypeTree} (without_place x.0) (list x.1.0.node w)) (sym (nullable-same x.1.1.1)))
-    (ignores-then (ignores-one (punct "[")) (ignores-then h (ignores-then (ignores-one (punct "]")) (ignores-opt (ignores-one (punct "!"))))))
+    (ignores-then (ignores-one (punct "[") (λ spelling. refl)) (ignores-then h (ignores-then (ignores-one (punct "]") (λ spelling. refl)) (ignores-opt (ignores-one (punct "!") (λ spelling. refl))))))
 
 ignores-within : (n : ℕ) → IgnoresPlaces (λ c. type_reference n) bare_node
 ignores-within zero = ignores-named_type

@@ -20,8 +20,8 @@ use Rattle.graphql_reading.proofs.TokenTests.{punctuator, named, punct-within, k
 use Rattle.graphql_grammar.proofs.ValueTests.{number, quoted, block, any_number-within, any_string-within, any_block-within, dollar-within, any_number-inner, any_string-inner, any_block-inner, dollar-inner}
 use Rattle.graphql_reading.proofs.PunctSamples.{has-close_list, has-close_object, has-colon}
 use Rattle.graphql_reading.proofs.ReadsExactly.{ReadsExactly, HasPhrase, BeginsWith, exact-one, exact-punct, exact-keyword, exact-name, exact-name_but, exact-mapped, exact-next, exact-then-some, exact-many, exact-choose, exact-nested, exact-deep, exact-same, begins-one, begins-within, begins-same, begins-mapped, begins-then, begins-either, begins-nested, has-token, has-pair, has-map, has-star, has-first, extends-one}
-use Rattle.graphql_reading.proofs.Meaning.{exact-meaning, begins-meaning, ignores-meaning}
-use Rattle.graphql_grammar.proofs.StringMeanings.{string-decides, block-decides}
+use Rattle.graphql_reading.proofs.Meaning.{exact-meaning, begins-meaning, ignores-meaning, ignores-block}
+use Rattle.graphql_grammar.proofs.StringMeanings.{string-decides, block-decides, block-stands}
 use Rattle.graphql_reading.proofs.IgnoresPlaces.{IgnoresPlaces, ignores-one, ignores-then, ignores-mapped, ignores-either, ignores-star}
 use Rattle.graphql_reading.proofs.Loop.{Takes, takes-one}
 use Prim.Native.String.{String}
@@ -72,10 +72,10 @@ has-word = has-first {p = λ c. mapped true_of (one (keyword "true"))} (has-map 
 
 ignores-word : IgnoresPlaces (λ c. a_word) bare_node
 ignores-word =
-    ignores-either (ignores-mapped (λ t. refl) (ignores-one (keyword "true")))
-    (ignores-either (ignores-mapped (λ t. refl) (ignores-one (keyword "false")))
-    (ignores-either (ignores-mapped (λ t. refl) (ignores-one (keyword "null")))
-    (ignores-mapped (λ t. refl) (ignores-one (name_but words)))))
+    ignores-either (ignores-mapped (λ t. refl) (ignores-one (keyword "true") (λ spelling. refl)))
+    (ignores-either (ignores-mapped (λ t. refl) (ignores-one (keyword "false") (λ spelling. refl)))
+    (ignores-either (ignores-mapped (λ t. refl) (ignores-one (keyword "null") (λ spelling. refl)))
+    (ignores-mapped (λ t. refl) (ignores-one (name_but words) (λ spelling. refl)))))
 
 -- ---- numbers, strings and variables
 
@@ -131,10 +131,10 @@ has-simple vars = has-first {p = λ c. a_word} has-word
 ignores-simple : (vars : Bool) → IgnoresPlaces (λ c. a_simple_value Current vars) bare_node
 ignores-simple vars =
     ignores-either ignores-word
-    (ignores-either (ignores-mapped (λ t. refl) (ignores-one any_number))
-    (ignores-either (ignores-mapped (λ x. refl) (ignores-meaning any_string (StringStands Current)))
-    (ignores-either (ignores-mapped (λ x. refl) (ignores-meaning any_block BlockStands))
-    (ignores-mapped (λ x. refl) (ignores-then (ignores-one (dollar vars)) (ignores-one any_name))))))
+    (ignores-either (ignores-mapped (λ t. refl) (ignores-one any_number (λ spelling. refl)))
+    (ignores-either (ignores-mapped (λ x. refl) (ignores-meaning any_string (λ spelling. refl) (StringStands Current)))
+    (ignores-either (ignores-block any_block BlockStands (λ spelling. refl) block-stands (λ x. refl) (λ t u bytes. refl))
+    (ignores-mapped (λ x. refl) (ignores-then (ignores-one (dollar vars) (λ spelling. refl)) (ignores-one any_name (λ spelling. refl)))))))
 
 -- ---- lists and objects
 
@@ -154,7 +154,7 @@ nodes-same (v ∷ l) = ap (λ (more : List Tree). v.node ∷ more) (nodes-same l
 ignores-list : {v : Limits → Rel Value} → IgnoresPlaces v bare_node → IgnoresPlaces (λ c. a_list (v c)) bare_node
 ignores-list h =
     ignores-mapped (λ x. ap (λ (l : List Tree). at {A = Tree} (without_place x.0) (list (trees_of l))) (sym (nodes-same x.1.0)))
-    (ignores-then (ignores-one (punct "[")) (ignores-then (ignores-star h) (ignores-one (punct "]"))))
+    (ignores-then (ignores-one (punct "[") (λ spelling. refl)) (ignores-then (ignores-star h) (ignores-one (punct "]") (λ spelling. refl))))
 
 pub begins-field : {v : Limits → Rel Value} → BeginsWith (λ c. a_field (v c)) any_name
 begins-field = begins-mapped (begins-then begins-one)
@@ -171,7 +171,7 @@ map-as-is [] = refl
 map-as-is (a ∷ l) = ap (λ (more : List _). a ∷ more) (map-as-is l)
 
 pub ignores-field : {v : Limits → Rel Value} → IgnoresPlaces v bare_node → IgnoresPlaces (λ c. a_field (v c)) as-is
-ignores-field h = ignores-mapped (λ x. refl) (ignores-then (ignores-one any_name) (ignores-then (ignores-one (punct ":")) h))
+ignores-field h = ignores-mapped (λ x. refl) (ignores-then (ignores-one any_name (λ spelling. refl)) (ignores-then (ignores-one (punct ":") (λ spelling. refl)) h))
 
 begins-object : {v : Limits → Rel Value} → BeginsWith (λ c. an_object (v c)) (punct "{")
 begins-object = begins-mapped (begins-then begins-one)
@@ -185,7 +185,7 @@ exact-object {v} has h =
 ignores-object : {v : Limits → Rel Value} → IgnoresPlaces v bare_node → IgnoresPlaces (λ c. an_object (v c)) bare_node
 ignores-object h =
     ignores-mapped (λ x. ap (λ (l : List (List ℕ × Tree)). at {A = Tree} (without_place x.0) (object (fields_of (merged l)))) (sym (map-as-is x.1.0)))
-    (ignores-then (ignores-one (punct "{")) (ignores-then (ignores-star (ignores-field h)) (ignores-one (punct "}"))))
+    (ignores-then (ignores-one (punct "{") (λ spelling. refl)) (ignores-then (ignores-star (ignores-field h)) (ignores-one (punct "}") (λ spelling. refl))))
 
 -- ---- values
 

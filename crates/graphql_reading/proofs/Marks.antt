@@ -8,7 +8,7 @@ use Rattle.graphql_reading.proofs.Theory.{IsSubset, IsInner, outside, anything}
 use Rattle.graphql_reading.proofs.TokenTests.{punct-inner}
 use Rattle.graphql_reading.proofs.ReadsExactly.{ReadsExactly, HasPhrase, BeginsWith, exact-one, exact-punct, exact-mapped, exact-next, exact-then-some, exact-many, begins-one, begins-mapped, begins-then, has-pair, has-map, has-star}
 use Rattle.graphql_reading.proofs.Extra.{exact-opt, has-opt}
-use Rattle.graphql_reading.proofs.IgnoresPlaces.{IgnoresPlaces, ignores-one, ignores-then, ignores-mapped, ignores-star, ignores-opt}
+use Rattle.graphql_reading.proofs.IgnoresPlaces.{IgnoresPlaces, PassesNoBlock, ignores-one, ignores-then, ignores-mapped, ignores-star, ignores-opt}
 use Prim.Native.String.{String}
 
 -- ---- a phrase after a mark
@@ -22,8 +22,8 @@ begins-after = begins-mapped (begins-then begins-one)
 pub has-after : {A : Type 0} (mark : Test) {p : Limits → Rel A} → HasPhrase (λ c. one mark) → HasPhrase p → HasPhrase (λ c. after mark (p c))
 has-after mark marked h = has-map (has-pair marked h)
 
-pub ignores-after : {A : Type 0} (mark : Test) {p : Limits → Rel A} {f : A → A} → IgnoresPlaces p f → IgnoresPlaces (λ c. after mark (p c)) f
-ignores-after mark h = ignores-mapped (λ x. refl) (ignores-then (ignores-one mark) h)
+pub ignores-after : {A : Type 0} (mark : Test) {p : Limits → Rel A} {f : A → A} → PassesNoBlock mark → IgnoresPlaces p f → IgnoresPlaces (λ c. after mark (p c)) f
+ignores-after mark none h = ignores-mapped (λ x. refl) (ignores-then (ignores-one mark none) h)
 
 -- ---- a phrase between brackets
 
@@ -37,8 +37,8 @@ begins-between closing = begins-mapped (begins-then begins-one)
 pub has-between : {A : Type 0} (opening closing : Test) {p : Limits → Rel A} → HasPhrase (λ c. one opening) → HasPhrase p → HasPhrase (λ c. one closing) → HasPhrase (λ c. between opening (p c) closing)
 has-between opening closing opens h closes = has-map (has-pair opens (has-pair h closes))
 
-pub ignores-between : {A : Type 0} (opening closing : Test) {p : Limits → Rel A} {f : A → A} → IgnoresPlaces p f → IgnoresPlaces (λ c. between opening (p c) closing) f
-ignores-between opening closing h = ignores-mapped (λ x. refl) (ignores-then (ignores-one opening) (ignores-then h (ignores-one closing)))
+pub ignores-between : {A : Type 0} (opening closing : Test) {p : Limits → Rel A} {f : A → A} → PassesNoBlock opening → PassesNoBlock closing → IgnoresPlaces p f → IgnoresPlaces (λ c. between opening (p c) closing) f
+ignores-between opening closing opens closes h = ignores-mapped (λ x. refl) (ignores-then (ignores-one opening opens) (ignores-then h (ignores-one closing closes)))
 
 -- ---- a list with marks
 
@@ -54,5 +54,5 @@ exact-separated word {p = p} led unmarked away has h =
 pub has-separated : {A : Type 0} (mark : Test) {p : Limits → Rel A} → HasPhrase p → HasPhrase (λ c. separated mark (p c))
 has-separated mark {p = p} h = has-map (has-pair (has-opt {p = λ c. one mark}) (has-pair h (has-star {p = λ c. after mark (p c)})))
 
-pub ignores-separated : {A : Type 0} (mark : Test) {p : Limits → Rel A} {f : A → A} → IgnoresPlaces p f → IgnoresPlaces (λ c. separated mark (p c)) (map f)
-ignores-separated mark h = ignores-mapped (λ x. refl) (ignores-then (ignores-opt (ignores-one mark)) (ignores-then h (ignores-star (ignores-after mark h))))
+pub ignores-separated : {A : Type 0} (mark : Test) {p : Limits → Rel A} {f : A → A} → PassesNoBlock mark → IgnoresPlaces p f → IgnoresPlaces (λ c. separated mark (p c)) (map f)
+ignores-separated mark none h = ignores-mapped (λ x. refl) (ignores-then (ignores-opt (ignores-one mark none)) (ignores-then h (ignores-star (ignores-after mark none h))))

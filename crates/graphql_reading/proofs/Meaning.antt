@@ -1,15 +1,17 @@
 -- One token with what it means, read by a function that decides the meaning.
-use Rattle.std.proofs.Common.{◌≡◌, Bool, true, false, cond, IsTrue, Option, Some, None, List, [], ◌∷◌, ◌++◌, inl, refl, sym, ap, ◌∙◌, subst}
+use Rattle.std.proofs.Common.{◌≡◌, Bool, true, false, cond, ℕ, IsTrue, Option, Some, None, List, [], ◌∷◌, ◌++◌, inl, inr, refl, sym, ap, ◌∙◌, subst}
+use Rattle.graphql_tokens.specs.declared.lexer.TokenKind.TheVariants.{Block}
+use Rattle.graphql_tokens.specs.tokens.Alike.{AreOneBlock, IsAlike, AreAlike}
 use Rattle.graphql_tokens.specs.tokens.Token.{Bare, Token}
 use Rattle.graphql_reading.specs.grammar.Tests.{Test}
 use Rattle.graphql_reading.specs.grammar.Limits.{Limits}
-use Rattle.graphql_reading.specs.grammar.Relations.{meaning}
+use Rattle.graphql_reading.specs.grammar.Relations.{Mapped, mapped, meaning}
 use Rattle.graphql_reading.specs.grammar.Fronts.{bares, without_place, without_places, syntax}
 use Rattle.graphql_reading.specs.reading.Outcome.{meant, meaning_at, Refused}
 use Rattle.graphql_reading.proofs.Theory.{Exact, IsStopped, IsInner, Begins, peek}
 use Rattle.graphql_reading.proofs.TokenTests.{HasSample}
 use Rattle.graphql_reading.proofs.ReadsExactly.{ReadsExactly, HasPhrase, BeginsWith}
-use Rattle.graphql_reading.proofs.IgnoresPlaces.{IgnoresPlaces, Same, no-bares, head-is, tail-is}
+use Rattle.graphql_reading.proofs.IgnoresPlaces.{IgnoresPlaces, Same, PassesNoBlock, no-bares, alike-one, head-is}
 
 -- the value is the one meaning, where there is any
 pub record Decides {A : Type 0} (value : Bare → Option A) (means : Bare → A → Type 0) : Type 0 where
@@ -81,22 +83,44 @@ begins-meaning test means = record { by = λ c x y a h. subst (λ (l : List Toke
 pub has-meaning : {A : Type 0} {test : Test} (means : Bare → A → Type 0) (s : HasSample test) (a : A) → means s.token.bare a → HasPhrase (λ c. meaning test means)
 has-meaning means s a m = record { some = λ c. record { tail = s.token ∷ []; tree = (s.token, a); holds = (refl, s.passes, m); proper = (s.proper, tt) } }
 
-pub ignores-meaning : {A : Type 0} (test : Test) (means : Bare → A → Type 0) → IgnoresPlaces (λ c. meaning test means) (λ x. (without_place x.0, x.1))
-ignores-meaning {A} test means = record {
-  by = by;
+pub ignores-meaning : {A : Type 0} (test : Test) → PassesNoBlock test → (means : Bare → A → Type 0) → IgnoresPlaces (λ c. meaning test means) (λ x. (without_place x.0, x.1))
+ignores-meaning {A} test none means = record {
+  by = λ c x y a m e. go y a m.1 m.2 (subst (λ (l : List Token). AreAlike (bares l) (bares y)) m.0 e);
   fixed = λ c x a m e. λ i. (head-is (without_place a.0) a.0 [] [] (subst (λ (l : List Token). without_places l ≡ l) m.0 e) i, a.1);
 }
   where
-    nothing : (t : Bare) → t ∷ [] ≡ [] → ⊥
-    nothing t e = cc
-
-    by : (c : Limits) (x y : List Token) (a : Token × A) → meaning test means x a → bares x ≡ bares y → Same (meaning test means) (λ x. (without_place x.0, x.1)) y a
-    by c x [] a m e = absurd (nothing a.0.bare (sym (ap bares m.0) ∙ e))
-    by c x (s ∷ y) a m e =
-        let one : a.0.bare ∷ [] ≡ s.bare ∷ bares y = sym (ap bares m.0) ∙ e in
-        let same : a.0.bare ≡ s.bare = head-is a.0.bare s.bare [] (bares y) one in
+    go : (y : List Token) (a : Token × A) → IsTrue (test a.0.bare) → means a.0.bare a.1 → AreAlike (a.0.bare ∷ []) (bares y) → Same (meaning test means) (λ x. (without_place x.0, x.1)) y a
+    go [] a passes m e = absurd e
+    go (s ∷ y) a passes m e =
+        let same : a.0.bare ≡ s.bare = alike-one test none a.0.bare s.bare passes e.0 in
         record {
           tree = (s, a.1);
-          holds = (ap (λ (l : List Token). s ∷ l) (no-bares y (sym (tail-is a.0.bare s.bare [] (bares y) one))), subst (λ (t : Bare). IsTrue (test t)) same m.1, subst (λ (t : Bare). means t a.1) same m.2);
+          holds = (ap (λ (l : List Token). s ∷ l) (no-bares y e.1), subst (λ (t : Bare). IsTrue (test t)) same passes, subst (λ (t : Bare). means t a.1) same m);
           same = ap (λ (t : Bare). (without_place (record a.0 { bare = t }), a.1)) (sym same);
+        }
+
+-- block strings, where what is made of one rests on its place and on what it means, and those of one value mean the same
+pub ignores-block : {A B : Type 0} (test : Test) (means : Bare → A → Type 0) {k : Token × A → B} {g : B → B}
+    → ((spelling : List ℕ) → IsTrue (test (record { kind = Block; spelling = spelling })))
+    → ((a b : Bare) (x : A) → AreOneBlock a b → means a x → means b x)
+    → ((x : Token × A) → g (k x) ≡ k (without_place x.0, x.1))
+    → ((t u : Token) (x : A) → g (k (t, x)) ≡ g (k (u, x)))
+    → IgnoresPlaces (λ c. mapped k (meaning test means)) g
+ignores-block {A} {B} test means {k} {g} passes one placed rests = record {
+  by = λ c x y b m e. go y b m (subst (λ (l : List Token). AreAlike (bares l) (bares y)) m.holds.0 e);
+  fixed = λ c x b m e. ap g m.is ∙ placed m.value ∙ ap (λ (t : Token). k (t, m.value.1)) (head-is (without_place m.value.0) m.value.0 [] [] (subst (λ (l : List Token). without_places l ≡ l) m.holds.0 e)) ∙ sym m.is;
+}
+  where
+    also : (a b : Bare) (x : A) → IsAlike a b → IsTrue (test a) → means a x → IsTrue (test b) × means b x
+    also a b x (inl e) t m = (subst (λ (t : Bare). IsTrue (test t)) e t, subst (λ (t : Bare). means t x) e m)
+    also a b x (inr e) t m = (subst (λ (t : Bare). IsTrue (test t)) (λ i. record { kind = sym e.other_block i; spelling = b.spelling }) (passes b.spelling), one a b x e m)
+
+    go : {x : List Token} (y : List Token) (b : B) (m : Mapped k (meaning test means) x b) → AreAlike (m.value.0.bare ∷ []) (bares y) → Same (mapped k (meaning test means)) g y b
+    go [] b m e = absurd e
+    go (s ∷ y) b m e =
+        let there = also m.value.0.bare s.bare m.value.1 e.0 m.holds.1 m.holds.2 in
+        record {
+          tree = k (s, m.value.1);
+          holds = record { value = (s, m.value.1); holds = (ap (λ (l : List Token). s ∷ l) (no-bares y e.1), there.0, there.1); is = refl };
+          same = rests s m.value.0 m.value.1 ∙ ap g (sym m.is);
         }

@@ -1,5 +1,6 @@
 -- The reader of a whole list answers what the grammar says.
 use Rattle.std.proofs.Common.{◌≡◌, ℕ, zero, suc, ◌<◌, Bool, true, false, cond, IsTrue, ◌⊎◌, inl, inr, List, [], ◌∷◌, ◌++◌, length, take, drop, refl, sym, ap, ◌∙◌, subst, append_assoc, append-nil, length-append, take-append-drop, arith}
+use Rattle.graphql_tokens.specs.tokens.Alike.{AreAlike}
 use Rattle.graphql_tokens.specs.tokens.Token.{Bare, Token}
 use Rattle.graphql_tokens.specs.tokens.Cuts.{is_last, EndsOnce}
 use Rattle.graphql_tokens.specs.tokens.Proper.{IsProper, AreProper, AreProperButFaults}
@@ -13,7 +14,7 @@ use Rattle.graphql_reading.specs.reading.Outcome.{Outcome, Read, Refused, Reader
 use Rattle.graphql_reading.proofs.Theory.{Extends, proper-append, Exact, IsRead, IsStopped, IsDead, Dead, Quiet, Begins, peek, anything, one-refused, Then-refused-first, Then-refused-second, IsStopped-map, leads-starts, Leads-one}
 use Rattle.graphql_reading.proofs.TokenTests.{the_end-is, ended, sample, end-sample}
 use Rattle.graphql_reading.proofs.ReadsExactly.{ReadsExactly, HasPhrase, has-token, has-map, has-pair}
-use Rattle.graphql_reading.proofs.IgnoresPlaces.{IgnoresPlaces, ignores-one, ignores-mapped, ignores-then}
+use Rattle.graphql_reading.proofs.IgnoresPlaces.{alike-same, IgnoresPlaces, ignores-one, ignores-mapped, ignores-then}
 
 -- a refusal, told by the refused token and what stands after it; and no tree
 pub record Refuses {A : Type 0} (g : Grammar A) (limits : Limits) (tokens : List Token) (v : Verdict) (t : Token) (after : List Token) : Type 0 where
@@ -127,7 +128,7 @@ viable-bare front other e m = record { begun = m.begun; after = m.after; tree = 
 -- and back: to a relation that ignores places, a front's own places do
 pub viable-completes : {A : Type 0} {p : Limits → Rel A} {placeless : A → A} → IgnoresPlaces p placeless → (c : Limits) (front : List Token) → Completes (p c) front → Extends (p c) front
 viable-completes {p = p} ignores c front m =
-    let s = ignores.by c (m.begun ++ m.after) (front ++ m.after) m.tree m.holds (bares-append m.begun m.after ∙ ap (λ (l : List Bare). l ++ bares m.after) m.alike ∙ sym (bares-append front m.after)) in
+    let s = ignores.by c (m.begun ++ m.after) (front ++ m.after) m.tree m.holds (alike-same (bares (m.begun ++ m.after)) (bares (front ++ m.after)) (bares-append m.begun m.after ∙ ap (λ (l : List Bare). l ++ bares m.after) m.alike ∙ sym (bares-append front m.after))) in
     record { tail = m.after; tree = s.tree; holds = s.holds; proper = m.proper }
 
 shorter : {A : Type 0} {p : Rel A} (u rest front : List Token) → u ≡ front ++ rest → AreProper rest → Extends p u → Completes p front
@@ -188,7 +189,7 @@ accepts p placeless b ts a ignores proper holds only only-bare = record {
   where
     bare-holds : p b (without_places ts) (placeless a)
     bare-holds =
-        let s = ignores.by b ts (without_places ts) a holds (sym (bares-without ts)) in
+        let s = ignores.by b ts (without_places ts) a holds (alike-same (bares ts) (bares (without_places ts)) (sym (bares-without ts))) in
         subst (p b (without_places ts)) (sym (ignores.fixed b (without_places ts) s.tree s.holds (without-twice ts)) ∙ s.same) s.holds
 
 -- ---- the answer
@@ -206,7 +207,7 @@ pub has-whole : {A : Type 0} {p : Limits → Rel A} → HasPhrase p → HasPhras
 has-whole has = has-map (has-pair has (has-token end-sample))
 
 pub ignores-whole : {A : Type 0} {p : Limits → Rel A} {placeless : A → A} → IgnoresPlaces p placeless → IgnoresPlaces (whole p) placeless
-ignores-whole h = ignores-mapped (λ a. refl) (ignores-then h (ignores-one the_end))
+ignores-whole h = ignores-mapped (λ a. refl) (ignores-then h (ignores-one the_end (λ spelling. refl)))
 
 -- all trees of a list that ends are equal
 pub one-tree : {A : Type 0} (p : Limits → Rel A) (b : Limits) (r : Reader A) → ReadsExactly p b the_end r → (ts : List Token) (c : Limits) (x y : A) → whole p b ts x → whole p c ts y → y ≡ x
@@ -301,8 +302,8 @@ refusal-bare {A} g limits ts us k v e r = record {
     told syntax h = λ m. h (viable-bare (take k us) (take k ts) (sym (same k)) m)
     told limit m = viable-bare (take k ts) (take k us) (same k) m
 
--- and so do trees, up to places
-pub trees-bare : {A : Type 0} {p : Limits → Rel A} {placeless : A → A} {b : Limits} {r : Reader A} → IgnoresPlaces p placeless → ReadsExactly p b the_end r → (ts us : List Token) (x y : A) → bares ts ≡ bares us → whole p b ts x → whole p b us y → placeless x ≡ placeless y
-trees-bare {p = p} {placeless = placeless} {b = b} {r = r} ignores exact ts us x y e h k =
+-- and trees, up to places, on tokens that are alike
+pub trees-alike : {A : Type 0} {p : Limits → Rel A} {placeless : A → A} {b : Limits} {r : Reader A} → IgnoresPlaces p placeless → ReadsExactly p b the_end r → (ts us : List Token) (x y : A) → AreAlike (bares ts) (bares us) → whole p b ts x → whole p b us y → placeless x ≡ placeless y
+trees-alike {p = p} {placeless = placeless} {b = b} {r = r} ignores exact ts us x y e h k =
     let s = (ignores-whole ignores).by b ts us x h e in
     sym s.same ∙ ap placeless (one-tree p b r exact us b y s.tree k s.holds)

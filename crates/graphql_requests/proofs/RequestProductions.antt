@@ -112,7 +112,7 @@ operation-placeless (ty, (Some name, (None, more))) = refl
 operation-placeless (ty, (Some name, (Some variables, more))) = refl
 
 pub ignores-full_operation : IgnoresPlaces (a_full_operation Current) placeless_definition
-ignores-full_operation = ignores-mapped {k = operation_of} operation-placeless (ignores-then ignores-operation_type (ignores-then (ignores-opt (ignores-one any_name)) (ignores-then (ignores-opt ignores-variable_definitions) (ignores-then (ignores-directives true) ignores-own_set))))
+ignores-full_operation = ignores-mapped {k = operation_of} operation-placeless (ignores-then ignores-operation_type (ignores-then (ignores-opt (ignores-one any_name (λ spelling. refl))) (ignores-then (ignores-opt ignores-variable_definitions) (ignores-then (ignores-directives true) ignores-own_set))))
 
 -- ---- fragments
 
@@ -126,7 +126,7 @@ pub begins-fragment : BeginsWith (a_fragment Current) (keyword "fragment")
 begins-fragment = begins-mapped {p = λ c. one (keyword "fragment") ⨾ one fragment_name ⨾ a_type_condition ⨾ with-set c} (begins-then begins-one)
 
 pub ignores-fragment : IgnoresPlaces (a_fragment Current) placeless_definition
-ignores-fragment = ignores-mapped {k = fragment_of} (λ x. refl) (ignores-then (ignores-one (keyword "fragment")) (ignores-then (ignores-one fragment_name) (ignores-then ignores-type_condition (ignores-then (ignores-directives true) ignores-own_set))))
+ignores-fragment = ignores-mapped {k = fragment_of} (λ x. refl) (ignores-then (ignores-one (keyword "fragment") (λ spelling. refl)) (ignores-then (ignores-one fragment_name (λ spelling. refl)) (ignores-then ignores-type_condition (ignores-then (ignores-directives true) ignores-own_set))))
 
 -- ---- definitions
 

@@ -21,7 +21,7 @@ abbrev pub without-places-of : Option Token × Token → Option Token × Token
 without-places-of x = (option_map without_place x.0, without_place x.1)
 
 pub ignores-aliased : IgnoresPlaces (λ c. aliased) without-places-of
-ignores-aliased = ignores-then (ignores-opt (ignores-mapped {g = without_place} (λ x. refl) (ignores-then (ignores-one any_name) (ignores-one (punct ":"))))) (ignores-one any_name)
+ignores-aliased = ignores-then (ignores-opt (ignores-mapped {g = without_place} (λ x. refl) (ignores-then (ignores-one any_name (λ spelling. refl)) (ignores-one (punct ":") (λ spelling. refl))))) (ignores-one any_name (λ spelling. refl))
 
 -- ---- fields
 
@@ -47,17 +47,17 @@ ignores-field h = ignores-mapped {k = field_of} field-placeless (ignores-then ig
 -- ---- spreads and inline fragments
 
 pub ignores-spread : IgnoresPlaces (λ c. a_spread Current c.values) (unplaced placeless_selection)
-ignores-spread = ignores-mapped (λ x. refl) (ignores-then (ignores-one (punct "...")) (ignores-then (ignores-one fragment_name) (ignores-directives true)))
+ignores-spread = ignores-mapped (λ x. refl) (ignores-then (ignores-one (punct "...") (λ spelling. refl)) (ignores-then (ignores-one fragment_name (λ spelling. refl)) (ignores-directives true)))
 
 pub ignores-type_condition : IgnoresPlaces (λ c. a_type_condition) (unplaced placeless_condition)
-ignores-type_condition = ignores-mapped (λ x. refl) (ignores-then (ignores-one (keyword "on")) (ignores-one any_name))
+ignores-type_condition = ignores-mapped (λ x. refl) (ignores-then (ignores-one (keyword "on") (λ spelling. refl)) (ignores-one any_name (λ spelling. refl)))
 
 inline-placeless : (x : Token × (Option (Positioned TypeCondition) × (Directives × Set))) → unplaced placeless_selection (inline_of x) ≡ inline_of (without_place x.0, (option_map (unplaced placeless_condition) x.1.0, (placeless_directives x.1.1.0, unplaced placeless_set x.1.1.1)))
 inline-placeless (dots, (None, (ds, set))) = refl
 inline-placeless (dots, (Some on, (ds, set))) = refl
 
 pub ignores-inline_fragment : {set : Limits → Rel Set} → IgnoresPlaces set (unplaced placeless_set) → IgnoresPlaces (λ c. an_inline_fragment Current c.values (set c)) (unplaced placeless_selection)
-ignores-inline_fragment h = ignores-mapped {k = inline_of} inline-placeless (ignores-then (ignores-one (punct "...")) (ignores-then (ignores-opt ignores-type_condition) (ignores-then (ignores-directives true) h)))
+ignores-inline_fragment h = ignores-mapped {k = inline_of} inline-placeless (ignores-then (ignores-one (punct "...") (λ spelling. refl)) (ignores-then (ignores-opt ignores-type_condition) (ignores-then (ignores-directives true) h)))
 
 pub ignores-selection : {set : Limits → Rel Set} → IgnoresPlaces set (unplaced placeless_set) → IgnoresPlaces (λ c. a_selection Current c.values (set c)) (unplaced placeless_selection)
 ignores-selection h = ignores-either (ignores-field h) (ignores-either ignores-spread (ignores-inline_fragment h))
@@ -72,7 +72,7 @@ abbrev placed-nowhere : SelectionSet → Positioned SelectionSet
 placed-nowhere s = record { pos = nowhere; node = s }
 
 pub ignores-a_set : {selection : Limits → Rel (Positioned Selection)} → IgnoresPlaces selection (unplaced placeless_selection) → IgnoresPlaces (λ c. a_set (selection c)) (unplaced placeless_set)
-ignores-a_set h = ignores-mapped (λ x. ap (λ (s : SelectionSet). placed-nowhere s) (set-placeless x.1.0)) (ignores-then (ignores-one (punct "{")) (ignores-then (ignores-plus h) (ignores-one (punct "}"))))
+ignores-a_set h = ignores-mapped (λ x. ap (λ (s : SelectionSet). placed-nowhere s) (set-placeless x.1.0)) (ignores-then (ignores-one (punct "{") (λ spelling. refl)) (ignores-then (ignores-plus h) (ignores-one (punct "}") (λ spelling. refl))))
 
 ignores-at : (n : ℕ) → IgnoresPlaces (λ c. selection_set Current c.values n) (unplaced placeless_set)
 ignores-at zero = ignores-a_set (ignores-selection {set = λ c. never} ignores-never)

@@ -168,7 +168,7 @@ has-variable_definition = has-map (has-pair has-dollar (has-pair (has-token name
 pub ignores-variable_definition : IgnoresPlaces (λ c. a_variable_definition Current c.values c.types) (unplaced placeless_variable)
 ignores-variable_definition =
     ignores-mapped {k = variable_definition_of} (λ x. refl)
-    (ignores-then (ignores-one (punct "$")) (ignores-then (ignores-one any_name) (ignores-then (ignores-one (punct ":")) (ignores-then ignores-type ignores-default_and_directives))))
+    (ignores-then (ignores-one (punct "$") (λ spelling. refl)) (ignores-then (ignores-one any_name (λ spelling. refl)) (ignores-then (ignores-one (punct ":") (λ spelling. refl)) (ignores-then ignores-type ignores-default_and_directives))))
 
 -- another one, or the end of the list
 abbrev next-definition : Test

@@ -42,7 +42,7 @@ abbrev pub placeless-body : Body → Body
 placeless-body x = (without_place x.0, (bare_node x.1.0, placeless-rest x.1.1))
 
 pub ignores-a_body : (word : String) {rest : Limits → Rel Rest} → IgnoresPlaces rest placeless-rest → IgnoresPlaces (λ c. a_body word (rest c)) placeless-body
-ignores-a_body word h = ignores-mapped {k = body_of} (λ x. refl) (ignores-then (ignores-one (keyword word)) (ignores-then (ignores-one any_name) h))
+ignores-a_body word h = ignores-mapped {k = body_of} (λ x. refl) (ignores-then (ignores-one (keyword word) (λ spelling. refl)) (ignores-then (ignores-one any_name (λ spelling. refl)) h))
 
 -- a rest that has a phrase and is read exactly
 record IsReadRest (rest : Limits → Rel Rest) (b : Limits) (f : Test) (r : Reader Rest) : Type 0 where

@@ -12,10 +12,10 @@ use Rattle.graphql_reading.specs.grammar.Tests.{Test, any_name, any_string, any_
 use Rattle.graphql_reading.proofs.Theory.{IsSubset, outside}
 use Rattle.graphql_reading.proofs.TokenTests.{any_name-within, within-either}
 use Rattle.graphql_reading.proofs.ReadsExactly.{ReadsExactly, HasPhrase, BeginsWith, exact-mapped, exact-choose, begins-within, begins-mapped, begins-either}
-use Rattle.graphql_reading.proofs.Meaning.{exact-meaning, begins-meaning, ignores-meaning}
+use Rattle.graphql_reading.proofs.Meaning.{exact-meaning, begins-meaning, ignores-meaning, ignores-block}
 use Rattle.graphql_reading.proofs.Extra.{exact-opt, has-opt}
 use Rattle.graphql_reading.proofs.IgnoresPlaces.{IgnoresPlaces, ignores-mapped, ignores-either, ignores-opt}
-use Rattle.graphql_grammar.proofs.StringMeanings.{string-decides, block-decides}
+use Rattle.graphql_grammar.proofs.StringMeanings.{string-decides, block-decides, block-stands}
 use Rattle.graphql_grammar.proofs.ValueTests.{quoted, block, any_string-within, any_block-within, any_string-inner, any_block-inner}
 use Rattle.graphql_schemas.specs.grammar.Descriptions.{text_of, a_description, described}
 use Rattle.graphql_schemas.specs.grammar.Placeless.{placeless_description}
@@ -46,8 +46,8 @@ begins-description =
 
 pub ignores-description : IgnoresPlaces (λ c. a_description Current) bare_node
 ignores-description =
-    ignores-either (ignores-mapped {k = text_of} (λ x. refl) (ignores-meaning any_string (StringStands Current)))
-    (ignores-mapped {k = text_of} (λ x. refl) (ignores-meaning any_block BlockStands))
+    ignores-either (ignores-mapped {k = text_of} (λ x. refl) (ignores-meaning any_string (λ spelling. refl) (StringStands Current)))
+    (ignores-block any_block BlockStands {k = text_of} (λ spelling. refl) block-stands (λ x. refl) (λ t u bytes. refl))
 
 -- ---- descriptions, where there are any
 

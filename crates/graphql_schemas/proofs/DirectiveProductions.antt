@@ -47,7 +47,7 @@ has-locations : HasPhrase locations
 has-locations = has-after (keyword "on") (has-token on-sample) (has-separated (punct "|") has-location)
 
 ignores-locations : IgnoresPlaces locations (map bare_node)
-ignores-locations = ignores-after (keyword "on") (ignores-separated (punct "|") ignores-location)
+ignores-locations = ignores-after (keyword "on") (λ spelling. refl) (ignores-separated (punct "|") (λ spelling. refl) ignores-location)
 
 -- ---- 'repeatable', where it stands, and locations
 
@@ -96,4 +96,4 @@ pub begins-directive-rest : BeginsWith directive-rest (keyword "directive")
 begins-directive-rest = begins-then begins-one
 
 pub ignores-directive-rest : IgnoresPlaces directive-rest placeless-directive-rest
-ignores-directive-rest = ignores-then (ignores-one (keyword "directive")) (ignores-then (ignores-one (punct "@")) (ignores-then (ignores-one any_name) (ignores-then ignores-maybe_arguments_definition (ignores-then (ignores-opt (ignores-one (keyword "repeatable"))) ignores-locations))))
+ignores-directive-rest = ignores-then (ignores-one (keyword "directive") (λ spelling. refl)) (ignores-then (ignores-one (punct "@") (λ spelling. refl)) (ignores-then (ignores-one any_name (λ spelling. refl)) (ignores-then ignores-maybe_arguments_definition (ignores-then (ignores-opt (ignores-one (keyword "repeatable") (λ spelling. refl))) ignores-locations))))

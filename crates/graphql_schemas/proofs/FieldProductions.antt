@@ -61,7 +61,7 @@ with-arguments x arguments = described (placeless_description x.0) (without_plac
 pub ignores-field_definition : IgnoresPlaces (a_field_definition Current) (unplaced placeless_field)
 ignores-field_definition =
     ignores-mapped {k = field_definition_of} (λ x. described-nowhere placeless_field x.0 x.1.0 (field_definition_of x).node ∙ ap (with-arguments x) (map-given (unplaced placeless_input_value) x.1.1.0))
-    (ignores-then ignores-maybe_description (ignores-then (ignores-one any_name) (ignores-then ignores-maybe_arguments_definition (ignores-then (ignores-one (punct ":")) (ignores-then ignores-type (ignores-directives false))))))
+    (ignores-then ignores-maybe_description (ignores-then (ignores-one any_name (λ spelling. refl)) (ignores-then ignores-maybe_arguments_definition (ignores-then (ignores-one (punct ":") (λ spelling. refl)) (ignores-then ignores-type (ignores-directives false))))))
 
 -- another one or a bracket follows
 exact-next-field_definition : {b : Limits} → ReadsExactly (a_field_definition Current) b after_member (field_definition_at b)
@@ -77,4 +77,4 @@ pub begins-fields : BeginsWith (fields Current) (punct "{")
 begins-fields = begins-between (punct "}")
 
 pub ignores-fields : IgnoresPlaces (fields Current) (map (unplaced placeless_field))
-ignores-fields = ignores-between (punct "{") (punct "}") (ignores-plus ignores-field_definition)
+ignores-fields = ignores-between (punct "{") (punct "}") (λ spelling. refl) (λ spelling. refl) (ignores-plus ignores-field_definition)

@@ -87,7 +87,7 @@ has-input_value = has-map (has-pair has-maybe_description (has-pair (has-token n
 pub ignores-input_value : IgnoresPlaces (an_input_value Current) (unplaced placeless_input_value)
 ignores-input_value =
     ignores-mapped {k = input_value_of} (λ x. described-nowhere placeless_input_value x.0 x.1.0 (input_value_of x).node)
-    (ignores-then ignores-maybe_description (ignores-then (ignores-one any_name) (ignores-then (ignores-one (punct ":")) (ignores-then ignores-type (ignores-then (ignores-opt ignores-default) (ignores-directives false))))))
+    (ignores-then ignores-maybe_description (ignores-then (ignores-one any_name (λ spelling. refl)) (ignores-then (ignores-one (punct ":") (λ spelling. refl)) (ignores-then ignores-type (ignores-then (ignores-opt ignores-default) (ignores-directives false))))))
 
 -- another one or a bracket follows
 exact-next-input_value : {b : Limits} → ReadsExactly (an_input_value Current) b after_member (input_value_at b)
@@ -108,7 +108,7 @@ pub begins-input_values : (opening closing : String) → BeginsWith (λ c. betwe
 begins-input_values opening closing = begins-between (punct closing)
 
 pub ignores-input_values : (opening closing : String) → IgnoresPlaces (λ c. between (punct opening) (input-values c) (punct closing)) placeless_input_values
-ignores-input_values opening closing = ignores-between (punct opening) (punct closing) (ignores-plus ignores-input_value)
+ignores-input_values opening closing = ignores-between (punct opening) (punct closing) (λ spelling. refl) (λ spelling. refl) (ignores-plus ignores-input_value)
 
 -- ---- definitions of arguments
 

@@ -64,4 +64,4 @@ pub has-location : HasPhrase (λ c. a_location)
 has-location = has-map (has-meaning IsLocation field-sample locations.Field refl)
 
 pub ignores-location : IgnoresPlaces (λ c. a_location) bare_node
-ignores-location = ignores-mapped (λ x. refl) (ignores-meaning any_name IsLocation)
+ignores-location = ignores-mapped (λ x. refl) (ignores-meaning any_name (λ spelling. refl) IsLocation)

@@ -35,7 +35,7 @@ pub has-placed_name : HasPhrase (λ c. a_name)
 has-placed_name = has-map (has-token name-sample)
 
 pub ignores-placed_name : IgnoresPlaces (λ c. a_name) bare_node
-ignores-placed_name = ignores-mapped (λ t. refl) (ignores-one any_name)
+ignores-placed_name = ignores-mapped (λ t. refl) (ignores-one any_name (λ spelling. refl))
 
 -- ---- interfaces and types of unions
 
@@ -57,7 +57,7 @@ pub has-implements : HasPhrase (λ c. implements)
 has-implements = has-after (keyword "implements") (has-token implements-sample) (has-separated (punct "&") has-placed_name)
 
 pub ignores-implements : IgnoresPlaces (λ c. implements) placeless_names
-ignores-implements = ignores-after (keyword "implements") (ignores-separated (punct "&") ignores-placed_name)
+ignores-implements = ignores-after (keyword "implements") (λ spelling. refl) (ignores-separated (punct "&") (λ spelling. refl) ignores-placed_name)
 
 -- a `|` goes on with another name
 pub exact-members : {b : Limits} {f : Test} → IsSubset f (outside (punct "|")) → ReadsExactly (λ c. members) b f members_at
@@ -67,7 +67,7 @@ pub begins-members : BeginsWith (λ c. members) (punct "=")
 begins-members = begins-after
 
 pub ignores-members : IgnoresPlaces (λ c. members) placeless_names
-ignores-members = ignores-after (punct "=") (ignores-separated (punct "|") ignores-placed_name)
+ignores-members = ignores-after (punct "=") (λ spelling. refl) (ignores-separated (punct "|") (λ spelling. refl) ignores-placed_name)
 
 -- ---- values of an enum
 
@@ -113,7 +113,7 @@ has-enum_value = has-map (has-pair has-maybe_description (has-pair (has-token en
 pub ignores-enum_value : IgnoresPlaces (an_enum_value Current) (unplaced placeless_enum_value)
 ignores-enum_value =
     ignores-mapped {k = enum_value_of} (λ x. described-nowhere placeless_enum_value x.0 x.1.0 (enum_value_of x).node)
-    (ignores-then ignores-maybe_description (ignores-then (ignores-one enum_name) (ignores-directives false)))
+    (ignores-then ignores-maybe_description (ignores-then (ignores-one enum_name (λ spelling. refl)) (ignores-directives false)))
 
 -- another one or the bracket follows
 exact-next-enum_value : {b : Limits} → ReadsExactly (an_enum_value Current) b after_enum_value (enum_value_at b)
@@ -129,4 +129,4 @@ pub begins-enum_values : BeginsWith (enum_values Current) (punct "{")
 begins-enum_values = begins-between (punct "}")
 
 pub ignores-enum_values : IgnoresPlaces (enum_values Current) (map (unplaced placeless_enum_value))
-ignores-enum_values = ignores-between (punct "{") (punct "}") (ignores-plus ignores-enum_value)
+ignores-enum_values = ignores-between (punct "{") (punct "}") (λ spelling. refl) (λ spelling. refl) (ignores-plus ignores-enum_value)

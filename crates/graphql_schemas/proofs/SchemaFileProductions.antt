@@ -157,13 +157,13 @@ ignores-schema : IgnoresPlaces (a_schema Current) (unplaced placeless_schema)
 ignores-schema = ignores-mapped {k = schema_of} (λ x. described-nowhere placeless_schema x.0 x.1.0 (schema_of x).node) (ignores-then ignores-maybe_description ignores-schema-rest)
 
 ignores-schema_extension : IgnoresPlaces (a_schema_extension Current) (unplaced placeless_schema)
-ignores-schema_extension = ignores-mapped {k = schema_extension_of} (λ x. refl) (ignores-then (ignores-one (keyword "extend")) ignores-extended-schema)
+ignores-schema_extension = ignores-mapped {k = schema_extension_of} (λ x. refl) (ignores-then (ignores-one (keyword "extend") (λ spelling. refl)) ignores-extended-schema)
 
 ignores-type_definition : IgnoresPlaces (a_type_definition Current) (unplaced placeless_type)
 ignores-type_definition = ignores-mapped {k = type_definition_of} (λ x. described-nowhere placeless_type x.0 x.1.0 (type_definition_of x).node) (ignores-then ignores-maybe_description ignores-body)
 
 ignores-type_extension : IgnoresPlaces (a_type_extension Current) (unplaced placeless_type)
-ignores-type_extension = ignores-mapped {k = type_extension_of} (λ x. refl) (ignores-then (ignores-one (keyword "extend")) ignores-extended_body)
+ignores-type_extension = ignores-mapped {k = type_extension_of} (λ x. refl) (ignores-then (ignores-one (keyword "extend") (λ spelling. refl)) ignores-extended_body)
 
 -- the definition without places, with these arguments and repeatable or not
 abbrev with-arguments : Description × DirectiveRest → InputValues → Bool → Positioned DirectiveDefinition

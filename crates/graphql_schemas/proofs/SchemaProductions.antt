@@ -35,7 +35,7 @@ pub has-root : HasPhrase (λ c. a_root)
 has-root = has-map (has-pair has-operation_type (has-pair has-colon (has-token name-sample)))
 
 pub ignores-root : IgnoresPlaces (λ c. a_root) placeless_root
-ignores-root = ignores-mapped (λ x. refl) (ignores-then ignores-operation_type (ignores-then (ignores-one (punct ":")) (ignores-one any_name)))
+ignores-root = ignores-mapped (λ x. refl) (ignores-then ignores-operation_type (ignores-then (ignores-one (punct ":") (λ spelling. refl)) (ignores-one any_name (λ spelling. refl))))
 
 pub takes-root : Takes root_at
 takes-root = takes-one {b = budget 0 0} {f = anything} exact-root begins-root
@@ -50,7 +50,7 @@ pub has-roots : HasPhrase (λ c. roots)
 has-roots = has-between (punct "{") (punct "}") has-open_object (has-plus has-root) has-close_object
 
 pub ignores-roots : IgnoresPlaces (λ c. roots) (map placeless_root)
-ignores-roots = ignores-between (punct "{") (punct "}") (ignores-plus ignores-root)
+ignores-roots = ignores-between (punct "{") (punct "}") (λ spelling. refl) (λ spelling. refl) (ignores-plus ignores-root)
 
 -- ---- definitions and extensions
 
@@ -80,7 +80,7 @@ pub has-schema-rest : HasPhrase schema-rest
 has-schema-rest = has-pair (has-token schema-sample) (has-pair (has-directives false) has-roots)
 
 pub ignores-schema-rest : IgnoresPlaces schema-rest placeless-schema-rest
-ignores-schema-rest = ignores-then (ignores-one (keyword "schema")) (ignores-then (ignores-directives false) ignores-roots)
+ignores-schema-rest = ignores-then (ignores-one (keyword "schema") (λ spelling. refl)) (ignores-then (ignores-directives false) ignores-roots)
 
 -- what an extension says after its 'extend'
 abbrev pub extended-schema : Limits → Rel SchemaRest
@@ -96,4 +96,4 @@ pub has-extended-schema : HasPhrase extended-schema
 has-extended-schema = has-pair (has-token schema-sample) (has-some_parts {p = λ c. roots})
 
 pub ignores-extended-schema : IgnoresPlaces extended-schema placeless-schema-rest
-ignores-extended-schema = ignores-then (ignores-one (keyword "schema")) (ignores-some_parts ignores-roots)
+ignores-extended-schema = ignores-then (ignores-one (keyword "schema") (λ spelling. refl)) (ignores-some_parts ignores-roots)
