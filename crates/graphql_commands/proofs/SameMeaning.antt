@@ -13,7 +13,7 @@ use Rattle.graphql_requests.specs.reading.Request as request
 use Rattle.graphql_requests.proofs.RequestProductions.{requests-read-by}
 use Rattle.graphql_schemas.specs.reading.SchemaFile as schema_file
 use Rattle.graphql_schemas.proofs.SchemaFileProductions.{schemas-read-by}
-use Rattle.graphql_layout.specs.texts.SameTokens.{HasFault, HaveSameTokens}
+use Rattle.graphql_layout.specs.texts.SameTokens.{HasFault, HaveAlikeTokens}
 use Rattle.graphql_printer.specs.Rewritten.{MeanTheSame}
 use Rattle.graphql_printer.proofs.Accepted.{has_no_fault}
 use Rattle.graphql_printer.proofs.Meaning.{told_again}
@@ -38,7 +38,7 @@ no_fault_in Requests limits text good = has_no_fault requests limits text (λ to
 no_fault_in Schemas limits text good = has_no_fault schemas limits text (λ tokens cut. let d = good tokens cut in (d.definitions, d.tree))
 
 lacks_nothing : {D Document : Type 0} (language : Described D Document) (reader : Limits → Reader (List D)) → IsReadBy language reader → (limits : Limits) (text other : List ℕ) → IsUtf8 other
-    → ((tokens : List Token) → IsCutInto text tokens → HasDocument true language limits tokens) → HaveSameTokens text other → MeanTheSame (lacking_nothing language) limits text other
+    → ((tokens : List Token) → IsCutInto text tokens → HasDocument true language limits tokens) → HaveAlikeTokens text other → MeanTheSame (lacking_nothing language) limits text other
 lacks_nothing language reader read limits text other utf8 good m =
     let d = good m.of_text.0 m.of_text.1 in
     let t = told_again language reader read limits text other utf8 m d.definitions d.tree in
@@ -52,6 +52,6 @@ lacks_nothing language reader read limits text other utf8 good m =
       other_sound = (t.breaks.unbroken d.unbroken, refl);
     }
 
-pub means_the_same : (language : Language) (limits : Limits) (text other : List ℕ) → IsUtf8 other → IsGoodText true language limits text → HaveSameTokens text other → MeanTheSameAs language limits text other
+pub means_the_same : (language : Language) (limits : Limits) (text other : List ℕ) → IsUtf8 other → IsGoodText true language limits text → HaveAlikeTokens text other → MeanTheSameAs language limits text other
 means_the_same Requests limits text other utf8 good m = lacks_nothing requests request.definitions_at requests-read-by limits text other utf8 good m
 means_the_same Schemas limits text other utf8 good m = lacks_nothing schemas schema_file.definitions_at schemas-read-by limits text other utf8 good m

@@ -1,7 +1,8 @@
--- A text with the tokens of what is shown makes the document again.
-use Rattle.std.proofs.Common.{◌≡◌, ℕ, List, [], ◌∷◌, ◌++◌, refl, sym, ap, ◌∙◌, subst}
+-- A text with the tokens of what is shown, or with tokens that are alike, makes the document again.
+use Rattle.std.proofs.Common.{◌≡◌, ℕ, inl, List, [], ◌∷◌, ◌++◌, refl, sym, ap, ◌∙◌, subst}
 use Rattle.std.proofs.lemmas.List.{map-append}
 use Rattle.std.specs.Str.{chars, IsUtf8}
+use Rattle.graphql_tokens.specs.tokens.Alike.{AreAlike}
 use Rattle.graphql_tokens.specs.tokens.Cuts.{EndsOnce, HasNoFault}
 use Rattle.graphql_tokens.specs.tokens.Edition.{Current}
 use Rattle.graphql_tokens.specs.tokens.Proper.{AreProperButFaults}
@@ -16,6 +17,7 @@ use Rattle.graphql_reading.specs.grammar.Fronts.{bares}
 use Rattle.graphql_reading.specs.grammar.Limits.{Limits}
 use Rattle.graphql_reading.specs.grammar.Places.{nowhere}
 use Rattle.graphql_reading.specs.reading.Outcome.{Reader}
+use Rattle.graphql_reading.proofs.IgnoresPlaces.{alike-append}
 use Rattle.graphql_reading.proofs.TokenTests.{the_end-is}
 use Rattle.graphql_grammar.proofs.Alike.{break-alike}
 use Rattle.graphql_grammar.proofs.Languages.{IsRead, is-read-by}
@@ -30,17 +32,23 @@ use Rattle.graphql_printer.proofs.SpelledTexts.{one_cut}
 the_end : Token
 the_end = record { bare = bare_end; start = 0; pos = nowhere }
 
+-- equal lists in their places
+alike_as : {ts us vs ws : List Bare} → ts ≡ us → vs ≡ ws → AreAlike ts vs → AreAlike us ws
+alike_as {ts} {us} {vs} {ws} e h m = subst (λ (l : List Bare). AreAlike us l) h (subst (λ (l : List Bare). AreAlike l vs) e m)
+
 pub makes_the_same : {D Document T : Type 0} (language : Language D Document) (reader : Limits → Reader (List D)) → IsRead language reader → (made_of : List D → T) (limits : Limits) (bs : List Bare) (ds es : List D)
     → Again (language.definitions Current limits) language.placeless bs es → AreSound language es → made_of (language.placeless ds) ≡ made_of (language.placeless es)
-    → (printed : List ℕ) → IsUtf8 printed → HasTokens printed bs → MakesTheSame language made_of limits ds printed
+    → (printed : List ℕ) → IsUtf8 printed → (others : List Bare) × HasTokens printed others × AreAlike bs others → MakesTheSame language made_of limits ds printed
 unfolding the_end
-makes_the_same language reader read made_of limits bs ds es again sound same printed utf8 has =
+makes_the_same language reader read made_of limits bs ds es again sound same printed utf8 keeps =
     let reads = is-read-by language reader read in
     let ys = again.tokens ++ the_end ∷ [] in
+    let has = keeps.1.0 in
     let us = has.0 in
     let phrase : grammar language Current limits ys again.tree = record { value = (again.tree, the_end); holds = record { front = again.tokens; back = the_end ∷ []; joined = refl; first = again.holds; second = (refl, refl) }; is = refl } in
-    let alike : bares ys ≡ bares us = map-append (λ (t : Token). t.bare) again.tokens (the_end ∷ []) ∙ ap (λ (l : List Bare). l ++ bare_end ∷ []) again.are ∙ sym has.2 in
-    let rests = reads.bare limits ys in
+    let shown : bares ys ≡ bs ++ bare_end ∷ [] = map-append (λ (t : Token). t.bare) again.tokens (the_end ∷ []) ∙ ap (λ (l : List Bare). l ++ bare_end ∷ []) again.are in
+    let alike : AreAlike (bares ys) (bares us) = alike_as (sym shown) (sym has.2) (alike-append bs keeps.0 (bare_end ∷ []) (bare_end ∷ []) keeps.1.1 (inl refl, tt)) in
+    let rests = reads.alike limits ys in
     let t = rests.has_tree us alike again.tree phrase in
     let equal : language.placeless es ≡ language.placeless t.0 = sym again.same ∙ rests.same_tree us alike again.tree t.0 phrase t.1 in
     let breaks = break-alike language read.judges es t.0 equal in

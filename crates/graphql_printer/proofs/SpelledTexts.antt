@@ -1,7 +1,9 @@
 -- Tokens that are printed with blanks after them are the tokens of that text, and of one that is laid out anew from it.
 use Rattle.std.proofs.Common.{◌≡◌, ℕ, inl, List, [], ◌∷◌, ◌++◌, refl, sym, ap, ◌∙◌, subst, append_assoc, false, rules}
+use Rattle.std.proofs.lemmas.List.{append_cancel_right}
 use Rattle.std.proofs.lemmas.Str.{chars-append, chars-IsAscii, chars-nil, IsUtf8-from_ascii}
 use Rattle.std.specs.Str.{chars}
+use Rattle.graphql_tokens.specs.tokens.Alike.{AreAlike}
 use Rattle.graphql_tokens.specs.tokens.Cuts.{IsCutInto}
 use Rattle.graphql_tokens.specs.tokens.Token.{Bare, Token}
 use Rattle.graphql_tokens.proofs.Lists.{tokens_only}
@@ -13,6 +15,7 @@ use Rattle.graphql_layout.specs.texts.LaidOut.{IsLaidOut}
 use Rattle.graphql_layout.specs.texts.SameTokens.{bares, bare_end, HasTokens}
 use Rattle.graphql_layout.proofs.Joined.{spelled as with_characters, Continues, one_more, chars_spelled}
 use Rattle.graphql_layout.proofs.WrittenTokens.{end_written, piece_written}
+use Rattle.graphql_reading.proofs.IgnoresPlaces.{alike-same}
 use Rattle.graphql_printer.specs.inner.Shown.{spelled}
 use Rattle.graphql_printer.specs.inner.SpelledTexts.{AreSpellings, KeepsTokens}
 
@@ -52,11 +55,11 @@ one_cut text ts us c d = tokens_only [] (chars text) ts c ∙ sym (tokens_only [
 
 -- such a text itself
 pub same_keeps : (text : List ℕ) → KeepsTokens text text
-same_keeps text bs h e = subst (λ (x : List ℕ). HasTokens x bs) (sym e) (spelled_tokens bs h)
+same_keeps text bs h e = (bs, subst (λ (x : List ℕ). HasTokens x bs) (sym e) (spelled_tokens bs h), alike-same bs bs refl)
 
 pub laid_out_keeps : (text other : List ℕ) → IsLaidOut text other → KeepsTokens text other
 laid_out_keeps text other laid bs h e =
-    let first = same_keeps text bs h e in
+    let first = subst (λ (x : List ℕ). HasTokens x bs) (sym e) (spelled_tokens bs h) in
     let tokens = laid.tokens.tokens in
     let same : tokens ++ bare_end ∷ [] ≡ bs ++ bare_end ∷ [] = sym laid.tokens.of_text.2 ∙ ap bares (one_cut text laid.tokens.of_text.0 first.0 laid.tokens.of_text.1 first.1) ∙ first.2 in
-    (laid.tokens.of_other.0, laid.tokens.of_other.1, laid.tokens.of_other.2 ∙ same)
+    (laid.tokens.others, laid.tokens.of_other, subst (λ (l : List Bare). AreAlike l laid.tokens.others) (append_cancel_right tokens bs (bare_end ∷ []) same) laid.tokens.alike)

@@ -37,6 +37,12 @@ alike-same [] (y ∷ ys) e = absurd cc
 alike-same (x ∷ xs) [] e = absurd cc
 alike-same (x ∷ xs) (y ∷ ys) e = (inl (head-is x y xs ys e), alike-same xs ys (tail-is x y xs ys e))
 
+pub alike-append : (xs ys us vs : List Bare) → AreAlike xs ys → AreAlike us vs → AreAlike (xs ++ us) (ys ++ vs)
+alike-append [] [] us vs h k = k
+alike-append [] (y ∷ ys) us vs h k = absurd h
+alike-append (x ∷ xs) [] us vs h k = absurd h
+alike-append (x ∷ xs) (y ∷ ys) us vs h k = (h.0, alike-append xs ys us vs h.1 k)
+
 pub record Splits (u v y : List Token) : Type 0 where
   pub front : List Token
   pub back : List Token

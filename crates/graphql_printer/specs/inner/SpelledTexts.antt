@@ -1,6 +1,7 @@
 -- Bare tokens with spellings, and the texts that have them.
 use Rattle.std.specs.Prelude.{◌≡◌, ℕ, List}
 use Rattle.std.specs.List.{AllByRecursion}
+use Rattle.graphql_tokens.specs.tokens.Alike.{AreAlike}
 use Rattle.graphql_tokens.specs.tokens.Proper.{Spells}
 use Rattle.graphql_tokens.specs.tokens.Token.{Bare}
 use Rattle.graphql_layout.specs.texts.SameTokens.{HasTokens}
@@ -10,6 +11,6 @@ use Rattle.graphql_printer.specs.inner.Shown.{spelled}
 abbrev pub AreSpellings : List Bare → Type 0
 AreSpellings bs = AllByRecursion (λ b. Spells b.kind b.spelling) bs
 
--- where the first text is such tokens with blanks, the other has these tokens
+-- where the first text is such tokens with blanks, the other has these tokens, but that block strings may be written otherwise
 abbrev pub KeepsTokens : List ℕ → List ℕ → Type 0
-KeepsTokens text other = (bs : List Bare) → AreSpellings bs → text ≡ spelled bs → HasTokens other bs
+KeepsTokens text other = (bs : List Bare) → AreSpellings bs → text ≡ spelled bs → (others : List Bare) × HasTokens other others × AreAlike bs others
