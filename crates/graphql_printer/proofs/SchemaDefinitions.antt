@@ -37,7 +37,7 @@ use Rattle.graphql_printer.proofs.SchemaRoots.{root_of, in_order, order-shown, o
 reprints-type_definition : Reprints (a_type_definition Current) (unplaced placeless_type) (λ t. shown_type_definition t.node)
 reprints-type_definition =
     reprints-mapped {k = type_definition_of} (λ t. shown_type_definition t.node) (λ x. described-nowhere placeless_type x.0 x.1.0 (type_definition_of x).node) (λ x. refl)
-    (reprints-then (reprints-maybe_description 0) reprints-body)
+    (reprints-then reprints-maybe_description reprints-body)
 
 reprints-type_extension : Reprints (a_type_extension Current) (unplaced placeless_type) (λ t. shown_type_definition t.node)
 reprints-type_extension = reprints-mapped {k = type_extension_of} (λ t. shown_type_definition t.node) (λ x. refl) (λ x. refl) (reprints-then (reprints-keyword "extend") reprints-extended_body)
@@ -65,9 +65,9 @@ shown_word (Some word) = refl
 reprints-directive_definition : Reprints (a_directive_definition Current) (unplaced placeless_directive_definition) (λ d. shown_directive_definition d.node)
 reprints-directive_definition =
     reprints-mapped {k = directive_definition_of} (λ d. shown_directive_definition d.node) directive-nowhere
-    (λ x. ap (λ (repeatable : List Bare). shown_description 0 x.0 ++ (word (codes "directive") ∷ sign "@" ∷ word x.1.1.1.0.bare.spelling ∷ (shown_parameters 2 (given x.1.1.1.1.0) ++ (repeatable ++ shown_locations x.1.1.1.1.1.1)))) (shown_word x.1.1.1.1.1.0))
-    (reprints-then (reprints-maybe_description 0) (reprints-then (reprints-keyword "directive") (reprints-then (reprints-punct "@") (reprints-then reprints-name
-    (reprints-then (reprints-maybe_parameters 2) (reprints-then (reprints-opt (reprints-keyword "repeatable")) reprints-locations))))))
+    (λ x. ap (λ (repeatable : List Bare). shown_description x.0 ++ (word (codes "directive") ∷ sign "@" ∷ word x.1.1.1.0.bare.spelling ∷ (shown_parameters (given x.1.1.1.1.0) ++ (repeatable ++ shown_locations x.1.1.1.1.1.1)))) (shown_word x.1.1.1.1.1.0))
+    (reprints-then reprints-maybe_description (reprints-then (reprints-keyword "directive") (reprints-then (reprints-punct "@") (reprints-then reprints-name
+    (reprints-then reprints-maybe_parameters (reprints-then (reprints-opt (reprints-keyword "repeatable")) reprints-locations))))))
 
 -- ---- roots
 
@@ -123,8 +123,8 @@ shown_placed s = shown_schema (schema_tree_of s.node)
 changes-schema : Changes (a_schema Current) (unplaced placeless_schema) (placed arranged_schema) shown_placed
 changes-schema =
     changes-mapped {k = schema_of} (placed arranged_schema) shown_placed (λ x. described-nowhere placeless_schema x.0 x.1.0 (schema_of x).node) (λ x. refl)
-    (λ x. ap (λ (l : List ShownRoot). shown_description 0 x.0 ++ (word (codes "schema") ∷ (shown_directives x.1.1.0 ++ shown_between "{" "}" shown_root l))) (order-shown (schema_of x).node))
-    (changes-then (changes-none (reprints-maybe_description 0)) (changes-then (changes-none (reprints-keyword "schema")) (changes-then (changes-none (reprints-directives false)) changes-roots)))
+    (λ x. ap (λ (l : List ShownRoot). shown_description x.0 ++ (word (codes "schema") ∷ (shown_directives x.1.1.0 ++ shown_between "{" "}" shown_root l))) (order-shown (schema_of x).node))
+    (changes-then (changes-none reprints-maybe_description) (changes-then (changes-none (reprints-keyword "schema")) (changes-then (changes-none (reprints-directives false)) changes-roots)))
 
 -- directives and roots, one of the two at least
 abbrev SchemaParts : Type 0

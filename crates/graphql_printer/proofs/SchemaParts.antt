@@ -67,40 +67,40 @@ text_utf8 x d (inl m) s = subst IsUtf8 (ap (λ (d : Positioned (List ℕ)). d.no
 text_utf8 x d (inr m) s = subst IsUtf8 (ap (λ (d : Positioned (List ℕ)). d.node) (sym m.is)) (blocks_utf8 x d m s)
 
 -- and as a block string that keeps it
-again-block : (indent : ℕ) (d : Positioned (List ℕ)) → IsUtf8 d.node → may_be_block (chars d.node) ≡ true → Again (a_description Current) bare_node (in_block indent d.node ∷ []) d
-again-block indent d u kept =
-    let token : Token = record { bare = in_block indent d.node; start = 0; pos = nowhere } in
+again-block : (d : Positioned (List ℕ)) → IsUtf8 d.node → may_be_block (chars d.node) ≡ true → Again (a_description Current) bare_node (in_block d.node ∷ []) d
+again-block d u kept =
+    let token : Token = record { bare = in_block d.node; start = 0; pos = nowhere } in
     record {
       tokens = token ∷ [];
       are = refl;
-      spelled = (block_spelled indent d.node u, tt);
+      spelled = (block_spelled 0 d.node u, tt);
       tree = text_of (token, d.node);
-      holds = inr (record { value = (token, d.node); holds = (refl, refl, sym (encodes-chars d.node u) ∙ ap encode_utf8_all (sym (value_kept d.node u kept indent))); is = refl });
+      holds = inr (record { value = (token, d.node); holds = (refl, refl, sym (encodes-chars d.node u) ∙ ap encode_utf8_all (sym (value_kept d.node u kept 0))); is = refl });
       same = refl;
     }
 
-reprints-description : (indent : ℕ) → Reprints (λ c. a_description Current) bare_node (shown_node (shown_text indent))
-reprints-description indent = record { by = λ c x d m s. go c x d m s (may_be_block (chars d.node)) refl }
+reprints-description : Reprints (λ c. a_description Current) bare_node (shown_node shown_text)
+reprints-description = record { by = λ c x d m s. go c x d m s (may_be_block (chars d.node)) refl }
   where
-    go : (c : Limits) (x : List Token) (d : Positioned (List ℕ)) → a_description Current x d → AreSpelled x → (b : Bool) → may_be_block (chars d.node) ≡ b → Again (a_description Current) bare_node (shown_node (shown_text indent) d) d
-    go c x d m s true e = again-as (ap (λ (b : Bool). (if b then in_block indent d.node else quoted d.node) ∷ []) (sym e)) (again-block indent d (text_utf8 x d m s) e)
-    go c x d m s false e = again-as (ap (λ (b : Bool). (if b then in_block indent d.node else quoted d.node) ∷ []) (sym e)) (reprints-quoted.by c x d m s)
+    go : (c : Limits) (x : List Token) (d : Positioned (List ℕ)) → a_description Current x d → AreSpelled x → (b : Bool) → may_be_block (chars d.node) ≡ b → Again (a_description Current) bare_node (shown_node shown_text d) d
+    go c x d m s true e = again-as (ap (λ (b : Bool). (if b then in_block d.node else quoted d.node) ∷ []) (sym e)) (again-block d (text_utf8 x d m s) e)
+    go c x d m s false e = again-as (ap (λ (b : Bool). (if b then in_block d.node else quoted d.node) ∷ []) (sym e)) (reprints-quoted.by c x d m s)
 
-pub reprints-maybe_description : (indent : ℕ) → Reprints (λ c. opt (a_description Current)) placeless_description (shown_description indent)
-reprints-maybe_description indent = reprints-opt (reprints-description indent)
+pub reprints-maybe_description : Reprints (λ c. opt (a_description Current)) placeless_description shown_description
+reprints-maybe_description = reprints-opt (reprints-description)
 
 -- ---- input values
 
-pub reprints-input_value : (indent : ℕ) → Reprints (an_input_value Current) (unplaced placeless_input_value) (shown_node (shown_input_value indent))
-reprints-input_value indent =
-    reprints-mapped {k = input_value_of} (shown_node (shown_input_value indent)) (λ x. described-nowhere placeless_input_value x.0 x.1.0 (input_value_of x).node) (λ x. refl)
-    (reprints-then (reprints-maybe_description indent) (reprints-then reprints-name (reprints-then (reprints-punct ":") (reprints-then reprints-type (reprints-then (reprints-opt reprints-default) (reprints-directives false))))))
+pub reprints-input_value : Reprints (an_input_value Current) (unplaced placeless_input_value) (shown_node shown_input_value)
+reprints-input_value =
+    reprints-mapped {k = input_value_of} (shown_node shown_input_value) (λ x. described-nowhere placeless_input_value x.0 x.1.0 (input_value_of x).node) (λ x. refl)
+    (reprints-then (reprints-maybe_description) (reprints-then reprints-name (reprints-then (reprints-punct ":") (reprints-then reprints-type (reprints-then (reprints-opt reprints-default) (reprints-directives false))))))
 
-pub reprints-maybe_parameters : (indent : ℕ) → Reprints (λ c. opt (arguments_definition Current c)) (option_map placeless_input_values) (λ values. shown_parameters indent (given values))
-reprints-maybe_parameters indent = reprints-maybe_listed "(" ")" (reprints-input_value indent)
+pub reprints-maybe_parameters : Reprints (λ c. opt (arguments_definition Current c)) (option_map placeless_input_values) (λ values. shown_parameters (given values))
+reprints-maybe_parameters = reprints-maybe_listed "(" ")" (reprints-input_value)
 
-pub reprints-input_fields : Reprints (input_fields Current) placeless_input_values (shown_between "{" "}" (shown_node (shown_input_value 2)))
-reprints-input_fields = reprints-listed "{" "}" (reprints-input_value 2)
+pub reprints-input_fields : Reprints (input_fields Current) placeless_input_values (shown_between "{" "}" (shown_node shown_input_value))
+reprints-input_fields = reprints-listed "{" "}" reprints-input_value
 
 -- ---- fields
 
@@ -111,7 +111,7 @@ with-arguments x arguments = described (placeless_description x.0) (without_plac
 reprints-field : Reprints (a_field_definition Current) (unplaced placeless_field) (shown_node shown_field)
 reprints-field =
     reprints-mapped {k = field_definition_of} (shown_node shown_field) (λ x. described-nowhere placeless_field x.0 x.1.0 (field_definition_of x).node ∙ ap (with-arguments x) (map-given (unplaced placeless_input_value) x.1.1.0)) (λ x. refl)
-    (reprints-then (reprints-maybe_description 2) (reprints-then reprints-name (reprints-then (reprints-maybe_parameters 4) (reprints-then (reprints-punct ":") (reprints-then reprints-type (reprints-directives false))))))
+    (reprints-then reprints-maybe_description (reprints-then reprints-name (reprints-then reprints-maybe_parameters (reprints-then (reprints-punct ":") (reprints-then reprints-type (reprints-directives false))))))
 
 pub reprints-fields : Reprints (fields Current) (map (unplaced placeless_field)) (shown_between "{" "}" (shown_node shown_field))
 reprints-fields = reprints-listed "{" "}" reprints-field
@@ -121,7 +121,7 @@ reprints-fields = reprints-listed "{" "}" reprints-field
 reprints-enum_value : Reprints (an_enum_value Current) (unplaced placeless_enum_value) (shown_node shown_enum_value)
 reprints-enum_value =
     reprints-mapped {k = enum_value_of} (shown_node shown_enum_value) (λ x. described-nowhere placeless_enum_value x.0 x.1.0 (enum_value_of x).node) (λ x. refl)
-    (reprints-then (reprints-maybe_description 2) (reprints-then (reprints-name_but ("true" ∷ "false" ∷ "null" ∷ [])) (reprints-directives false)))
+    (reprints-then reprints-maybe_description (reprints-then (reprints-name_but ("true" ∷ "false" ∷ "null" ∷ [])) (reprints-directives false)))
 
 pub reprints-enum_values : Reprints (enum_values Current) (map (unplaced placeless_enum_value)) (shown_between "{" "}" (shown_node shown_enum_value))
 reprints-enum_values = reprints-listed "{" "}" reprints-enum_value

@@ -25,7 +25,6 @@ ghost use Rattle.graphql_schemas.specs.grammar.Schemas.{schemas};
 
 mod documents;
 mod formatting;
-mod lists;
 mod nodes;
 mod parts;
 mod places;

@@ -1,5 +1,6 @@
 //! Values, types, arguments and directives, printed as tokens.
 ghost use Rattle.std.specs.Prelude.{◌≡◌, ◌++◌, [], ◌∷◌, List, string_bytes, codes, flat_map, map, option_map, true};
+ghost use Rattle.graphql_syntax.specs.calls.Words.{operation_word as operation_word_of};
 ghost use Rattle.graphql_syntax.specs.calls.Views.{view_tree, list_items, object_fields};
 ghost use Rattle.graphql_syntax.specs.trees.Parts.{placed};
 ghost use Rattle.graphql_syntax.specs.trees.PartViews.{directive_tree, const_directive_tree};
@@ -11,7 +12,7 @@ ghost use Rattle.graphql_printer.specs.inner.Prints.{Prints, form};
 ghost use Rattle.graphql_printer.specs.inner.Shown.{sign as sign_token, word as word_token, literal, quoted, shown_value, shown_items, shown_fields, shown_mark, shown_type, argument_by, shown_argument_by, shown_arguments_by, shown_default, shown_directive, shown_part};
 
 use crate::nodes::{Outcome, Print, sign, word};
-use graphql_syntax::types::{BaseType, ConstDirective, Directive, Type};
+use graphql_syntax::types::{BaseType, ConstDirective, Directive, OperationType, Type};
 use graphql_syntax::value::{ConstValue, ListView, Name, ObjectView, Value, ValueView};
 use graphql_tokens::pos::Positioned;
 
@@ -31,6 +32,17 @@ impl Print for ConstValue {
     }
 }
 
+/// The keyword of a kind of operation.
+pub fn operation_word(kind: OperationType) -> &'static str
+    ensures { result.now ≡ operation_word_of kind }
+{
+    match kind {
+        OperationType::Query => "query",
+        OperationType::Mutation => "mutation",
+        OperationType::Subscription => "subscription",
+    }
+}
+
 // A number, by its literal.
 fn print_number(out: &mut String, digits: &str) -> Outcome
     ensures { Prints result (string_bytes out.old) (string_bytes out.new)
@@ -40,8 +52,8 @@ fn print_number(out: &mut String, digits: &str) -> Outcome
     out.push(' ')
 }
 
-// The string that stands for a text.
-fn print_string(out: &mut String, text: &str) -> Outcome
+/// The string that stands for a text.
+pub fn print_string(out: &mut String, text: &str) -> Outcome
     ensures { Prints result (string_bytes out.old) (string_bytes out.new) (quoted text.now ∷ []) }
 {
     let shown = ValueView::String(text);

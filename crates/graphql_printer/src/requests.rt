@@ -1,6 +1,5 @@
 //! Requests, printed as tokens.
 ghost use Rattle.std.specs.Prelude.{◌≡◌, ◌++◌, ◌∷◌, [], List, IfOk, OnOk, string_bytes, codes, map, drop, flat_map, option_map};
-ghost use Rattle.graphql_syntax.specs.calls.Words.{operation_word as operation_word_of};
 ghost use Rattle.graphql_syntax.specs.trees.Parts.{placed};
 ghost use Rattle.graphql_request_trees.specs.trees.Request.{of_field, of_inline_fragment};
 ghost use Rattle.graphql_request_trees.specs.trees.RequestViews.{document_tree, entry_tree, field_tree, fragment_spread_tree, fragment_tree, inline_fragment_tree, operation_tree, selection_tree, selection_set_tree, type_condition_tree, variable_definition_tree};
@@ -14,7 +13,7 @@ ghost use Rattle.graphql_printer.specs.inner.ShownRequests.{Fragment as Fragment
 
 use crate::documents::lay_out;
 use crate::nodes::{Outcome, Print, each, in_parentheses, maybe, sign, word};
-use crate::parts::{print_arguments, print_default};
+use crate::parts::{operation_word, print_arguments, print_default};
 use crate::places::stands_before;
 use graphql_request_trees::{
     ExecutableDocument, Field, FragmentDefinition, FragmentSpread, InlineFragment, NameMap,
@@ -134,17 +133,6 @@ fn print_in_full(out: &mut String, name: Option<&Name>, operation: &OperationDef
     in_parentheses(out, &operation.variable_definitions)?;
     each(out, &operation.directives)?;
     print_set(out, &operation.selection_set.node)
-}
-
-// The keyword of a kind of operation.
-fn operation_word(kind: OperationType) -> &'static str
-    ensures { result.now ≡ operation_word_of kind }
-{
-    match kind {
-        OperationType::Query => "query",
-        OperationType::Mutation => "mutation",
-        OperationType::Subscription => "subscription",
-    }
 }
 
 fn print_optional_name(out: &mut String, name: Option<&Name>) -> Outcome

@@ -1,22 +1,20 @@
 //! Schema files, printed as tokens.
-ghost use Rattle.std.specs.Prelude.{◌≡◌, [], IfOk, flat_map, map, option_map, string_bytes};
+ghost use Rattle.std.specs.Prelude.{◌≡◌, [], IfOk, option_map, string_bytes};
 ghost use Rattle.std.specs.Str.{chars};
 ghost use Rattle.graphql_layout.specs.inner.Blocks.{may_be_block as may_be_block_of};
 ghost use Rattle.graphql_syntax.specs.trees.Parts.{placed};
-ghost use Rattle.graphql_syntax.specs.calls.Words.{operation_word as operation_word_of};
 ghost use Rattle.graphql_schema_trees.specs.trees.SchemaViews.{definition_tree, directive_definition_tree, enum_value_tree, field_definition_tree, input_value_tree, kind_tree, schema_definition_tree, schema_document_tree, type_definition_tree};
 ghost use Rattle.graphql_schemas.specs.grammar.Documents.{document_of};
 ghost use Rattle.graphql_schemas.specs.grammar.Schemas.{schemas};
 ghost use Rattle.graphql_printer.specs.Printed.{IsPrinted};
 ghost use Rattle.graphql_printer.specs.inner.PrintedRoots.{and_then, are_none as are_none_of, goes_before as goes_before_of, shown_maybe_root};
 ghost use Rattle.graphql_printer.specs.inner.Prints.{Prints, form};
-ghost use Rattle.graphql_printer.specs.inner.Shown.{shown_between, shown_node};
-ghost use Rattle.graphql_printer.specs.inner.ShownSchemas.{Root, shown_text, shown_description, shown_parameters, shown_name, shown_input_value, shown_field, shown_enum_value, kind_word as kind_word_of, shown_interfaces, shown_contents, shown_extend, shown_type_definition, with_root, roots_of, shown_root, shown_schema, shown_repeatable, shown_location, shown_directive_definition, shown_definition, shown_file};
+ghost use Rattle.graphql_printer.specs.inner.Shown.{shown_between};
+ghost use Rattle.graphql_printer.specs.inner.ShownSchemas.{Root, shown_text, shown_description, shown_name, shown_input_value, shown_field, shown_enum_value, kind_word as kind_word_of, shown_interfaces, shown_contents, shown_extend, shown_type_definition, with_root, roots_of, shown_root, shown_schema, shown_repeatable, shown_location, shown_directive_definition, shown_definition, shown_file};
 
 use crate::documents::lay_out;
-use crate::lists::{in_braces, separated};
-use crate::nodes::{Outcome, Print, each, in_parentheses, sign, word};
-use crate::parts::print_default;
+use crate::nodes::{Outcome, Print, each, in_braces, in_parentheses, separated, sign, word};
+use crate::parts::{operation_word, print_default, print_string};
 use crate::places::stands_before;
 use graphql_layout::blocks::{may_be_block, push_block};
 use graphql_parser::Positioned;
@@ -25,7 +23,7 @@ use graphql_parser::types::{
     InputValueDefinition, OperationType, SchemaDefinition, ServiceDocument, TypeDefinition,
     TypeKind, TypeSystemDefinition,
 };
-use graphql_parser::value::{Name, ValueView};
+use graphql_parser::value::Name;
 use std::alloc::{AllocError, Global};
 
 /// The schema file as a text, laid out as [`format_schema`](crate::format_schema) lays out others: its definitions and
@@ -80,7 +78,7 @@ fn print_schema_definition(out: &mut String, schema: &SchemaDefinition) -> Outco
     ensures { Prints result (string_bytes out.old) (string_bytes out.new)
         (shown_schema (schema_definition_tree schema.now)) }
 {
-    print_description(out, &schema.description, 0)?;
+    print_description(out, &schema.description)?;
     print_extend(out, schema.extend)?;
     word(out, "schema")?;
     each(out, &schema.directives)?;
@@ -172,7 +170,7 @@ fn print_type_definition(out: &mut String, ty: &TypeDefinition) -> Outcome
     ensures { Prints result (string_bytes out.old) (string_bytes out.new)
         (shown_type_definition (type_definition_tree ty.now)) }
 {
-    print_description(out, &ty.description, 0)?;
+    print_description(out, &ty.description)?;
     print_extend(out, ty.extend)?;
     word(out, kind_word(&ty.kind))?;
     word(out, ty.name.node.as_str())?;
@@ -220,42 +218,25 @@ fn print_contents(out: &mut String, kind: &TypeKind) -> Outcome
     }
 }
 
-// The keyword of a kind of operation.
-fn operation_word(kind: OperationType) -> &'static str
-    ensures { result.now ≡ operation_word_of kind }
-{
-    match kind {
-        OperationType::Query => "query",
-        OperationType::Mutation => "mutation",
-        OperationType::Subscription => "subscription",
-    }
-}
-
-// A description that stands so many blanks deep.
-fn print_description(
-    out: &mut String,
-    description: &Option<Positioned<String>>,
-    indent: usize,
-) -> Outcome
+fn print_description(out: &mut String, description: &Option<Positioned<String>>) -> Outcome
     ensures { Prints result (string_bytes out.old) (string_bytes out.new)
-        (shown_description indent (option_map (placed string_bytes) description.now)) }
+        (shown_description (option_map (placed string_bytes) description.now)) }
 {
     match description {
-        Some(text) => print_text(out, text.node.as_str(), indent),
+        Some(text) => print_text(out, text.node.as_str()),
         None => Ok(()),
     }
 }
 
 // A text as a block string where that keeps it, and else in quotes.
-fn print_text(out: &mut String, text: &str, indent: usize) -> Outcome
-    ensures { Prints result (string_bytes out.old) (string_bytes out.new) (shown_text indent text.now) }
+fn print_text(out: &mut String, text: &str) -> Outcome
+    ensures { Prints result (string_bytes out.old) (string_bytes out.new) (shown_text text.now) }
 {
-    if is_in_block(text) {
-        push_block(out, text, indent)?;
-        return out.push(' ');
+    if !is_in_block(text) {
+        return print_string(out, text);
     }
-    let shown = ValueView::String(text);
-    write!(out, "{shown} ")
+    push_block(out, text, 0)?;
+    out.push(' ')
 }
 
 fn is_in_block(text: &str) -> bool
@@ -276,9 +257,9 @@ impl Print for FieldDefinition {
     ghost form = { form field_definition_tree shown_field };
 
     fn print(&self, out: &mut String) -> Outcome {
-        print_description(out, &self.description, 2)?;
+        print_description(out, &self.description)?;
         word(out, self.name.node.as_str())?;
-        print_parameters(out, &self.arguments, 4)?;
+        in_parentheses(out, &self.arguments)?;
         sign(out, ":")?;
         self.ty.node.print(out)?;
         each(out, &self.directives)
@@ -286,62 +267,23 @@ impl Print for FieldDefinition {
 }
 
 impl Print for InputValueDefinition {
-    ghost form = { form input_value_tree (shown_input_value 2) };
+    ghost form = { form input_value_tree shown_input_value };
 
     fn print(&self, out: &mut String) -> Outcome {
-        print_input_value(out, self, 2)
+        print_description(out, &self.description)?;
+        word(out, self.name.node.as_str())?;
+        sign(out, ":")?;
+        self.ty.node.print(out)?;
+        print_default(out, &self.default_value)?;
+        each(out, &self.directives)
     }
-}
-
-fn print_input_value(out: &mut String, value: &InputValueDefinition, indent: usize) -> Outcome
-    ensures { Prints result (string_bytes out.old) (string_bytes out.new)
-        (shown_input_value indent (input_value_tree value.now)) }
-{
-    print_description(out, &value.description, indent)?;
-    word(out, value.name.node.as_str())?;
-    sign(out, ":")?;
-    value.ty.node.print(out)?;
-    print_default(out, &value.default_value)?;
-    each(out, &value.directives)
-}
-
-// The arguments of a field, which stand so many blanks deep where they are described.
-fn print_parameters(
-    out: &mut String,
-    values: &Vec<Positioned<InputValueDefinition>>,
-    indent: usize,
-) -> Outcome
-    ensures { Prints result (string_bytes out.old) (string_bytes out.new)
-        (shown_parameters indent (map (placed input_value_tree) values.now.items)) }
-{
-    if values.is_empty() {
-        return Ok(());
-    }
-    sign(out, "(")?;
-    print_input_values(out, values, indent)?;
-    sign(out, ")")
-}
-
-fn print_input_values(
-    out: &mut String,
-    values: &Vec<Positioned<InputValueDefinition>>,
-    indent: usize,
-) -> Outcome
-    ensures { Prints result (string_bytes out.old) (string_bytes out.new)
-        (flat_map (shown_node (shown_input_value indent))
-        (map (placed input_value_tree) values.now.items)) }
-{
-    for value in values {
-        print_input_value(out, &value.node, indent)?;
-    }
-    Ok(())
 }
 
 impl Print for EnumValueDefinition {
     ghost form = { form enum_value_tree shown_enum_value };
 
     fn print(&self, out: &mut String) -> Outcome {
-        print_description(out, &self.description, 2)?;
+        print_description(out, &self.description)?;
         word(out, self.value.node.as_str())?;
         each(out, &self.directives)
     }
@@ -351,7 +293,7 @@ fn print_directive(out: &mut String, directive: &DirectiveDefinition) -> Outcome
     ensures { Prints result (string_bytes out.old) (string_bytes out.new)
         (shown_directive_definition (directive_definition_tree directive.now)) }
 {
-    print_description(out, &directive.description, 0)?;
+    print_description(out, &directive.description)?;
     word(out, "directive")?;
     sign(out, "@")?;
     word(out, directive.name.node.as_str())?;

@@ -1,6 +1,6 @@
 -- The tokens that a schema file is printed as: those of its tree, where nothing is written that may be left out.
 -- Source: the productions of GraphQL October 2021, sections 3.1 to 3.13. That roots stand in the order of their places, and that
--- an empty part is left out, is this project's choice; so is how deep each part stands, which is where the layout puts it.
+-- an empty part is left out, is this project's choice.
 use Rattle.std.specs.Prelude.{ℕ, Bool, true, false, Option, Some, None, List, [], ◌∷◌, ◌++◌, flat_map, if◌then◌else◌, codes}
 use Rattle.std.specs.Str.{chars}
 use Rattle.graphql_tokens.specs.declared.lexer.TokenKind.TheVariants.{Block}
@@ -19,17 +19,16 @@ use Rattle.graphql_printer.specs.inner.Shown.{sign, word, quoted, shown_node, sh
 
 -- ---- parts
 
--- a block string, with so many blanks before each line after its first
-abbrev pub in_block : ℕ → List ℕ → Bare
-in_block indent text = record { kind = Block; spelling = blocks.spelled indent text }
+-- a block string, which the layout indents
+abbrev pub in_block : List ℕ → Bare
+in_block text = record { kind = Block; spelling = blocks.spelled 0 text }
 
 -- a text as a block string where that keeps it, and else between single quotes
-abbrev pub shown_text : ℕ → List ℕ → List Bare
-shown_text indent text = (if blocks.may_be_block (chars text) then in_block indent text else quoted text) ∷ []
+abbrev pub shown_text : List ℕ → List Bare
+shown_text text = (if blocks.may_be_block (chars text) then in_block text else quoted text) ∷ []
 
--- a description that stands so deep
-abbrev pub shown_description : ℕ → Description → List Bare
-shown_description indent description = shown_part (shown_node (shown_text indent)) description
+abbrev pub shown_description : Description → List Bare
+shown_description description = shown_part (shown_node shown_text) description
 
 abbrev pub shown_name : Name → List Bare
 shown_name name = word name ∷ []
@@ -41,17 +40,17 @@ shown_led lead mark shown (a ∷ others) = lead ∷ (shown a ++ flat_map (λ oth
 
 -- ---- the parts of types
 
-abbrev pub shown_input_value : ℕ → InputValueDefinition → List Bare
-shown_input_value indent v = shown_description indent v.description ++ (word v.name.node ∷ sign ":" ∷ (shown_type v.ty.node ++ (shown_part shown_default v.default_value ++ shown_directives v.directives)))
+abbrev pub shown_input_value : InputValueDefinition → List Bare
+shown_input_value v = shown_description v.description ++ (word v.name.node ∷ sign ":" ∷ (shown_type v.ty.node ++ (shown_part shown_default v.default_value ++ shown_directives v.directives)))
 
-abbrev pub shown_parameters : ℕ → InputValues → List Bare
-shown_parameters indent values = shown_between "(" ")" (shown_node (shown_input_value indent)) values
+abbrev pub shown_parameters : InputValues → List Bare
+shown_parameters values = shown_between "(" ")" (shown_node shown_input_value) values
 
 abbrev pub shown_field : FieldDefinition → List Bare
-shown_field f = shown_description 2 f.description ++ (word f.name.node ∷ (shown_parameters 4 f.arguments ++ (sign ":" ∷ (shown_type f.ty.node ++ shown_directives f.directives))))
+shown_field f = shown_description f.description ++ (word f.name.node ∷ (shown_parameters f.arguments ++ (sign ":" ∷ (shown_type f.ty.node ++ shown_directives f.directives))))
 
 abbrev pub shown_enum_value : EnumValueDefinition → List Bare
-shown_enum_value v = shown_description 2 v.description ++ (word v.value.node ∷ shown_directives v.directives)
+shown_enum_value v = shown_description v.description ++ (word v.value.node ∷ shown_directives v.directives)
 
 abbrev pub shown_implements : Names → List Bare
 shown_implements names = shown_led (word (codes "implements")) (sign "&") (shown_node shown_name) names
@@ -85,7 +84,7 @@ shown_contents (object fields) = shown_between "{" "}" (shown_node shown_field) 
 shown_contents (interface fields) = shown_between "{" "}" (shown_node shown_field) fields.fields
 shown_contents (union names) = shown_members names
 shown_contents (enumeration values) = shown_between "{" "}" (shown_node shown_enum_value) values
-shown_contents (input_object values) = shown_between "{" "}" (shown_node (shown_input_value 2)) values
+shown_contents (input_object values) = shown_between "{" "}" (shown_node shown_input_value) values
 
 -- the keyword of an extension, where it is one
 abbrev pub shown_extend : Bool → List Bare
@@ -94,7 +93,7 @@ shown_extend false = []
 
 abbrev pub shown_type_definition : TypeDefinition → List Bare
 shown_type_definition t =
-    shown_description 0 t.description
+    shown_description t.description
     ++ (shown_extend t.extend ++ (word (kind_word t.kind) ∷ word t.name.node ∷ (shown_interfaces t.kind ++ (shown_directives t.directives ++ shown_contents t.kind))))
 
 -- ---- schemas
@@ -122,7 +121,7 @@ shown_root root = word (operation_word root.0) ∷ sign ":" ∷ word root.1.node
 
 abbrev pub shown_schema : SchemaDefinition → List Bare
 shown_schema s =
-    shown_description 0 s.description
+    shown_description s.description
     ++ (shown_extend s.extend ++ (word (codes "schema") ∷ (shown_directives s.directives ++ shown_between "{" "}" shown_root (roots_of s))))
 
 -- ---- directives
@@ -139,8 +138,8 @@ shown_locations locations = shown_led (word (codes "on")) (sign "|") (shown_node
 
 abbrev pub shown_directive_definition : DirectiveDefinition → List Bare
 shown_directive_definition d =
-    shown_description 0 d.description
-    ++ (word (codes "directive") ∷ sign "@" ∷ word d.name.node ∷ (shown_parameters 2 d.arguments ++ (shown_repeatable d.is_repeatable ++ shown_locations d.locations)))
+    shown_description d.description
+    ++ (word (codes "directive") ∷ sign "@" ∷ word d.name.node ∷ (shown_parameters d.arguments ++ (shown_repeatable d.is_repeatable ++ shown_locations d.locations)))
 
 -- ---- files
 

@@ -3,7 +3,7 @@ use Rattle.std.specs.List.{flat_map}
 use Rattle.graphql_tokens.specs.declared.lexer.TokenKind.TheVariants.{Punct}
 use Rattle.graphql_syntax.specs.trees.Parts.{placed}
 use Rattle.graphql_printer.specs.inner.Shown.{shown_node, spelled}
-use Rattle.graphql_printer.proofs.lists.separated.Given as goal
+use Rattle.graphql_printer.proofs.nodes.separated.Given as goal
 
 abbrev pub invariant-loop-node : goal.invariant-loop-node
 invariant-loop-node g l =
