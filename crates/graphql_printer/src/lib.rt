@@ -1,12 +1,14 @@
 //! GraphQL texts written anew, so that they mean what they meant.
 //!
 //! Proved of [`minify_query`] and [`minify_schema`], unless memory runs out: they answer as the checks of `graphql_parser` do;
-//! a text that they give has the tokens of the text that they are given, one for one in kind and spelling, with nothing between
-//! two that may touch, and else one blank; it is no longer; and so it has the same tree, except for places.
+//! a text that they give has the tokens of the text that they are given, one for one in kind and spelling, but that block strings
+//! are written in their shortest form, with nothing between two that may touch, and else one blank; it is no longer; and so it has
+//! the same tree, except for places.
 //!
 //! Proved of [`format_query`] and [`format_schema`], unless memory runs out: they answer as the checks do; a text that they give
-//! has the tokens of the text that they are given, one for one in kind and spelling, and its comments in their order, each before
-//! the same token, less the blanks at its end; and so it has the same tree, except for places.
+//! has the tokens of the text that they are given, one for one in kind and spelling, but that block strings are indented anew and
+//! keep their values, and its comments in their order, each before the same token, less the blanks at its end; and so it has the
+//! same tree, except for places.
 //!
 //! Proved of [`print_query`] and [`print_schema`], unless memory runs out: of the document of a text, within some limits, they
 //! give a text that has one tree within these limits; that tree breaks no rule, lacks nothing and makes the document again,
@@ -43,8 +45,9 @@ pub use schemas::print_schema;
 use std::alloc::Global;
 
 /// The request without what is ignored in it (GraphQL October 2021, section 2.1.7) and isn't needed: comments, and all blanks,
-/// line ends, commas and byte order marks; one blank is left where two tokens would be read as others if they touched. Block
-/// strings are kept as they are. Selection sets, values and types may nest as deep as the limits say.
+/// line ends, commas and byte order marks; one blank is left where two tokens would be read as others if they touched. A block
+/// string is written in the shortest form that has its value (section 2.9.4), if that isn't longer. Selection sets, values and
+/// types may nest as deep as the limits say.
 ///
 /// Errors are those of `check_query_limited`, of the text that it is given; `OutOfMemory` where memory was refused.
 pub fn minify_query(alloc: Global, text: &str, limits: Limits) -> Result<String>
