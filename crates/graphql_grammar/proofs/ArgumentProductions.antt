@@ -45,7 +45,7 @@ pub begins-arguments : (vars : Bool) → BeginsWith (λ c. arguments Current var
 begins-arguments vars = begins-between (punct ")")
 
 pub ignores-arguments : (vars : Bool) → IgnoresPlaces (λ c. arguments Current vars c.values) (map placeless_argument)
-ignores-arguments vars = ignores-between (punct "(") (punct ")") (ignores-plus (ignores-argument vars))
+ignores-arguments vars = ignores-between (punct "(") (punct ")") (λ spelling. refl) (λ spelling. refl) (ignores-plus (ignores-argument vars))
 
 -- ---- arguments, where there are any
 

@@ -1,6 +1,6 @@
 //! Readers of strings and block strings, by GraphQL October 2021, section 2.9.4.
 ghost use Rattle.std.specs.Prelude.{◌≡◌, ◌≤◌, length, string_bytes};
-ghost use Rattle.graphql_grammar.specs.grammar.Values as grammar;
+ghost use Rattle.graphql_tokens.specs.tokens.Alike.{inside as inside_of};
 ghost use Rattle.graphql_grammar.specs.reading.Values.{string_value_at, block_value_at};
 ghost use Rattle.graphql_reading.specs.reading.Funds.{Pays};
 ghost use Rattle.graphql_reading.specs.reading.Worth.{per_token};
@@ -12,7 +12,7 @@ use graphql_reading::parser::{Parser, Reading, Refusal};
 /// What stands between so many quotes.
 fn inside(text: &str, quotes: usize) -> &str
     requires { IsQuoted quotes text.now }
-    ensures inside { result.now ≡ grammar.inside quotes text.now }
+    ensures inside { result.now ≡ inside_of quotes text.now }
     ensures fits { length result.now ≤ length text.now }
 {
     let front = &text[..text.len() - quotes];

@@ -190,4 +190,4 @@ pub begins-variable_definitions : BeginsWith (λ c. variable_definitions Current
 begins-variable_definitions = begins-between (punct ")")
 
 pub ignores-variable_definitions : IgnoresPlaces (λ c. variable_definitions Current c.values c.types) (map (unplaced placeless_variable))
-ignores-variable_definitions = ignores-between (punct "(") (punct ")") (ignores-plus ignores-variable_definition)
+ignores-variable_definitions = ignores-between (punct "(") (punct ")") (λ spelling. refl) (λ spelling. refl) (ignores-plus ignores-variable_definition)
