@@ -1,7 +1,7 @@
 -- Places don't matter, nor how a block string is written: of tokens that are alike there is a tree too, the same but for places.
 use Rattle.std.proofs.Common.{◌≡◌, ℕ, false, IsTrue, map, option_map, Option, Some, None, List, [], ◌∷◌, ◌++◌, inl, inr, refl, sym, ap, ap₂, ◌∙◌, subst}
 use Rattle.graphql_tokens.specs.declared.lexer.TokenKind.TheVariants.{Block}
-use Rattle.graphql_tokens.specs.tokens.Alike.{AreOneBlock, IsAlike, AreAlike}
+use Rattle.graphql_tokens.specs.tokens.Alike.{IsAlike, AreAlike}
 use Rattle.graphql_tokens.specs.tokens.Token.{Bare, Token}
 use Rattle.graphql_reading.specs.grammar.Tests.{Test}
 use Rattle.graphql_reading.specs.grammar.Limits.{Limits}
