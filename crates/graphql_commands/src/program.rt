@@ -28,8 +28,8 @@ Commands:
   format   lays out each file anew in its place, with its comments, and each such file below a folder; a file with an
            error stays, and is told as by check. Standard input is laid out on standard output
   minify   prints a file without comments, and without blanks and line ends that it doesn't need
-  print    prints a file from its tree: laid out as by format, without comments, and with each thing spelled in one way. A
-           file of fragments alone has no tree, and is refused
+  print    prints the tree of a file as text, without comments, laid out as by format; a file of fragments alone has no
+           tree, and is refused
   tree     prints the tree of a file as JSON, as GraphQL.js has it
   tokens   prints the tokens of a file, a line for each
 

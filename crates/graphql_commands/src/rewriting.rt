@@ -172,7 +172,7 @@ pub fn written_anew<E: Write>(
     }
     if call.command == Command::Print {
         return match printed(teller.alloc, &source) {
-            Ok(text) => Ok(Ok(text)),
+            Ok(written) => Ok(Ok(written)),
             Err(error) => Ok(Err(found_by(&error, &source, teller, err)?)),
         };
     }
