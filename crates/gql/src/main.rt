@@ -1,10 +1,10 @@
 //! The program for people: `gql check FILE..` reports what is wrong with requests and schema files, `gql format FILE..` lays
-//! them out anew in their places, `gql minify FILE` prints one minified, `gql tree FILE` the tree of one as JSON, and
-//! `gql tokens FILE` its tokens. `gql --help` prints how it is called.
+//! them out anew in their places, `gql minify FILE` prints one minified, `gql print FILE` the tree of one as text,
+//! `gql tree FILE` the tree of one as JSON, and `gql tokens FILE` its tokens. `gql --help` prints how it is called.
 //!
 //! Proved of it: it is safe and ends on every input; the status is 0, 1 or 2; a text is found good only where its tokens
 //! have a tree, and the files that are checked end with status 0 only where each of them was found good; only a good text is
-//! written anew, and it means the same then. What it prints is tested.
+//! written anew, and it means the same then, and so does what is printed of a tree. What else it prints is tested.
 #![tactic(auto)]
 
 use graphql_commands::texts::Disk;

@@ -2,4 +2,5 @@ mod Chains
 mod Furthest
 mod Lacking
 mod LineFeeds
+mod PrintedTrees
 mod SameMeaning

@@ -3,14 +3,16 @@ use Rattle.std.proofs.Common.{◌≡◌, ℕ, Bool, true, false, ◌&&◌, ◌==
 use Rattle.std.proofs.lemmas.Str.{chars-append, chars-IsAscii, encode_ascii}
 use lib.Utf8.{encode}
 use Rattle.std.specs.Str.{chars, IsUtf8}
+use Rattle.graphql_tokens.specs.tokens.Cuts.{IsCutInto, HasNoFault}
 use Rattle.graphql_tokens.specs.tokens.Ignored.{EndsLine}
 use Rattle.graphql_tokens.specs.tokens.Spelling.{MayFollow}
+use Rattle.graphql_tokens.specs.tokens.Token.{Token}
 use Rattle.graphql_tokens.specs.declared.lexer.TokenKind.{TokenKind}
 use Rattle.graphql_tokens.specs.declared.lexer.TokenKind.TheVariants.{Punct, Name, Number, String, Block, Fault, End}
 use Rattle.graphql_layout.specs.texts.Items.{Item, comment, word, IsBlankText, IsItems, words}
 use Rattle.graphql_layout.specs.texts.LaidOut.{IsLaidOut, tidied}
-use Rattle.graphql_layout.specs.texts.SameTokens.{HasTokens}
-use Rattle.graphql_layout.proofs.Items.{items_written}
+use Rattle.graphql_layout.specs.texts.SameTokens.{HasTokens, HaveSameTokens}
+use Rattle.graphql_layout.proofs.Items.{items_written, itemized}
 use Rattle.graphql_layout.proofs.Readings.{same_words}
 
 and_false : (b : Bool) → (b && false) ≡ false
@@ -80,3 +82,10 @@ laid_out_then text other new u e m =
       of_text = m.of_text;
       of_other = items;
     }
+
+-- a text without a fault, and the same with a line feed after it
+pub same_tokens_then : (text new : List ℕ) → IsUtf8 text → new ≡ text ++ encode 10 → (tokens : List Token) → IsCutInto text tokens → HasNoFault tokens → HaveSameTokens text new
+same_tokens_then text new u e tokens cut none =
+    let i = itemized [] (chars text) tokens cut none in
+    let items : IsItems (chars new) i.items = subst (λ (l : List ℕ). IsItems l i.items) (chars_then text new u e) (still_items (chars text) i.items i.are) in
+    record { tokens = words i.items; of_text = (tokens, cut, sym i.same); of_other = items_written (chars new) i.items items [] }

@@ -17,6 +17,8 @@ pub enum Command {
     Format,
     /// `minify`: one is printed without what it doesn't need.
     Minify,
+    /// `print`: the tree of one is printed as text.
+    Print,
     /// `tree`: the tree of one is printed as JSON.
     Tree,
     /// `tokens`: the tokens of one are printed.
@@ -118,6 +120,7 @@ pub fn command_of<'a>(alloc: Global, words: &'a [String]) -> Result<Asked<'a>, A
         "check" => Command::Check,
         "format" => Command::Format,
         "minify" => Command::Minify,
+        "print" => Command::Print,
         "tree" => Command::Tree,
         "tokens" => Command::Tokens,
         "--help" | "-h" | "help" => return Ok(Asked::Help),
@@ -157,7 +160,9 @@ fn wrong_files<'a>(command: Command, files: &[&'a str]) -> Option<Wrong<'a>> {
     match command {
         Command::Check => None,
         Command::Format => files.contains(&"-").then_some(Wrong::NotAlone),
-        Command::Minify | Command::Tree | Command::Tokens => Some(Wrong::SecondFile(second)),
+        Command::Minify | Command::Print | Command::Tree | Command::Tokens => {
+            Some(Wrong::SecondFile(second))
+        }
     }
 }
 
@@ -242,9 +247,11 @@ fn takes(command: Command, word: &str) -> bool {
     };
     match option {
         "--query" | "--schema" | "--limits" | "--color" => true,
-        "-v" | "--verbose" | "-q" | "--quiet" => command != Command::Minify,
+        "-v" | "--verbose" | "-q" | "--quiet" => {
+            !matches!(command, Command::Minify | Command::Print)
+        }
         "--check" => command == Command::Format,
-        _ => !matches!(command, Command::Format | Command::Minify),
+        _ => !matches!(command, Command::Format | Command::Minify | Command::Print),
     }
 }
 

@@ -3,12 +3,12 @@
 //! [`run`] does all that a call of the program asks for. The modules have its parts: what a call asks for ([`command`]),
 //! where texts come from and go to ([`texts`]), what each is read as ([`language`]), whether it is good ([`check`]), what is told
 //! of one that isn't ([`telling`]), where reading goes on after a refused token ([`recovery`]), texts that are written anew
-//! ([`rewriting`]), and lists of tokens ([`listed`]).
+//! and trees that are printed ([`rewriting`]), and lists of tokens ([`listed`]).
 //!
 //! Proved of it: it is safe and ends on every input; the status is 0, 1 or 2; a text is found good only where its tokens
 //! have a tree, in the language that the options or the file's name say, and the files that are checked end with status 0
-//! only where each of them was found good; only a good text is written anew, and it means the same then. What it prints is
-//! tested, in `conformance`.
+//! only where each of them was found good; only a good text is written anew, and it means the same then, and so does what is
+//! printed of a tree. What else it prints is tested, in `conformance`.
 #![tactic(auto)]
 
 pub mod check;

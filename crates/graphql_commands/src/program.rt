@@ -18,7 +18,7 @@ use std::io::Write;
 const VERSION: &str = "gql 1.0.0\n";
 
 const USAGE: &str =
-    "usage: gql check|format|minify|tree|tokens [OPTION].. [FILE].. (gql --help tells more)\n";
+    "usage: gql check|format|minify|print|tree|tokens [OPTION].. [FILE].. (gql --help tells more)\n";
 
 const HELP: &str = "usage: gql COMMAND [OPTION].. [FILE]..
 
@@ -28,6 +28,8 @@ Commands:
   format   lays out each file anew in its place, with its comments, and each such file below a folder; a file with an
            error stays, and is told as by check. Standard input is laid out on standard output
   minify   prints a file without comments, and without blanks and line ends that it doesn't need
+  print    prints the tree of a file as text, without comments, laid out as by format; a file of fragments alone has no
+           tree, and is refused
   tree     prints the tree of a file as JSON, as GraphQL.js has it
   tokens   prints the tokens of a file, a line for each
 
@@ -160,7 +162,7 @@ fn answer_to_call<T: Texts, E: Write>(
             format(call, texts, teller, err)
         }
         Command::Format => answer_to_text(call, texts, &mut teller, err),
-        Command::Minify | Command::Tree | Command::Tokens => {
+        Command::Minify | Command::Print | Command::Tree | Command::Tokens => {
             let mut teller = Teller::new(alloc, Format::Text, style, false);
             answer_to_text(call, texts, &mut teller, err)
         }
@@ -194,7 +196,7 @@ fn answer_to_text<T: Texts, E: Write>(
     }
 }
 
-// `minify`, and `format` of standard input: the text written anew, or what is wrong with it.
+// `minify`, `print`, and `format` of standard input: the text written anew, or what is wrong with it.
 fn anew<E: Write>(
     call: &Call<'_>,
     names: Names<'_>,

@@ -1,10 +1,14 @@
-//! Writing texts anew: files in their places, and one text for standard output.
+//! Writing texts anew: files in their places, and one text, or its tree, for standard output.
 ghost use Rattle.std.specs.Prelude.{◌≡◌, ◌≤◌, true, IfOk, string_bytes};
 ghost use Rattle.graphql_layout.specs.texts.LaidOut.{IsLaidOut};
 ghost use Rattle.graphql_layout.specs.texts.Minified.{IsMinified};
+ghost use Rattle.graphql_parser.specs.requests.Documents.{document_of as request_of};
+ghost use Rattle.graphql_parser.specs.requests.Requests.{requests};
+ghost use Rattle.graphql_parser.specs.schemas.Documents.{document_of as schema_of};
+ghost use Rattle.graphql_parser.specs.schemas.Schemas.{schemas};
 ghost use Rattle.graphql_report.specs.declared.fronts.Language.{Language as Lang};
 ghost use Rattle.graphql_commands.specs.checked.Good.{IsGoodText};
-ghost use Rattle.graphql_commands.specs.checked.Rewritten.{MeanTheSameAs};
+ghost use Rattle.graphql_commands.specs.checked.Rewritten.{MeanTheSameAs, Prints, PrintsAs};
 
 use crate::check::{Found, check_source, names_of, push_refused};
 use crate::command::{Call, Command};
@@ -13,6 +17,9 @@ use crate::output::shown_name;
 use crate::telling::{Names, Source, Teller};
 use crate::texts::Texts;
 use graphql_layout::{format, minify};
+use graphql_parser::{Error, Limits, parse_query_limited, parse_schema_limited};
+use graphql_printer::{print_query, print_schema};
+use graphql_report::Language;
 use std::alloc::{AllocError, Global};
 use std::io::Write;
 
@@ -87,8 +94,55 @@ pub fn minified(alloc: Global, source: &Source<'_>) -> Result<String, AllocError
     }
 }
 
-/// The text that the command writes in the place of this one, of a file of these names: laid out anew, or minified with a line
-/// feed after it. What was found of the text where it isn't good, which is told.
+/// The tree of this source as text, with a line feed at its end. An error is that of the parse.
+pub fn printed(alloc: Global, source: &Source<'_>) -> Result<String, Error>
+    ensures { IfOk result (λ s.
+        PrintsAs source.now.language source.now.limits source.now.text.now (string_bytes s)) }
+{
+    let Source { limits, text, .. } = *source;
+    match source.language {
+        Language::Requests => printed_request(alloc, text, limits),
+        Language::Schemas => printed_schema(alloc, text, limits),
+    }
+}
+
+// The tree of a request.
+fn printed_request(alloc: Global, text: &str, limits: Limits) -> Result<String, Error>
+    ensures { IfOk result (λ s. Prints requests request_of limits text.now (string_bytes s)) }
+{
+    let document = parse_query_limited(alloc, text, limits)?;
+    let mut printed = print_query(alloc, &document)?;
+    printed.push('\n')?;
+    Ok(printed)
+}
+
+// The tree of a schema file.
+fn printed_schema(alloc: Global, text: &str, limits: Limits) -> Result<String, Error>
+    ensures { IfOk result (λ s. Prints schemas schema_of limits text.now (string_bytes s)) }
+{
+    let document = parse_schema_limited(alloc, text, limits)?;
+    let mut printed = print_schema(alloc, &document)?;
+    printed.push('\n')?;
+    Ok(printed)
+}
+
+// What is found of a source whose parse gives this error, which is told.
+fn found_by<E: Write>(
+    error: &Error,
+    source: &Source<'_>,
+    teller: &mut Teller,
+    err: &mut E,
+) -> Result<Found, AllocError> {
+    if let Error::OutOfMemory = error {
+        return Err(AllocError);
+    }
+    teller.tell_one(source, error, err)?;
+    Ok(Found::Refused)
+}
+
+/// The text that the command writes in the place of this one, of a file of these names: laid out anew, its tree as text, or
+/// minified with a line feed after it. What was found of the text where it isn't good, which is told; to print it, it needs an
+/// operation too, since a parse gives no tree of fragments alone.
 pub fn written_anew<E: Write>(
     call: &Call<'_>,
     names: Names<'_>,
@@ -96,9 +150,12 @@ pub fn written_anew<E: Write>(
     teller: &mut Teller,
     err: &mut E,
 ) -> Result<Result<String, Found>, AllocError>
-    ensures { call.now.command ≡ Command.Format →
+    ensures laid_out { call.now.command ≡ Command.Format →
         IfOk result (λ written. IfOk written (λ s. IsLaidOut text.now (string_bytes s)
         × ((language : Lang) × MeanTheSameAs language call.now.limits text.now (string_bytes s)))) }
+    ensures printed { call.now.command ≡ Command.Print →
+        IfOk result (λ written. IfOk written (λ s.
+        (language : Lang) × PrintsAs language call.now.limits text.now (string_bytes s))) }
 {
     let source = Source {
         names,
@@ -112,6 +169,12 @@ pub fn written_anew<E: Write>(
     }
     if call.command == Command::Format {
         return Ok(Ok(laid_out(teller.alloc, &source)?));
+    }
+    if call.command == Command::Print {
+        return match printed(teller.alloc, &source) {
+            Ok(written) => Ok(Ok(written)),
+            Err(error) => Ok(Err(found_by(&error, &source, teller, err)?)),
+        };
     }
     let mut minified = minified(teller.alloc, &source)?;
     minified.push('\n')?;

@@ -61,6 +61,14 @@ const FILES: &[(&str, &[u8])] = &[
     ),
     ("neat.graphql", b"{\n  a\n}\n"),
     ("noisy.graphql", b"# one\n{a # two\n}"),
+    (
+        "spelled.graphql",
+        b"query { # one\n  a(b: [1 2], c: \"\\u0041\")\n}\n",
+    ),
+    (
+        "spelled.graphqls",
+        b"union A = | B | C\n\"\"\"\nOf D.\n\"\"\" scalar D # one\nextend type E implements & F & G",
+    ),
     ("kept.graphql", b"{a}"),
     ("gone.graphql", b"{a}"),
     ("fixed.graphql", b"{a}"),

@@ -9,10 +9,11 @@ use std::str;
 use std::test::Fail;
 
 // What help speaks of.
-const TOLD: [&str; 15] = [
+const TOLD: [&str; 16] = [
     "check",
     "format",
     "minify",
+    "print",
     "tree",
     "tokens",
     "--query",
