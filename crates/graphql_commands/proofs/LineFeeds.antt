@@ -11,9 +11,10 @@ use Rattle.graphql_tokens.specs.declared.lexer.TokenKind.{TokenKind}
 use Rattle.graphql_tokens.specs.declared.lexer.TokenKind.TheVariants.{Punct, Name, Number, String, Block, Fault, End}
 use Rattle.graphql_layout.specs.texts.Items.{Item, comment, word, IsBlankText, IsItems, words}
 use Rattle.graphql_layout.specs.texts.LaidOut.{IsLaidOut, tidied}
-use Rattle.graphql_layout.specs.texts.SameTokens.{HasTokens, HaveSameTokens}
+use Rattle.graphql_layout.specs.texts.SameTokens.{HasTokens, HaveAlikeTokens}
 use Rattle.graphql_layout.proofs.Items.{items_written, itemized}
 use Rattle.graphql_layout.proofs.Readings.{same_words}
+use Rattle.graphql_reading.proofs.IgnoresPlaces.{alike-same}
 
 and_false : (b : Bool) → (b && false) ≡ false
 and_false true = refl
@@ -84,8 +85,8 @@ laid_out_then text other new u e m =
     }
 
 -- a text without a fault, and the same with a line feed after it
-pub same_tokens_then : (text new : List ℕ) → IsUtf8 text → new ≡ text ++ encode 10 → (tokens : List Token) → IsCutInto text tokens → HasNoFault tokens → HaveSameTokens text new
+pub same_tokens_then : (text new : List ℕ) → IsUtf8 text → new ≡ text ++ encode 10 → (tokens : List Token) → IsCutInto text tokens → HasNoFault tokens → HaveAlikeTokens text new
 same_tokens_then text new u e tokens cut none =
     let i = itemized [] (chars text) tokens cut none in
     let items : IsItems (chars new) i.items = subst (λ (l : List ℕ). IsItems l i.items) (chars_then text new u e) (still_items (chars text) i.items i.are) in
-    record { tokens = words i.items; of_text = (tokens, cut, sym i.same); of_other = items_written (chars new) i.items items [] }
+    record { tokens = words i.items; others = words i.items; alike = alike-same (words i.items) (words i.items) refl; of_text = (tokens, cut, sym i.same); of_other = items_written (chars new) i.items items [] }

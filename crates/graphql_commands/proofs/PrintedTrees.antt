@@ -1,32 +1,21 @@
 -- A tree that is printed, with a line feed after it, makes the document again.
-use Rattle.std.proofs.Common.{◌≡◌, ℕ, Ok, List, [], ◌∷◌, ◌++◌, sym, ap, ◌∙◌, subst}
+use Rattle.std.proofs.Common.{◌≡◌, ℕ, Ok, List, [], ◌++◌, ap, ◌∙◌}
 use lib.Utf8.{encode}
 use Rattle.std.specs.Str.{chars, IsUtf8}
-use Rattle.graphql_tokens.specs.tokens.Cuts.{IsCutInto, EndsOnce, HasNoFault}
-use Rattle.graphql_tokens.specs.tokens.Edition.{Current}
-use Rattle.graphql_tokens.specs.tokens.Token.{Token}
+use Rattle.graphql_tokens.specs.tokens.Cuts.{IsCutInto}
 use Rattle.graphql_tokens.specs.inner.Reading.{tokens}
-use Rattle.graphql_tokens.proofs.Editions.{no_fault}
-use Rattle.graphql_tokens.proofs.Lists.{cuts_ends, tokens_cuts}
+use Rattle.graphql_tokens.proofs.Lists.{tokens_cuts}
 use Rattle.graphql_parser.specs.notation.Limits.{Limits}
-use Rattle.graphql_parser.specs.answers.Answers.{AreTheDefinitions}
 use Rattle.graphql_parser.specs.answers.Language.{Language as Described}
 use Rattle.graphql_parser.specs.answers.Reads.{ReadsText}
 use Rattle.graphql_reading.specs.reading.Outcome.{Reader}
 use Rattle.graphql_grammar.specs.reading.ReadBy.{IsReadBy}
-use Rattle.graphql_grammar.proofs.Languages.{ends-well}
 use Rattle.graphql_printer.specs.Printed.{IsPrinted, MakesTheSame}
+use Rattle.graphql_printer.proofs.Accepted.{no_fault_of}
 use Rattle.graphql_printer.proofs.Meaning.{told_again}
 use Rattle.graphql_printer.proofs.Parsed.{of_parsed}
 use Rattle.graphql_commands.specs.checked.Rewritten.{Prints}
 use Rattle.graphql_commands.proofs.LineFeeds.{same_tokens_then}
-
--- tokens that have a tree have no fault
-no_fault_of : {D Document : Type 0} (language : Described D Document) (limits : Limits) (text : List ℕ) (ts : List Token) → IsCutInto text ts → (ds : List D) → AreTheDefinitions language limits ts ds → HasNoFault ts
-no_fault_of language limits text ts cut ds tree =
-    let last = ends-well (language.definitions Current) limits ts ds tree.within in
-    let ends : EndsOnce (last.front ++ last.last ∷ []) = subst EndsOnce last.joined (cuts_ends Current [] (chars text) ts cut) in
-    subst HasNoFault (sym last.joined) (no_fault last.front last.last ends last.is_end)
 
 -- a text that makes something makes the same with a line feed after it
 makes_then : {D Document T : Type 0} (language : Described D Document) (reader : Limits → Reader (List D)) → IsReadBy language reader → (made_of : List D → T) (limits : Limits) (definitions : List D)
