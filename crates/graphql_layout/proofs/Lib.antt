@@ -5,6 +5,7 @@ pub mod BlockLayouts
 pub mod BlockMeanings
 pub mod BlockPushes
 pub mod BlockTexts
+pub mod BlockValues
 pub mod CharLoops
 pub mod Hashes
 pub mod FirstLines
@@ -12,8 +13,10 @@ pub mod Firsts
 pub mod Items
 pub mod ItemsIn
 pub mod Joined
+pub mod Marks
 pub mod Minified
 pub mod Pushes
+pub mod QuotedBlocks
 pub mod Readings
 pub mod Remains
 pub mod Room

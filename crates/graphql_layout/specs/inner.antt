@@ -1,4 +1,5 @@
 pub mod Blocks
+pub mod Marks
 pub mod Endings
 pub mod Written
 pub mod ItemsIn
