@@ -4,6 +4,7 @@ pub mod BlockFlags
 pub mod BlockLayouts
 pub mod BlockMeanings
 pub mod BlockPushes
+pub mod BlockScalars
 pub mod BlockTexts
 pub mod BlockValues
 pub mod CharLoops
@@ -21,6 +22,7 @@ pub mod Readings
 pub mod Remains
 pub mod Room
 pub mod Sheets
+pub mod Shortenings
 pub mod Takings
 pub mod Trimmed
 pub mod WrittenTokens

@@ -1,12 +1,15 @@
 -- A block string begins and ends with three quotes.
-use Rattle.std.proofs.Common.{◌≡◌, ℕ, ◌-◌, ◌<◌, List, [], ◌∷◌, ◌++◌, length, take, get_or, sym, ap, ◌∙◌, subst, arith, append_assoc, length-append}
+use Rattle.std.proofs.Common.{◌≡◌, ℕ, ◌-◌, ◌<◌, List, [], ◌∷◌, ◌++◌, length, take, drop, get_or, refl, sym, ap, ◌∙◌, subst, arith, append_assoc, length-append}
 use Rattle.std.proofs.Math.Seq.{take-append_seam}
 use Rattle.std.proofs.lemmas.Str.{encodes-append, chars-IsAscii, IsUtf8-from_ascii, IsCharBoundary-at_seam, IsCharBoundary-after_ascii}
-use Rattle.std.specs.List.{concat}
+use Rattle.std.specs.Char.{IsScalar}
+use Rattle.std.specs.List.{AllByRecursion, concat}
 use Rattle.std.specs.Str.{encode_utf8_all, IsUtf8, IsCharBoundary}
 use Rattle.graphql_tokens.specs.tokens.Proper.{Spells}
 use Rattle.graphql_tokens.specs.declared.lexer.TokenKind.TheVariants.{Block}
+use Rattle.graphql_tokens.specs.tokens.Alike.{inside}
 use Rattle.graphql_layout.proofs.BlockPushes.{same_bytes}
+use Rattle.graphql_layout.proofs.Joined.{scalars_all}
 
 abbrev pub three : List ℕ
 three = 34 ∷ 34 ∷ 34 ∷ []
@@ -14,6 +17,11 @@ three = 34 ∷ 34 ∷ 34 ∷ []
 pub record Quoted (bytes : List ℕ) : Type 0 where
   pub content : List ℕ
   pub whole : bytes ≡ (three ++ content) ++ three
+  pub utf8 : IsUtf8 content
+
+scalars_front : (v w : List ℕ) → AllByRecursion IsScalar (v ++ w) → AllByRecursion IsScalar v
+scalars_front [] w h = tt
+scalars_front (c ∷ v) w h = (h.0, scalars_front v w h.1)
 
 pub quoted : (bytes : List ℕ) → Spells Block bytes → Quoted bytes
 quoted bytes s =
@@ -21,7 +29,8 @@ quoted bytes s =
     let is : encode_utf8_all (three ++ (inside ++ three)) ≡ three ++ (encode_utf8_all inside ++ three) =
     encodes-append three (inside ++ three) ∙ ap (λ (x : List ℕ). x ++ encode_utf8_all (inside ++ three)) (same_bytes 3 34 (omega arith))
     ∙ ap (λ (x : List ℕ). three ++ x) (encodes-append inside three ∙ ap (λ (x : List ℕ). encode_utf8_all inside ++ x) (same_bytes 3 34 (omega arith))) in
-    record { content = encode_utf8_all inside; whole = s.2 ∙ ap encode_utf8_all s.3.1 ∙ is ∙ sym (append_assoc three (encode_utf8_all inside) three) }
+    let scalars : AllByRecursion IsScalar (three ++ (inside ++ three)) = subst (AllByRecursion IsScalar) s.3.1 s.1 in
+    record { content = encode_utf8_all inside; utf8 = (inside, (scalars_all inside (scalars_front inside three scalars.1.1.1), refl)); whole = s.2 ∙ ap encode_utf8_all s.3.1 ∙ is ∙ sym (append_assoc three (encode_utf8_all inside) three) }
 
 three_utf8 : IsUtf8 three
 three_utf8 = (three, (cc, same_bytes 3 34 (omega arith)))
@@ -42,3 +51,8 @@ after_quotes bytes front s e u =
 
 pub enough : (bytes : List ℕ) → Spells Block bytes → 5 < length bytes
 enough bytes s = let q = quoted bytes s in omega (arith, ap length q.whole, length-append (three ++ q.content) three)
+
+pub inside_is : (bytes : List ℕ) (q : Quoted bytes) → inside 3 bytes ≡ q.content
+inside_is bytes q =
+    let size : length ((three ++ q.content) ++ three) - 3 ≡ length (three ++ q.content) = omega (arith, length-append (three ++ q.content) three) in
+    ap (inside 3) q.whole ∙ ap (λ (n : ℕ). drop 3 (take n ((three ++ q.content) ++ three))) size ∙ ap (drop 3) (take-append_seam (three ++ q.content) three)
