@@ -8,6 +8,10 @@ use Rattle.std.specs.Str.{encode_utf8_all, IsUtf8, IsCharBoundary}
 use Rattle.graphql_tokens.specs.tokens.Proper.{Spells}
 use Rattle.graphql_tokens.specs.declared.lexer.TokenKind.TheVariants.{Block}
 use Rattle.graphql_tokens.specs.tokens.Alike.{inside}
+use Rattle.graphql_layout.specs.declared.sheet.Last.{Last}
+use Rattle.graphql_layout.specs.declared.sheet.Last.TheVariants.{Comment, Other}
+use Rattle.graphql_layout.specs.inner.Endings.{stops_token}
+use Rattle.graphql_layout.specs.inner.Sheets.{holds_off_token}
 use Rattle.graphql_layout.proofs.BlockPushes.{same_bytes}
 use Rattle.graphql_layout.proofs.Joined.{scalars_all}
 
@@ -56,3 +60,8 @@ pub inside_is : (bytes : List ℕ) (q : Quoted bytes) → inside 3 bytes ≡ q.c
 inside_is bytes q =
     let size : length ((three ++ q.content) ++ three) - 3 ≡ length (three ++ q.content) = omega (arith, length-append (three ++ q.content) three) in
     ap (inside 3) q.whole ∙ ap (λ (n : ℕ). drop 3 (take n ((three ++ q.content) ++ three))) size ∙ ap (drop 3) (take-append_seam (three ++ q.content) three)
+
+-- it may come where three quotes may
+pub held_same : (last : Last) (spelling : List ℕ) → Spells Block spelling → holds_off_token last spelling ≡ holds_off_token last three
+held_same Comment spelling s = refl
+held_same (Other ending) spelling s = ap (stops_token ending) (quoted spelling s).whole

@@ -5,3 +5,4 @@ pub mod Written
 pub mod ItemsIn
 pub mod Sheets
 pub mod FirstLine
+pub mod Tidied
