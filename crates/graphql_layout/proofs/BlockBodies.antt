@@ -1,6 +1,6 @@
 -- The body of a block string: nothing in it ends the string, and without its backslashes it is the characters of the value, with
 -- an indent before each line after the first.
-use Rattle.std.proofs.Common.{◌≡◌, ℕ, zero, suc, Bool, true, false, cond, eqb, ◌&&◌, List, [], ◌∷◌, ◌++◌, drop, Some, refl, sym, ap, ◌∙◌, append_assoc, arith}
+use Rattle.std.proofs.Common.{◌≡◌, ℕ, zero, suc, Bool, true, false, cond, eqb, ◌&&◌, ◌||◌, List, [], ◌∷◌, ◌++◌, drop, Some, refl, sym, ap, ◌∙◌, append_assoc, arith}
 use Rattle.std.proofs.lemmas.Bool.Decides.{nat_tests}
 use Rattle.graphql_tokens.specs.tokens.Blocks.{closes}
 use Rattle.graphql_tokens.specs.tokens.BlockText.{begins_quotes, unquoted}
@@ -8,6 +8,7 @@ use Rattle.graphql_tokens.specs.inner.Quoted.{past_block_from, NoQuote}
 use Rattle.graphql_tokens.proofs.EscapeUnits.{both}
 use Rattle.graphql_tokens.proofs.BlockValue.{quotes_at, begins_is, unquoted_yes, unquoted_no, not_slash}
 use Rattle.graphql_layout.specs.inner.Blocks.{blanks, line_break, placed, body}
+use Rattle.graphql_layout.specs.texts.Shortened.{is_mark, is_open}
 
 -- the characters, with the indent after each line feed
 abbrev pub lined : ℕ → List ℕ → List ℕ
@@ -36,24 +37,40 @@ no_quotes : (k : ℕ) (tail : List ℕ) → NoQuote tail → quotes_at (suc k) t
 no_quotes k [] h = refl
 no_quotes k (c ∷ cs) h = let n : eqb c 34 ≡ false = grind (arith, nat_tests) in ap (λ b. b && quotes_at k cs) n
 
+-- what is said where nothing is left, after one more character
+open_next : (before : Bool) (c : ℕ) (cs : List ℕ) → closes (c ∷ cs) ≡ false → is_open 0 before (c ∷ cs) ≡ is_open 0 (is_mark c) cs
+open_next before c cs h = ap (λ b. cond b (is_open 2 false cs) (is_open 0 (is_mark c) cs)) h
+
+quote_marks : (c : ℕ) → eqb c 34 ≡ true → is_mark c ≡ true
+quote_marks c h = ap (λ b. b || eqb c 92) h
+
+slash_marks : (c : ℕ) → eqb c 92 ≡ true → is_mark c ≡ true
+slash_marks c h = let q : eqb c 34 ≡ false = grind (arith, nat_tests) in ap (λ b. b || eqb c 92) q ∙ h
+
+-- the quotes of the value aren't read with those of the tail
+abbrev pub Parts : ℕ → Bool → List ℕ → List ℕ → Type 0
+Parts k before cs tail = is_open k before cs ≡ true → NoQuote tail
+
 -- quotes that are left before something else stood in the value
-quotes_before : (i k : ℕ) (cs tail : List ℕ) → NoQuote tail → quotes_at k (body i 0 cs ++ tail) ≡ true → quotes_at k cs ≡ true
+quotes_before : (i k : ℕ) (cs tail : List ℕ) → Parts 0 true cs tail → quotes_at k (body i 0 cs ++ tail) ≡ true → quotes_at k cs ≡ true
 quotes_before i zero cs tail h q = refl
-quotes_before i (suc k) [] tail h q = let n = no_quotes k tail h in absurd (cc)
-quotes_before i (suc k) (c ∷ cs) tail h q = by (closes (c ∷ cs)) (eqb c 10) q (quotes_before i k cs tail h)
+quotes_before i (suc k) [] tail h q = let n = no_quotes k tail (h refl) in absurd (cc)
+quotes_before i (suc k) (c ∷ cs) tail h q = by (closes (c ∷ cs)) (eqb c 10) refl q (quotes_before i k cs tail)
   where
-    by : (b d : Bool) → quotes_at (suc k) (cond b (92 ∷ c ∷ body i 2 cs) (cond d (line_break i) (c ∷ []) ++ body i 0 cs) ++ tail) ≡ true
-        → (quotes_at k (body i 0 cs ++ tail) ≡ true → quotes_at k cs ≡ true) → (eqb c 34 && quotes_at k cs) ≡ true
-    by true d q r = absurd (cc)
-    by false true q r = absurd (cc)
-    by false false q r = let e = both (eqb c 34) (quotes_at k (body i 0 cs ++ tail)) q in ap (λ b. b && quotes_at k cs) e.0 ∙ r e.1
+    by : (b d : Bool) → closes (c ∷ cs) ≡ b → quotes_at (suc k) (cond b (92 ∷ c ∷ body i 2 cs) (cond d (line_break i) (c ∷ []) ++ body i 0 cs) ++ tail) ≡ true
+        → (Parts 0 true cs tail → quotes_at k (body i 0 cs ++ tail) ≡ true → quotes_at k cs ≡ true) → (eqb c 34 && quotes_at k cs) ≡ true
+    by true d f q r = absurd (cc)
+    by false true f q r = absurd (cc)
+    by false false f q r =
+        let e = both (eqb c 34) (quotes_at k (body i 0 cs ++ tail)) q in
+        ap (λ b. b && quotes_at k cs) e.0 ∙ r (λ o. h (open_next true c cs f ∙ ap (λ b. is_open 0 b cs) (quote_marks c e.0) ∙ o)) e.1
 
 -- three of them have a backslash before them
 slash_first : (i : ℕ) (cs tail : List ℕ) → closes cs ≡ true → closes (body i 0 cs ++ tail) ≡ false
 slash_first i [] tail h = absurd (cc)
 slash_first i (c ∷ cs) tail h = ap (λ b. closes (cond b (92 ∷ c ∷ body i 2 cs) (placed i c ++ body i 0 cs) ++ tail)) h
 
-pub closes_body : (i : ℕ) (cs tail : List ℕ) → NoQuote tail → closes (body i 0 cs ++ tail) ≡ false
+pub closes_body : (i : ℕ) (cs tail : List ℕ) → Parts 0 true cs tail → closes (body i 0 cs ++ tail) ≡ false
 closes_body i cs tail h = by (quotes_at 3 (body i 0 cs ++ tail)) refl
   where
     by : (b : Bool) → quotes_at 3 (body i 0 cs ++ tail) ≡ b → closes (body i 0 cs ++ tail) ≡ false
@@ -81,8 +98,14 @@ three i c cs tail h =
     }
 
 -- a backslash before less than three quotes
-no_escape : (i c : ℕ) (cs tail : List ℕ) → NoQuote tail → begins_quotes (c ∷ (body i 0 cs ++ tail)) ≡ false
-no_escape i c cs tail h = begins_is c (body i 0 cs ++ tail) ∙ and_false (eqb c 92) (quotes_at 3 (body i 0 cs ++ tail)) (sym (closes_is (body i 0 cs ++ tail)) ∙ closes_body i cs tail h)
+no_escape : (i c : ℕ) (cs tail : List ℕ) → Parts 0 (is_mark c) cs tail → begins_quotes (c ∷ (body i 0 cs ++ tail)) ≡ false
+no_escape i c cs tail h = begins_is c (body i 0 cs ++ tail) ∙ by (eqb c 92) refl
+  where
+    by : (b : Bool) → eqb c 92 ≡ b → (eqb c 92 && quotes_at 3 (body i 0 cs ++ tail)) ≡ false
+    by true e =
+        and_false (eqb c 92) (quotes_at 3 (body i 0 cs ++ tail))
+        (sym (closes_is (body i 0 cs ++ tail)) ∙ closes_body i cs tail (λ o. h (ap (λ b. is_open 0 b cs) (slash_marks c e) ∙ o)))
+    by false e = ap (λ b. b && quotes_at 3 (body i 0 cs ++ tail)) e
 
 -- ---- where the string ends
 
@@ -96,18 +119,20 @@ char_passes c cs h q =
     ∙ ap (λ b. past_block_from (cond b 3 0) cs) q
 
 -- it ends where what stands after its body ends it
-pub body_passes : (i k : ℕ) (cs tail : List ℕ) → NoQuote tail → quotes_at k cs ≡ true → past_block_from k (body i k cs ++ tail) ≡ past_block_from 0 tail
-body_passes i zero [] tail h q = refl
-body_passes i (suc k) [] tail h q = absurd (cc)
-body_passes i (suc k) (c ∷ cs) tail h q = body_passes i k cs tail h (both (eqb c 34) (quotes_at k cs) q).1
-body_passes i zero (c ∷ cs) tail h q = by (closes (c ∷ cs)) (eqb c 10) refl (closes_body i (c ∷ cs) tail h) (body_passes i 0 cs tail h refl) (λ more. body_passes i 2 cs tail h more)
+pub body_passes : (i k : ℕ) (before : Bool) (cs tail : List ℕ) → Parts k before cs tail → quotes_at k cs ≡ true → past_block_from k (body i k cs ++ tail) ≡ past_block_from 0 tail
+body_passes i zero before [] tail h q = refl
+body_passes i (suc k) before [] tail h q = absurd (cc)
+body_passes i (suc k) before (c ∷ cs) tail h q = body_passes i k false cs tail h (both (eqb c 34) (quotes_at k cs) q).1
+body_passes i zero before (c ∷ cs) tail h q = by (closes (c ∷ cs)) (eqb c 10) refl h (closes_body i (c ∷ cs) tail h) (λ p. body_passes i 0 (is_mark c) cs tail p refl) (λ p more. body_passes i 2 false cs tail p more)
   where
-    by : (b d : Bool) → closes (c ∷ cs) ≡ b → closes (cond b (92 ∷ c ∷ body i 2 cs) (cond d (line_break i) (c ∷ []) ++ body i 0 cs) ++ tail) ≡ false
-        → past_block_from 0 (body i 0 cs ++ tail) ≡ past_block_from 0 tail → (quotes_at 2 cs ≡ true → past_block_from 2 (body i 2 cs ++ tail) ≡ past_block_from 0 tail)
+    by : (b d : Bool) → closes (c ∷ cs) ≡ b → (cond b (is_open 2 false cs) (is_open 0 (is_mark c) cs) ≡ true → NoQuote tail)
+        → closes (cond b (92 ∷ c ∷ body i 2 cs) (cond d (line_break i) (c ∷ []) ++ body i 0 cs) ++ tail) ≡ false
+        → (Parts 0 (is_mark c) cs tail → past_block_from 0 (body i 0 cs ++ tail) ≡ past_block_from 0 tail)
+        → (Parts 2 false cs tail → quotes_at 2 cs ≡ true → past_block_from 2 (body i 2 cs ++ tail) ≡ past_block_from 0 tail)
         → past_block_from 0 (cond b (92 ∷ c ∷ body i 2 cs) (cond d (line_break i) (c ∷ []) ++ body i 0 cs) ++ tail) ≡ past_block_from 0 tail
-    by true d e n r s = let t = three i c cs tail e in ap (λ b. past_block_from (cond b 3 0) (c ∷ (body i 2 cs ++ tail))) t.escaped ∙ s t.more
-    by false true e n r s = ap (past_block_from 0) (append_assoc (blanks i) (body i 0 cs) tail) ∙ blanks_pass i (body i 0 cs ++ tail) ∙ r
-    by false false e n r s = char_passes c (body i 0 cs ++ tail) n (no_escape i c cs tail h) ∙ r
+    by true d e p n r s = let t = three i c cs tail e in ap (λ b. past_block_from (cond b 3 0) (c ∷ (body i 2 cs ++ tail))) t.escaped ∙ s p t.more
+    by false true e p n r s = ap (past_block_from 0) (append_assoc (blanks i) (body i 0 cs) tail) ∙ blanks_pass i (body i 0 cs ++ tail) ∙ r p
+    by false false e p n r s = char_passes c (body i 0 cs ++ tail) n (no_escape i c cs tail p) ∙ r p
 
 -- ---- what it means
 
@@ -147,4 +172,4 @@ body_unquoted i zero (c ∷ cs) tail h q = by (closes (c ∷ cs)) (eqb c 10) ref
     by false true e f r s =
         ap unquoted (append_assoc (line_break i) (body i 0 cs) tail) ∙ unquoted_break i (body i 0 cs ++ tail)
         ∙ then_rest (line_break i) (lined i cs) (unquoted tail) (unquoted (body i 0 cs ++ tail)) r
-    by false false e f r s = unquoted_no c (body i 0 cs ++ tail) (no_escape i c cs tail h) ∙ ap (λ (x : List ℕ). c ∷ x) r
+    by false false e f r s = unquoted_no c (body i 0 cs ++ tail) (no_escape i c cs tail (λ o. h)) ∙ ap (λ (x : List ℕ). c ∷ x) r

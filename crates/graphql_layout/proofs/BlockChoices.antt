@@ -1,5 +1,5 @@
 -- The values that keep their lines in a block string are those for which the passes over their characters say so.
-use Rattle.std.proofs.Common.{◌≡◌, ◌≢◌, ℕ, ◌+◌, Bool, true, false, cond, not, eqb, ◌&&◌, ◌||◌, List, [], ◌∷◌, get_or, refl, sym, ap, ap₂, ◌∙◌, arith}
+use Rattle.std.proofs.Common.{◌≡◌, ◌≢◌, ℕ, ◌+◌, Bool, true, false, cond, not, eqb, ◌&&◌, ◌||◌, inl, inr, List, [], ◌∷◌, get_or, refl, sym, ap, ap₂, ◌∙◌, arith}
 use Rattle.std.proofs.lemmas.Bool.Decides.{nat_tests}
 use Rattle.std.specs.List.{list_any}
 use Rattle.graphql_tokens.specs.tokens.BlockText.{lines_of, onto_line, is_blank_char, is_blank, indent, least}
@@ -7,10 +7,11 @@ use Rattle.graphql_tokens.specs.inner.Blocks.{first_line}
 use Rattle.graphql_tokens.proofs.BlockIndents.{indents, indents_blank, indents_text}
 use Rattle.graphql_tokens.proofs.BlockLines.{lines_some}
 use Rattle.graphql_tokens.proofs.EscapeUnits.{both}
-use Rattle.graphql_layout.specs.inner.Blocks.{has, is_text, begins_in_text, text_after, ends_in_text, has_margin, may_be_block}
+use Rattle.graphql_layout.specs.inner.Blocks.{begins_in_text, text_after, ends_in_text, may_be_block}
+use Rattle.graphql_layout.specs.texts.Shortened.{has, is_text, has_margin, is_hung}
 use Rattle.graphql_layout.proofs.BlockBodies.{and_false}
 use Rattle.graphql_layout.proofs.BlockLayouts.{none_of}
-use Rattle.graphql_layout.proofs.BlockMeanings.{EndsInText, Kept}
+use Rattle.graphql_layout.proofs.BlockMeanings.{EndsInText, Kept, Flat, alone}
 
 -- the lines of a text, one character on
 lines_more : (c : ℕ) (cs : List ℕ) (d : Bool) → eqb c 10 ≡ d → eqb c 13 ≡ false → lines_of (c ∷ cs) ≡ cond d ([] ∷ lines_of cs) (onto_line c (lines_of cs))
@@ -191,3 +192,12 @@ if_kept cs k =
     by true e =
         let first = indents_text k.line k.lines k.first in
         margin_so cs k.line k.lines k.no_return k.is ∙ ap has_zero first ∙ least_zero (indent k.line) (indents k.lines) (ap least (sym first) ∙ k.margin e)
+
+-- a line after the first begins with a text
+pub flat_hung : (cs : List ℕ) (k : Kept cs) → Flat (is_hung cs) k.line k.lines
+flat_hung cs k = by (has 10 cs) (has_margin false cs) refl refl
+  where
+    by : (a m : Bool) → has 10 cs ≡ a → has_margin false cs ≡ m → Flat (a && not m) k.line k.lines
+    by false m e f = inl (alone cs k e).1
+    by true false e f = k.margin e
+    by true true e f = inr (zero_least (indents k.lines) (sym (margin_lines false cs k.no_return ∙ ap (margins false) k.is ∙ zero_margin k.lines) ∙ f))

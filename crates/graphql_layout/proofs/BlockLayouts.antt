@@ -1,13 +1,14 @@
 -- The lines of what stands between the quotes of a block string.
-use Rattle.std.proofs.Common.{◌≡◌, ℕ, zero, suc, ◌+◌, ◌≤◌, Bool, true, false, cond, eqb, ltb, ◌||◌, List, [], ◌∷◌, ◌++◌, map, length, drop, get_or, refl, sym, ap, ap₂, ◌∙◌, append-nil, length-append, arith}
+use Rattle.std.proofs.Common.{◌≡◌, ℕ, zero, suc, ◌+◌, ◌≤◌, Bool, true, false, cond, if◌then◌else◌, eqb, ltb, ◌&&◌, ◌||◌, List, [], ◌∷◌, ◌++◌, map, length, drop, get_or, refl, sym, ap, ap₂, ◌∙◌, append-nil, length-append, arith}
 use Rattle.std.proofs.lemmas.Bool.Decides.{nat_tests}
 use Rattle.std.proofs.lemmas.List.{length-replicate}
-use Rattle.std.specs.List.{AllByRecursion}
+use Rattle.std.specs.List.{AllByRecursion, list_all}
 use Rattle.graphql_tokens.specs.tokens.Place.{is_line_end}
 use Rattle.graphql_tokens.specs.tokens.BlockText.{onto_line, lines_of, is_blank, indent, least, common_indent, dedented, joined}
 use Rattle.graphql_tokens.proofs.BlockIndents.{indents, indents_blank, indents_text}
 use Rattle.graphql_tokens.proofs.BlockLines.{lines_some}
-use Rattle.graphql_layout.specs.inner.Blocks.{has, blanks, line_break}
+use Rattle.graphql_layout.specs.inner.Blocks.{blanks, line_break, break_if}
+use Rattle.graphql_layout.specs.texts.Shortened.{has}
 use Rattle.graphql_layout.proofs.BlockBodies.{lined}
 
 abbrev pub InLine : List ℕ → Type 0
@@ -38,7 +39,7 @@ lines_joined line (next ∷ lines) h = line_then line (joined (next ∷ lines)) 
 
 -- ---- the lines of a text
 
-or_false : (a b : Bool) → (a || b) ≡ false → (a ≡ false) × (b ≡ false)
+pub or_false : (a b : Bool) → (a || b) ≡ false → (a ≡ false) × (b ≡ false)
 or_false true b h = absurd (cc)
 or_false false b h = (refl, h)
 
@@ -157,22 +158,29 @@ lined_flat n (c ∷ cs) h = let e = none_of 10 c cs h in ap (λ b. cond b (line_
 
 -- ---- lines that are all indented
 
--- and the indent of the closing quotes
-abbrev pub spread : ℕ → List (List ℕ) → List (List ℕ)
-spread n lines = map (indented n) lines ++ blanks n ∷ []
+-- the indent of the closing quotes, if they are on a line of their own
+abbrev pub closing : Bool → ℕ → List (List ℕ)
+closing trails n = if trails then blanks n ∷ [] else []
 
--- on lines of their own
-pub lines_spread : (n : ℕ) (cs line : List ℕ) (lines : List (List ℕ)) → has 13 cs ≡ false → lines_of cs ≡ line ∷ lines
-    → lines_of (line_break n ++ (lined n cs ++ line_break n)) ≡ [] ∷ spread n (line ∷ lines)
-lines_spread n cs line lines h e =
-    let below : lines_of (lined n cs ++ line_break n) ≡ line ∷ spread n lines =
-    lines_append (lined n cs) (blanks n) (no_return n cs h) ∙ ap₂ (λ (k l : List (List ℕ)). k ++ l) (lines_lined n cs h ∙ ap (hung n) e) (blanks_alone n) in
-    ap (λ (l : List (List ℕ)). [] ∷ l) (lines_blanks n (lined n cs ++ line_break n) line (spread n lines) below)
+abbrev pub spread : Bool → ℕ → List (List ℕ) → List (List ℕ)
+spread trails n lines = map (indented n) lines ++ closing trails n
 
--- the first right after the opening quotes
-pub lines_open : (n : ℕ) (cs : List ℕ) → has 10 cs ≡ false → has 13 cs ≡ false → lines_of (lined n cs ++ line_break n) ≡ cs ∷ blanks n ∷ []
-lines_open n cs h k =
-    ap (λ (l : List ℕ). lines_of (l ++ line_break n)) (lined_flat n cs h) ∙ lines_append cs (blanks n) k ∙ ap₂ (λ (x y : List (List ℕ)). x ++ y) (one_line cs h k) (blanks_alone n)
+-- The lines of what stands between the quotes.
+abbrev pub shown : Bool → Bool → ℕ → List (List ℕ) → List (List ℕ)
+shown true trails n lines = [] ∷ spread trails n lines
+shown false trails n [] = closing trails n
+shown false trails n (line ∷ lines) = line ∷ spread trails n lines
+
+lines_below : (trails : Bool) (n : ℕ) (cs : List ℕ) → has 13 cs ≡ false → lines_of (lined n cs ++ break_if trails n) ≡ hung n (lines_of cs) ++ closing trails n
+lines_below true n cs h = lines_append (lined n cs) (blanks n) (no_return n cs h) ∙ ap₂ (λ (k l : List (List ℕ)). k ++ l) (lines_lined n cs h) (blanks_alone n)
+lines_below false n cs h = ap lines_of (append-nil (lined n cs)) ∙ lines_lined n cs h ∙ sym (append-nil (hung n (lines_of cs)))
+
+pub lines_shown : (leads trails : Bool) (n : ℕ) (cs line : List ℕ) (lines : List (List ℕ)) → has 13 cs ≡ false → lines_of cs ≡ line ∷ lines
+    → lines_of (break_if leads n ++ (lined n cs ++ break_if trails n)) ≡ shown leads trails n (line ∷ lines)
+lines_shown true trails n cs line lines h e =
+    let below : lines_of (lined n cs ++ break_if trails n) ≡ line ∷ spread trails n lines = lines_below trails n cs h ∙ ap (λ (l : List (List ℕ)). hung n l ++ closing trails n) e in
+    ap (λ (l : List (List ℕ)). [] ∷ l) (lines_blanks n (lined n cs ++ break_if trails n) line (spread trails n lines) below)
+lines_shown false trails n cs line lines h e = lines_below trails n cs h ∙ ap (λ (l : List (List ℕ)). hung n l ++ closing trails n) e
 
 pub blank_indented : (n : ℕ) (line : List ℕ) → is_blank (indented n line) ≡ is_blank line
 blank_indented zero line = refl
@@ -186,24 +194,39 @@ indent_indented : (n : ℕ) (line : List ℕ) → indent (indented n line) ≡ n
 indent_indented zero line = omega arith
 indent_indented (suc n) line = let h = indent_indented n line in omega (arith, h)
 
-indents_spread : (n : ℕ) (lines : List (List ℕ)) → indents (spread n lines) ≡ map (λ k. n + k) (indents lines)
-indents_spread n [] = indents_blank (blanks n) [] (blank_blanks n)
-indents_spread n (line ∷ lines) = by (is_blank line) refl (indents_spread n lines)
+indents_closing : (trails : Bool) (n : ℕ) → indents (closing trails n) ≡ []
+indents_closing true n = indents_blank (blanks n) [] (blank_blanks n)
+indents_closing false n = refl
+
+indents_spread : (trails : Bool) (n : ℕ) (lines : List (List ℕ)) → indents (spread trails n lines) ≡ map (λ k. n + k) (indents lines)
+indents_spread trails n [] = indents_closing trails n
+indents_spread trails n (line ∷ lines) = by (is_blank line) refl (indents_spread trails n lines)
   where
-    by : (b : Bool) → is_blank line ≡ b → indents (spread n lines) ≡ map (λ k. n + k) (indents lines) → indents (indented n line ∷ spread n lines) ≡ map (λ k. n + k) (indents (line ∷ lines))
-    by true e h = indents_blank (indented n line) (spread n lines) (blank_indented n line ∙ e) ∙ h ∙ ap (map (λ k. n + k)) (sym (indents_blank line lines e))
+    by : (b : Bool) → is_blank line ≡ b → indents (spread trails n lines) ≡ map (λ k. n + k) (indents lines) → indents (indented n line ∷ spread trails n lines) ≡ map (λ k. n + k) (indents (line ∷ lines))
+    by true e h = indents_blank (indented n line) (spread trails n lines) (blank_indented n line ∙ e) ∙ h ∙ ap (map (λ k. n + k)) (sym (indents_blank line lines e))
     by false e h =
-        indents_text (indented n line) (spread n lines) (blank_indented n line ∙ e)
+        indents_text (indented n line) (spread trails n lines) (blank_indented n line ∙ e)
         ∙ ap₂ (λ (k : ℕ) (l : List ℕ). k ∷ l) (indent_indented n line) h ∙ ap (map (λ k. n + k)) (sym (indents_text line lines e))
 
 least_more : (n x : ℕ) (xs : List ℕ) → least (map (λ k. n + k) (x ∷ xs)) ≡ n + least (x ∷ xs)
 least_more n x [] = refl
 least_more n x (y ∷ ys) = let h = least_more n y ys in omega (arith, h)
 
-pub common_spread : (n : ℕ) (line : List ℕ) (lines : List (List ℕ)) → is_blank line ≡ false → common_indent (spread n (line ∷ lines)) ≡ n + common_indent (line ∷ lines)
-common_spread n line lines h =
-    let e = indents_text line lines h in
-    ap least (indents_spread n (line ∷ lines) ∙ ap (map (λ k. n + k)) e) ∙ least_more n (indent line) (indents lines) ∙ ap (λ (l : List ℕ). n + least l) (sym e)
+pub some_indent : (lines : List (List ℕ)) → list_all is_blank lines ≡ false → indents lines ≡ [] → ⊥
+some_indent [] h e = absurd (cc)
+some_indent (line ∷ lines) h e = by (is_blank line) refl (some_indent lines)
+  where
+    by : (b : Bool) → is_blank line ≡ b → (list_all is_blank lines ≡ false → indents lines ≡ [] → ⊥) → ⊥
+    by true k r = r (ap (λ b. b && list_all is_blank lines) (sym k) ∙ h) (sym (indents_blank line lines k) ∙ e)
+    by false k r = let f : indent line ∷ indents lines ≡ [] = sym (indents_text line lines k) ∙ e in cc
+
+-- one of the lines isn't blank
+pub common_spread : (trails : Bool) (n : ℕ) (lines : List (List ℕ)) → list_all is_blank lines ≡ false → common_indent (spread trails n lines) ≡ n + common_indent lines
+common_spread trails n lines h = by (indents lines) refl
+  where
+    by : (ns : List ℕ) → indents lines ≡ ns → common_indent (spread trails n lines) ≡ n + common_indent lines
+    by [] e = absurd (some_indent lines h e)
+    by (x ∷ xs) e = ap least (indents_spread trails n lines ∙ ap (map (λ k. n + k)) e) ∙ least_more n x xs ∙ ap (λ (l : List ℕ). n + least l) (sym e)
 
 -- ---- and without it
 
@@ -220,6 +243,14 @@ dedented_indented n k line h =
 dedented_blanks : (n : ℕ) → dedented (n + 0) (blanks n) ≡ []
 dedented_blanks n = ap (dedented (n + 0)) (sym (append-nil (blanks n))) ∙ dedented_indented n 0 [] (omega arith)
 
-pub dedented_spread : (n : ℕ) (lines : List (List ℕ)) → map (dedented (n + 0)) (spread n lines) ≡ lines ++ [] ∷ []
-dedented_spread n [] = ap (λ (l : List ℕ). l ∷ []) (dedented_blanks n)
-dedented_spread n (line ∷ lines) = ap₂ (λ (l : List ℕ) (ls : List (List ℕ)). l ∷ ls) (dedented_indented n 0 line (omega arith)) (dedented_spread n lines)
+-- an empty line for the closing quotes
+abbrev pub closed : Bool → List (List ℕ)
+closed trails = closing trails 0
+
+dedented_closing : (trails : Bool) (n : ℕ) → map (dedented (n + 0)) (closing trails n) ≡ closed trails
+dedented_closing true n = ap (λ (l : List ℕ). l ∷ []) (dedented_blanks n)
+dedented_closing false n = refl
+
+pub dedented_spread : (trails : Bool) (n : ℕ) (lines : List (List ℕ)) → map (dedented (n + 0)) (spread trails n lines) ≡ lines ++ closed trails
+dedented_spread trails n [] = dedented_closing trails n
+dedented_spread trails n (line ∷ lines) = ap₂ (λ (l : List ℕ) (ls : List (List ℕ)). l ∷ ls) (dedented_indented n 0 line (omega arith)) (dedented_spread trails n lines)

@@ -1,5 +1,5 @@
 -- What a block string means that was written from a value: the value, if that keeps its lines there, and only then.
-use Rattle.std.proofs.Common.{◌≡◌, ◌≢◌, ℕ, zero, suc, ◌+◌, ◌≤◌, Bool, true, false, cond, eqb, ◌&&◌, ◌||◌, nat_lt, List, [], ◌∷◌, ◌++◌, map, length, drop, refl, sym, ap, ◌∙◌, subst, append-nil, length-drop, arith}
+use Rattle.std.proofs.Common.{◌≡◌, ◌≢◌, ℕ, zero, suc, ◌+◌, ◌≤◌, Bool, true, false, cond, eqb, not, ◌&&◌, ◌||◌, ◌⊎◌, inl, inr, nat_lt, List, [], ◌∷◌, ◌++◌, map, length, drop, refl, sym, ap, ◌∙◌, subst, append-nil, length-drop, arith}
 use Rattle.std.proofs.lemmas.Bool.Decides.{nat_tests}
 use Rattle.std.proofs.lemmas.List.Sums.{prefix_len-le-length}
 use Rattle.std.specs.List.{list_all}
@@ -9,54 +9,28 @@ use Rattle.graphql_tokens.proofs.BlockEnds.{to_text_more}
 use Rattle.graphql_tokens.proofs.BlockIndents.{indents, indents_text}
 use Rattle.graphql_tokens.proofs.BlockLines.{lines_some}
 use Rattle.graphql_tokens.proofs.BlockValue.{deep, same_all, from_text-all, to_text-all}
-use Rattle.graphql_layout.specs.declared.blocks.Form.{Form}
-use Rattle.graphql_layout.specs.declared.blocks.Form.TheVariants.{Inline, Open, Spread}
-use Rattle.graphql_layout.specs.inner.Blocks.{has, begins_blank, ends_in_mark, form_of, blanks, line_break, body, front, back, content}
+use Rattle.graphql_layout.specs.inner.Blocks.{begins_blank, is_wide, leads, trails, blanks, line_break, break_if, body, content}
+use Rattle.graphql_layout.specs.texts.Shortened.{has}
 use Rattle.graphql_layout.proofs.BlockBodies.{and_false, lined, unquoted_break, body_unquoted}
-use Rattle.graphql_layout.proofs.BlockLayouts.{InLine, AreLines, are_lines, one_line, lines_joined, joined_lines, indented, spread, lines_spread, lines_open, lined_flat, blank_indented, blank_blanks, common_spread, dedented_indented, dedented_spread}
+use Rattle.graphql_layout.proofs.BlockLayouts.{InLine, AreLines, are_lines, one_line, lines_joined, joined_lines, indented, closing, closed, spread, shown, lines_shown, blank_indented, blank_blanks, common_spread, dedented_indented, dedented_spread}
 
 -- ---- without its backslashes
 
 break_alone : (n : ℕ) → unquoted (line_break n) ≡ line_break n
 break_alone n = ap unquoted (sym (append-nil (line_break n))) ∙ unquoted_break n [] ∙ append-nil (line_break n)
 
-then_break : (n : ℕ) (cs : List ℕ) → unquoted (body n 0 cs ++ line_break n) ≡ lined n cs ++ line_break n
-then_break n cs = body_unquoted n 0 cs (line_break n) (λ e. omega arith) refl ∙ ap (λ (l : List ℕ). lined n cs ++ l) (break_alone n)
+then_break : (b : Bool) (n : ℕ) (cs : List ℕ) → unquoted (body n 0 cs ++ break_if b n) ≡ lined n cs ++ break_if b n
+then_break true n cs = body_unquoted n 0 cs (line_break n) (λ e. omega arith) refl ∙ ap (λ (l : List ℕ). lined n cs ++ l) (break_alone n)
+then_break false n cs = body_unquoted n 0 cs [] tt refl
 
-content_unquoted : (n : ℕ) (cs : List ℕ) (f : Form) → unquoted (front n f ++ (body n 0 cs ++ back n f)) ≡ front n f ++ (lined n cs ++ back n f)
-content_unquoted n cs Inline = body_unquoted n 0 cs [] tt refl
-content_unquoted n cs Open = then_break n cs
-content_unquoted n cs Spread = unquoted_break n (body n 0 cs ++ line_break n) ∙ ap (λ (l : List ℕ). line_break n ++ l) (then_break n cs)
+content_unquoted : (a b : Bool) (n : ℕ) (cs : List ℕ) → unquoted (content a b n cs) ≡ break_if a n ++ (lined n cs ++ break_if b n)
+content_unquoted true b n cs = unquoted_break n (body n 0 cs ++ break_if b n) ∙ ap (λ (l : List ℕ). line_break n ++ l) (then_break b n cs)
+content_unquoted false b n cs = then_break b n cs
 
 -- ---- its lines
 
--- only a value of one line stands right after the opening quotes
-abbrev IsFor : Form → List ℕ → Type 0
-IsFor Inline cs = has 10 cs ≡ false
-IsFor Open cs = has 10 cs ≡ false
-IsFor Spread cs = Unit {0}
-
-form_is : (cs : List ℕ) → IsFor (form_of cs) cs
-form_is cs = by (has 10 cs) (nat_lt 70 (length cs) || ends_in_mark false cs) (begins_blank cs) refl
-  where
-    by : (a m b : Bool) → has 10 cs ≡ a → IsFor (cond a Spread (cond m (cond b Open Spread) Inline)) cs
-    by true m b e = tt
-    by false false b e = e
-    by false true true e = e
-    by false true false e = tt
-
-abbrev shown : Form → ℕ → List (List ℕ) → List (List ℕ)
-shown Inline n lines = lines
-shown Open n lines = lines ++ blanks n ∷ []
-shown Spread n lines = [] ∷ spread n lines
-
-content_lines : (n : ℕ) (cs : List ℕ) (f : Form) → has 13 cs ≡ false → IsFor f cs → lines_of (front n f ++ (lined n cs ++ back n f)) ≡ shown f n (lines_of cs)
-content_lines n cs Inline h k = ap lines_of (append-nil (lined n cs) ∙ lined_flat n cs k)
-content_lines n cs Open h k = lines_open n cs k h ∙ ap (λ (l : List (List ℕ)). l ++ blanks n ∷ []) (sym (one_line cs k h))
-content_lines n cs Spread h k = let s = lines_some cs in lines_spread n cs s.0 s.1 h s.2 ∙ ap (λ (l : List (List ℕ)). [] ∷ spread n l) (sym s.2)
-
-pub written_lines : (n : ℕ) (cs : List ℕ) → has 13 cs ≡ false → lines_of (unquoted (content n cs)) ≡ shown (form_of cs) n (lines_of cs)
-written_lines n cs h = ap lines_of (content_unquoted n cs (form_of cs)) ∙ content_lines n cs (form_of cs) h (form_is cs)
+pub written_lines : (a b : Bool) (n : ℕ) (cs line : List ℕ) (lines : List (List ℕ)) → has 13 cs ≡ false → lines_of cs ≡ line ∷ lines → lines_of (unquoted (content a b n cs)) ≡ shown a b n (line ∷ lines)
+written_lines a b n cs line lines h e = ap lines_of (content_unquoted a b n cs) ∙ lines_shown a b n cs line lines h e
 
 -- ---- its value, if the value keeps its lines
 
@@ -65,6 +39,11 @@ abbrev pub EndsInText : List (List ℕ) → Type 0
 EndsInText [] = ⊥
 EndsInText (line ∷ []) = is_blank line ≡ false
 EndsInText (line ∷ next ∷ lines) = EndsInText (next ∷ lines)
+
+pub ends_some : (lines : List (List ℕ)) → EndsInText lines → list_all is_blank lines ≡ false
+ends_some [] h = absurd h
+ends_some (line ∷ []) h = ap (λ (b : Bool). b && true) h
+ends_some (line ∷ next ∷ lines) h = and_false (is_blank line) (list_all is_blank (next ∷ lines)) (ends_some (next ∷ lines) h)
 
 not_all : (lines : List (List ℕ)) (last : List ℕ) → EndsInText lines → list_all is_blank (lines ++ last ∷ []) ≡ false
 not_all [] last h = absurd h
@@ -77,32 +56,44 @@ to_last (line ∷ []) last b h = to_text_more line (last ∷ []) (not_all (line 
 to_last (line ∷ next ∷ lines) last b h =
     to_text_more line ((next ∷ lines) ++ last ∷ []) (not_all (line ∷ next ∷ lines) last h) ∙ ap (λ (l : List (List ℕ)). line ∷ l) (to_last (next ∷ lines) last b h)
 
+to_itself : (lines : List (List ℕ)) → EndsInText lines → to_text lines ≡ lines
+to_itself [] h = absurd h
+to_itself (line ∷ []) h = to_text_more line [] (ends_some (line ∷ []) h)
+to_itself (line ∷ next ∷ lines) h = to_text_more line (next ∷ lines) (ends_some (line ∷ next ∷ lines) h) ∙ ap (λ (l : List (List ℕ)). line ∷ l) (to_itself (next ∷ lines) h)
+
+to_closed : (b : Bool) (lines : List (List ℕ)) → EndsInText lines → to_text (lines ++ closed b) ≡ lines
+to_closed true lines h = to_last lines [] refl h
+to_closed false lines h = ap to_text (append-nil lines) ∙ to_itself lines h
+
 from_first : (line : List ℕ) (lines : List (List ℕ)) → is_blank line ≡ false → from_text (line ∷ lines) ≡ line ∷ lines
 from_first line lines h = ap (λ (b : Bool). cond b (from_text lines) (line ∷ lines)) h
 
--- the lines that stand so lose nothing
-abbrev Flat : Form → List ℕ → List (List ℕ) → Type 0
-Flat Inline line lines = lines ≡ []
-Flat Open line lines = lines ≡ []
-Flat Spread line lines = common_indent (line ∷ lines) ≡ 0
+-- The lines lose nothing: on lines of their own, or where the first stands right after the opening quotes.
+abbrev pub Flat : Bool → List ℕ → List (List ℕ) → Type 0
+Flat true line lines = common_indent (line ∷ lines) ≡ 0
+Flat false line lines = (lines ≡ []) ⊎ (common_indent lines ≡ 0)
 
-kept_lines : (f : Form) (n : ℕ) (line : List ℕ) (lines : List (List ℕ)) → is_blank line ≡ false → EndsInText (line ∷ lines) → Flat f line lines
-    → to_text (from_text (dedent (shown f n (line ∷ lines)))) ≡ line ∷ lines
-kept_lines Inline n line lines h last e =
-    ap (λ (l : List (List ℕ)). to_text (from_text (dedent (line ∷ l)))) e ∙ ap to_text (from_first line [] h)
-    ∙ to_text_more line [] (ap (λ (b : Bool). b && true) h) ∙ ap (λ (l : List (List ℕ)). line ∷ l) (sym e)
-kept_lines Open n line lines h last e =
+-- lines that are all indented, up to the closing quotes
+cut_back : (b : Bool) (n : ℕ) (lines : List (List ℕ)) → EndsInText lines → common_indent lines ≡ 0 → map (dedented (common_indent (spread b n lines))) (spread b n lines) ≡ lines ++ closed b
+cut_back b n lines last e =
+    let cut : common_indent (spread b n lines) ≡ n + 0 = common_spread b n lines (ends_some lines last) ∙ ap (λ (k : ℕ). n + k) e in
+    ap (λ (k : ℕ). map (dedented k) (spread b n lines)) cut ∙ dedented_spread b n lines
+
+kept_lines : (a b : Bool) (n : ℕ) (line : List ℕ) (lines : List (List ℕ)) → is_blank line ≡ false → EndsInText (line ∷ lines) → Flat a line lines
+    → to_text (from_text (dedent (shown a b n (line ∷ lines)))) ≡ line ∷ lines
+kept_lines true b n line lines h last e =
+    ap (λ (l : List (List ℕ)). to_text (from_text ([] ∷ l))) (cut_back b n (line ∷ lines) last e)
+    ∙ ap to_text (from_first line (lines ++ closed b) h) ∙ to_closed b (line ∷ lines) last
+kept_lines false false n line [] h last e = ap to_text (from_first line [] h) ∙ to_itself (line ∷ []) last
+kept_lines false true n line [] h last e =
     let others : List (List ℕ) = blanks n ∷ [] in
-    let closing : List ℕ = dedented (common_indent others) (blanks n) in
-    let blank : is_blank closing ≡ true = (same_all (common_indent others) others (deep others)).0 ∙ blank_blanks n in
-    ap (λ (l : List (List ℕ)). to_text (from_text (dedent (line ∷ (l ++ blanks n ∷ []))))) e ∙ ap to_text (from_first line (closing ∷ []) h)
-    ∙ to_last (line ∷ []) closing blank h ∙ ap (λ (l : List (List ℕ)). line ∷ l) (sym e)
-kept_lines Spread n line lines h last e =
-    let others : List (List ℕ) = spread n (line ∷ lines) in
-    let cut : common_indent others ≡ n + 0 = common_spread n line lines h ∙ ap (λ (k : ℕ). n + k) e in
-    ap (λ (k : ℕ). to_text (from_text ([] ∷ map (dedented k) others))) cut
-    ∙ ap (λ (l : List (List ℕ)). to_text (from_text ([] ∷ l))) (dedented_spread n (line ∷ lines))
-    ∙ ap to_text (from_first line (lines ++ [] ∷ []) h) ∙ to_last (line ∷ lines) [] refl last
+    let quotes : List ℕ = dedented (common_indent others) (blanks n) in
+    let blank : is_blank quotes ≡ true = (same_all (common_indent others) others (deep others)).0 ∙ blank_blanks n in
+    ap to_text (from_first line (quotes ∷ []) h) ∙ to_last (line ∷ []) quotes blank h
+kept_lines false b n line (next ∷ lines) h last (inl e) = absurd (cc)
+kept_lines false b n line (next ∷ lines) h last (inr e) =
+    ap (λ (l : List (List ℕ)). to_text (from_text (line ∷ l))) (cut_back b n (next ∷ lines) last e)
+    ∙ ap to_text (from_first line ((next ∷ lines) ++ closed b) h) ∙ to_closed b (line ∷ next ∷ lines) last
 
 -- Neither the first line nor the last is blank, and of many lines one that isn't blank begins with no blank.
 pub record Kept (cs : List ℕ) : Type 0 where
@@ -118,28 +109,30 @@ no_indent : (cs : List ℕ) → begins_blank cs ≡ false → indent cs ≡ 0
 no_indent [] h = refl
 no_indent (c ∷ cs) h = ap (λ b. cond b (1 + indent cs) 0) h
 
-flat : (cs : List ℕ) (k : Kept cs) → Flat (form_of cs) k.line k.lines
-flat cs k = by (has 10 cs) (nat_lt 70 (length cs) || ends_in_mark false cs) (begins_blank cs) refl refl
+pub alone : (cs : List ℕ) (k : Kept cs) → has 10 cs ≡ false → (k.line ≡ cs) × (k.lines ≡ [])
+alone cs k e = let same : k.line ∷ k.lines ≡ cs ∷ [] = sym k.is ∙ one_line cs e k.no_return in (cc, cc)
+
+pub flat : (cs : List ℕ) (k : Kept cs) → Flat (leads cs) k.line k.lines
+flat cs k = by (has 10 cs) (is_wide cs) (begins_blank cs) refl refl
   where
-    one : has 10 cs ≡ false → k.lines ≡ []
-    one e = let same : k.line ∷ k.lines ≡ cs ∷ [] = sym k.is ∙ one_line cs e k.no_return in cc
-
-    alone : has 10 cs ≡ false → k.line ≡ cs
-    alone e = let same : k.line ∷ k.lines ≡ cs ∷ [] = sym k.is ∙ one_line cs e k.no_return in cc
-
-    by : (a m b : Bool) → has 10 cs ≡ a → begins_blank cs ≡ b → Flat (cond a Spread (cond m (cond b Open Spread) Inline)) k.line k.lines
+    by : (a m b : Bool) → has 10 cs ≡ a → begins_blank cs ≡ b → Flat (a || (m && not b)) k.line k.lines
     by true m b e f = k.margin e
-    by false false b e f = one e
-    by false true true e f = one e
+    by false false b e f = inl (alone cs k e).1
+    by false true true e f = inl (alone cs k e).1
     by false true false e f =
-        ap (λ (l : List (List ℕ)). common_indent (k.line ∷ l)) (one e) ∙ ap least (indents_text k.line [] k.first) ∙ ap indent (alone e) ∙ no_indent cs f
+        let one = alone cs k e in
+        ap (λ (l : List (List ℕ)). common_indent (k.line ∷ l)) one.1 ∙ ap least (indents_text k.line [] k.first) ∙ ap indent one.0 ∙ no_indent cs f
 
-pub kept_means : (n : ℕ) (cs : List ℕ) → Kept cs → block_value (content n cs) ≡ cs
+pub kept_means : (a b : Bool) (n : ℕ) (cs : List ℕ) (k : Kept cs) → Flat a k.line k.lines → block_value (content a b n cs) ≡ cs
 unfolding block_value
-kept_means n cs k =
-    ap (λ (l : List (List ℕ)). joined (to_text (from_text (dedent l)))) (written_lines n cs k.no_return ∙ ap (shown (form_of cs) n) k.is)
-    ∙ ap joined (kept_lines (form_of cs) n k.line k.lines k.first k.last (flat cs k) ∙ sym k.is)
+kept_means a b n cs k f =
+    ap (λ (l : List (List ℕ)). joined (to_text (from_text (dedent l)))) (written_lines a b n cs k.line k.lines k.no_return k.is)
+    ∙ ap joined (kept_lines a b n k.line k.lines k.first k.last f ∙ sym k.is)
     ∙ joined_lines cs k.no_return
+
+pub nothing_means : block_value [] ≡ []
+unfolding block_value
+nothing_means = refl
 
 -- ---- and only then
 
@@ -223,51 +216,74 @@ least_first n (m ∷ ns) = omega arith
 no_loss : (k : ℕ) (line : List ℕ) → k ≤ length line → drop k line ≡ line → k ≡ 0
 no_loss k line h e = omega (arith, ap length e, length-drop k line)
 
+-- what is left of a text, if that isn't empty
+pub record Left (raw cs : List ℕ) : Type 0 where
+  pub line : List ℕ
+  pub lines : List (List ℕ)
+  pub of : to_text (from_text (dedent (lines_of (unquoted raw)))) ≡ line ∷ lines
+  pub is : lines_of cs ≡ line ∷ lines
+  pub in_lines : AreLines (line ∷ lines)
+  pub no_return : has 13 cs ≡ false
+  pub first : is_blank line ≡ false
+  pub last : EndsInText (line ∷ lines)
+
+pub left_of : (raw cs : List ℕ) → cs ≢ [] → block_value raw ≡ cs → Left raw cs
+unfolding block_value
+left_of raw cs some e = by (to_text (from_text (dedent (lines_of (unquoted raw))))) refl
+  where
+    all : AreLines (to_text (from_text (dedent (lines_of (unquoted raw)))))
+    all = let lines = dedent (lines_of (unquoted raw)) in
+        to_text-all InLine (from_text lines) (from_text-all InLine lines (are_dedented (lines_of (unquoted raw)) (are_lines (unquoted raw))))
+
+    by : (left : List (List ℕ)) → to_text (from_text (dedent (lines_of (unquoted raw)))) ≡ left → Left raw cs
+    by [] f = absurd (some (sym e ∙ ap joined f))
+    by (line ∷ lines) f =
+        let lines_are : AreLines (line ∷ lines) = subst AreLines f all in
+        let from = from_text (dedent (lines_of (unquoted raw))) in
+        let head = first_left from line lines f in
+        record {
+          line = line;
+          lines = lines;
+          of = f;
+          is = ap lines_of (sym e ∙ ap joined f) ∙ lines_joined line lines lines_are;
+          in_lines = lines_are;
+          no_return = ap (has 13) (sym e ∙ ap joined f) ∙ none_joined (line ∷ lines) lines_are;
+          first = first_text (dedent (lines_of (unquoted raw))) line head.0 head.1;
+          last = last_text from line lines f;
+        }
+
 -- the first line lost nothing, so there was no indent to lose
-no_margin : (n : ℕ) (line : List ℕ) (lines more : List (List ℕ)) → is_blank line ≡ false → to_text (from_text (dedent ([] ∷ spread n (line ∷ lines)))) ≡ line ∷ more → common_indent (line ∷ lines) ≡ 0
-no_margin n line lines more h e =
+no_margin : (b : Bool) (n : ℕ) (line : List ℕ) (lines more : List (List ℕ)) → is_blank line ≡ false → to_text (from_text (dedent ([] ∷ spread b n (line ∷ lines)))) ≡ line ∷ more → common_indent (line ∷ lines) ≡ 0
+no_margin b n line lines more h e =
     let k = common_indent (line ∷ lines) in
-    let others : List (List ℕ) = spread n (line ∷ lines) in
+    let others : List (List ℕ) = spread b n (line ∷ lines) in
     let m = common_indent others in
     let within : k ≤ length line = omega (arith, ap least (indents_text line lines h), least_first (indent line) (indents lines), prefix_len-le-length is_blank_char line) in
     let blank : is_blank (dedented m (indented n line)) ≡ false = (same_all m others (deep others)).0 ∙ blank_indented n line ∙ h in
-    let from = from_first (dedented m (indented n line)) (map (dedented m) (spread n lines)) blank in
-    let left = first_left (dedented m (indented n line) ∷ map (dedented m) (spread n lines)) line more (ap to_text (sym from) ∙ e) in
+    let from = from_first (dedented m (indented n line)) (map (dedented m) (spread b n lines)) blank in
+    let left = first_left (dedented m (indented n line) ∷ map (dedented m) (spread b n lines)) line more (ap to_text (sym from) ∙ e) in
     let same : dedented m (indented n line) ≡ line = first_of_two left.1 in
-    no_loss k line within (sym (dedented_indented n k line within) ∙ ap (λ (j : ℕ). dedented j (indented n line)) (sym (common_spread n line lines h)) ∙ same)
+    let some : list_all is_blank (line ∷ lines) ≡ false = ap (λ (x : Bool). x && list_all is_blank lines) h in
+    no_loss k line within (sym (dedented_indented n k line within) ∙ ap (λ (j : ℕ). dedented j (indented n line)) (sym (common_spread b n (line ∷ lines) some)) ∙ same)
   where
     first_of_two : {x y : List ℕ} {xs ys : List (List ℕ)} → x ∷ xs ≡ y ∷ ys → x ≡ y
     first_of_two e = cc
 
-is_spread : (cs : List ℕ) → has 10 cs ≡ true → form_of cs ≡ Spread
-is_spread cs h = ap (λ b. cond b Spread (cond (nat_lt 70 (length cs) || ends_in_mark false cs) (cond (begins_blank cs) Open Spread) Inline)) h
+leads_then : (cs : List ℕ) → has 10 cs ≡ true → leads cs ≡ true
+leads_then cs h = ap (λ b. b || (is_wide cs && not (begins_blank cs))) h
 
-pub means_kept : (n : ℕ) (cs : List ℕ) → cs ≢ [] → block_value (content n cs) ≡ cs → Kept cs
-unfolding block_value
-means_kept n cs some e = by (to_text (from_text (dedent (lines_of (unquoted (content n cs)))))) refl
-  where
-    all : AreLines (to_text (from_text (dedent (lines_of (unquoted (content n cs))))))
-    all = let lines = dedent (lines_of (unquoted (content n cs))) in
-        to_text-all InLine (from_text lines) (from_text-all InLine lines (are_dedented (lines_of (unquoted (content n cs))) (are_lines (unquoted (content n cs)))))
-
-    by : (left : List (List ℕ)) → to_text (from_text (dedent (lines_of (unquoted (content n cs))))) ≡ left → Kept cs
-    by [] f = absurd (some (sym e ∙ ap joined f))
-    by (line ∷ lines) f =
-        let lines_are : AreLines (line ∷ lines) = subst AreLines f all in
-        let is : lines_of cs ≡ line ∷ lines = ap lines_of (sym e ∙ ap joined f) ∙ lines_joined line lines lines_are in
-        let clean : has 13 cs ≡ false = ap (has 13) (sym e ∙ ap joined f) ∙ none_joined (line ∷ lines) lines_are in
-        let from = from_text (dedent (lines_of (unquoted (content n cs)))) in
-        let head = first_left from line lines f in
-        let text : is_blank line ≡ false = first_text (dedent (lines_of (unquoted (content n cs)))) line head.0 head.1 in
-        record {
-          no_return = clean;
-          line = line;
-          lines = lines;
-          is = is;
-          first = text;
-          last = last_text from line lines f;
-          margin = λ many.
-              let shape : lines_of (unquoted (content n cs)) ≡ [] ∷ spread n (line ∷ lines) =
-              written_lines n cs clean ∙ ap (λ (g : Form). shown g n (lines_of cs)) (is_spread cs many) ∙ ap (λ (l : List (List ℕ)). [] ∷ spread n l) is in
-              no_margin n line lines lines text (ap (λ (l : List (List ℕ)). to_text (from_text (dedent l))) (sym shape) ∙ f);
-        }
+pub means_kept : (n : ℕ) (cs : List ℕ) → cs ≢ [] → block_value (content (leads cs) (trails cs) n cs) ≡ cs → Kept cs
+means_kept n cs some e =
+    let l = left_of (content (leads cs) (trails cs) n cs) cs some e in
+    record {
+      no_return = l.no_return;
+      line = l.line;
+      lines = l.lines;
+      is = l.is;
+      first = l.first;
+      last = l.last;
+      margin = λ many.
+          let shape : lines_of (unquoted (content (leads cs) (trails cs) n cs)) ≡ [] ∷ spread (trails cs) n (l.line ∷ l.lines) =
+          written_lines (leads cs) (trails cs) n cs l.line l.lines l.no_return l.is ∙ ap (λ (x : Bool). shown x (trails cs) n (l.line ∷ l.lines)) (leads_then cs many) in
+          no_margin (trails cs) n l.line l.lines l.lines l.first (ap (λ (x : List (List ℕ)). to_text (from_text (dedent x))) (sym shape) ∙ l.of);
+    }

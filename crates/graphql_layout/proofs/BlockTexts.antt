@@ -1,58 +1,28 @@
 -- A block string that is written from a value is one, and what its bytes mean.
-use Rattle.std.proofs.Common.{◌≡◌, ◌≢◌, ℕ, zero, suc, ◌-◌, Bool, true, false, cond, eqb, ◌&&◌, ◌||◌, nat_lt, List, [], ◌∷◌, ◌++◌, length, take, drop, Some, refl, sym, ap, ◌∙◌, append_assoc, append-nil, length-append, arith}
+use Rattle.std.proofs.Common.{◌≡◌, ◌≢◌, ℕ, zero, suc, ◌-◌, Bool, true, false, cond, eqb, ◌&&◌, ◌||◌, nat_lt, List, [], ◌∷◌, ◌++◌, length, take, drop, Some, refl, sym, ap, ap₂, ◌∙◌, subst, append_assoc, append-nil, length-append, arith}
 use Rattle.std.proofs.Math.Seq.{take-append_seam}
 use Rattle.std.proofs.lemmas.Bool.Decides.{nat_tests}
 use Rattle.std.proofs.lemmas.Str.{chars-encodes, encodes-chars}
 use Rattle.std.specs.Char.{IsScalar}
 use Rattle.std.specs.List.{AllByRecursion, concat}
 use Rattle.std.specs.Str.{chars, encode_utf8_all, IsUtf8}
-use Rattle.graphql_tokens.specs.tokens.BlockText.{begins_quotes, block_value}
+use Rattle.graphql_tokens.specs.tokens.Alike.{inside, value_of_block}
+use Rattle.graphql_tokens.specs.tokens.BlockText.{block_value}
 use Rattle.graphql_tokens.specs.tokens.Blocks.{closes}
 use Rattle.graphql_tokens.specs.tokens.Proper.{Spells}
 use Rattle.graphql_tokens.specs.declared.lexer.TokenKind.TheVariants.{Block}
-use Rattle.graphql_tokens.specs.inner.Quoted.{past_block_from, past_block, NoQuote}
+use Rattle.graphql_tokens.specs.inner.Quoted.{past_block_from, past_block}
 use Rattle.graphql_tokens.proofs.BlockTokens.{block_is}
-use Rattle.graphql_tokens.proofs.BlockValue.{quotes_at, begins_is}
-use Rattle.graphql_tokens.proofs.EscapeUnits.{both}
 use Rattle.graphql_tokens.proofs.Propers.{text_scalars}
-use Rattle.graphql_layout.specs.declared.blocks.Form.{Form}
-use Rattle.graphql_layout.specs.declared.blocks.Form.TheVariants.{Inline, Open, Spread}
-use Rattle.graphql_layout.specs.inner.Blocks.{has, begins_blank, is_mark, ends_in_mark, form_of, blanks, line_break, placed, body, front, back, content, spelled, may_be_block, HasValue}
-use Rattle.graphql_layout.proofs.BlockBodies.{closes_is, blanks_pass, char_passes, body_passes}
-use Rattle.graphql_layout.proofs.BlockChoices.{kept_if, if_kept}
-use Rattle.graphql_layout.proofs.BlockMeanings.{kept_means, means_kept}
-use Rattle.graphql_layout.proofs.BlockPushes.{spelled_bytes}
+use Rattle.graphql_layout.specs.inner.Blocks.{ends_in_mark, is_wide, leads, trails, blanks, line_break, placed, body, break_if, content, block_of, spelled, may_be_block, HasValue}
+use Rattle.graphql_layout.specs.texts.Shortened.{has, is_mark, is_open, is_hung, escaped, line_feed_if, shortest}
+use Rattle.graphql_layout.proofs.BlockBodies.{blanks_pass, body_passes}
+use Rattle.graphql_layout.proofs.BlockChoices.{kept_if, if_kept, flat_hung}
+use Rattle.graphql_layout.proofs.BlockLayouts.{or_false}
+use Rattle.graphql_layout.proofs.BlockMeanings.{Kept, Flat, flat, kept_means, means_kept, nothing_means}
+use Rattle.graphql_layout.proofs.BlockPushes.{block_bytes}
+use Rattle.graphql_layout.proofs.BlockValues.{value_keeps}
 use Rattle.graphql_layout.proofs.Joined.{scalars_all}
-
--- ---- a value that ends in neither a quote nor a backslash
-
-record Last (before : Bool) (cs : List ℕ) : Type 0 where
-  most : List ℕ
-  last : ℕ
-  whole : cs ≡ most ++ last ∷ []
-  mark : ends_in_mark before cs ≡ is_mark last
-
-last_of : (before : Bool) (c : ℕ) (cs : List ℕ) → Last before (c ∷ cs)
-last_of before c [] = record { most = []; last = c; whole = refl; mark = refl }
-last_of before c (d ∷ cs) = let l = last_of (is_mark c) d cs in record { most = c ∷ l.most; last = l.last; whole = ap (λ (x : List ℕ). c ∷ x) l.whole; mark = l.mark }
-
-quotes_more : (k : ℕ) (cs : List ℕ) (x : ℕ) → eqb x 34 ≡ false → quotes_at k (cs ++ x ∷ []) ≡ quotes_at k cs
-quotes_more zero cs x h = refl
-quotes_more (suc k) [] x h = ap (λ b. b && quotes_at k []) h
-quotes_more (suc k) (c ∷ cs) x h = ap (λ b. eqb c 34 && b) (quotes_more k cs x h)
-
-body_more : (i k : ℕ) (cs : List ℕ) (x : ℕ) → eqb x 34 ≡ false → quotes_at k cs ≡ true → body i k (cs ++ x ∷ []) ≡ body i k cs ++ placed i x
-body_more i zero [] x h q = ap (λ b. cond ((b && false) && false) (92 ∷ x ∷ []) (placed i x ++ [])) h ∙ append-nil (placed i x)
-body_more i (suc k) [] x h q = absurd (cc)
-body_more i (suc k) (c ∷ cs) x h q = ap (λ (l : List ℕ). c ∷ l) (body_more i k cs x h (both (eqb c 34) (quotes_at k cs) q).1)
-body_more i zero (c ∷ cs) x h q =
-    ap (λ b. cond b (92 ∷ c ∷ body i 2 (cs ++ x ∷ [])) (placed i c ++ body i 0 (cs ++ x ∷ []))) (closes_is (c ∷ (cs ++ x ∷ [])) ∙ quotes_more 3 (c ∷ cs) x h ∙ sym (closes_is (c ∷ cs)))
-    ∙ by (closes (c ∷ cs)) refl (body_more i 0 cs x h refl) (λ more. body_more i 2 cs x h more)
-  where
-    by : (b : Bool) → closes (c ∷ cs) ≡ b → body i 0 (cs ++ x ∷ []) ≡ body i 0 cs ++ placed i x → (quotes_at 2 cs ≡ true → body i 2 (cs ++ x ∷ []) ≡ body i 2 cs ++ placed i x)
-        → cond b (92 ∷ c ∷ body i 2 (cs ++ x ∷ [])) (placed i c ++ body i 0 (cs ++ x ∷ [])) ≡ cond b (92 ∷ c ∷ body i 2 cs) (placed i c ++ body i 0 cs) ++ placed i x
-    by true e r s = ap (λ (l : List ℕ). 92 ∷ c ∷ l) (s (both (eqb c 34) (quotes_at 2 cs) (sym (closes_is (c ∷ cs)) ∙ e)).1)
-    by false e r s = ap (λ (l : List ℕ). placed i c ++ l) r ∙ sym (append_assoc (placed i c) (body i 0 cs) (placed i x))
 
 -- ---- where the string ends
 
@@ -62,64 +32,50 @@ three = 34 ∷ 34 ∷ 34 ∷ []
 break_passes : (i : ℕ) (t : List ℕ) → past_block_from 0 (line_break i ++ t) ≡ past_block_from 0 t
 break_passes i t = blanks_pass i t
 
-spread_passes : (i : ℕ) (cs : List ℕ) → past_block_from 0 (body i 0 cs ++ (line_break i ++ three)) ≡ Some []
-spread_passes i cs = body_passes i 0 cs (line_break i ++ three) (λ e. omega arith) refl ∙ break_passes i three
+-- the closing quotes are on a line of their own, or aren't read with the last character
+abbrev pub Closes : Bool → List ℕ → Type 0
+Closes trails cs = trails ≡ false → is_open 0 false cs ≡ false
 
-no_mark : (x : ℕ) → is_mark x ≡ false → (eqb x 34 ≡ false) × (eqb x 92 ≡ false)
-no_mark x h = (grind (arith, nat_tests), grind (arith, nat_tests))
+back_passes : (b : Bool) (i : ℕ) (cs : List ℕ) → Closes b cs → past_block_from 0 ((body i 0 cs ++ break_if b i) ++ three) ≡ Some []
+back_passes true i cs h =
+    ap (past_block_from 0) (append_assoc (body i 0 cs) (line_break i) three) ∙ body_passes i 0 false cs (line_break i ++ three) (λ o e. omega arith) refl ∙ break_passes i three
+back_passes false i cs h =
+    let closed : is_open 0 false cs ≡ false = h refl in
+    ap (λ (t : List ℕ). past_block_from 0 (t ++ three)) (append-nil (body i 0 cs)) ∙ body_passes i 0 false cs three (λ o. absurd (cc)) refl
 
-last_passes : (i x : ℕ) → eqb x 34 ≡ false → eqb x 92 ≡ false → NoQuote (placed i x ++ three) × (past_block_from 0 (placed i x ++ three) ≡ Some [])
-last_passes i x h k = by (eqb x 10)
+content_passes : (a b : Bool) (i : ℕ) (cs : List ℕ) → Closes b cs → past_block_from 0 (content a b i cs ++ three) ≡ Some []
+content_passes true b i cs h =
+    ap (past_block_from 0) (append_assoc (line_break i) (body i 0 cs ++ break_if b i) three) ∙ break_passes i ((body i 0 cs ++ break_if b i) ++ three) ∙ back_passes b i cs h
+content_passes false b i cs h = back_passes b i cs h
+
+-- what ends in neither a quote nor a backslash isn't open
+no_mark_open : (k : ℕ) (before other : Bool) (cs : List ℕ) → (other ≡ true → before ≡ true) → ends_in_mark before cs ≡ false → is_open k other cs ≡ false
+no_mark_open zero before other [] f h = by other f
   where
-    other : x ≢ 34
-    other = grind (arith, nat_tests)
-
-    no_end : closes (x ∷ three) ≡ false
-    no_end = closes_is (x ∷ three) ∙ ap (λ b. b && true) h
-
-    no_escape : begins_quotes (x ∷ three) ≡ false
-    no_escape = begins_is x three ∙ ap (λ b. b && true) k
-
-    by : (b : Bool) → NoQuote (cond b (line_break i) (x ∷ []) ++ three) × (past_block_from 0 (cond b (line_break i) (x ∷ []) ++ three) ≡ Some [])
-    by true = (λ e. omega arith, break_passes i three)
-    by false = (other, char_passes x three no_end no_escape)
-
-inline_passes : (i : ℕ) (cs : List ℕ) → ends_in_mark false cs ≡ false → past_block_from 0 (body i 0 cs ++ three) ≡ Some []
-inline_passes i [] h = refl
-inline_passes i (c ∷ cs) h =
-    let l = last_of false c cs in
-    let x = no_mark l.last (sym l.mark ∙ h) in
-    let p = last_passes i l.last x.0 x.1 in
-    ap (λ (t : List ℕ). past_block_from 0 (t ++ three)) (ap (body i 0) l.whole ∙ body_more i 0 l.most l.last x.0 refl)
-    ∙ ap (past_block_from 0) (append_assoc (body i 0 l.most) (placed i l.last) three)
-    ∙ body_passes i 0 l.most (placed i l.last ++ three) p.0 refl ∙ p.1
-
-abbrev IsOpen : Form → List ℕ → Type 0
-IsOpen Inline cs = ends_in_mark false cs ≡ false
-IsOpen Open cs = Unit {0}
-IsOpen Spread cs = Unit {0}
-
-is_open : (cs : List ℕ) → IsOpen (form_of cs) cs
-is_open cs = by (has 10 cs) (nat_lt 70 (length cs)) (ends_in_mark false cs) (begins_blank cs) refl
+    by : (b : Bool) → (b ≡ true → before ≡ true) → b ≡ false
+    by true g = let e = g refl in absurd (cc)
+    by false g = refl
+no_mark_open (suc k) before other [] f h = by other f
   where
-    by : (a l m b : Bool) → ends_in_mark false cs ≡ m → IsOpen (cond a Spread (cond (l || m) (cond b Open Spread) Inline)) cs
-    by true l m b e = tt
-    by false true m true e = tt
-    by false true m false e = tt
-    by false false true true e = tt
-    by false false true false e = tt
-    by false false false b e = e
+    by : (b : Bool) → (b ≡ true → before ≡ true) → b ≡ false
+    by true g = let e = g refl in absurd (cc)
+    by false g = refl
+no_mark_open (suc k) before other (c ∷ cs) f h = no_mark_open k (is_mark c) false cs (λ e. absurd (cc)) h
+no_mark_open zero before other (c ∷ cs) f h = by (closes (c ∷ cs)) (no_mark_open 2 (is_mark c) false cs (λ e. absurd (cc)) h) (no_mark_open 0 (is_mark c) (is_mark c) cs (λ e. e) h)
+  where
+    by : (b : Bool) → is_open 2 false cs ≡ false → is_open 0 (is_mark c) cs ≡ false → cond b (is_open 2 false cs) (is_open 0 (is_mark c) cs) ≡ false
+    by true p q = p
+    by false p q = q
 
-content_passes : (i : ℕ) (cs : List ℕ) (f : Form) → IsOpen f cs → past_block_from 0 ((front i f ++ (body i 0 cs ++ back i f)) ++ three) ≡ Some []
-content_passes i cs Inline h = ap (λ (t : List ℕ). past_block_from 0 (t ++ three)) (append-nil (body i 0 cs)) ∙ inline_passes i cs h
-content_passes i cs Open h = ap (past_block_from 0) (append_assoc (body i 0 cs) (line_break i) three) ∙ spread_passes i cs
-content_passes i cs Spread h =
-    ap (past_block_from 0) (append_assoc (line_break i) (body i 0 cs ++ line_break i) three) ∙ break_passes i ((body i 0 cs ++ line_break i) ++ three)
-    ∙ ap (past_block_from 0) (append_assoc (body i 0 cs) (line_break i) three) ∙ spread_passes i cs
+spelled_closes : (cs : List ℕ) → Closes (trails cs) cs
+spelled_closes cs h = no_mark_open 0 false false cs (λ e. e) (or_false (nat_lt 70 (length cs)) (ends_in_mark false cs) (or_false (has 10 cs) (is_wide cs) h).1).1
+
+shortest_closes : (cs : List ℕ) → Closes (is_open 0 false cs) cs
+shortest_closes cs h = h
 
 -- ---- characters
 
-abbrev AreScalars : List ℕ → Type 0
+abbrev pub AreScalars : List ℕ → Type 0
 AreScalars w = AllByRecursion IsScalar w
 
 both_scalars : (v w : List ℕ) → AreScalars v → AreScalars w → AreScalars (v ++ w)
@@ -144,49 +100,107 @@ body_scalars i zero (c ∷ cs) h = by (closes (c ∷ cs)) (eqb c 10) (body_scala
     by false true r s = both_scalars (line_break i) (body i 0 cs) (break_scalars i) s
     by false false r s = (h.0, s)
 
-front_scalars : (i : ℕ) (f : Form) → AreScalars (front i f)
-front_scalars i Inline = tt
-front_scalars i Open = tt
-front_scalars i Spread = break_scalars i
+if_scalars : (b : Bool) (i : ℕ) → AreScalars (break_if b i)
+if_scalars true i = break_scalars i
+if_scalars false i = tt
 
-back_scalars : (i : ℕ) (f : Form) → AreScalars (back i f)
-back_scalars i Inline = tt
-back_scalars i Open = break_scalars i
-back_scalars i Spread = break_scalars i
-
-content_scalars : (i : ℕ) (cs : List ℕ) → AreScalars cs → AreScalars (content i cs)
-content_scalars i cs h =
-    let f = form_of cs in
-    both_scalars (front i f) (body i 0 cs ++ back i f) (front_scalars i f) (both_scalars (body i 0 cs) (back i f) (body_scalars i 0 cs h) (back_scalars i f))
+content_scalars : (a b : Bool) (i : ℕ) (cs : List ℕ) → AreScalars cs → AreScalars (content a b i cs)
+content_scalars a b i cs h = both_scalars (break_if a i) (body i 0 cs ++ break_if b i) (if_scalars a i) (both_scalars (body i 0 cs) (break_if b i) (body_scalars i 0 cs h) (if_scalars b i))
 
 -- ---- the token, and its value
 
-pub block_spelled : (i : ℕ) (value : List ℕ) → IsUtf8 value → Spells Block (spelled i value)
-unfolding spelled past_block
-block_spelled i value u =
-    let cs = chars value in
-    let text = content i cs in
-    let e = block_is (text ++ three) [] (content_passes i cs (form_of cs) (is_open cs)) in
+block_spells : (a b : Bool) (i : ℕ) (cs : List ℕ) → AreScalars cs → Closes b cs → Spells Block (block_of a b i cs)
+unfolding block_of past_block
+block_spells a b i cs u h =
+    let text = content a b i cs in
+    let e = block_is (text ++ three) [] (content_passes a b i cs h) in
     let whole : three ++ (text ++ three) ≡ three ++ (concat e.units ++ three) = ap (λ (l : List ℕ). three ++ l) (e.whole ∙ append-nil (concat e.units ++ three)) in
     let quotes_are : AreScalars three = (refl, (refl, (refl, tt))) in
-    (three ++ (text ++ three), both_scalars three (text ++ three) quotes_are (both_scalars text three (content_scalars i cs (text_scalars value u)) quotes_are), refl, (e.units, whole, e.are))
+    (three ++ (text ++ three), both_scalars three (text ++ three) quotes_are (both_scalars text three (content_scalars a b i cs u) quotes_are), refl, (e.units, whole, e.are))
 
 -- what is left of it without its quotes
-content_left : (i : ℕ) (value : List ℕ) → IsUtf8 value → chars (drop 3 (take (length (spelled i value) - 3) (spelled i value))) ≡ content i (chars value)
-content_left i value u =
-    let text = content i (chars value) in
+content_left : (a b : Bool) (i : ℕ) (cs : List ℕ) → AreScalars cs → chars (inside 3 (block_of a b i cs)) ≡ content a b i cs
+content_left a b i cs u =
+    let text = content a b i cs in
     let bytes = encode_utf8_all text in
     let all : List ℕ = (three ++ bytes) ++ three in
-    let is : spelled i value ≡ all = spelled_bytes i value in
+    let is : block_of a b i cs ≡ all = block_bytes a b i cs in
     let size : length all - 3 ≡ length (three ++ bytes) = omega (arith, length-append (three ++ bytes) three) in
-    ap (λ (s : List ℕ). chars (drop 3 (take (length s - 3) s))) is
+    ap (λ (s : List ℕ). chars (inside 3 s)) is
     ∙ ap (λ (n : ℕ). chars (drop 3 (take n all))) size
     ∙ ap (λ (s : List ℕ). chars (drop 3 s)) (take-append_seam (three ++ bytes) three)
-    ∙ chars-encodes text (scalars_all text (content_scalars i (chars value) (text_scalars value u)))
+    ∙ chars-encodes text (scalars_all text (content_scalars a b i cs u))
+
+block_means : (a b : Bool) (i : ℕ) (cs : List ℕ) → AreScalars cs → (k : Kept cs) → Flat a k.line k.lines → value_of_block (block_of a b i cs) ≡ cs
+block_means a b i cs u k f = ap block_value (content_left a b i cs u) ∙ kept_means a b i cs k f
+
+-- ---- as it is printed
+
+pub spelled_is : (i : ℕ) (value : List ℕ) → spelled i value ≡ block_of (leads (chars value)) (trails (chars value)) i (chars value)
+unfolding spelled
+spelled_is i value = refl
+
+pub block_spelled : (i : ℕ) (value : List ℕ) → IsUtf8 value → Spells Block (spelled i value)
+unfolding spelled
+block_spelled i value u = let cs = chars value in block_spells (leads cs) (trails cs) i cs (text_scalars value u) (spelled_closes cs)
+
+kept_value_is : (i : ℕ) (value : List ℕ) → IsUtf8 value → Kept (chars value) → HasValue (spelled i value) value
+unfolding spelled
+kept_value_is i value u k = let cs = chars value in block_means (leads cs) (trails cs) i cs (text_scalars value u) k (flat cs k)
 
 pub value_kept : (value : List ℕ) → IsUtf8 value → may_be_block (chars value) ≡ true → (i : ℕ) → HasValue (spelled i value) value
-value_kept value u h i = ap block_value (content_left i value u) ∙ kept_means i (chars value) (kept_if (chars value) h)
+value_kept value u h i = kept_value_is i value u (kept_if (chars value) h)
 
 pub kept_value : (value : List ℕ) → IsUtf8 value → (i : ℕ) → value ≢ [] → HasValue (spelled i value) value → may_be_block (chars value) ≡ true
+unfolding spelled
 kept_value value u i some h =
-    if_kept (chars value) (means_kept i (chars value) (λ e. some (sym (encodes-chars value u) ∙ ap encode_utf8_all e)) (sym (ap block_value (content_left i value u)) ∙ h))
+    let cs = chars value in
+    if_kept cs (means_kept i cs (λ e. some (sym (encodes-chars value u) ∙ ap encode_utf8_all e)) (sym (ap block_value (content_left (leads cs) (trails cs) i cs (text_scalars value u))) ∙ h))
+
+-- the empty block string
+nothing_left : (i : ℕ) (cs : List ℕ) → cs ≡ [] → value_of_block (block_of (leads cs) (trails cs) i cs) ≡ cs
+nothing_left i cs e =
+    let none : value_of_block (block_of false false i []) ≡ [] = ap block_value (content_left false false i [] tt) ∙ nothing_means in
+    subst (λ (l : List ℕ). value_of_block (block_of (leads l) (trails l) i l) ≡ l) (sym e) none
+
+-- the value of a block string is kept
+pub spelled_means : (i : ℕ) (value raw : List ℕ) → IsUtf8 value → block_value raw ≡ chars value → HasValue (spelled i value) value
+unfolding spelled
+spelled_means i value raw u h = by (chars value) refl
+  where
+    some : (c : ℕ) (cs : List ℕ) → chars value ≡ c ∷ cs → chars value ≢ []
+    some c cs e f = let g : c ∷ cs ≡ [] = sym e ∙ f in cc
+
+    by : (cs : List ℕ) → chars value ≡ cs → HasValue (spelled i value) value
+    by [] e = nothing_left i (chars value) e
+    by (c ∷ cs) e = kept_value_is i value u (value_keeps raw (chars value) (some c cs e) h)
+
+-- ---- in few characters
+
+placed_flat : (c : ℕ) → placed 0 c ≡ c ∷ []
+placed_flat c = by (eqb c 10) refl
+  where
+    by : (b : Bool) → eqb c 10 ≡ b → cond b (line_break 0) (c ∷ []) ≡ c ∷ []
+    by true e = let is : 10 ≡ c = grind (arith, nat_tests) in ap (λ (x : ℕ). x ∷ []) is
+    by false e = refl
+
+escaped_is : (k : ℕ) (cs : List ℕ) → body 0 k cs ≡ escaped k cs
+escaped_is zero [] = refl
+escaped_is (suc k) [] = refl
+escaped_is (suc k) (c ∷ cs) = ap (λ (l : List ℕ). c ∷ l) (escaped_is k cs)
+escaped_is zero (c ∷ cs) =
+    ap₂ (λ (x y : List ℕ). cond (closes (c ∷ cs)) (92 ∷ c ∷ x) y) (escaped_is 2 cs) (ap₂ (λ (x y : List ℕ). x ++ y) (placed_flat c) (escaped_is 0 cs))
+
+pub shortest_is : (cs : List ℕ) → shortest cs ≡ block_of (is_hung cs) (is_open 0 false cs) 0 cs
+unfolding shortest block_of
+shortest_is cs =
+    ap (λ (l : List ℕ). encode_utf8_all (three ++ ((line_feed_if (is_hung cs) ++ (l ++ line_feed_if (is_open 0 false cs))) ++ three))) (sym (escaped_is 0 cs))
+
+pub shortest_spells : (cs : List ℕ) → AreScalars cs → Spells Block (shortest cs)
+shortest_spells cs u = subst (Spells Block) (sym (shortest_is cs)) (block_spells (is_hung cs) (is_open 0 false cs) 0 cs u (shortest_closes cs))
+
+pub shortest_means : (cs raw : List ℕ) → AreScalars cs → block_value raw ≡ cs → value_of_block (shortest cs) ≡ cs
+shortest_means [] raw u h = ap value_of_block (shortest_is []) ∙ ap block_value (content_left false false 0 [] tt) ∙ nothing_means
+shortest_means (c ∷ cs) raw u h =
+    let k = value_keeps raw (c ∷ cs) (λ e. absurd (cc)) h in
+    ap value_of_block (shortest_is (c ∷ cs)) ∙ block_means (is_hung (c ∷ cs)) (is_open 0 false (c ∷ cs)) 0 (c ∷ cs) u k (flat_hung (c ∷ cs) k)

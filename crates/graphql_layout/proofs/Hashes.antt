@@ -10,7 +10,8 @@ use Rattle.graphql_tokens.specs.tokens.Place.{is_line_end}
 use Rattle.graphql_tokens.proofs.Chars.{chars_split}
 use Rattle.graphql_layout.specs.inner.FirstLine.{IsFirstLine}
 use Rattle.graphql_layout.specs.texts.Items.{Item, comment, word, IsBlankText, IsItems, words}
-use Rattle.graphql_layout.specs.texts.LaidOut.{trimmed, tidied}
+use Rattle.graphql_layout.specs.inner.Tidied.{tidied}
+use Rattle.graphql_layout.specs.texts.LaidOut.{trimmed}
 use Rattle.graphql_layout.proofs.Items.{one_comment}
 
 abbrev HasNoHash : List ℕ → Type 0

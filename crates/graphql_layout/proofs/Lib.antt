@@ -4,7 +4,9 @@ pub mod BlockFlags
 pub mod BlockLayouts
 pub mod BlockMeanings
 pub mod BlockPushes
+pub mod BlockScalars
 pub mod BlockTexts
+pub mod BlockValues
 pub mod CharLoops
 pub mod Hashes
 pub mod FirstLines
@@ -12,12 +14,15 @@ pub mod Firsts
 pub mod Items
 pub mod ItemsIn
 pub mod Joined
+pub mod Marks
 pub mod Minified
 pub mod Pushes
+pub mod QuotedBlocks
 pub mod Readings
 pub mod Remains
 pub mod Room
 pub mod Sheets
+pub mod Shortenings
 pub mod Takings
 pub mod Trimmed
 pub mod WrittenTokens

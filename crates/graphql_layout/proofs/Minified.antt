@@ -1,5 +1,5 @@
 -- Tokens written one after another, with the least gaps, are the text minified.
-use Rattle.std.proofs.Common.{◌≡◌, ◌≢◌, ℕ, Bool, true, false, if◌then◌else◌, inl, inr, List, [], ◌∷◌, ◌++◌, length, refl, sym, ap, ap₂, ◌∙◌, subst, arith, length-append, append-nil, codes}
+use Rattle.std.proofs.Common.{◌≡◌, ◌≢◌, ℕ, Bool, true, false, if◌then◌else◌, inl, inr, List, [], ◌∷◌, ◌++◌, map, length, refl, sym, ap, ap₂, ◌∙◌, subst, arith, length-append, append-nil, codes}
 use Rattle.std.proofs.lemmas.List.{append_cancel_right}
 use Rattle.std.proofs.lemmas.Str.{encodes-chars, IsUtf8-append}
 use Rattle.std.specs.Str.{chars, IsUtf8}
@@ -17,9 +17,11 @@ use Rattle.graphql_layout.specs.inner.Endings.{ending_of, stops_token, gap_befor
 use Rattle.graphql_layout.specs.inner.Written.{Allows}
 use Rattle.graphql_layout.specs.texts.Minified.{MayTouch, IsLeastGap, IsTight, IsMinified}
 use Rattle.graphql_layout.specs.texts.SameTokens.{bares, bare_end}
+use Rattle.graphql_layout.specs.texts.Shortened.{shortened}
 use Rattle.graphql_layout.proofs.Joined.{IsSpelled, ArePrintable, printable, joined_written}
 use Rattle.graphql_layout.proofs.Remains.{Remains, none_remain}
 use Rattle.graphql_layout.proofs.Room.{room}
+use Rattle.graphql_layout.proofs.Shortenings.{short_printable, all_alike, twice, joined_fits}
 
 -- ---- which tokens may touch
 
@@ -114,18 +116,25 @@ split_end [] p = absurd p
 split_end (b ∷ []) p = record { front = []; is = ap (λ (e : Bare). e ∷ []) p }
 split_end (b ∷ c ∷ bs) p = let s = split_end (c ∷ bs) p.1 in record { front = b ∷ s.front; is = ap (λ (l : List Bare). b ∷ l) s.is }
 
-pub minified : (text other : List ℕ) (ts : List Token) → IsUtf8 text → IsCutInto text ts → EndsOnce ts → AreProperButFaults ts → HasNoFault ts → other ≡ joined Open (bares ts) → IsMinified text other
+short_end : (front : List Bare) → map shortened (front ++ bare_end ∷ []) ≡ map shortened front ++ bare_end ∷ []
+short_end [] = refl
+short_end (b ∷ front) = ap (λ (l : List Bare). shortened b ∷ l) (short_end front)
+
+pub minified : (text other : List ℕ) (ts : List Token) → IsUtf8 text → IsCutInto text ts → EndsOnce ts → AreProperButFaults ts → HasNoFault ts → other ≡ joined Open (map shortened (bares ts)) → IsMinified text other
 minified text other ts u cut ends proper whole is =
     let p = printable ts ends whole proper in
+    let q = short_printable (bares ts) p in
     let s = split_end (bares ts) p in
-    let r = (joined_written Open (bares ts) p).written [] in
+    let short : map shortened (bares ts) ≡ map shortened s.front ++ bare_end ∷ [] = ap (map shortened) s.is ∙ short_end s.front in
+    let r = (joined_written Open (map shortened (bares ts)) q).written [] in
     let fits = room Open [] (chars text) ts cut whole (open_allows (chars text)) in
     record {
       tokens = s.front;
       of_text = (ts, cut, s.is);
-      of_other = (r.0, subst (λ (x : List ℕ). IsCutInto x r.0) (sym is) r.1, r.2 ∙ s.is);
-      tight = subst (IsTight s.front) (sym (is ∙ ap (joined Open) s.is)) (tight s.front (subst ArePrintable s.is p));
-      no_longer = omega (arith, fits, ap length is, ap length (encodes-chars text u));
+      of_other = (r.0, subst (λ (x : List ℕ). IsCutInto x r.0) (sym is) r.1, r.2 ∙ short);
+      alike = all_alike s.front (subst ArePrintable s.is p);
+      tight = subst (IsTight (map shortened s.front)) (sym (is ∙ ap (joined Open) short)) (tight (map shortened s.front) (subst ArePrintable short q));
+      no_longer = omega (arith, fits, joined_fits Open (bares ts) p, ap length is, ap length (encodes-chars text u));
     }
 
 pub all_written : (text other : List ℕ) (all rest : List Token) (ending : Ending) → IsUtf8 text → IsCutInto text all → EndsOnce all → AreProperButFaults all → Remains all rest ending other → rest ≡ [] → IsMinified text other
@@ -148,5 +157,6 @@ one_tight (a ∷ b ∷ bs) x y h k =
 pub again : (text other more : List ℕ) → IsMinified text other → IsMinified other more → more ≡ other
 again text other more m k =
     let one : k.of_text.0 ≡ m.of_other.0 = tokens_only [] (chars other) k.of_text.0 k.of_text.1 ∙ sym (tokens_only [] (chars other) m.of_other.0 m.of_other.1) in
-    let same : k.tokens ≡ m.tokens = append_cancel_right k.tokens m.tokens (bare_end ∷ []) (sym k.of_text.2 ∙ ap bares one ∙ m.of_other.2) in
-    one_tight m.tokens more other (subst (λ (l : List Bare). IsTight l more) same k.tight) m.tight
+    let same : k.tokens ≡ map shortened m.tokens = append_cancel_right k.tokens (map shortened m.tokens) (bare_end ∷ []) (sym k.of_text.2 ∙ ap bares one ∙ m.of_other.2) in
+    let short : map shortened k.tokens ≡ map shortened m.tokens = ap (map shortened) same ∙ twice m.tokens m.alike in
+    one_tight (map shortened m.tokens) more other (subst (λ (l : List Bare). IsTight l more) short k.tight) m.tight

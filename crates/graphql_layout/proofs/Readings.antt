@@ -14,7 +14,9 @@ use Rattle.graphql_tokens.specs.declared.lexer.TokenKind.{TokenKind}
 use Rattle.graphql_tokens.specs.declared.lexer.TokenKind.TheVariants.{Fault, End}
 use Rattle.graphql_tokens.proofs.Lists.{tokens_only}
 use Rattle.graphql_layout.specs.texts.Items.{Item, comment, word, IsItems, words}
-use Rattle.graphql_layout.specs.texts.LaidOut.{trimmed, tidied}
+use Rattle.graphql_tokens.specs.tokens.Alike.{IsAlike, AreAlike}
+use Rattle.graphql_layout.specs.inner.Tidied.{tidied}
+use Rattle.graphql_layout.specs.texts.LaidOut.{trimmed, IsLaid, AreLaid}
 use Rattle.graphql_layout.specs.texts.SameTokens.{bares, bare_end}
 use Rattle.graphql_layout.proofs.Items.{ignored_item, comment_item, items_written}
 
@@ -91,17 +93,27 @@ comments_of (p ∷ ps) after h = by h.0 (comments_of ps after h.1)
       before = λ others o. seamed (comment p ∷ (k.items ++ others)) (comment_item p (concat ps ++ after) (k.items ++ others) i.0 i.1 (k.before others o));
     }
 
--- ---- what is tidied
+-- ---- what is laid out
 
-pub tidied-append : (xs ys : List Item) → tidied (xs ++ ys) ≡ tidied xs ++ tidied ys
-tidied-append [] ys = refl
-tidied-append (comment c ∷ xs) ys = ap (λ (l : List Item). comment (trimmed c) ∷ l) (tidied-append xs ys)
-tidied-append (word b ∷ xs) ys = ap (λ (l : List Item). word b ∷ l) (tidied-append xs ys)
+pub are_tidied : (xs : List Item) → AreLaid xs (tidied xs)
+are_tidied [] = tt
+are_tidied (comment c ∷ xs) = (refl, are_tidied xs)
+are_tidied (word b ∷ xs) = (inl refl, are_tidied xs)
 
-pub same_words : (xs : List Item) → words (tidied xs) ≡ words xs
-same_words [] = refl
-same_words (comment c ∷ xs) = same_words xs
-same_words (word b ∷ xs) = ap (λ (l : List Bare). b ∷ l) (same_words xs)
+pub both_laid : (xs vs ys ws : List Item) → AreLaid xs vs → AreLaid ys ws → AreLaid (xs ++ ys) (vs ++ ws)
+both_laid [] [] ys ws h k = k
+both_laid [] (v ∷ vs) ys ws h k = absurd h
+both_laid (x ∷ xs) [] ys ws h k = absurd h
+both_laid (x ∷ xs) (v ∷ vs) ys ws h k = (h.0, both_laid xs vs ys ws h.1 k)
+
+pub alike_words : (xs vs : List Item) → AreLaid xs vs → AreAlike (words xs) (words vs)
+alike_words [] [] h = tt
+alike_words [] (v ∷ vs) h = absurd h
+alike_words (x ∷ xs) [] h = absurd h
+alike_words (comment c ∷ xs) (comment d ∷ vs) h = alike_words xs vs h.1
+alike_words (comment c ∷ xs) (word b ∷ vs) h = absurd h.0
+alike_words (word a ∷ xs) (comment d ∷ vs) h = absurd h.0
+alike_words (word a ∷ xs) (word b ∷ vs) h = (h.0, alike_words xs vs h.1)
 
 -- ---- a text with items has no fault
 

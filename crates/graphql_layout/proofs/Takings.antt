@@ -13,11 +13,12 @@ use Rattle.graphql_tokens.specs.declared.lexer.TokenKind.{TokenKind}
 use Rattle.graphql_tokens.specs.declared.lexer.TokenKind.TheVariants.{Punct, Name, Number, String, Block, Fault, End}
 use Rattle.graphql_tokens.proofs.Lists.{Stands}
 use Rattle.graphql_layout.specs.texts.Items.{Item, word, IsItems, words}
-use Rattle.graphql_layout.specs.texts.LaidOut.{tidied, IsLaidOut}
+use Rattle.graphql_layout.specs.inner.Tidied.{tidied, IsAdded}
+use Rattle.graphql_layout.specs.texts.LaidOut.{AreLaid, IsLaidOut}
 use Rattle.graphql_layout.specs.texts.SameTokens.{HasFault, HasTokens}
 use Rattle.graphql_layout.proofs.Items.{word_item, itemized, items_written, one_list}
 use Rattle.graphql_layout.proofs.Joined.{proper_of, spells_of}
-use Rattle.graphql_layout.proofs.Readings.{Seam, seam, comments_of, tidied-append, same_words, whole_items}
+use Rattle.graphql_layout.proofs.Readings.{Seam, seam, comments_of, are_tidied, both_laid, alike_words, whole_items}
 
 -- ---- the loop
 
@@ -30,10 +31,10 @@ pub record Reads (text : List ℕ) (all left : List Token) (rest : List ℕ) (sh
   pub back : HasNoFault left → HasNoFault all
   pub ends : EndsOnce left
   pub proper : AreProperButFaults left
-  pub goes : (items : List Item) → IsItems (chars text) items → (tail : List Item) × IsItems (chars rest) tail × (sheet ++ tidied tail ≡ tidied items)
+  pub goes : (items : List Item) → IsItems (chars text) items → (passed : List Item) × (tail : List Item) × IsItems (chars rest) tail × (items ≡ passed ++ tail) × AreLaid passed sheet
 
 pub none_read : (text : List ℕ) (all : List Token) → IsCutInto text all → EndsOnce all → AreProperButFaults all → Reads text all all text []
-none_read text all c e p = record { front = []; whole = refl; cut = c; here = λ h. h; back = λ h. h; ends = e; proper = p; goes = λ items h. (items, h, refl) }
+none_read text all c e p = record { front = []; whole = refl; cut = c; here = λ h. h; back = λ h. h; ends = e; proper = p; goes = λ items h. ([], items, h, refl, tt) }
 
 -- ---- the next token
 
@@ -117,18 +118,24 @@ all_laid_out text other rest gap all left more sheet new t u v cut r is kind e p
     let g = r.goes i.items i.are in
     let alone : IsItems (chars rest) k.items =
     subst (λ (x : List ℕ). IsItems x k.items) (sym n.whole) (subst (IsItems (concat n.pieces ++ n.after)) (append-nil k.items) (k.before [] (subst (λ (x : List ℕ). IsItems x []) (sym last.0) tt))) in
-    let same : g.0 ≡ k.items = one_list (chars rest) g.0 k.items g.1 alone in
-    let all_is : new ≡ tidied i.items = pushed text rest r.front gap t more n sheet new e p ∙ ap (λ (x : List Item). sheet ++ tidied x) (sym same) ∙ g.2 in
-    let others : IsItems (chars other) (tidied i.items) = subst (IsItems (chars other)) all_is o in
+    let same : g.1 ≡ k.items = one_list (chars rest) g.1 k.items g.2 alone in
+    let others : IsItems (chars other) new = o in
+    let laid : AreLaid (g.0 ++ k.items) (sheet ++ tidied k.items) = both_laid g.0 sheet k.items (tidied k.items) g.4 (are_tidied k.items) in
+    let alike : AreLaid i.items new =
+    subst (λ (x : List Item). AreLaid i.items x) (sym (pushed text rest r.front gap t more n sheet new e p)) (subst (λ (x : List Item). AreLaid x (sheet ++ tidied k.items)) (sym (g.3 ∙ ap (λ (x : List Item). g.0 ++ x) same)) laid) in
     record {
       tokens = record {
         tokens = words i.items;
+        others = words new;
         of_text = items_written (chars text) i.items i.are [];
-        of_other = subst (HasTokens other) (same_words i.items) (items_written (chars other) (tidied i.items) others []);
+        of_other = items_written (chars other) new others [];
+        alike = alike_words i.items new alike;
       };
       items = i.items;
+      others = new;
       of_text = i.are;
       of_other = others;
+      alike = alike;
     }
 
 -- ---- a token
@@ -186,7 +193,7 @@ pub record Read (text after : List ℕ) (all more : List Token) (longer : List I
   pub reads : Reads text all more after longer
 
 pub one_read : (text rest gap from after : List ℕ) (all left more : List Token) (sheet new longer : List Item) (t : Token) → IsUtf8 text → IsUtf8 rest → IsCutInto text all → Reads text all left rest sheet → left ≡ t ∷ more → t.bare.kind ≢ Fault → t.bare.kind ≢ End
-    → gap ≡ take (t.start - (length text - length rest)) rest → from ≡ drop (t.start - (length text - length rest)) rest → after ≡ drop (length t.bare.spelling) from → Pushed gap sheet new → longer ≡ new ++ word t.bare ∷ [] → Read text after all more longer
+    → gap ≡ take (t.start - (length text - length rest)) rest → from ≡ drop (t.start - (length text - length rest)) rest → after ≡ drop (length t.bare.spelling) from → Pushed gap sheet new → IsAdded t.bare new longer → Read text after all more longer
 one_read text rest gap from after all left more sheet new longer t u v cut r is f k e d a p l =
     let n = next text rest all left more sheet t u v r is in
     let q = standing (r.front ++ concat n.pieces) n.after t more n.stands f k in
@@ -218,12 +225,14 @@ one_read text rest gap from after all left more sheet new longer t u v cut r is 
             let here : IsItems (m.word ++ m.rest) (word b ∷ i.items) = word_item m.kind m.word m.rest i.items m.begins i.are in
             let there : IsItems n.after (word t.bare ∷ i.items) = subst (λ (x : Bare). IsItems n.after (word x ∷ i.items)) bare_is (subst (λ (x : List ℕ). IsItems x (word b ∷ i.items)) (sym m.whole) here) in
             let all_of : IsItems (chars rest) (c.items ++ (word t.bare ∷ i.items)) = subst (λ (x : List ℕ). IsItems x (c.items ++ (word t.bare ∷ i.items))) (sym n.whole) (c.before (word t.bare ∷ i.items) there) in
-            let same : g.0 ≡ c.items ++ (word t.bare ∷ i.items) = one_list (chars rest) g.0 (c.items ++ (word t.bare ∷ i.items)) g.1 all_of in (
+            let same : g.1 ≡ c.items ++ (word t.bare ∷ i.items) = one_list (chars rest) g.1 (c.items ++ (word t.bare ∷ i.items)) g.2 all_of in
+            let before : AreLaid (g.0 ++ c.items) (sheet ++ tidied c.items) = both_laid g.0 sheet c.items (tidied c.items) g.4 (are_tidied c.items) in
+            let here : AreLaid ((g.0 ++ c.items) ++ word t.bare ∷ []) ((sheet ++ tidied c.items) ++ word l.other ∷ []) = both_laid (g.0 ++ c.items) (sheet ++ tidied c.items) (word t.bare ∷ []) (word l.other ∷ []) before (l.alike, tt) in (
+              (g.0 ++ c.items) ++ word t.bare ∷ [],
               i.items,
               subst (λ (x : List ℕ). IsItems x i.items) (sym chars_is) i.are,
-              ap (λ (x : List Item). x ++ tidied i.items) (l ∙ ap (λ (x : List Item). x ++ word t.bare ∷ []) (pushed text rest r.front _ t more n sheet new e p))
-                  ∙ append_assoc (sheet ++ tidied c.items) (word t.bare ∷ []) (tidied i.items) ∙ append_assoc sheet (tidied c.items) (word t.bare ∷ tidied i.items)
-                  ∙ ap (λ (x : List Item). sheet ++ x) (sym (tidied-append c.items (word t.bare ∷ i.items))) ∙ ap (λ (x : List Item). sheet ++ tidied x) (sym same) ∙ g.2,
+              g.3 ∙ ap (λ (x : List Item). g.0 ++ x) same ∙ sym (append_assoc g.0 c.items (word t.bare ∷ i.items)) ∙ sym (append_assoc (g.0 ++ c.items) (word t.bare ∷ []) i.items),
+              subst (AreLaid ((g.0 ++ c.items) ++ word t.bare ∷ [])) (sym (l.is ∙ ap (λ (x : List Item). x ++ word l.other ∷ []) (pushed text rest r.front _ t more n sheet new e p))) here,
             );
       };
     }

@@ -1,6 +1,8 @@
 pub mod Blocks
+pub mod Marks
 pub mod Endings
 pub mod Written
 pub mod ItemsIn
 pub mod Sheets
 pub mod FirstLine
+pub mod Tidied

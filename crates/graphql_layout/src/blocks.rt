@@ -2,23 +2,17 @@
 
 ghost use Rattle.std.specs.Prelude.{◌≡◌, ◌≢◌, ◌++◌, [], ◌∷◌, ◌<◌, ℕ, List, false, true, nat_lt, length, replicate, IfOk, OnOk, string_bytes};
 ghost use Rattle.std.specs.Str.{chars, encode_utf8_all};
+ghost use Rattle.graphql_tokens.specs.tokens.Alike.{inside, value_of_block};
 ghost use Rattle.graphql_tokens.specs.tokens.BlockText.{is_blank_char};
 ghost use Rattle.graphql_tokens.specs.tokens.Proper.{Spells};
 ghost use Rattle.graphql_tokens.specs.declared.lexer.TokenKind.TheVariants as kinds;
 ghost use Rattle.graphql_layout.specs.inner.Blocks as spec;
+ghost use Rattle.graphql_layout.specs.inner.Marks.{BeginsWithMark, IsMarked};
+ghost use Rattle.graphql_layout.specs.texts.Shortened as short;
 
-use std::alloc::AllocError;
-
-// How a value stands between the quotes of its block string.
-#[derive(Clone, Copy)]
-enum Form {
-    // Right between them.
-    Inline,
-    // Right after the first three: on a line of its own it would lose the blanks at its front.
-    Open,
-    // On lines of its own.
-    Spread,
-}
+use graphql_tokens::text::block_string_value;
+use memchr::memchr3;
+use std::alloc::{AllocError, Global};
 
 // How many characters may stand right between the quotes. GraphQL.js counts those past U+FFFF twice.
 const INLINE_LENGTH: usize = 70;
@@ -30,7 +24,7 @@ fn is_blank(c: char) -> bool
 }
 
 fn has(value: &str, wanted: char) -> bool
-    ensures { result ≡ spec.has wanted (chars value.now) }
+    ensures { result ≡ short.has wanted (chars value.now) }
 {
     value.chars().any(|c| c == wanted)
 }
@@ -46,7 +40,7 @@ fn begins_blank(value: &str) -> bool
 
 // Whether it is a quote or a backslash.
 fn is_mark(c: char) -> bool
-    ensures { result ≡ spec.is_mark c }
+    ensures { result ≡ short.is_mark c }
 {
     c == '"' || c == '\\'
 }
@@ -68,23 +62,29 @@ fn is_long(value: &str) -> bool
     value.chars().count() > INLINE_LENGTH
 }
 
-fn form_of(value: &str) -> Form
-    ensures { result ≡ spec.form_of (chars value.now) }
+// Whether a value of one line is longer than the line of its quotes may be, or closing quotes may not come right after it.
+fn is_wide(value: &str) -> bool
+    ensures { result ≡ spec.is_wide (chars value.now) }
+{
+    is_long(value) || ends_in_mark(value)
+}
+
+// Whether the value begins on a line below the opening quotes, and whether the closing ones are on a line of their own.
+fn places(value: &str) -> (bool, bool)
+    ensures { result ≡ (spec.leads (chars value.now), spec.trails (chars value.now)) }
 {
     if has(value, '\n') {
-        Form::Spread
-    } else if !is_long(value) && !ends_in_mark(value) {
-        Form::Inline
-    } else if begins_blank(value) {
-        Form::Open
+        (true, true)
+    } else if !is_wide(value) {
+        (false, false)
     } else {
-        Form::Spread
+        (!begins_blank(value), true)
     }
 }
 
 // Whether it is neither a blank nor a line feed.
 fn is_text(c: char) -> bool
-    ensures { result ≡ spec.is_text c }
+    ensures { result ≡ short.is_text c }
 {
     !(is_blank(c) || c == '\n')
 }
@@ -119,11 +119,11 @@ fn ends_in_text(value: &str) -> bool
     has_text
 }
 
-// Whether a line begins with a text.
-fn has_margin(value: &str) -> bool
-    ensures { result ≡ spec.has_margin true (chars value.now) }
+// Whether a line begins with a text: the first too, if the value begins a line.
+fn has_margin(value: &str, begins_line: bool) -> bool
+    ensures { result ≡ short.has_margin begins_line (chars value.now) }
 {
-    let mut begins = true;
+    let mut begins = begins_line;
     for c in value.chars() {
         if begins && is_text(c) {
             return true;
@@ -141,7 +141,7 @@ fn keeps_lines(value: &str) -> bool
     !has(value, '\r')
         && begins_in_text(value)
         && ends_in_text(value)
-        && (!has(value, '\n') || has_margin(value))
+        && (!has(value, '\n') || has_margin(value, true))
 }
 
 /// Whether the block string that [`push_block`] writes has this value (GraphQL October 2021, section 2.9.4). Of the empty value it
@@ -188,57 +188,67 @@ fn push_placed(out: &mut String, c: char, indent: usize) -> Result<(), AllocErro
     }
 }
 
-// Writes a character after so many quotes that were held back, and these; or holds it back too, if it is one. It gives how
-// many are held back then.
-fn push_next(out: &mut String, held: usize, c: char, indent: usize) -> Result<usize, AllocError>
-    requires { held < 3 }
-    ensures few { IfOk result (λ held. held < 3) }
-    ensures written { IfOk result (λ next. (rest : List ℕ) →
-        string_bytes out.new ++ encode_utf8_all (spec.body indent 0 (spec.quotes next ++ rest))
-        ≡ string_bytes out.old ++ encode_utf8_all (spec.body indent 0 (spec.quotes held ++ c ∷ rest))) }
+// Writes what stands for the line feed, the quotes or the backslash at the front of the text. It gives what is left of the text,
+// and whether that is a quote or a backslash that closing quotes would be read with.
+fn push_mark<'a>(out: &mut String, text: &'a str, indent: usize) -> Result<(&'a str, bool), AllocError>
+    requires { BeginsWithMark text.now }
+    ensures { IfOk result (λ r. IsMarked indent text.now r.0.now r.1 (string_bytes out.old) (string_bytes out.new)) }
 {
-    if c != '"' {
-        push_times(out, '"', held)?;
-        push_placed(out, c, indent)?;
-        return Ok(0);
+    if text.as_bytes().starts_with(b"\"\"\"") {
+        out.push_str("\\\"\"\"")?;
+        return Ok((&text[3..], false));
     }
-    if held < 2 {
-        return Ok(held + 1);
+    let (mark, rest) = text.split_at(1);
+    if mark.as_bytes()[0] == b'\n' {
+        push_break(out, indent)?;
+        return Ok((rest, false));
     }
-    out.push_str("\\\"\"\"")?;
-    Ok(0)
+    out.push_str(mark)?;
+    Ok((rest, true))
 }
 
-// Writes the lines of a value, with a backslash before each `"""`.
-fn push_body(out: &mut String, value: &str, indent: usize) -> Result<(), AllocError>
-    ensures { OnOk result (string_bytes out.new ≡ string_bytes out.old
+// Writes the lines of a value, with a backslash before each `"""`. It gives whether closing quotes would be read with its last
+// character.
+fn push_body(out: &mut String, value: &str, indent: usize) -> Result<bool, AllocError>
+    ensures written { OnOk result (string_bytes out.new ≡ string_bytes out.old
         ++ encode_utf8_all (spec.body indent 0 (chars value.now))) }
+    ensures ends { IfOk result (λ b. b ≡ short.is_open 0 false (chars value.now)) }
 {
-    let mut held = 0;
-    for c in value.chars() {
-        held = push_next(out, held, c, indent)?;
+    let mut rest = value;
+    let mut is_open = false;
+    while let Some(at) = memchr3(b'\n', b'"', b'\\', rest.as_bytes()) {
+        let (plain, marked) = rest.split_at(at);
+        out.push_str(plain)?;
+        let (after, opens) = push_mark(out, marked, indent)?;
+        rest = after;
+        is_open = opens;
     }
-    push_times(out, '"', held)
+    out.push_str(rest)?;
+    Ok(is_open && rest.is_empty())
 }
 
-// Writes what stands between the opening quotes and the value.
-fn push_front(out: &mut String, form: Form, indent: usize) -> Result<(), AllocError>
-    ensures { OnOk result (string_bytes out.new ≡ string_bytes out.old ++ spec.front indent form) }
+// Writes the quotes of a block string and the value. It gives whether closing quotes would be read with the value's last character.
+fn push_front(out: &mut String, value: &str, leads: bool, indent: usize) -> Result<bool, AllocError>
+    ensures written { OnOk result (string_bytes out.new ≡ string_bytes out.old ++ (spec.quotes 3
+        ++ (spec.break_if leads indent ++ encode_utf8_all (spec.body indent 0 (chars value.now))))) }
+    ensures ends { IfOk result (λ b. b ≡ short.is_open 0 false (chars value.now)) }
 {
-    match form {
-        Form::Inline | Form::Open => Ok(()),
-        Form::Spread => push_break(out, indent),
+    out.push_str("\"\"\"")?;
+    if leads {
+        push_break(out, indent)?;
     }
+    push_body(out, value, indent)
 }
 
-// Writes what stands between the value and the closing quotes.
-fn push_back(out: &mut String, form: Form, indent: usize) -> Result<(), AllocError>
-    ensures { OnOk result (string_bytes out.new ≡ string_bytes out.old ++ spec.back indent form) }
+// Writes the quotes after the value.
+fn push_back(out: &mut String, trails: bool, indent: usize) -> Result<(), AllocError>
+    ensures { OnOk result (string_bytes out.new ≡ string_bytes out.old
+        ++ (spec.break_if trails indent ++ spec.quotes 3)) }
 {
-    match form {
-        Form::Inline => Ok(()),
-        Form::Open | Form::Spread => push_break(out, indent),
+    if trails {
+        push_break(out, indent)?;
     }
+    out.push_str("\"\"\"")
 }
 
 /// Writes a block string of the value, with so many blanks before each line after its first.
@@ -254,10 +264,59 @@ pub fn push_block(out: &mut String, value: &str, indent: usize) -> Result<(), Al
     // It is a block string, whatever the value.
     ensures token { OnOk result (Spells kinds.Block (spec.spelled indent value.now)) }
 {
-    let form = form_of(value);
-    out.push_str("\"\"\"")?;
-    push_front(out, form, indent)?;
-    push_body(out, value, indent)?;
-    push_back(out, form, indent)?;
-    out.push_str("\"\"\"")
+    let (leads, trails) = places(value);
+    push_front(out, value, leads, indent)?;
+    push_back(out, trails, indent)
+}
+
+// Whether the lines after the first would lose an indent, if the value stood right after the opening quotes.
+fn is_hung(value: &str) -> bool
+    ensures { result ≡ short.is_hung (chars value.now) }
+{
+    has(value, '\n') && !has_margin(value, false)
+}
+
+// Writes a block string of the value in few characters.
+fn push_shortest(out: &mut String, value: &str) -> Result<(), AllocError>
+    ensures { OnOk result (string_bytes out.new ≡ string_bytes out.old ++ short.shortest (chars value.now)) }
+{
+    let is_open = push_front(out, value, is_hung(value), 0)?;
+    push_back(out, is_open, 0)
+}
+
+// What stands between three quotes and three quotes.
+fn inside_quotes(spelling: &str) -> &str
+    requires { Spells kinds.Block spelling.now }
+    ensures { result.now ≡ inside 3 spelling.now }
+{
+    let front = &spelling[..spelling.len() - 3];
+    &front[3..]
+}
+
+/// The value of a block string that is spelled so (GraphQL October 2021, section 2.9.4). It fails only where memory runs out.
+pub fn value_of(alloc: Global, spelling: &str) -> Result<String, AllocError>
+    requires { Spells kinds.Block spelling.now }
+    ensures { IfOk result (λ value. chars (string_bytes value) ≡ value_of_block spelling.now) }
+{
+    block_string_value(alloc, inside_quotes(spelling))
+}
+
+/// Writes a block string that is spelled so in few characters, if these aren't more than it has: a line feed before the value only
+/// where its lines would lose an indent without it, and one after it only where closing quotes would be read with its last
+/// character (this project's choice: as GraphQL.js 16 does where it strips a text of ignored characters).
+///
+/// It fails only where memory runs out.
+pub fn push_shortened(alloc: Global, out: &mut String, spelling: &str) -> Result<(), AllocError>
+    requires { Spells kinds.Block spelling.now }
+    ensures { OnOk result (string_bytes out.new ≡ string_bytes out.old
+        ++ short.shortened_by kinds.Block spelling.now) }
+{
+    let value = value_of(alloc, spelling)?;
+    let mut written = String::with_capacity(alloc, spelling.len())?;
+    push_shortest(&mut written, &value)?;
+    if written.len() > spelling.len() {
+        out.push_str(spelling)
+    } else {
+        out.push_str(&written)
+    }
 }

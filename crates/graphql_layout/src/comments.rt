@@ -3,7 +3,8 @@ ghost use Rattle.std.specs.Prelude.{◌≡◌, [], ◌++◌, List, OnOk};
 ghost use Rattle.std.specs.Str.{chars};
 ghost use Rattle.graphql_layout.specs.inner.FirstLine.{IsFirstLine};
 ghost use Rattle.graphql_layout.specs.texts.Items.{Item, IsItems, words};
-ghost use Rattle.graphql_layout.specs.texts.LaidOut.{trimmed, tidied};
+ghost use Rattle.graphql_layout.specs.inner.Tidied.{tidied};
+ghost use Rattle.graphql_layout.specs.texts.LaidOut.{trimmed};
 
 use crate::layout::gaps::Place;
 use crate::layout::lines::{Before, begin_comment};

@@ -1,5 +1,7 @@
-//! How a text is laid out: which tokens begin lines, how deep, and what stands before the others.
-ghost use Rattle.std.specs.Prelude.{IfOk, MatchOption, string_bytes};
+//! How a text is laid out: which tokens begin lines, how deep, what stands before the others, and how block strings are written.
+ghost use Rattle.std.specs.Prelude.{IfOk, OnOk, MatchOption, string_bytes};
+ghost use Rattle.graphql_tokens.specs.tokens.Proper.{Spells};
+ghost use Rattle.graphql_layout.specs.inner.Tidied.{IsAdded};
 ghost use Rattle.graphql_layout.specs.texts.LaidOut.{IsLaidOut};
 ghost use Rattle.graphql_layout.specs.texts.SameTokens.{HasFault};
 
@@ -8,16 +10,33 @@ pub mod gaps;
 pub mod lines;
 pub mod walk;
 
+use crate::blocks::value_of;
 use crate::comments::push_comments;
 use crate::sheet::Sheet;
 use breaks::broken_brackets;
-use gaps::Layout;
+use gaps::{Layout, Place};
 use graphql_tokens::lexer::{TokenKind, Tokens};
 use lines::begin_token;
 use std::alloc::{AllocError, Global};
 
-/// The text laid out anew, with its comments, less the blanks at their ends. Tokens are kept as they are spelled, block strings
-/// too. `None` where the text has a fault.
+// How many blanks stand before a line, for each broken bracket around it.
+const INDENT: usize = 2;
+
+// Writes a token: a block string anew from its value, as deep as its place is, and another as it is spelled.
+fn push_token(alloc: Global, sheet: &mut Sheet, place: &Place, kind: TokenKind, text: &str) -> Result<(), AllocError>
+    requires { Spells kind text.now }
+    ensures { OnOk result (IsAdded (record { kind = kind; spelling = text.now }) sheet.old sheet.new) }
+{
+    if !kind.is_block() {
+        return sheet.token(kind, text);
+    }
+    let value = value_of(alloc, text)?;
+    sheet.block(&value, place.inside.saturating_mul(INDENT))
+}
+
+/// The text laid out anew, with its comments, less the blanks at their ends. Block strings are laid out too, with the values that
+/// they have, as GraphQL.js 16 prints them: each line after the first is two blanks deeper for each broken bracket around it. Other
+/// tokens are kept as they are spelled. `None` where the text has a fault.
 ///
 /// It fails only where memory runs out.
 pub fn format(alloc: Global, text: &str) -> Result<Option<String>, AllocError>
@@ -39,7 +58,7 @@ pub fn format(alloc: Global, text: &str) -> Result<Option<String>, AllocError>
             return Ok(Some(sheet.finish()));
         }
         begin_token(&mut sheet, &place, before)?;
-        sheet.token(token.kind, token.text)?;
+        push_token(alloc, &mut sheet, &place, token.kind, token.text)?;
         let (_, after) = from.split_at(token.text.len());
         rest = after;
     }

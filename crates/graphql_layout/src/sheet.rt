@@ -4,14 +4,18 @@ ghost use Rattle.std.specs.Prelude.{◌≡◌, ◌++◌, ◌∷◌, [], false, I
 ghost use Rattle.std.specs.Str.{byte, chars};
 ghost use Rattle.graphql_tokens.specs.tokens.Ignored.{IsComment};
 ghost use Rattle.graphql_tokens.specs.tokens.Proper.{Spells};
+ghost use Rattle.graphql_tokens.specs.declared.lexer.TokenKind.TheVariants as kinds;
+ghost use Rattle.graphql_layout.specs.inner.Blocks.{spelled};
 ghost use Rattle.graphql_layout.specs.inner.ItemsIn.{items_in};
 ghost use Rattle.graphql_layout.specs.inner.Sheets.{IsSheet, Holds, holds_off, holds_off_token};
 ghost use Rattle.graphql_layout.specs.texts.Items.{comment, word};
 
+use crate::blocks::push_block;
 use crate::ending::Ending;
 use graphql_tokens::lexer::TokenKind;
 use std::alloc::{AllocError, Global};
 use std::marker::Model;
+use std::mem;
 
 // What was written last.
 #[derive(Clone, Copy)]
@@ -205,6 +209,22 @@ impl Sheet {
         self.last = make_room(&mut self.text, self.last, spelling)?;
         self.text.push_str(spelling)?;
         self.last = Last::Other(Ending::of(kind, spelling));
+        Ok(())
+    }
+
+    /// Writes a block string of the value (GraphQL October 2021, section 2.9.4), with so many blanks before each line after its first.
+    /// It fails only where memory runs out, and then there is nothing on the sheet any more.
+    pub fn block(&mut self, value: &str, indent: usize) -> Result<(), AllocError>
+        ensures ok { OnOk result (self.new ≡ self.old
+            ++ word (record { kind = kinds.Block; spelling = spelled indent value.now }) ∷ []) }
+    {
+        self.last = make_room(&mut self.text, self.last, "\"\"\"")?;
+        let empty = String::new(*self.text.allocator());
+        let mut text = mem::replace(&mut self.text, empty);
+        let last = self.last;
+        self.last = Last::Other(Ending::Open);
+        push_block(&mut text, value, indent)?;
+        self.text = text;
         Ok(())
     }
 

@@ -2,36 +2,11 @@
 -- Source: GraphQL October 2021, section 2.9.4 (String Value). How they are laid out is this project's choice: as GraphQL.js 16
 -- prints them.
 use Rattle.std.specs.Prelude.{◌≡◌, ℕ, zero, suc, Bool, false, true, not, ◌&&◌, ◌||◌, ◌==◌, nat_lt, if◌then◌else◌, List, [], ◌∷◌, ◌++◌, length, replicate, codes}
-use Rattle.std.specs.List.{list_any}
 use Rattle.std.specs.Str.{byte, chars, encode_utf8_all}
-use Rattle.graphql_tokens.specs.tokens.Blocks.{closes}
 use Rattle.graphql_tokens.specs.tokens.Alike.{value_of_block}
+use Rattle.graphql_tokens.specs.tokens.Blocks.{closes}
 use Rattle.graphql_tokens.specs.tokens.BlockText.{is_blank_char}
-use Rattle.graphql_layout.specs.declared.blocks.Form.{Form}
-use Rattle.graphql_layout.specs.declared.blocks.Form.TheVariants.{Inline, Open, Spread}
-
--- ---- how a value stands between the quotes
-
-abbrev pub has : ℕ → List ℕ → Bool
-has wanted cs = list_any (λ c. c == wanted) cs
-
-abbrev pub begins_blank : List ℕ → Bool
-begins_blank [] = false
-begins_blank (c ∷ cs) = is_blank_char c
-
--- a quote or a backslash
-abbrev pub is_mark : ℕ → Bool
-is_mark c = c == byte "\"" || c == byte "\\"
-
--- whether the last character is one, and where there is none, what is said here
-abbrev pub ends_in_mark : Bool → List ℕ → Bool
-ends_in_mark before [] = before
-ends_in_mark before (c ∷ cs) = ends_in_mark (is_mark c) cs
-
-abbrev pub form_of : List ℕ → Form
-form_of cs =
-    if has (byte "\n") cs then Spread
-    else (if nat_lt 70 (length cs) || ends_in_mark false cs then (if begins_blank cs then Open else Spread) else Inline)
+use Rattle.graphql_layout.specs.texts.Shortened.{is_mark, has, has_margin}
 
 -- ---- how it is spelled
 
@@ -55,29 +30,43 @@ body indent quotes [] = []
 body indent (suc n) (c ∷ cs) = c ∷ body indent n cs
 body indent zero (c ∷ cs) = if closes (c ∷ cs) then byte "\\" ∷ c ∷ body indent 2 cs else placed indent c ++ body indent 0 cs
 
--- what stands before and after it, between the quotes
-abbrev pub front : ℕ → Form → List ℕ
-front indent Inline = []
-front indent Open = []
-front indent Spread = line_break indent
+abbrev pub break_if : Bool → ℕ → List ℕ
+break_if b indent = if b then line_break indent else []
 
-abbrev pub back : ℕ → Form → List ℕ
-back indent Inline = []
-back indent Open = line_break indent
-back indent Spread = line_break indent
+-- what stands between the quotes: on a line below the first three, or right after them; and the others on a line of their own,
+-- or right after it
+abbrev pub content : Bool → Bool → ℕ → List ℕ → List ℕ
+content leads trails indent cs = break_if leads indent ++ (body indent 0 cs ++ break_if trails indent)
 
-abbrev pub content : ℕ → List ℕ → List ℕ
-content indent cs = front indent (form_of cs) ++ (body indent 0 cs ++ back indent (form_of cs))
+unfoldable pub block_of : Bool → Bool → ℕ → List ℕ → List ℕ
+block_of leads trails indent cs = encode_utf8_all (codes "\"\"\"" ++ (content leads trails indent cs ++ codes "\"\"\""))
+
+-- ---- where its quotes stand
+
+abbrev pub begins_blank : List ℕ → Bool
+begins_blank [] = false
+begins_blank (c ∷ cs) = is_blank_char c
+
+-- whether the last character is a quote or a backslash, and where there is none, what is said here
+abbrev pub ends_in_mark : Bool → List ℕ → Bool
+ends_in_mark before [] = before
+ends_in_mark before (c ∷ cs) = ends_in_mark (is_mark c) cs
+
+-- of one line and more than 70 characters, or its last is a quote or a backslash
+abbrev pub is_wide : List ℕ → Bool
+is_wide cs = nat_lt 70 (length cs) || ends_in_mark false cs
+
+abbrev pub leads : List ℕ → Bool
+leads cs = has (byte "\n") cs || (is_wide cs && not (begins_blank cs))
+
+abbrev pub trails : List ℕ → Bool
+trails cs = has (byte "\n") cs || is_wide cs
 
 -- the block string of a value, with so many blanks before each line after the first
 unfoldable pub spelled : ℕ → List ℕ → List ℕ
-spelled indent value = encode_utf8_all (codes "\"\"\"" ++ (content indent (chars value) ++ codes "\"\"\""))
+spelled indent value = block_of (leads (chars value)) (trails (chars value)) indent (chars value)
 
 -- ---- which values it has
-
--- neither a blank nor a line feed
-abbrev pub is_text : ℕ → Bool
-is_text c = not (is_blank_char c || c == byte "\n")
 
 -- the first line isn't blank
 abbrev pub begins_in_text : List ℕ → Bool
@@ -92,11 +81,6 @@ text_after before c = not (c == byte "\n") && (before || not (is_blank_char c))
 abbrev pub ends_in_text : Bool → List ℕ → Bool
 ends_in_text before [] = before
 ends_in_text before (c ∷ cs) = ends_in_text (text_after before c) cs
-
--- a line begins with a text: the first too, if the characters begin a line
-abbrev pub has_margin : Bool → List ℕ → Bool
-has_margin begins [] = false
-has_margin begins (c ∷ cs) = (begins && is_text c) || has_margin (c == byte "\n") cs
 
 -- It has no carriage return, which ends a line too. Its first and its last line aren't blank. If it has more lines than one, one
 -- of them begins with a text.

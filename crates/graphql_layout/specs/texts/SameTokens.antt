@@ -1,6 +1,7 @@
--- Texts with the same tokens, wherever these are in the two.
+-- Texts with the same tokens, or with tokens that mean the same, wherever these are in the two.
 -- Source: this project's choice.
 use Rattle.std.specs.Prelude.{◌≡◌, ℕ, List, [], ◌∷◌, ◌++◌, map}
+use Rattle.graphql_tokens.specs.tokens.Alike.{AreAlike}
 use Rattle.graphql_tokens.specs.tokens.Cuts.{IsCutInto, HasNoFault}
 use Rattle.graphql_tokens.specs.tokens.Token.{Bare, Token}
 use Rattle.graphql_tokens.specs.declared.lexer.TokenKind.TheVariants.{End}
@@ -24,3 +25,11 @@ pub record HaveSameTokens (text other : List ℕ) : Type 0 where
   pub tokens : List Bare
   pub of_text : HasTokens text tokens
   pub of_other : HasTokens other tokens
+
+-- Both texts have as many tokens, and each means what the other at its position does.
+pub record HaveAlikeTokens (text other : List ℕ) : Type 0 where
+  pub tokens : List Bare
+  pub others : List Bare
+  pub of_text : HasTokens text tokens
+  pub of_other : HasTokens other others
+  pub alike : AreAlike tokens others

@@ -1,6 +1,8 @@
 //! Which brackets are broken over lines.
+use crate::blocks::push_block;
 use crate::layout::walk::{Bracket, Role, Step, Walk};
 use graphql_tokens::lexer::{TokenKind, Tokens};
+use graphql_tokens::text::block_string_value;
 use std::alloc::{AllocError, Global};
 
 // The arguments of a field are broken where it would be longer than this with them.
@@ -14,7 +16,7 @@ pub fn broken_brackets(alloc: Global, text: &str) -> Result<Vec<bool>, AllocErro
     let mut end = 0;
     for token in Tokens::new(text) {
         let gap = text.get(end..token.start).unwrap_or("");
-        measure.pass(gap, token.kind, token.text)?;
+        measure.pass(alloc, gap, token.kind, token.text)?;
         end = token.start.saturating_add(token.text.len());
     }
     Ok(measure.broken)
@@ -55,7 +57,7 @@ impl Measure {
         }
     }
 
-    fn pass(&mut self, gap: &str, kind: TokenKind, spelling: &str) -> Result<(), AllocError> {
+    fn pass(&mut self, alloc: Global, gap: &str, kind: TokenKind, spelling: &str) -> Result<(), AllocError> {
         let step = self.walk.step(kind, spelling)?;
         if self.breaks(gap, &step) {
             self.break_innermost();
@@ -64,7 +66,8 @@ impl Measure {
         if step.role == Role::Member && self.is_in(Bracket::Set) {
             self.member = self.column;
         }
-        self.column = self.column.saturating_add(width(kind, spelling));
+        let width = self.width(alloc, kind, spelling)?;
+        self.column = self.column.saturating_add(width);
         if step.role == Role::Closing {
             self.close();
         }
@@ -72,6 +75,26 @@ impl Measure {
             Some(bracket) => self.open(bracket),
             None => Ok(()),
         }
+    }
+
+    // How long a token is. Only a string has other characters than ASCII, and those past U+FFFF count twice. A block string is
+    // measured as it is written anew, where it is among the arguments of a field.
+    fn width(&self, alloc: Global, kind: TokenKind, spelling: &str) -> Result<usize, AllocError> {
+        if kind.is_block() && self.is_in_call() {
+            let end = spelling.len().saturating_sub(3);
+            let value = block_string_value(alloc, spelling.get(3..end).unwrap_or(""))?;
+            let mut written = String::new(alloc);
+            push_block(&mut written, &value, 0)?;
+            return Ok(written.encode_utf16().count());
+        }
+        if kind.is_string() {
+            return Ok(spelling.encode_utf16().count());
+        }
+        Ok(spelling.len())
+    }
+
+    fn is_in_call(&self) -> bool {
+        self.open.iter().any(|open| open.bracket == Bracket::Call)
     }
 
     fn is_in(&self, bracket: Bracket) -> bool {
@@ -145,14 +168,5 @@ fn gap_width(step: &Step) -> usize {
         Role::Member if !step.is_first => 2,
         Role::Apart | Role::Body => 1,
         _ => 0,
-    }
-}
-
-// How long a token is: only a string has other characters than ASCII. Those past U+FFFF count twice.
-fn width(kind: TokenKind, spelling: &str) -> usize {
-    if kind.is_string() || kind.is_block() {
-        spelling.encode_utf16().count()
-    } else {
-        spelling.len()
     }
 }

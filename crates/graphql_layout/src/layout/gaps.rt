@@ -33,6 +33,8 @@ pub struct Place {
     pub depth: usize,
     /// How deep these comments are.
     pub comments: usize,
+    /// How many open brackets around it are broken.
+    pub inside: usize,
 }
 
 /// A text up to one of its tokens.
@@ -94,6 +96,7 @@ impl Layout {
             is_first: step.is_first,
             depth,
             comments,
+            inside: self.depth,
         }
     }
 

@@ -2,7 +2,7 @@ use Rattle.std.proofs.Common.{◌≡◌, ℕ, eqb, List, [], ◌∷◌, ◌++◌
 use Rattle.std.proofs.lemmas.Iterator.{YieldsList-from_chars}
 use Rattle.std.proofs.lemmas.Iterator.Consumers.{YieldsList-turn, YieldsList-end}
 use Rattle.std.specs.Str.{chars}
-use Rattle.graphql_layout.specs.inner.Blocks.{has_margin}
+use Rattle.graphql_layout.specs.texts.Shortened.{has_margin}
 use Rattle.graphql_layout.proofs.BlockFlags.{margin_here, margin_inside, margin_blank}
 use Rattle.graphql_layout.proofs.CharLoops.{next_left, none_left}
 use Rattle.graphql_layout.proofs.blocks.has_margin.Goals as goal

@@ -1,12 +1,17 @@
+use Rattle.std.proofs.Common.{◌++◌, List, ℕ, Bool, string_bytes, sym, ap, ap₂, ◌∙◌}
 use Rattle.std.proofs.lemmas.Result.{on_ok_weaker}
-use Rattle.graphql_layout.proofs.BlockPushes.{block_pushed}
-use Rattle.graphql_layout.proofs.BlockTexts.{block_spelled}
+use Rattle.std.specs.Str.{chars}
+use Rattle.graphql_layout.specs.inner.Blocks.{block_of}
+use Rattle.graphql_layout.proofs.BlockPushes.{block_written}
+use Rattle.graphql_layout.proofs.BlockTexts.{spelled_is, block_spelled}
 use Rattle.graphql_layout.proofs.blocks.push_block.Goals as goal
 
 pub returns-clause-written : goal.returns-clause-written
 returns-clause-written c =
-    block_pushed c.push_str-2.result c.args.indent c.form_of-form.result c.args.value.now _ _ _ _ _ _ c.form_of-form.ensures
-    c.in_ok-push_str.ensures.bytes c.in_ok-push_front.ensures c.in_ok-push_body.ensures c.in_ok-push_back.ensures c.push_str-2.ensures.bytes
+    let cs = chars c.args.value.now in
+    on_ok_weaker c.push_back.result (λ e.
+    block_written c.places-leads.result.0 c.places-leads.result.1 c.args.indent cs (string_bytes c.args.out.now) (string_bytes c.push_front.new.out) (string_bytes c.push_back.new.out) c.in_ok-push_front.ensures.written e
+    ∙ ap (λ (x : List ℕ). string_bytes c.args.out.now ++ x) (ap (λ (p : Bool × Bool). block_of p.0 p.1 c.args.indent cs) c.places-leads.ensures ∙ sym (spelled_is c.args.indent c.args.value.now))) c.push_back.ensures
 
 pub returns-clause-token : goal.returns-clause-token
-returns-clause-token c = on_ok_weaker c.push_str-2.result (λ _. block_spelled c.args.indent c.args.value.now c.utf8.value) (returns-clause-written c)
+returns-clause-token c = on_ok_weaker c.push_back.result (λ _. block_spelled c.args.indent c.args.value.now c.utf8.value) c.push_back.ensures

@@ -1,28 +1,47 @@
-use Rattle.std.proofs.Common.{◌≡◌, ℕ, List, [], ◌∷◌, ◌++◌, length, drop, OnOk, string_bytes, sym, ap, ◌∙◌, subst}
-use Rattle.std.proofs.lemmas.Iterator.{YieldsList-from_chars}
-use Rattle.std.proofs.lemmas.Iterator.Consumers.{YieldsList-turn, YieldsList-end}
-use Rattle.std.specs.Str.{chars, encode_utf8_all}
-use Rattle.graphql_layout.specs.inner.Blocks.{body, quotes}
-use Rattle.graphql_layout.proofs.BlockPushes.{all_written}
-use Rattle.graphql_layout.proofs.CharLoops.{next_left, none_left}
+use Rattle.std.proofs.Common.{◌≡◌, Bool, eqb, ◌&&◌, length, string_bytes, sym, ap, ◌∙◌, arith}
+use Rattle.graphql_layout.proofs.Marks.{Cut, cut_at, found_boundary, rest_plain, turned, ended, ends_open}
 use Rattle.graphql_layout.proofs.blocks.push_body.Goals as goal
 
-pub loop-c-preserved : goal.loop-c-preserved
-loop-c-preserved c =
-    let t = YieldsList-turn (YieldsList-from_chars c.args.value.now c.utf8.value cc) c.loop-c.yielded _ c.loop-c.yielded_by _ _ c.in-Some.c c.in-Some.is c.next.ensures.steps in
-    let cs : List ℕ = chars c.args.value.now in
-    record {
-      few = c.in_ok-held.ensures.few;
-      written = c.in_ok-held.ensures.written (drop (length (c.loop-c.yielded ++ c.in-Some.c ∷ [])) cs)
-          ∙ ap (λ (l : List ℕ). string_bytes c.loop-c.out ++ encode_utf8_all (body c.args.indent 0 (quotes c.loop-c.held ++ l))) (sym (next_left cs c.loop-c.yielded c.in-Some.c t))
-          ∙ c.loop-c.invariant.written;
-    }
+pub split_at-requires : goal.split_at-requires
+split_at-requires c = found_boundary c.loop-at.rest.now c.as_bytes.result.now c.in-Some.at c.loop-at.invariant.0 c.as_bytes.ensures.value c.in-Some.ensures
 
-pub returns : goal.returns
-returns c =
-    let t = YieldsList-end (YieldsList-from_chars c.args.value.now c.utf8.value cc) c.loop-c.yielded _ c.loop-c.yielded_by _ _ c.in-None.is c.next.ensures.steps in
-    let cs : List ℕ = chars c.args.value.now in
-    subst (λ (x : List ℕ). OnOk c.push_times.result (string_bytes c.push_times.new.out ≡ x))
-    (all_written c.args.indent c.loop-c.held (string_bytes c.loop-c.out) (string_bytes c.args.out.now ++ encode_utf8_all (body c.args.indent 0 cs)) c.loop-c.invariant.few
-    (sym (ap (λ (l : List ℕ). string_bytes c.loop-c.out ++ encode_utf8_all (body c.args.indent 0 (quotes c.loop-c.held ++ l))) (none_left cs c.loop-c.yielded t.1)) ∙ c.loop-c.invariant.written))
-    c.push_times.ensures
+pub push_mark-requires : goal.push_mark-requires
+push_mark-requires c =
+    (cut_at c.loop-at.rest.now c.as_bytes.result.now c.split_at.result.0.now c.split_at.result.1.now c.in-Some.at c.loop-at.invariant.0 c.as_bytes.ensures.value c.in-Some.ensures c.split_at.ensures.front c.split_at.ensures.back).begins
+
+pub loop-at-smaller : goal.loop-at-smaller
+loop-at-smaller c =
+    let cut = cut_at c.loop-at.rest.now c.as_bytes.result.now c.split_at.result.0.now c.split_at.result.1.now c.in-Some.at c.loop-at.invariant.0 c.as_bytes.ensures.value c.in-Some.ensures c.split_at.ensures.front c.split_at.ensures.back in
+    let m = c.in_ok-after.ensures in
+    omega (arith, cut.shorter, m.shorter)
+
+pub loop-at-preserved : goal.loop-at-preserved
+loop-at-preserved c =
+    let cut = cut_at c.loop-at.rest.now c.as_bytes.result.now c.split_at.result.0.now c.split_at.result.1.now c.in-Some.at c.loop-at.invariant.0 c.as_bytes.ensures.value c.in-Some.ensures c.split_at.ensures.front c.split_at.ensures.back in
+    let m = c.in_ok-after.ensures in
+    let s =
+    turned c.args.indent c.loop-at.rest.now c.split_at.result.0.now c.split_at.result.1.now c.in_ok-after.after.now c.loop-at.is_open c.in_ok-after.opens (string_bytes c.args.out.now) (string_bytes c.loop-at.out) (string_bytes c.push_str.new.self)
+    (string_bytes c.push_mark.new.out) c.args.value.now cut (c.loop-at.invariant.1, c.loop-at.invariant.2) c.in_ok-push_str.ensures.bytes m in
+    (m.utf8, s.0, s.1)
+
+pub returns-then-is_open-clause-written : goal.returns-then-is_open-clause-written
+returns-then-is_open-clause-written c =
+    ended c.args.indent c.loop-at.rest.now c.loop-at.is_open (string_bytes c.args.out.now) (string_bytes c.loop-at.out) (string_bytes c.push_str-2.new.self) c.args.value.now c.loop-at.invariant.0
+    (rest_plain c.loop-at.rest.now c.as_bytes.result.now c.loop-at.invariant.0 c.as_bytes.ensures.value c.in_default.ensures) (c.loop-at.invariant.1, c.loop-at.invariant.2) c.in_ok-push_str-2.ensures.bytes
+
+pub returns-then-is_open-clause-ends : goal.returns-then-is_open-clause-ends
+returns-then-is_open-clause-ends c =
+    ends_open c.args.indent c.loop-at.rest.now c.loop-at.is_open c.is_empty.result (string_bytes c.args.out.now) (string_bytes c.loop-at.out) c.args.value.now c.loop-at.invariant.0
+    (rest_plain c.loop-at.rest.now c.as_bytes.result.now c.loop-at.invariant.0 c.as_bytes.ensures.value c.in_default.ensures) (c.loop-at.invariant.1, c.loop-at.invariant.2)
+    (c.is_empty.ensures ∙ ap (λ (b : Bool). b && eqb (length c.loop-at.rest.now) 0) (sym c.if-is_open.true))
+
+pub returns-else-is_open-clause-written : goal.returns-else-is_open-clause-written
+returns-else-is_open-clause-written c =
+    ended c.args.indent c.loop-at.rest.now c.loop-at.is_open (string_bytes c.args.out.now) (string_bytes c.loop-at.out) (string_bytes c.push_str-2.new.self) c.args.value.now c.loop-at.invariant.0
+    (rest_plain c.loop-at.rest.now c.as_bytes.result.now c.loop-at.invariant.0 c.as_bytes.ensures.value c.in_default.ensures) (c.loop-at.invariant.1, c.loop-at.invariant.2) c.in_ok-push_str-2.ensures.bytes
+
+pub returns-else-is_open-clause-ends : goal.returns-else-is_open-clause-ends
+returns-else-is_open-clause-ends c =
+    ends_open c.args.indent c.loop-at.rest.now c.loop-at.is_open c.loop-at.is_open (string_bytes c.args.out.now) (string_bytes c.loop-at.out) c.args.value.now c.loop-at.invariant.0
+    (rest_plain c.loop-at.rest.now c.as_bytes.result.now c.loop-at.invariant.0 c.as_bytes.ensures.value c.in_default.ensures) (c.loop-at.invariant.1, c.loop-at.invariant.2)
+    (c.if-is_open.false ∙ ap (λ (b : Bool). b && eqb (length c.loop-at.rest.now) 0) (sym c.if-is_open.false))

@@ -1,10 +1,16 @@
-use Rattle.std.proofs.Common.{◌≡◌, ◌++◌, ◌<◌, length, drop, string_bytes}
+use Rattle.std.proofs.Common.{◌≡◌, ◌++◌, false, length, string_bytes}
+use denote.Text.{Utf8}
+use denote.Shadow.{shadow}
 use Rattle.std.specs.Str.{chars, encode_utf8_all}
-use Rattle.graphql_layout.specs.inner.Blocks.{body, quotes}
+use Rattle.graphql_layout.specs.inner.Blocks.{body}
+use Rattle.graphql_layout.specs.texts.Shortened.{is_open}
 use Rattle.graphql_layout.proofs.blocks.push_body.Given as goal
 
-abbrev pub invariant-loop-c : goal.invariant-loop-c
-invariant-loop-c l = record {
-  few : l.held < 3;
-  written : string_bytes l.out ++ encode_utf8_all (body l.indent 0 (quotes l.held ++ drop (length l.yielded) (chars l.value))) ≡ string_bytes l.fn.out ++ encode_utf8_all (body l.indent 0 (chars l.value));
-}
+abbrev pub invariant-loop-at : goal.invariant-loop-at
+invariant-loop-at l =
+    shadow (Utf8 l.rest)
+    × (string_bytes l.out ++ encode_utf8_all (body l.fn.indent 0 (chars l.rest)) ≡ string_bytes l.fn.out ++ encode_utf8_all (body l.fn.indent 0 (chars l.fn.value)))
+    × (is_open 0 l.is_open (chars l.rest) ≡ is_open 0 false (chars l.fn.value))
+
+abbrev pub decreases-loop-at : goal.decreases-loop-at
+decreases-loop-at l = length l.rest

@@ -1,4 +1,4 @@
-use Rattle.std.proofs.Common.{◌≡◌, ◌≢◌, ◌++◌, List, [], ◌∷◌, ap, ◌∙◌, sym, refl, true, false, string_bytes, rules}
+use Rattle.std.proofs.Common.{◌≡◌, ◌≢◌, ◌++◌, List, [], ◌∷◌, ap, ◌∙◌, sym, subst, refl, true, false, string_bytes, rules}
 use denote.Enum.Bare.{sameb}
 use Rattle.graphql_tokens.specs.contracts.lexer.TokenKind.{the_type}
 use Rattle.graphql_tokens.specs.tokens.Cuts.{IsCutInto}
@@ -7,7 +7,8 @@ use Rattle.graphql_tokens.specs.tokens.Seen.{seen}
 use Rattle.graphql_tokens.specs.tokens.Token.{left}
 use Rattle.graphql_tokens.specs.declared.lexer.TokenKind.{TokenKind}
 use Rattle.graphql_tokens.specs.declared.lexer.TokenKind.TheVariants.{Punct, Name, Number, String, Block, Fault, End}
-use Rattle.graphql_layout.specs.texts.Items.{Item, word}
+use Rattle.graphql_layout.specs.inner.Tidied.{IsAdded}
+use Rattle.graphql_layout.specs.texts.Items.{Item}
 use Rattle.graphql_layout.proofs.Takings.{next, boundary, all_laid_out, next_spells, boundary_after, one_read}
 use Rattle.graphql_layout.proofs.layout.format.Goals as goal
 
@@ -49,8 +50,8 @@ returns-then-is_end c =
     all_laid_out c.args.text.now (string_bytes c.finish.result) c.loop-token.rest.now c.split_at.result.0.now all (left c.loop-token.token-iterator) (left c.next.new.self) c.loop-token.sheet c.push_comments.new.sheet (seen c.in-Some.token) c.utf8.text
     c.loop-token.invariant.0 cut c.loop-token.invariant.1 c.in-Some.ensures.steps.0 (the_end c.in-Some.token.kind (sym c.is_end.ensures ∙ c.if-is_end.true)) c.split_at.ensures.front c.in_ok-before.ensures c.finish.ensures.items
 
-pub token-requires : goal.token-requires
-token-requires c =
+pub push_token-requires : goal.push_token-requires
+push_token-requires c =
     next_spells c.args.text.now c.loop-token.rest.now (left c.into_iter-token-iterator.result) (left c.loop-token.token-iterator) (left c.next.new.self) c.loop-token.sheet (seen c.in-Some.token) c.loop-token.invariant.1 c.in-Some.ensures.steps.0
     (not_fault c.in-Some.token.kind (sym c.eq.ensures ∙ c.if-eq.false)) (not_end c.in-Some.token.kind (sym c.is_end.ensures ∙ c.if-is_end.false))
 
@@ -64,8 +65,8 @@ loop-token-preserved c =
     let all = left c.into_iter-token-iterator.result in
     let cut : IsCutInto c.args.text.now all = search rules in
     let r =
-    one_read c.args.text.now c.loop-token.rest.now c.split_at.result.0.now c.split_at.result.1.now c.split_at-in-loop-token.result.1.now all (left c.loop-token.token-iterator) (left c.next.new.self) c.loop-token.sheet c.push_comments.new.sheet c.token.new.self
+    one_read c.args.text.now c.loop-token.rest.now c.split_at.result.0.now c.split_at.result.1.now c.split_at-in-loop-token.result.1.now all (left c.loop-token.token-iterator) (left c.next.new.self) c.loop-token.sheet c.push_comments.new.sheet c.push_token.new.sheet
     (seen c.in-Some.token) c.utf8.text c.loop-token.invariant.0 cut c.loop-token.invariant.1 c.in-Some.ensures.steps.0 (not_fault c.in-Some.token.kind (sym c.eq.ensures ∙ c.if-eq.false))
     (not_end c.in-Some.token.kind (sym c.is_end.ensures ∙ c.if-is_end.false)) c.split_at.ensures.front c.split_at.ensures.back c.split_at-in-loop-token.ensures.back c.in_ok-before.ensures
-    (c.in_ok-token.ensures.ok ∙ ap (λ (l : List Item). l ++ word (seen c.in-Some.token).bare ∷ []) c.begin_token.ensures) in
+    (subst (λ (l : List Item). IsAdded (seen c.in-Some.token).bare l c.push_token.new.sheet) c.begin_token.ensures c.in_ok-push_token.ensures) in
     (r.utf8, r.reads)
