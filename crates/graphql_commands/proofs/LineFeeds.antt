@@ -10,10 +10,10 @@ use Rattle.graphql_tokens.specs.tokens.Token.{Token}
 use Rattle.graphql_tokens.specs.declared.lexer.TokenKind.{TokenKind}
 use Rattle.graphql_tokens.specs.declared.lexer.TokenKind.TheVariants.{Punct, Name, Number, String, Block, Fault, End}
 use Rattle.graphql_layout.specs.texts.Items.{Item, comment, word, IsBlankText, IsItems, words}
-use Rattle.graphql_layout.specs.texts.LaidOut.{IsLaidOut, tidied}
-use Rattle.graphql_layout.specs.texts.SameTokens.{HasTokens, HaveAlikeTokens}
+use Rattle.graphql_layout.specs.texts.LaidOut.{IsLaidOut}
+use Rattle.graphql_layout.specs.texts.SameTokens.{HaveAlikeTokens}
 use Rattle.graphql_layout.proofs.Items.{items_written, itemized}
-use Rattle.graphql_layout.proofs.Readings.{same_words}
+use Rattle.graphql_layout.proofs.Readings.{alike_words}
 use Rattle.graphql_reading.proofs.IgnoresPlaces.{alike-same}
 
 and_false : (b : Bool) → (b && false) ≡ false
@@ -71,17 +71,20 @@ chars_then text new u e =
 
 pub laid_out_then : (text other new : List ℕ) → IsUtf8 other → new ≡ other ++ encode 10 → IsLaidOut text other → IsLaidOut text new
 laid_out_then text other new u e m =
-    let items : IsItems (chars new) (tidied m.items) = subst (λ (l : List ℕ). IsItems l (tidied m.items)) (chars_then other new u e) (still_items (chars other) (tidied m.items) m.of_other) in
-    let tokens : HasTokens new (words (tidied m.items)) = items_written (chars new) (tidied m.items) items [] in
+    let items : IsItems (chars new) m.others = subst (λ (l : List ℕ). IsItems l m.others) (chars_then other new u e) (still_items (chars other) m.others m.of_other) in
     record {
       tokens = record {
         tokens = words m.items;
+        others = words m.others;
         of_text = items_written (chars text) m.items m.of_text [];
-        of_other = subst (HasTokens new) (same_words m.items) tokens;
+        of_other = items_written (chars new) m.others items [];
+        alike = alike_words m.items m.others m.alike;
       };
       items = m.items;
+      others = m.others;
       of_text = m.of_text;
       of_other = items;
+      alike = m.alike;
     }
 
 -- a text without a fault, and the same with a line feed after it

@@ -19,7 +19,8 @@ use Rattle.graphql_grammar.specs.answers.Language.{Language}
 use Rattle.graphql_grammar.specs.answers.Reads.{ReadsText}
 use Rattle.graphql_grammar.specs.reading.ReadBy.{IsReadBy}
 use Rattle.graphql_layout.specs.texts.LaidOut.{IsLaidOut}
-use Rattle.graphql_layout.specs.texts.Minified.{IsMinified, shortened}
+use Rattle.graphql_layout.specs.texts.Minified.{IsMinified}
+use Rattle.graphql_layout.specs.texts.Shortened.{shortened}
 use Rattle.graphql_layout.specs.texts.SameTokens.{bare_end, HaveAlikeTokens}
 use Rattle.graphql_printer.specs.Rewritten.{MeanTheSame}
 
