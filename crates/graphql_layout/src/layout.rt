@@ -13,7 +13,7 @@ pub mod walk;
 use crate::blocks::value_of;
 use crate::comments::push_comments;
 use crate::sheet::Sheet;
-use breaks::broken_brackets;
+use breaks::planned;
 use gaps::{Layout, Place};
 use graphql_tokens::lexer::{TokenKind, Tokens};
 use lines::begin_token;
@@ -23,7 +23,13 @@ use std::alloc::{AllocError, Global};
 const INDENT: usize = 2;
 
 // Writes a token: a block string anew from its value, as deep as its place is, and another as it is spelled.
-fn push_token(alloc: Global, sheet: &mut Sheet, place: &Place, kind: TokenKind, text: &str) -> Result<(), AllocError>
+fn push_token(
+    alloc: Global,
+    sheet: &mut Sheet,
+    place: &Place,
+    kind: TokenKind,
+    text: &str,
+) -> Result<(), AllocError>
     requires { Spells kind text.now }
     ensures { OnOk result (IsAdded (record { kind = kind; spelling = text.now }) sheet.old sheet.new) }
 {
@@ -43,14 +49,14 @@ pub fn format(alloc: Global, text: &str) -> Result<Option<String>, AllocError>
     ensures { IfOk result (λ r.
         MatchOption r (HasFault text.now) (λ s. IsLaidOut text.now (string_bytes s))) }
 {
-    let mut layout = Layout::new(alloc, broken_brackets(alloc, text)?);
+    let mut layout = Layout::new(alloc, planned(alloc, text)?);
     let mut sheet = Sheet::with_room(alloc, text.len())?;
     let mut rest = text;
     for token in Tokens::new(text) {
         if token.kind == TokenKind::Fault {
             return Ok(None);
         }
-        let place = layout.pass(token.kind, token.text)?;
+        let place = layout.pass()?;
         let end = text.len() - rest.len();
         let (gap, from) = rest.split_at(token.start - end);
         let before = push_comments(&mut sheet, &place, gap)?;

@@ -1,4 +1,4 @@
--- Texts with the same tokens, or with tokens that mean the same, wherever these are in the two.
+-- The tokens of a text, and texts with tokens that mean the same, wherever these are in the two.
 -- Source: this project's choice.
 use Rattle.std.specs.Prelude.{◌≡◌, ℕ, List, [], ◌∷◌, ◌++◌, map}
 use Rattle.graphql_tokens.specs.tokens.Alike.{AreAlike}
@@ -19,12 +19,6 @@ HasTokens text bs = (tokens : List Token) × IsCutInto text tokens × (bares tok
 -- a fault is among the tokens of the text
 abbrev pub HasFault : List ℕ → Type 0
 HasFault text = (tokens : List Token) × IsCutInto text tokens × (¬ (HasNoFault tokens))
-
--- Both texts have these tokens.
-pub record HaveSameTokens (text other : List ℕ) : Type 0 where
-  pub tokens : List Bare
-  pub of_text : HasTokens text tokens
-  pub of_other : HasTokens other tokens
 
 -- Both texts have as many tokens, and each means what the other at its position does.
 pub record HaveAlikeTokens (text other : List ℕ) : Type 0 where

@@ -1,4 +1,4 @@
-//! Which brackets are broken over lines.
+//! What is known of a text before it is laid out: what its tokens are, and which brackets are broken over lines.
 use crate::blocks::push_block;
 use crate::layout::walk::{Bracket, Role, Step, Walk};
 use graphql_tokens::lexer::{TokenKind, Tokens};
@@ -8,10 +8,19 @@ use std::alloc::{AllocError, Global};
 // The arguments of a field are broken where it would be longer than this with them.
 const LONGEST_CALL: usize = 80;
 
-/// Whether each bracket of the text is broken over lines, in the order in which they open. Sets are, and what has a comment in
-/// it, lists and objects that were broken after the opening bracket, definitions of arguments of which one is described, and the
-/// arguments of a field that are too long. It fails only where memory runs out.
-pub fn broken_brackets(alloc: Global, text: &str) -> Result<Vec<bool>, AllocError> {
+/// A text before it is laid out.
+#[derive(Debug, Drop)]
+pub struct Plan {
+    /// What each token is among those before it, in their order.
+    pub steps: Vec<Step>,
+    /// Whether each bracket is broken over lines, in the order in which they open. Sets are, and what has a comment in it, lists
+    /// and objects that were broken after the opening bracket, definitions of arguments of which one is described, and the
+    /// arguments of a field that are too long.
+    pub broken: Vec<bool>,
+}
+
+/// Looks a text over. It fails only where memory runs out.
+pub fn planned(alloc: Global, text: &str) -> Result<Plan, AllocError> {
     let mut measure = Measure::new(alloc);
     let mut end = 0;
     for token in Tokens::new(text) {
@@ -19,7 +28,8 @@ pub fn broken_brackets(alloc: Global, text: &str) -> Result<Vec<bool>, AllocErro
         measure.pass(alloc, gap, token.kind, token.text)?;
         end = token.start.saturating_add(token.text.len());
     }
-    Ok(measure.broken)
+    let Measure { steps, broken, .. } = measure;
+    Ok(Plan { steps, broken })
 }
 
 // An open bracket. Columns are those of a text on one line.
@@ -39,6 +49,7 @@ struct Open {
 #[derive(Debug, Drop)]
 struct Measure {
     walk: Walk,
+    steps: Vec<Step>,
     open: Vec<Open>,
     broken: Vec<bool>,
     column: usize,
@@ -50,6 +61,7 @@ impl Measure {
     fn new(alloc: Global) -> Measure {
         Measure {
             walk: Walk::new(alloc),
+            steps: Vec::new(alloc),
             open: Vec::new(alloc),
             broken: Vec::new(alloc),
             column: 0,
@@ -57,8 +69,15 @@ impl Measure {
         }
     }
 
-    fn pass(&mut self, alloc: Global, gap: &str, kind: TokenKind, spelling: &str) -> Result<(), AllocError> {
+    fn pass(
+        &mut self,
+        alloc: Global,
+        gap: &str,
+        kind: TokenKind,
+        spelling: &str,
+    ) -> Result<(), AllocError> {
         let step = self.walk.step(kind, spelling)?;
+        self.steps.push(step)?;
         if self.breaks(gap, &step) {
             self.break_innermost();
         }

@@ -1,6 +1,6 @@
 //! What stands before each token.
-use crate::layout::walk::{Role, Step, Walk};
-use graphql_tokens::lexer::TokenKind;
+use crate::layout::breaks::Plan;
+use crate::layout::walk::{Role, Step};
 use std::alloc::{AllocError, Global};
 
 /// What stands before a token.
@@ -40,9 +40,9 @@ pub struct Place {
 /// A text up to one of its tokens.
 #[derive(Debug, Drop)]
 pub struct Layout {
-    walk: Walk,
-    // Whether each bracket of the text is broken, in the order in which they open, and how many have opened.
-    broken: Vec<bool>,
+    plan: Plan,
+    // How many tokens were passed, and how many brackets have opened.
+    passed: usize,
     opened: usize,
     // Whether each open bracket is broken, and how many of them are.
     open: Vec<bool>,
@@ -50,11 +50,11 @@ pub struct Layout {
 }
 
 impl Layout {
-    /// Before the first token of a text of which these brackets are broken.
-    pub fn new(alloc: Global, broken: Vec<bool>) -> Layout {
+    /// Before the first token of a text.
+    pub fn new(alloc: Global, plan: Plan) -> Layout {
         Layout {
-            walk: Walk::new(alloc),
-            broken,
+            plan,
+            passed: 0,
             opened: 0,
             open: Vec::new(alloc),
             depth: 0,
@@ -62,8 +62,8 @@ impl Layout {
     }
 
     /// Passes the next token, and gives where it stands. It fails only where memory runs out.
-    pub fn pass(&mut self, kind: TokenKind, spelling: &str) -> Result<Place, AllocError> {
-        let step = self.walk.step(kind, spelling)?;
+    pub fn pass(&mut self) -> Result<Place, AllocError> {
+        let step = self.next_step();
         let place = self.place(&step);
         if step.role == Role::Closing {
             self.close();
@@ -72,6 +72,12 @@ impl Layout {
             self.open()?;
         }
         Ok(place)
+    }
+
+    fn next_step(&mut self) -> Step {
+        let step = self.plan.steps.get(self.passed).copied();
+        self.passed = self.passed.saturating_add(1);
+        step.unwrap_or(Step::end())
     }
 
     fn place(&self, step: &Step) -> Place {
@@ -101,7 +107,7 @@ impl Layout {
     }
 
     fn open(&mut self) -> Result<(), AllocError> {
-        let is_broken = self.broken.get(self.opened).copied() == Some(true);
+        let is_broken = self.plan.broken.get(self.opened).copied() == Some(true);
         self.opened = self.opened.saturating_add(1);
         if is_broken {
             self.depth = self.depth.saturating_add(1);

@@ -52,6 +52,18 @@ pub struct Step {
     pub opens: Option<Bracket>,
 }
 
+impl Step {
+    /// The end of a text that has other tokens.
+    pub fn end() -> Step {
+        Step {
+            role: Role::End,
+            is_first: false,
+            describes: false,
+            opens: None,
+        }
+    }
+}
+
 // What the token before was, as far as it decides what the next one is.
 #[derive(Clone, Copy, Debug, PartialEq, Eq)]
 enum Last {
