@@ -5,9 +5,9 @@
 
 Texts are the rows of the tables of `conformance`, and COUNT random texts of each language (2,000 without it) that
 `roundtrip` makes. GraphQL.js prints those that it reads. The tokens of what it prints, one blank apart, have to be
-formatted to that again, byte for byte, and so has what it prints itself; and no minified text may be longer than what
-`stripIgnoredCharacters` gives, unless it has a block string. It prints the texts for which that doesn't hold, and last how
-many there were of which kind; its status is 1 if there was one.
+formatted to that again, byte for byte, and so has what it prints itself: the block strings among them are spelled as in the
+text, where the two have the same tokens. No minified text may be longer than what `stripIgnoredCharacters` gives. It prints
+the texts for which that doesn't hold, and last how many there were of which kind; its status is 1 if there was one.
 
 It needs node with the package graphql (Debian's node-graphql, 16.6), and the programs of `crates/gql` and
 `crates/roundtrip`, which `rt run` builds there. It isn't part of `rt ci`, since that needs the kit alone.
@@ -24,8 +24,8 @@ ROOT = pathlib.Path(__file__).resolve().parent.parent
 GQL = ROOT / "crates/gql/out/gql"
 ROUNDTRIP = ROOT / "crates/roundtrip/out/roundtrip"
 
-# Prints, for each text of a list: null if it isn't read, else what is printed, its tokens one blank apart, the text
-# without ignored characters, and whether it has a block string.
+# Prints, for each text of a list: null if it isn't read, else what is printed, its tokens one blank apart, and the text
+# without ignored characters.
 PRINTER = """
 const { parse, print, stripIgnoredCharacters, Lexer, Source, TokenKind } = require("graphql");
 function tokens(text) {
@@ -42,9 +42,14 @@ const seen = texts.map((text) => {
   let tree;
   try { tree = parse(text); } catch (error) { return null; }
   const printed = print(tree);
-  const spelled = tokens(printed).map((token) => printed.slice(token.start, token.end)).join(" ");
-  const has_block = tokens(text).some((token) => token.kind === TokenKind.BLOCK_STRING);
-  return { printed, spelled, stripped: stripIgnoredCharacters(text), has_block };
+  const mine = tokens(printed);
+  const theirs = tokens(text);
+  const are_same = mine.length === theirs.length && mine.every((token, at) => token.kind === theirs[at].kind);
+  const spelled = mine.map((token, at) =>
+    are_same && token.kind === TokenKind.BLOCK_STRING
+      ? text.slice(theirs[at].start, theirs[at].end)
+      : printed.slice(token.start, token.end));
+  return { printed, spelled: spelled.join(" "), stripped: stripIgnoredCharacters(text) };
 });
 console.log(JSON.stringify(seen));
 """
@@ -135,7 +140,7 @@ def compare(language, texts):
             refused += 1
             continue
         short = minified(language, text)
-        is_longer = short is not None and not tree["has_block"] and len(short) > len(tree["stripped"])
+        is_longer = short is not None and len(short) > len(tree["stripped"])
         if first.removesuffix("\n") == second.removesuffix("\n") == tree["printed"].rstrip("\n") and not is_longer:
             alike += 1
             continue
