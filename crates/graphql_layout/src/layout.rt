@@ -13,7 +13,7 @@ pub mod walk;
 use crate::blocks::value_of;
 use crate::comments::push_comments;
 use crate::sheet::Sheet;
-use breaks::planned;
+use breaks::{Plan, planned};
 use gaps::{Layout, Place};
 use graphql_tokens::lexer::{TokenKind, Tokens};
 use lines::begin_token;
@@ -49,7 +49,15 @@ pub fn format(alloc: Global, text: &str) -> Result<Option<String>, AllocError>
     ensures { IfOk result (λ r.
         MatchOption r (HasFault text.now) (λ s. IsLaidOut text.now (string_bytes s))) }
 {
-    let mut layout = Layout::new(alloc, planned(alloc, text)?);
+    format_planned(alloc, text, planned(alloc, text)?)
+}
+
+/// As [`format`], by a plan that was made of the text's tokens. By another plan lines break elsewhere.
+pub fn format_planned(alloc: Global, text: &str, plan: Plan) -> Result<Option<String>, AllocError>
+    ensures { IfOk result (λ r.
+        MatchOption r (HasFault text.now) (λ s. IsLaidOut text.now (string_bytes s))) }
+{
+    let mut layout = Layout::new(alloc, plan);
     let mut sheet = Sheet::with_room(alloc, text.len())?;
     let mut rest = text;
     for token in Tokens::new(text) {

@@ -36,7 +36,8 @@ mod tests;
 use blocks::push_shortened;
 use ending::Ending;
 use graphql_tokens::lexer::{Token, TokenKind, Tokens};
-pub use layout::format;
+pub use layout::breaks::{Plan, Planner};
+pub use layout::{format, format_planned};
 use std::alloc::{AllocError, Global};
 
 // Writes a token in few characters.

@@ -25,7 +25,6 @@ ghost use Rattle.graphql_printer.specs.Rewritten.{judgement_of, MeanTheSame};
 ghost use Rattle.graphql_requests.specs.grammar.Requests.{requests};
 ghost use Rattle.graphql_schemas.specs.grammar.Schemas.{schemas};
 
-mod documents;
 mod formatting;
 mod nodes;
 mod parts;
@@ -36,6 +35,7 @@ mod schema_tests;
 mod schemas;
 #[cfg(test)]
 mod tests;
+mod writer;
 
 pub use formatting::{format_query, format_schema};
 use graphql_layout::minify;

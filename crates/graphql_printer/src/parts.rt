@@ -1,5 +1,5 @@
 //! Values, types, arguments and directives, printed as tokens.
-ghost use Rattle.std.specs.Prelude.{◌≡◌, ◌++◌, [], ◌∷◌, List, string_bytes, codes, flat_map, map, option_map, true};
+ghost use Rattle.std.specs.Prelude.{◌≡◌, ◌++◌, [], ◌∷◌, List, codes, flat_map, map, option_map, true};
 ghost use Rattle.graphql_syntax.specs.calls.Words.{operation_word as operation_word_of};
 ghost use Rattle.graphql_syntax.specs.calls.Views.{view_tree, list_items, object_fields};
 ghost use Rattle.graphql_syntax.specs.trees.Parts.{placed};
@@ -12,14 +12,16 @@ ghost use Rattle.graphql_printer.specs.inner.Prints.{Prints, form};
 ghost use Rattle.graphql_printer.specs.inner.Shown.{sign as sign_token, word as word_token, literal, quoted, shown_value, shown_items, shown_fields, shown_mark, shown_type, argument_by, shown_argument_by, shown_arguments_by, shown_default, shown_directive, shown_part};
 
 use crate::nodes::{Outcome, Print, sign, word};
+use crate::writer::Writer;
 use graphql_syntax::types::{BaseType, ConstDirective, Directive, OperationType, Type};
 use graphql_syntax::value::{ConstValue, ListView, Name, ObjectView, Value, ValueView};
+use graphql_tokens::lexer::TokenKind;
 use graphql_tokens::pos::Positioned;
 
 impl Print for Value {
     ghost form = { form value_tree shown_value };
 
-    fn print(&self, out: &mut String) -> Outcome {
+    fn print(&self, out: &mut Writer) -> Outcome {
         print_value(out, &self.as_view())
     }
 }
@@ -27,7 +29,7 @@ impl Print for Value {
 impl Print for ConstValue {
     ghost form = { form const_tree shown_value };
 
-    fn print(&self, out: &mut String) -> Outcome {
+    fn print(&self, out: &mut Writer) -> Outcome {
         print_value(out, &self.as_view())
     }
 }
@@ -44,32 +46,30 @@ pub fn operation_word(kind: OperationType) -> &'static str
 }
 
 // A number, by its literal.
-fn print_number(out: &mut String, digits: &str) -> Outcome
-    ensures { Prints result (string_bytes out.old) (string_bytes out.new)
+fn print_number(out: &mut Writer, digits: &str) -> Outcome
+    ensures { Prints result out.old out.new
         (literal digits.now ∷ []) }
 {
-    out.push_str(digits)?;
-    out.push(' ')
+    out.token(TokenKind::Number, digits)
 }
 
 /// The string that stands for a text.
-pub fn print_string(out: &mut String, text: &str) -> Outcome
-    ensures { Prints result (string_bytes out.old) (string_bytes out.new) (quoted text.now ∷ []) }
+pub fn print_string(out: &mut Writer, text: &str) -> Outcome
+    ensures { Prints result out.old out.new (quoted text.now ∷ []) }
 {
-    let shown = ValueView::String(text);
-    write!(out, "{shown} ")
+    out.string(text)
 }
 
-fn print_variable(out: &mut String, name: &Name) -> Outcome
-    ensures { Prints result (string_bytes out.old) (string_bytes out.new)
+fn print_variable(out: &mut Writer, name: &Name) -> Outcome
+    ensures { Prints result out.old out.new
         (sign_token "$" ∷ word_token name.now ∷ []) }
 {
     sign(out, "$")?;
     word(out, name.as_str())
 }
 
-fn print_boolean(out: &mut String, value: bool) -> Outcome
-    ensures { Prints result (string_bytes out.old) (string_bytes out.new)
+fn print_boolean(out: &mut Writer, value: bool) -> Outcome
+    ensures { Prints result out.old out.new
         (word_token (word_of value) ∷ []) }
 {
     if value {
@@ -79,8 +79,8 @@ fn print_boolean(out: &mut String, value: bool) -> Outcome
 }
 
 #[cycle(value)]
-fn print_value(out: &mut String, value: &ValueView<'_>) -> Outcome
-    ensures { Prints result (string_bytes out.old) (string_bytes out.new)
+fn print_value(out: &mut Writer, value: &ValueView<'_>) -> Outcome
+    ensures { Prints result out.old out.new
         (shown_value (view_tree value.now)) }
 {
     match value {
@@ -103,8 +103,8 @@ fn print_value(out: &mut String, value: &ValueView<'_>) -> Outcome
 
 // The items of a list, and what closes it.
 #[cycle(value)]
-fn print_items(out: &mut String, items: &ListView<'_>) -> Outcome
-    ensures { Prints result (string_bytes out.old) (string_bytes out.new)
+fn print_items(out: &mut Writer, items: &ListView<'_>) -> Outcome
+    ensures { Prints result out.old out.new
         (shown_items (trees_of (list_items items.now)) ++ sign_token "]" ∷ []) }
 {
     for item in items.iter() {
@@ -115,8 +115,8 @@ fn print_items(out: &mut String, items: &ListView<'_>) -> Outcome
 
 // The fields of an object, and what closes it.
 #[cycle(value)]
-fn print_fields(out: &mut String, fields: &ObjectView<'_>) -> Outcome
-    ensures { Prints result (string_bytes out.old) (string_bytes out.new)
+fn print_fields(out: &mut Writer, fields: &ObjectView<'_>) -> Outcome
+    ensures { Prints result out.old out.new
         (shown_fields (fields_of (object_fields fields.now)) ++ sign_token "}" ∷ []) }
 {
     for (name, value) in fields.iter() {
@@ -126,8 +126,8 @@ fn print_fields(out: &mut String, fields: &ObjectView<'_>) -> Outcome
 }
 
 #[cycle(value)]
-fn print_field(out: &mut String, name: &Name, value: &ValueView<'_>) -> Outcome
-    ensures { Prints result (string_bytes out.old) (string_bytes out.new)
+fn print_field(out: &mut Writer, name: &Name, value: &ValueView<'_>) -> Outcome
+    ensures { Prints result out.old out.new
         (word_token name.now ∷ sign_token ":" ∷ shown_value (view_tree value.now)) }
 {
     word(out, name.as_str())?;
@@ -138,14 +138,14 @@ fn print_field(out: &mut String, name: &Name, value: &ValueView<'_>) -> Outcome
 impl Print for Type {
     ghost form = { form type_tree shown_type };
 
-    fn print(&self, out: &mut String) -> Outcome {
+    fn print(&self, out: &mut Writer) -> Outcome {
         print_type(out, self)
     }
 }
 
 #[cycle(types)]
-fn print_type(out: &mut String, ty: &Type) -> Outcome
-    ensures { Prints result (string_bytes out.old) (string_bytes out.new)
+fn print_type(out: &mut Writer, ty: &Type) -> Outcome
+    ensures { Prints result out.old out.new
         (shown_type (type_tree ty.now)) }
 {
     print_base(out, &ty.base)?;
@@ -153,8 +153,8 @@ fn print_type(out: &mut String, ty: &Type) -> Outcome
 }
 
 #[cycle(types)]
-fn print_base(out: &mut String, base: &BaseType) -> Outcome
-    ensures { Prints result (string_bytes out.old) (string_bytes out.new)
+fn print_base(out: &mut Writer, base: &BaseType) -> Outcome
+    ensures { Prints result out.old out.new
         (shown_type (base_tree base.now true)) }
 {
     match base {
@@ -167,8 +167,8 @@ fn print_base(out: &mut String, base: &BaseType) -> Outcome
     }
 }
 
-fn print_mark(out: &mut String, nullable: bool) -> Outcome
-    ensures { Prints result (string_bytes out.old) (string_bytes out.new) (shown_mark nullable) }
+fn print_mark(out: &mut Writer, nullable: bool) -> Outcome
+    ensures { Prints result out.old out.new (shown_mark nullable) }
 {
     if nullable {
         return Ok(());
@@ -178,10 +178,10 @@ fn print_mark(out: &mut String, nullable: bool) -> Outcome
 
 /// Arguments in their parentheses; nothing for none.
 pub fn print_arguments<V: Print>(
-    out: &mut String,
+    out: &mut Writer,
     arguments: &Vec<(Positioned<Name>, Positioned<V>)>,
 ) -> Outcome
-    ensures { Prints result (string_bytes out.old) (string_bytes out.new)
+    ensures { Prints result out.old out.new
         (shown_arguments_by V.form.shown (map (argument_by V.form.tree) arguments.now.items)) }
 {
     if arguments.is_empty() {
@@ -193,10 +193,10 @@ pub fn print_arguments<V: Print>(
 }
 
 fn each_argument<V: Print>(
-    out: &mut String,
+    out: &mut Writer,
     arguments: &Vec<(Positioned<Name>, Positioned<V>)>,
 ) -> Outcome
-    ensures { Prints result (string_bytes out.old) (string_bytes out.new)
+    ensures { Prints result out.old out.new
         (flat_map (shown_argument_by V.form.shown)
         (map (argument_by V.form.tree) arguments.now.items)) }
 {
@@ -207,11 +207,11 @@ fn each_argument<V: Print>(
 }
 
 fn print_argument<V: Print>(
-    out: &mut String,
+    out: &mut Writer,
     name: &Positioned<Name>,
     value: &Positioned<V>,
 ) -> Outcome
-    ensures { Prints result (string_bytes out.old) (string_bytes out.new)
+    ensures { Prints result out.old out.new
         (shown_argument_by V.form.shown (name.now, placed V.form.tree value.now)) }
 {
     word(out, name.node.as_str())?;
@@ -222,7 +222,7 @@ fn print_argument<V: Print>(
 impl Print for Directive {
     ghost form = { form directive_tree shown_directive };
 
-    fn print(&self, out: &mut String) -> Outcome {
+    fn print(&self, out: &mut Writer) -> Outcome {
         print_directive(out, &self.name, &self.arguments)
     }
 }
@@ -230,17 +230,17 @@ impl Print for Directive {
 impl Print for ConstDirective {
     ghost form = { form const_directive_tree shown_directive };
 
-    fn print(&self, out: &mut String) -> Outcome {
+    fn print(&self, out: &mut Writer) -> Outcome {
         print_directive(out, &self.name, &self.arguments)
     }
 }
 
 fn print_directive<V: Print>(
-    out: &mut String,
+    out: &mut Writer,
     name: &Positioned<Name>,
     arguments: &Vec<(Positioned<Name>, Positioned<V>)>,
 ) -> Outcome
-    ensures { Prints result (string_bytes out.old) (string_bytes out.new)
+    ensures { Prints result out.old out.new
         (sign_token "@" ∷ word_token name.now.node ∷ shown_arguments_by V.form.shown
         (map (argument_by V.form.tree) arguments.now.items)) }
 {
@@ -250,8 +250,8 @@ fn print_directive<V: Print>(
 }
 
 /// A default value, where there is one.
-pub fn print_default(out: &mut String, value: &Option<Positioned<ConstValue>>) -> Outcome
-    ensures { Prints result (string_bytes out.old) (string_bytes out.new)
+pub fn print_default(out: &mut Writer, value: &Option<Positioned<ConstValue>>) -> Outcome
+    ensures { Prints result out.old out.new
         (shown_part shown_default (option_map (placed const_tree) value.now)) }
 {
     let Some(value) = value else {

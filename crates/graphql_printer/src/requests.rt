@@ -11,10 +11,10 @@ ghost use Rattle.graphql_printer.specs.inner.Prints.{Prints, form};
 ghost use Rattle.graphql_printer.specs.inner.Shown.{spelled, shown_node, shown_part};
 ghost use Rattle.graphql_printer.specs.inner.ShownRequests.{Fragment as FragmentTree, a_fragment, after_fragments, is_short as is_short_tree, lent_name, shown_alias, shown_condition, shown_definition, shown_fragment, shown_full, shown_name, shown_operation, shown_request, shown_selection, shown_selections, shown_set, shown_spread, shown_variable};
 
-use crate::documents::lay_out;
 use crate::nodes::{Outcome, Print, each, in_parentheses, maybe, sign, word};
 use crate::parts::{operation_word, print_arguments, print_default};
 use crate::places::stands_before;
+use crate::writer::Writer;
 use graphql_request_trees::{
     ExecutableDocument, Field, FragmentDefinition, FragmentSpread, InlineFragment, NameMap,
     OperationDefinition, Selection, SelectionSet, TypeCondition, VariableDefinition,
@@ -35,16 +35,16 @@ use std::alloc::{AllocError, Global};
 pub fn print_query(alloc: Global, document: &ExecutableDocument) -> Result<String, AllocError>
     ensures { IfOk result (λ s. IsPrinted requests document_of document.now (string_bytes s)) }
 {
-    let mut raw = String::new(alloc);
-    print_request(&mut raw, document)?;
-    lay_out(alloc, raw)
+    let mut tokens = Writer::new(alloc);
+    print_request(&mut tokens, document)?;
+    tokens.lay_out(alloc)
 }
 
 // Prints a request: its operations in their order and its fragments in theirs, each operation after the fragments whose
 // places are smaller.
 #[tactic(auto, using(graphql_request_trees::proofs::Requests::operations_walked))]
-fn print_request(out: &mut String, document: &ExecutableDocument) -> Outcome
-    ensures { Prints result (string_bytes out.old) (string_bytes out.new)
+fn print_request(out: &mut Writer, document: &ExecutableDocument) -> Outcome
+    ensures { Prints result out.old out.new
         (shown_request (document_tree document.now)) }
 {
     let fragments = &document.fragments;
@@ -58,15 +58,15 @@ fn print_request(out: &mut String, document: &ExecutableDocument) -> Outcome
 
 // The fragments from an index on whose places are smaller than one. Gives the index of the first whose isn't.
 fn print_fragments_before(
-    out: &mut String,
+    out: &mut Writer,
     fragments: &NameMap<Positioned<FragmentDefinition>>,
     from: usize,
     pos: Pos,
 ) -> Result<usize, AllocError>
     ensures { IfOk result (λ next. (definition : Definition) → (others : List FragmentTree → List Definition) →
-        string_bytes out.new ++ spelled (flat_map shown_definition
+        out.new ++ spelled (flat_map shown_definition
         (definition ∷ others (map (entry_tree fragment_tree) (drop next fragments.now.entries))))
-        ≡ string_bytes out.old ++ spelled (flat_map shown_definition
+        ≡ out.old ++ spelled (flat_map shown_definition
         (after_fragments pos definition others (map (entry_tree fragment_tree) (drop from fragments.now.entries))))) }
 {
     for index in from..fragments.len() {
@@ -83,11 +83,11 @@ fn print_fragments_before(
 
 // The fragments from an index on.
 fn print_fragments(
-    out: &mut String,
+    out: &mut Writer,
     fragments: &NameMap<Positioned<FragmentDefinition>>,
     from: usize,
 ) -> Outcome
-    ensures { OnOk result (string_bytes out.new ++ spelled [] ≡ string_bytes out.old ++ spelled
+    ensures { OnOk result (out.new ++ spelled [] ≡ out.old ++ spelled
         (flat_map shown_definition
         (map a_fragment (map (entry_tree fragment_tree) (drop from fragments.now.entries))))) }
 {
@@ -101,11 +101,11 @@ fn print_fragments(
 }
 
 fn print_operation(
-    out: &mut String,
+    out: &mut Writer,
     name: Option<&Name>,
     operation: &OperationDefinition,
 ) -> Outcome
-    ensures { Prints result (string_bytes out.old) (string_bytes out.new)
+    ensures { Prints result out.old out.new
         (shown_operation (lent_name name.entry) (operation_tree operation.now)) }
 {
     if is_short(name, operation) {
@@ -124,8 +124,8 @@ fn is_short(name: Option<&Name>, operation: &OperationDefinition) -> bool
         && operation.directives.is_empty()
 }
 
-fn print_in_full(out: &mut String, name: Option<&Name>, operation: &OperationDefinition) -> Outcome
-    ensures { Prints result (string_bytes out.old) (string_bytes out.new)
+fn print_in_full(out: &mut Writer, name: Option<&Name>, operation: &OperationDefinition) -> Outcome
+    ensures { Prints result out.old out.new
         (shown_full (lent_name name.entry) (operation_tree operation.now)) }
 {
     word(out, operation_word(operation.ty))?;
@@ -135,8 +135,8 @@ fn print_in_full(out: &mut String, name: Option<&Name>, operation: &OperationDef
     print_set(out, &operation.selection_set.node)
 }
 
-fn print_optional_name(out: &mut String, name: Option<&Name>) -> Outcome
-    ensures { Prints result (string_bytes out.old) (string_bytes out.new)
+fn print_optional_name(out: &mut Writer, name: Option<&Name>) -> Outcome
+    ensures { Prints result out.old out.new
         (shown_part shown_name (lent_name name.entry)) }
 {
     match name {
@@ -145,8 +145,8 @@ fn print_optional_name(out: &mut String, name: Option<&Name>) -> Outcome
     }
 }
 
-fn print_fragment(out: &mut String, name: &Name, fragment: &FragmentDefinition) -> Outcome
-    ensures { Prints result (string_bytes out.old) (string_bytes out.new)
+fn print_fragment(out: &mut Writer, name: &Name, fragment: &FragmentDefinition) -> Outcome
+    ensures { Prints result out.old out.new
         (shown_fragment name.now (fragment_tree fragment.now)) }
 {
     word(out, "fragment")?;
@@ -159,7 +159,7 @@ fn print_fragment(out: &mut String, name: &Name, fragment: &FragmentDefinition) 
 impl Print for VariableDefinition {
     ghost form = { form variable_definition_tree shown_variable };
 
-    fn print(&self, out: &mut String) -> Outcome {
+    fn print(&self, out: &mut Writer) -> Outcome {
         sign(out, "$")?;
         word(out, self.name.node.as_str())?;
         sign(out, ":")?;
@@ -172,7 +172,7 @@ impl Print for VariableDefinition {
 impl Print for TypeCondition {
     ghost form = { form type_condition_tree shown_condition };
 
-    fn print(&self, out: &mut String) -> Outcome {
+    fn print(&self, out: &mut Writer) -> Outcome {
         word(out, "on")?;
         word(out, self.on.node.as_str())
     }
@@ -181,7 +181,7 @@ impl Print for TypeCondition {
 impl Print for FragmentSpread {
     ghost form = { form fragment_spread_tree shown_spread };
 
-    fn print(&self, out: &mut String) -> Outcome {
+    fn print(&self, out: &mut Writer) -> Outcome {
         sign(out, "...")?;
         word(out, self.fragment_name.node.as_str())?;
         each(out, &self.directives)
@@ -190,8 +190,8 @@ impl Print for FragmentSpread {
 
 // A set in its braces; nothing for an empty one.
 #[cycle(set)]
-fn print_set(out: &mut String, set: &SelectionSet) -> Outcome
-    ensures { Prints result (string_bytes out.old) (string_bytes out.new)
+fn print_set(out: &mut Writer, set: &SelectionSet) -> Outcome
+    ensures { Prints result out.old out.new
         (shown_set (selection_set_tree set.now)) }
 {
     if set.items.is_empty() {
@@ -203,8 +203,8 @@ fn print_set(out: &mut String, set: &SelectionSet) -> Outcome
 }
 
 #[cycle(set)]
-fn print_selections(out: &mut String, set: &SelectionSet) -> Outcome
-    ensures { Prints result (string_bytes out.old) (string_bytes out.new)
+fn print_selections(out: &mut Writer, set: &SelectionSet) -> Outcome
+    ensures { Prints result out.old out.new
         (shown_selections (selection_set_tree set.now)) }
 {
     for item in &set.items {
@@ -214,8 +214,8 @@ fn print_selections(out: &mut String, set: &SelectionSet) -> Outcome
 }
 
 #[cycle(set)]
-fn print_selection(out: &mut String, selection: &Selection) -> Outcome
-    ensures { Prints result (string_bytes out.old) (string_bytes out.new)
+fn print_selection(out: &mut Writer, selection: &Selection) -> Outcome
+    ensures { Prints result out.old out.new
         (shown_selection (selection_tree selection.now)) }
 {
     match selection {
@@ -226,8 +226,8 @@ fn print_selection(out: &mut String, selection: &Selection) -> Outcome
 }
 
 #[cycle(set)]
-fn print_field(out: &mut String, field: &Positioned<Field>) -> Outcome
-    ensures { Prints result (string_bytes out.old) (string_bytes out.new)
+fn print_field(out: &mut Writer, field: &Positioned<Field>) -> Outcome
+    ensures { Prints result out.old out.new
         (shown_selection (of_field (placed field_tree field.now))) }
 {
     print_alias(out, &field.node.alias)?;
@@ -237,8 +237,8 @@ fn print_field(out: &mut String, field: &Positioned<Field>) -> Outcome
     print_set(out, &field.node.selection_set.node)
 }
 
-fn print_alias(out: &mut String, alias: &Option<Positioned<Name>>) -> Outcome
-    ensures { Prints result (string_bytes out.old) (string_bytes out.new)
+fn print_alias(out: &mut Writer, alias: &Option<Positioned<Name>>) -> Outcome
+    ensures { Prints result out.old out.new
         (shown_part shown_alias alias.now) }
 {
     let Some(alias) = alias else {
@@ -249,8 +249,8 @@ fn print_alias(out: &mut String, alias: &Option<Positioned<Name>>) -> Outcome
 }
 
 #[cycle(set)]
-fn print_inline_fragment(out: &mut String, fragment: &Positioned<InlineFragment>) -> Outcome
-    ensures { Prints result (string_bytes out.old) (string_bytes out.new)
+fn print_inline_fragment(out: &mut Writer, fragment: &Positioned<InlineFragment>) -> Outcome
+    ensures { Prints result out.old out.new
         (shown_selection (of_inline_fragment (placed inline_fragment_tree fragment.now))) }
 {
     sign(out, "...")?;

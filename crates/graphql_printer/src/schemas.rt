@@ -12,11 +12,11 @@ ghost use Rattle.graphql_printer.specs.inner.Prints.{Prints, form};
 ghost use Rattle.graphql_printer.specs.inner.Shown.{shown_between};
 ghost use Rattle.graphql_printer.specs.inner.ShownSchemas.{Root, shown_text, shown_description, shown_name, shown_input_value, shown_field, shown_enum_value, kind_word as kind_word_of, shown_interfaces, shown_contents, shown_extend, shown_type_definition, with_root, roots_of, shown_root, shown_schema, shown_repeatable, shown_location, shown_directive_definition, shown_definition, shown_file};
 
-use crate::documents::lay_out;
 use crate::nodes::{Outcome, Print, each, in_braces, in_parentheses, separated, sign, word};
 use crate::parts::{operation_word, print_default, print_string};
 use crate::places::stands_before;
-use graphql_layout::blocks::{may_be_block, push_block};
+use crate::writer::Writer;
+use graphql_layout::blocks::may_be_block;
 use graphql_parser::Positioned;
 use graphql_parser::types::{
     DirectiveDefinition, DirectiveLocation, EnumValueDefinition, FieldDefinition,
@@ -36,14 +36,14 @@ pub fn print_schema(alloc: Global, document: &ServiceDocument) -> Result<String,
     // If the tree is that of a text within some limits, the printed text has the same within them, but for places.
     ensures { IfOk result (λ s. IsPrinted schemas document_of document.now (string_bytes s)) }
 {
-    let mut tokens = String::new(alloc);
+    let mut tokens = Writer::new(alloc);
     print_file(&mut tokens, document)?;
-    lay_out(alloc, tokens)
+    tokens.lay_out(alloc)
 }
 
 // The definitions and extensions in their order.
-fn print_file(out: &mut String, document: &ServiceDocument) -> Outcome
-    ensures { Prints result (string_bytes out.old) (string_bytes out.new)
+fn print_file(out: &mut Writer, document: &ServiceDocument) -> Outcome
+    ensures { Prints result out.old out.new
         (shown_file (schema_document_tree document.now)) }
 {
     for definition in &document.definitions {
@@ -52,8 +52,8 @@ fn print_file(out: &mut String, document: &ServiceDocument) -> Outcome
     Ok(())
 }
 
-fn print_definition(out: &mut String, definition: &TypeSystemDefinition) -> Outcome
-    ensures { Prints result (string_bytes out.old) (string_bytes out.new)
+fn print_definition(out: &mut Writer, definition: &TypeSystemDefinition) -> Outcome
+    ensures { Prints result out.old out.new
         (shown_definition (definition_tree definition.now)) }
 {
     match definition {
@@ -64,8 +64,8 @@ fn print_definition(out: &mut String, definition: &TypeSystemDefinition) -> Outc
 }
 
 // The keyword of an extension, where it is one.
-fn print_extend(out: &mut String, is_extension: bool) -> Outcome
-    ensures { Prints result (string_bytes out.old) (string_bytes out.new)
+fn print_extend(out: &mut Writer, is_extension: bool) -> Outcome
+    ensures { Prints result out.old out.new
         (shown_extend is_extension) }
 {
     if !is_extension {
@@ -74,8 +74,8 @@ fn print_extend(out: &mut String, is_extension: bool) -> Outcome
     word(out, "extend")
 }
 
-fn print_schema_definition(out: &mut String, schema: &SchemaDefinition) -> Outcome
-    ensures { Prints result (string_bytes out.old) (string_bytes out.new)
+fn print_schema_definition(out: &mut Writer, schema: &SchemaDefinition) -> Outcome
+    ensures { Prints result out.old out.new
         (shown_schema (schema_definition_tree schema.now)) }
 {
     print_description(out, &schema.description)?;
@@ -91,8 +91,8 @@ type Root<'a> = (OperationType, &'a Option<Positioned<Name>>);
 type Roots<'a> = (Root<'a>, Root<'a>, Root<'a>);
 
 // The roots in the order of their places; nothing for none.
-fn print_roots(out: &mut String, schema: &SchemaDefinition) -> Outcome
-    ensures { Prints result (string_bytes out.old) (string_bytes out.new)
+fn print_roots(out: &mut Writer, schema: &SchemaDefinition) -> Outcome
+    ensures { Prints result out.old out.new
         (shown_between "{" "}" shown_root (roots_of (schema_definition_tree schema.now))) }
 {
     let roots = ordered_roots(schema);
@@ -154,8 +154,8 @@ fn goes_before(one: &Option<Positioned<Name>>, other: &Option<Positioned<Name>>)
     }
 }
 
-fn print_root(out: &mut String, root: Root<'_>) -> Outcome
-    ensures { Prints result (string_bytes out.old) (string_bytes out.new)
+fn print_root(out: &mut Writer, root: Root<'_>) -> Outcome
+    ensures { Prints result out.old out.new
         (shown_maybe_root root.entry.0 root.entry.1.now) }
 {
     let Some(name) = root.1 else {
@@ -166,8 +166,8 @@ fn print_root(out: &mut String, root: Root<'_>) -> Outcome
     word(out, name.node.as_str())
 }
 
-fn print_type_definition(out: &mut String, ty: &TypeDefinition) -> Outcome
-    ensures { Prints result (string_bytes out.old) (string_bytes out.new)
+fn print_type_definition(out: &mut Writer, ty: &TypeDefinition) -> Outcome
+    ensures { Prints result out.old out.new
         (shown_type_definition (type_definition_tree ty.now)) }
 {
     print_description(out, &ty.description)?;
@@ -192,8 +192,8 @@ fn kind_word(kind: &TypeKind) -> &'static str
     }
 }
 
-fn print_interfaces(out: &mut String, kind: &TypeKind) -> Outcome
-    ensures { Prints result (string_bytes out.old) (string_bytes out.new)
+fn print_interfaces(out: &mut Writer, kind: &TypeKind) -> Outcome
+    ensures { Prints result out.old out.new
         (shown_interfaces (kind_tree kind.now)) }
 {
     match kind {
@@ -204,8 +204,8 @@ fn print_interfaces(out: &mut String, kind: &TypeKind) -> Outcome
 }
 
 // What stands after the directives of a type.
-fn print_contents(out: &mut String, kind: &TypeKind) -> Outcome
-    ensures { Prints result (string_bytes out.old) (string_bytes out.new)
+fn print_contents(out: &mut Writer, kind: &TypeKind) -> Outcome
+    ensures { Prints result out.old out.new
         (shown_contents (kind_tree kind.now)) }
 {
     match kind {
@@ -218,8 +218,8 @@ fn print_contents(out: &mut String, kind: &TypeKind) -> Outcome
     }
 }
 
-fn print_description(out: &mut String, description: &Option<Positioned<String>>) -> Outcome
-    ensures { Prints result (string_bytes out.old) (string_bytes out.new)
+fn print_description(out: &mut Writer, description: &Option<Positioned<String>>) -> Outcome
+    ensures { Prints result out.old out.new
         (shown_description (option_map (placed string_bytes) description.now)) }
 {
     match description {
@@ -229,14 +229,13 @@ fn print_description(out: &mut String, description: &Option<Positioned<String>>)
 }
 
 // A text as a block string where that keeps it, and else in quotes.
-fn print_text(out: &mut String, text: &str) -> Outcome
-    ensures { Prints result (string_bytes out.old) (string_bytes out.new) (shown_text text.now) }
+fn print_text(out: &mut Writer, text: &str) -> Outcome
+    ensures { Prints result out.old out.new (shown_text text.now) }
 {
     if !is_in_block(text) {
         return print_string(out, text);
     }
-    push_block(out, text, 0)?;
-    out.push(' ')
+    out.block(text)
 }
 
 fn is_in_block(text: &str) -> bool
@@ -248,7 +247,7 @@ fn is_in_block(text: &str) -> bool
 impl Print for Name {
     ghost form = { form (λ name. name) shown_name };
 
-    fn print(&self, out: &mut String) -> Outcome {
+    fn print(&self, out: &mut Writer) -> Outcome {
         word(out, self.as_str())
     }
 }
@@ -256,7 +255,7 @@ impl Print for Name {
 impl Print for FieldDefinition {
     ghost form = { form field_definition_tree shown_field };
 
-    fn print(&self, out: &mut String) -> Outcome {
+    fn print(&self, out: &mut Writer) -> Outcome {
         print_description(out, &self.description)?;
         word(out, self.name.node.as_str())?;
         in_parentheses(out, &self.arguments)?;
@@ -269,7 +268,7 @@ impl Print for FieldDefinition {
 impl Print for InputValueDefinition {
     ghost form = { form input_value_tree shown_input_value };
 
-    fn print(&self, out: &mut String) -> Outcome {
+    fn print(&self, out: &mut Writer) -> Outcome {
         print_description(out, &self.description)?;
         word(out, self.name.node.as_str())?;
         sign(out, ":")?;
@@ -282,15 +281,15 @@ impl Print for InputValueDefinition {
 impl Print for EnumValueDefinition {
     ghost form = { form enum_value_tree shown_enum_value };
 
-    fn print(&self, out: &mut String) -> Outcome {
+    fn print(&self, out: &mut Writer) -> Outcome {
         print_description(out, &self.description)?;
         word(out, self.value.node.as_str())?;
         each(out, &self.directives)
     }
 }
 
-fn print_directive(out: &mut String, directive: &DirectiveDefinition) -> Outcome
-    ensures { Prints result (string_bytes out.old) (string_bytes out.new)
+fn print_directive(out: &mut Writer, directive: &DirectiveDefinition) -> Outcome
+    ensures { Prints result out.old out.new
         (shown_directive_definition (directive_definition_tree directive.now)) }
 {
     print_description(out, &directive.description)?;
@@ -302,8 +301,8 @@ fn print_directive(out: &mut String, directive: &DirectiveDefinition) -> Outcome
     separated(out, "on", "|", &directive.locations)
 }
 
-fn print_repeatable(out: &mut String, is_repeatable: bool) -> Outcome
-    ensures { Prints result (string_bytes out.old) (string_bytes out.new)
+fn print_repeatable(out: &mut Writer, is_repeatable: bool) -> Outcome
+    ensures { Prints result out.old out.new
         (shown_repeatable is_repeatable) }
 {
     if !is_repeatable {
@@ -315,7 +314,7 @@ fn print_repeatable(out: &mut String, is_repeatable: bool) -> Outcome
 impl Print for DirectiveLocation {
     ghost form = { form (λ location. location) shown_location };
 
-    fn print(&self, out: &mut String) -> Outcome {
+    fn print(&self, out: &mut Writer) -> Outcome {
         word(out, self.as_str())
     }
 }

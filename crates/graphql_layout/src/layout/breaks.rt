@@ -8,28 +8,27 @@ use std::alloc::{AllocError, Global};
 // The arguments of a field are broken where it would be longer than this with them.
 const LONGEST_CALL: usize = 80;
 
-/// A text before it is laid out.
+/// How a text is to be laid out.
 #[derive(Debug, Drop)]
 pub struct Plan {
-    /// What each token is among those before it, in their order.
-    pub steps: Vec<Step>,
-    /// Whether each bracket is broken over lines, in the order in which they open. Sets are, and what has a comment in it, lists
-    /// and objects that were broken after the opening bracket, definitions of arguments of which one is described, and the
-    /// arguments of a field that are too long.
-    pub broken: Vec<bool>,
+    // What each token is among those before it, in their order.
+    pub(crate) steps: Vec<Step>,
+    // Whether each bracket is broken over lines, in the order in which they open. Sets are, and what has a comment in it, lists
+    // and objects that were broken after the opening bracket, definitions of arguments of which one is described, and the
+    // arguments of a field that are too long.
+    pub(crate) broken: Vec<bool>,
 }
 
-/// Looks a text over. It fails only where memory runs out.
+/// The plan of a text. It fails only where memory runs out.
 pub fn planned(alloc: Global, text: &str) -> Result<Plan, AllocError> {
-    let mut measure = Measure::new(alloc);
+    let mut planner = Planner::new(alloc);
     let mut end = 0;
     for token in Tokens::new(text) {
         let gap = text.get(end..token.start).unwrap_or("");
-        measure.pass(alloc, gap, token.kind, token.text)?;
+        planner.pass(gap, token.kind, token.text)?;
         end = token.start.saturating_add(token.text.len());
     }
-    let Measure { steps, broken, .. } = measure;
-    Ok(Plan { steps, broken })
+    Ok(planner.finish())
 }
 
 // An open bracket. Columns are those of a text on one line.
@@ -46,8 +45,10 @@ struct Open {
     stop: Option<usize>,
 }
 
+/// Makes the plan of a text while its tokens pass by.
 #[derive(Debug, Drop)]
-struct Measure {
+pub struct Planner {
+    alloc: Global,
     walk: Walk,
     steps: Vec<Step>,
     open: Vec<Open>,
@@ -57,9 +58,11 @@ struct Measure {
     member: usize,
 }
 
-impl Measure {
-    fn new(alloc: Global) -> Measure {
-        Measure {
+impl Planner {
+    /// Before the first token.
+    pub fn new(alloc: Global) -> Planner {
+        Planner {
+            alloc,
             walk: Walk::new(alloc),
             steps: Vec::new(alloc),
             open: Vec::new(alloc),
@@ -69,13 +72,8 @@ impl Measure {
         }
     }
 
-    fn pass(
-        &mut self,
-        alloc: Global,
-        gap: &str,
-        kind: TokenKind,
-        spelling: &str,
-    ) -> Result<(), AllocError> {
+    /// Passes the next token, after what is ignored before it. The end is one too. It fails only where memory runs out.
+    pub fn pass(&mut self, gap: &str, kind: TokenKind, spelling: &str) -> Result<(), AllocError> {
         let step = self.walk.step(kind, spelling)?;
         self.steps.push(step)?;
         if self.breaks(gap, &step) {
@@ -85,7 +83,7 @@ impl Measure {
         if step.role == Role::Member && self.is_in(Bracket::Set) {
             self.member = self.column;
         }
-        let width = self.width(alloc, kind, spelling)?;
+        let width = self.width(kind, spelling)?;
         self.column = self.column.saturating_add(width);
         if step.role == Role::Closing {
             self.close();
@@ -96,13 +94,19 @@ impl Measure {
         }
     }
 
+    /// The plan of the tokens that passed.
+    pub fn finish(self) -> Plan {
+        let Planner { steps, broken, .. } = self;
+        Plan { steps, broken }
+    }
+
     // How long a token is. Only a string has other characters than ASCII, and those past U+FFFF count twice. A block string is
     // measured as it is written anew, where it is among the arguments of a field.
-    fn width(&self, alloc: Global, kind: TokenKind, spelling: &str) -> Result<usize, AllocError> {
+    fn width(&self, kind: TokenKind, spelling: &str) -> Result<usize, AllocError> {
         if kind.is_block() && self.is_in_call() {
             let end = spelling.len().saturating_sub(3);
-            let value = block_string_value(alloc, spelling.get(3..end).unwrap_or(""))?;
-            let mut written = String::new(alloc);
+            let value = block_string_value(self.alloc, spelling.get(3..end).unwrap_or(""))?;
+            let mut written = String::new(self.alloc);
             push_block(&mut written, &value, 0)?;
             return Ok(written.encode_utf16().count());
         }

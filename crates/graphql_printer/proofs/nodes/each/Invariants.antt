@@ -8,4 +8,4 @@ abbrev pub invariant-loop-node : goal.invariant-loop-node
 invariant-loop-node g l =
     let rest = spelled (flat_map (shown_node g.N.Print.form.shown) (map (placed g.N.Print.form.tree) (drop l.node-index l.node-items))) in
     let all = spelled (flat_map (shown_node g.N.Print.form.shown) (map (placed g.N.Print.form.tree) l.node-items)) in
-    string_bytes l.out ++ rest ≡ string_bytes l.initial.out ++ all
+    l.out ++ rest ≡ l.initial.out ++ all

@@ -10,4 +10,4 @@ invariant-loop-node g l =
     let marked = λ (node : _). record { kind = Punct; spelling = l.mark } ∷ shown_node g.N.Print.form.shown node in
     let rest = spelled (flat_map marked (map (placed g.N.Print.form.tree) (drop l.node-index l.others))) in
     let all = spelled (flat_map marked (map (placed g.N.Print.form.tree) l.others)) in
-    string_bytes l.out ++ rest ≡ string_bytes l.initial.out ++ all
+    l.out ++ rest ≡ l.initial.out ++ all

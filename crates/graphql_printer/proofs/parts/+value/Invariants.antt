@@ -22,10 +22,10 @@ abbrev pub invariant-print_items-loop-item : goal.invariant-print_items-loop-ite
 invariant-print_items-loop-item l =
     (goal.iterator-print_items-loop-item).can_next l.item-iterator
     × (goal.iterator-print_items-loop-item).is_finite l.item-iterator
-    × IsPrintedTo size_of_items shown_items (trees_of (list_items l.fn.items)) (trees_of (items_left l.item-iterator)) (string_bytes l.initial.out) (string_bytes l.out)
+    × IsPrintedTo size_of_items shown_items (trees_of (list_items l.fn.items)) (trees_of (items_left l.item-iterator)) l.initial.out l.out
 
 abbrev pub invariant-print_fields-loop-name : goal.invariant-print_fields-loop-name
 invariant-print_fields-loop-name l =
     (goal.iterator-print_fields-loop-name).can_next l.name-iterator
     × (goal.iterator-print_fields-loop-name).is_finite l.name-iterator
-    × IsPrintedTo size_of_fields shown_fields (fields_of (object_fields l.fn.fields)) (fields_of (fields_left l.name-iterator)) (string_bytes l.initial.out) (string_bytes l.out)
+    × IsPrintedTo size_of_fields shown_fields (fields_of (object_fields l.fn.fields)) (fields_of (fields_left l.name-iterator)) l.initial.out l.out

@@ -7,4 +7,4 @@ abbrev pub invariant-loop-argument : goal.invariant-loop-argument
 invariant-loop-argument g l =
     let rest = spelled (flat_map (shown_argument_by g.V.Print.form.shown) (map (argument_by g.V.Print.form.tree) (drop l.argument-index l.argument-items))) in
     let all = spelled (flat_map (shown_argument_by g.V.Print.form.shown) (map (argument_by g.V.Print.form.tree) l.argument-items)) in
-    string_bytes l.out ++ rest ≡ string_bytes l.initial.out ++ all
+    l.out ++ rest ≡ l.initial.out ++ all

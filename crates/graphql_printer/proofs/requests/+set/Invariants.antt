@@ -9,4 +9,4 @@ abbrev pub invariant-print_selections-loop-item : goal.invariant-print_selection
 invariant-print_selections-loop-item l =
     let rest = spelled (shown_selections (set_of (selection_trees (drop l.item-index l.item-items)))) in
     let all = spelled (shown_selections (set_of (selection_trees l.item-items))) in
-    string_bytes l.out ++ rest ≡ string_bytes l.initial.out ++ all
+    l.out ++ rest ≡ l.initial.out ++ all

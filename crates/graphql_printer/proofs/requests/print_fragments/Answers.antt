@@ -13,4 +13,4 @@ loop-index-preserved c =
     let shown = λ (fragments : List _). flat_map shown_definition (map a_fragment (map (entry_tree fragment_tree) fragments)) in
     let here = at_index entries c.loop-index.index _ c.in-Some.ensures.entry in
     part_printed (shown_fragment c.in-Some.name.now (fragment_tree c.in-Some.fragment.now.node)) (shown (drop (c.loop-index.index + 1) entries)) c.in_ok-print_fragment.ensures
-    (ap (λ fragments. string_bytes c.loop-index.out ++ spelled (shown fragments)) (sym here) ∙ c.loop-index.invariant)
+    (ap (λ fragments. c.loop-index.out ++ spelled (shown fragments)) (sym here) ∙ c.loop-index.invariant)

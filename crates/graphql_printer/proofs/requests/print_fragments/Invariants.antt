@@ -9,4 +9,4 @@ abbrev pub invariant-loop-index : goal.invariant-loop-index
 invariant-loop-index l =
     let rest = spelled (flat_map shown_definition (map a_fragment (map (entry_tree fragment_tree) (drop l.index l.fragments.entries)))) in
     let all = spelled (flat_map shown_definition (map a_fragment (map (entry_tree fragment_tree) (drop l.from l.fragments.entries)))) in
-    string_bytes l.out ++ rest ≡ string_bytes l.initial.out ++ all
+    l.out ++ rest ≡ l.initial.out ++ all

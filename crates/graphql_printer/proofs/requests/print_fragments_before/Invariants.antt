@@ -8,5 +8,5 @@ use Rattle.graphql_printer.proofs.requests.print_fragments_before.Given as goal
 
 abbrev pub invariant-loop-index : goal.invariant-loop-index
 invariant-loop-index l = (definition : Definition) → (others : List Fragment → List Definition)
-    → string_bytes l.out ++ spelled (flat_map shown_definition (after_fragments l.pos definition others (map (entry_tree fragment_tree) (drop l.index l.fragments.entries))))
-    ≡ string_bytes l.initial.out ++ spelled (flat_map shown_definition (after_fragments l.pos definition others (map (entry_tree fragment_tree) (drop l.from l.fragments.entries))))
+    → l.out ++ spelled (flat_map shown_definition (after_fragments l.pos definition others (map (entry_tree fragment_tree) (drop l.index l.fragments.entries))))
+    ≡ l.initial.out ++ spelled (flat_map shown_definition (after_fragments l.pos definition others (map (entry_tree fragment_tree) (drop l.from l.fragments.entries))))

@@ -8,5 +8,5 @@ use Rattle.graphql_printer.proofs.requests.print_query.Goals as goal
 pub returns : goal.returns
 returns c =
     let document = c.args.document.now in
-    query_printed document (string_bytes c.print_request.new.out) c.lay_out.result
-    (c.in_ok-print_request.ensures.ok ∙ ap (λ l. l ++ spelled (shown_request (document_tree document))) c.new-raw.ensures.bytes) c.lay_out.ensures
+    query_printed document c.print_request.new.out c.lay_out.result
+    (c.in_ok-print_request.ensures.ok ∙ ap (λ l. l ++ spelled (shown_request (document_tree document))) c.new-tokens.ensures) c.lay_out.ensures

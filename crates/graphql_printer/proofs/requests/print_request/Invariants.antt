@@ -10,5 +10,5 @@ abbrev pub invariant-loop-name : goal.invariant-loop-name
 invariant-loop-name l =
     (goal.iterator-loop-name).can_next l.name-iterator
     × (goal.iterator-loop-name).is_finite l.name-iterator
-    × (string_bytes l.out ++ spelled (flat_map shown_definition (arranged (operation_trees l.name-iterator) (map (entry_tree fragment_tree) (drop l.next l.document.fragments.entries))))
-    ≡ string_bytes l.initial.out ++ spelled (shown_request (document_tree l.document)))
+    × (l.out ++ spelled (flat_map shown_definition (arranged (operation_trees l.name-iterator) (map (entry_tree fragment_tree) (drop l.next l.document.fragments.entries))))
+    ≡ l.initial.out ++ spelled (shown_request (document_tree l.document)))

@@ -8,4 +8,4 @@ abbrev pub invariant-loop-definition : goal.invariant-loop-definition
 invariant-loop-definition l =
     let rest = spelled (shown_file (map definition_tree (drop l.definition-index l.definition-items))) in
     let all = spelled (shown_file (map definition_tree l.definition-items)) in
-    string_bytes l.out ++ rest ≡ string_bytes l.initial.out ++ all
+    l.out ++ rest ≡ l.initial.out ++ all

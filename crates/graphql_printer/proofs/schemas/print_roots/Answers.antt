@@ -7,7 +7,7 @@ pub returns-then-are_none : goal.returns-then-are_none
 returns-then-are_none c =
     let roots = c.ordered_roots-roots.result in
     as_tokens (sym (no_roots roots.0.1.now roots.1.1.now roots.2.1.now roots.0.0 roots.1.0 roots.2.0 _ (sym c.are_none.ensures ∙ c.if-are_none.true) c.ordered_roots-roots.ensures))
-    (nothing (string_bytes c.args.out.now))
+    (nothing c.args.out.now)
 
 pub returns : goal.returns
 returns c =
