@@ -1,6 +1,5 @@
 -- A text up to its next line feed, quote or backslash, and what is written of it.
-use Rattle.std.proofs.Common.{◌≡◌, ◌≢◌, ℕ, zero, suc, ◌+◌, ◌<◌, ◌≤◌, ◌⊎◌, inl, inr, Bool, true, false, cond, not, eqb, ◌&&◌, ◌||◌, Option, Some, None, List, [], ◌∷◌, ◌++◌, length, take, drop, get_or, refl, sym, ap, ap₂, ◌∙◌, subst, arith, append_assoc, append-nil, length-drop, one-add}
-use Rattle.std.proofs.lemmas.Bool.{cases_lt}
+use Rattle.std.proofs.Common.{◌≡◌, ◌≢◌, ℕ, zero, suc, ◌<◌, ◌≤◌, Bool, true, false, cond, not, eqb, ◌&&◌, ◌||◌, Some, None, List, [], ◌∷◌, ◌++◌, length, take, drop, get_or, refl, sym, ap, ap₂, ◌∙◌, subst, arith, append_assoc, append-nil, length-drop, one-add}
 use Rattle.std.proofs.lemmas.Bool.Decides.{nat_tests}
 use Rattle.std.proofs.lemmas.List.{append_cancel_right, take-append-drop, take_all, get_or-drop}
 use Rattle.std.proofs.lemmas.List.Sums.{prefix_len_is}
@@ -276,8 +275,7 @@ turned i rest plain marked after opens next old out mid new value c s e m =
     ap (is_open 0 opens) c.whole ∙ ap (λ (x : List ℕ). is_open 0 opens (chars plain ++ x)) front.2 ∙ open_until opens opens (chars plain) front.0 front.1 c.are ∙ sym (ap (is_open 0 opens) front.2) in
     let bytes : encode_utf8_all (body i 0 (chars rest)) ≡ plain ++ encode_utf8_all (body i 0 (chars marked)) =
     ap encode_utf8_all (ap (body i 0) c.whole ∙ plain_body i (chars plain) (chars marked) c.are) ∙ encodes-append (chars plain) (body i 0 (chars marked))
-    ∙ ap (λ (x : List ℕ). x ++ encode_utf8_all (body i 0 (chars marked))) (encodes-chars plain c.plain_utf8) in
-    (
+    ∙ ap (λ (x : List ℕ). x ++ encode_utf8_all (body i 0 (chars marked))) (encodes-chars plain c.plain_utf8) in (
       m.written ∙ appended out plain mid (encode_utf8_all (body i 0 (chars rest))) (encode_utf8_all (body i 0 (chars marked))) e bytes ∙ s.0,
       sym (m.still opens) ∙ sym first ∙ s.1,
     )

@@ -190,7 +190,11 @@ fn push_placed(out: &mut String, c: char, indent: usize) -> Result<(), AllocErro
 
 // Writes what stands for the line feed, the quotes or the backslash at the front of the text. It gives what is left of the text,
 // and whether that is a quote or a backslash that closing quotes would be read with.
-fn push_mark<'a>(out: &mut String, text: &'a str, indent: usize) -> Result<(&'a str, bool), AllocError>
+fn push_mark<'a>(
+    out: &mut String,
+    text: &'a str,
+    indent: usize,
+) -> Result<(&'a str, bool), AllocError>
     requires { BeginsWithMark text.now }
     ensures { IfOk result (λ r. IsMarked indent text.now r.0.now r.1 (string_bytes out.old) (string_bytes out.new)) }
 {

@@ -23,7 +23,13 @@ use std::alloc::{AllocError, Global};
 const INDENT: usize = 2;
 
 // Writes a token: a block string anew from its value, as deep as its place is, and another as it is spelled.
-fn push_token(alloc: Global, sheet: &mut Sheet, place: &Place, kind: TokenKind, text: &str) -> Result<(), AllocError>
+fn push_token(
+    alloc: Global,
+    sheet: &mut Sheet,
+    place: &Place,
+    kind: TokenKind,
+    text: &str,
+) -> Result<(), AllocError>
     requires { Spells kind text.now }
     ensures { OnOk result (IsAdded (record { kind = kind; spelling = text.now }) sheet.old sheet.new) }
 {

@@ -53,7 +53,12 @@ fn push_spelling(alloc: Global, out: &mut String, token: &Token<'_>) -> Result<(
 }
 
 // Writes a token in few characters, after a blank where it may not touch what ends so, and gives how it ends itself.
-fn push_token(alloc: Global, out: &mut String, ending: Ending, token: &Token<'_>) -> Result<Ending, AllocError>
+fn push_token(
+    alloc: Global,
+    out: &mut String,
+    ending: Ending,
+    token: &Token<'_>,
+) -> Result<Ending, AllocError>
     requires { IsProper (seen token.now) }
     ensures written { OnOk result (string_bytes out.new ≡ string_bytes out.old
         ++ (gap_before ending (shortened (seen token.now).bare).spelling ++ (shortened (seen token.now).bare).spelling)) }

@@ -57,7 +57,13 @@ impl Measure {
         }
     }
 
-    fn pass(&mut self, alloc: Global, gap: &str, kind: TokenKind, spelling: &str) -> Result<(), AllocError> {
+    fn pass(
+        &mut self,
+        alloc: Global,
+        gap: &str,
+        kind: TokenKind,
+        spelling: &str,
+    ) -> Result<(), AllocError> {
         let step = self.walk.step(kind, spelling)?;
         if self.breaks(gap, &step) {
             self.break_innermost();
