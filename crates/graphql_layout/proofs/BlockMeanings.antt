@@ -7,12 +7,11 @@ use Rattle.graphql_tokens.specs.tokens.Place.{is_line_end}
 use Rattle.graphql_tokens.specs.tokens.BlockText.{unquoted, lines_of, is_blank_char, is_blank, indent, least, common_indent, dedented, dedent, from_text, to_text, joined, block_value}
 use Rattle.graphql_tokens.proofs.BlockEnds.{to_text_more}
 use Rattle.graphql_tokens.proofs.BlockIndents.{indents, indents_text}
-use Rattle.graphql_tokens.proofs.BlockLines.{lines_some}
 use Rattle.graphql_tokens.proofs.BlockValue.{deep, same_all, from_text-all, to_text-all}
 use Rattle.graphql_layout.specs.inner.Blocks.{begins_blank, is_wide, leads, trails, blanks, line_break, break_if, body, content}
 use Rattle.graphql_layout.specs.texts.Shortened.{has}
 use Rattle.graphql_layout.proofs.BlockBodies.{and_false, lined, unquoted_break, body_unquoted}
-use Rattle.graphql_layout.proofs.BlockLayouts.{InLine, AreLines, are_lines, one_line, lines_joined, joined_lines, indented, closing, closed, spread, shown, lines_shown, blank_indented, blank_blanks, common_spread, dedented_indented, dedented_spread}
+use Rattle.graphql_layout.proofs.BlockLayouts.{InLine, AreLines, are_lines, one_line, lines_joined, joined_lines, indented, closed, spread, shown, lines_shown, blank_indented, blank_blanks, common_spread, dedented_indented, dedented_spread}
 
 -- ---- without its backslashes
 

@@ -1,6 +1,6 @@
 -- The value of a block string has the characters of its raw text and line feeds, so a property that all of these have, its
 -- characters have.
-use Rattle.std.proofs.Common.{◌≡◌, ℕ, zero, suc, Bool, true, false, cond, eqb, nat_lt, get_or, List, [], ◌∷◌, ◌++◌, map, length, drop}
+use Rattle.std.proofs.Common.{ℕ, zero, suc, Bool, true, false, cond, eqb, nat_lt, get_or, List, [], ◌∷◌, ◌++◌, map, length, drop}
 use Rattle.std.specs.List.{AllByRecursion}
 use Rattle.graphql_tokens.specs.tokens.BlockText.{begins_quotes, unquoted, lines_of, onto_line, common_indent, dedented, dedent, from_text, to_text, joined, block_value}
 use Rattle.graphql_tokens.proofs.BlockValue.{from_text-all, to_text-all}

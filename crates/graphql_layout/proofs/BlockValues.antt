@@ -1,12 +1,11 @@
 -- The value of a block string keeps its lines in one.
-use Rattle.std.proofs.Common.{◌≡◌, ◌≢◌, ℕ, zero, suc, ◌+◌, ◌-◌, ◌≤◌, Bool, true, false, cond, eqb, ltb, ◌&&◌, ◌||◌, ◌⊎◌, inl, inr, List, [], ◌∷◌, map, length, drop, refl, sym, ap, ap₂, ◌∙◌, subst, arith}
+use Rattle.std.proofs.Common.{◌≡◌, ◌≢◌, ℕ, zero, suc, ◌+◌, ◌-◌, ◌≤◌, Bool, true, false, cond, eqb, ltb, ◌||◌, ◌⊎◌, inl, inr, List, [], ◌∷◌, map, length, drop, refl, sym, ap, ap₂, ◌∙◌, arith}
 use Rattle.std.proofs.lemmas.Bool.Decides.{nat_tests}
 use Rattle.std.proofs.lemmas.List.Sums.{prefix_len-le-length}
 use Rattle.std.specs.List.{list_all}
 use Rattle.graphql_tokens.specs.tokens.Place.{is_line_end}
 use Rattle.graphql_tokens.specs.tokens.BlockText.{unquoted, lines_of, is_blank_char, is_blank, indent, least, common_indent, dedented, dedent, from_text, to_text, joined, block_value}
 use Rattle.graphql_tokens.proofs.BlockIndents.{indents, indents_blank, indents_text}
-use Rattle.graphql_tokens.proofs.BlockLines.{lines_some}
 use Rattle.graphql_tokens.proofs.BlockValue.{AreDeep, deep, same_all}
 use Rattle.graphql_tokens.proofs.EscapeUnits.{both}
 use Rattle.graphql_layout.specs.texts.Shortened.{has}

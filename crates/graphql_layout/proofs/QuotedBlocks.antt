@@ -1,7 +1,7 @@
 -- A block string begins and ends with three quotes.
 use Rattle.std.proofs.Common.{◌≡◌, ℕ, ◌-◌, ◌<◌, List, [], ◌∷◌, ◌++◌, length, take, drop, get_or, refl, sym, ap, ◌∙◌, subst, arith, append_assoc, length-append}
 use Rattle.std.proofs.Math.Seq.{take-append_seam}
-use Rattle.std.proofs.lemmas.Str.{encodes-append, chars-IsAscii, IsUtf8-from_ascii, IsCharBoundary-at_seam, IsCharBoundary-after_ascii}
+use Rattle.std.proofs.lemmas.Str.{encodes-append, IsCharBoundary-at_seam, IsCharBoundary-after_ascii}
 use Rattle.std.specs.Char.{IsScalar}
 use Rattle.std.specs.List.{AllByRecursion, concat}
 use Rattle.std.specs.Str.{encode_utf8_all, IsUtf8, IsCharBoundary}

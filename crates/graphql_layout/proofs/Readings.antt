@@ -14,9 +14,9 @@ use Rattle.graphql_tokens.specs.declared.lexer.TokenKind.{TokenKind}
 use Rattle.graphql_tokens.specs.declared.lexer.TokenKind.TheVariants.{Fault, End}
 use Rattle.graphql_tokens.proofs.Lists.{tokens_only}
 use Rattle.graphql_layout.specs.texts.Items.{Item, comment, word, IsItems, words}
-use Rattle.graphql_tokens.specs.tokens.Alike.{IsAlike, AreAlike}
+use Rattle.graphql_tokens.specs.tokens.Alike.{AreAlike}
 use Rattle.graphql_layout.specs.inner.Tidied.{tidied}
-use Rattle.graphql_layout.specs.texts.LaidOut.{trimmed, IsLaid, AreLaid}
+use Rattle.graphql_layout.specs.texts.LaidOut.{AreLaid}
 use Rattle.graphql_layout.specs.texts.SameTokens.{bares, bare_end}
 use Rattle.graphql_layout.proofs.Items.{ignored_item, comment_item, items_written}
 

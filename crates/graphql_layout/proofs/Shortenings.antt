@@ -1,5 +1,5 @@
 -- A token in few characters is one of its kind, means the same, touches what it touches, and is no longer.
-use Rattle.std.proofs.Common.{◌≡◌, ℕ, ◌≤◌, Bool, true, false, cond, nat_lt, ◌&&◌, ◌⊎◌, inl, inr, List, [], ◌∷◌, ◌++◌, map, length, refl, sym, ap, ap₂, ◌∙◌, subst, arith, append_assoc, length-append}
+use Rattle.std.proofs.Common.{◌≡◌, ℕ, ◌≤◌, Bool, true, false, cond, nat_lt, ◌⊎◌, inl, inr, List, [], ◌∷◌, ◌++◌, map, length, refl, sym, ap, ap₂, ◌∙◌, subst, arith, append_assoc, length-append}
 use Rattle.std.proofs.lemmas.Bool.Decides.{nat_tests}
 use lib.Utf8.{scalar}
 use Rattle.std.specs.Char.{IsScalar}
@@ -17,11 +17,11 @@ use Rattle.graphql_tokens.proofs.Propers.{text_scalars}
 use Rattle.graphql_layout.specs.declared.ending.Ending.{Ending}
 use Rattle.graphql_layout.specs.inner.Endings.{ending_by, ending_of, stops, stops_token, gap_before, joined}
 use Rattle.graphql_layout.specs.texts.SameTokens.{bare_end}
-use Rattle.graphql_layout.specs.texts.Shortened.{shortest, shorter, shortened_by, shortened}
+use Rattle.graphql_layout.specs.texts.Shortened.{shortest, shorter, shortened}
 use Rattle.graphql_layout.proofs.BlockScalars.{value_all}
 use Rattle.graphql_layout.proofs.BlockTexts.{AreScalars, shortest_spells, shortest_means}
 use Rattle.graphql_layout.proofs.Joined.{IsSpelled, ArePrintable, spelled}
-use Rattle.graphql_layout.proofs.QuotedBlocks.{Quoted, quoted, inside_is}
+use Rattle.graphql_layout.proofs.QuotedBlocks.{quoted, inside_is}
 
 -- ---- two ways
 

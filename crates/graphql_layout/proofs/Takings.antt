@@ -15,7 +15,7 @@ use Rattle.graphql_tokens.proofs.Lists.{Stands}
 use Rattle.graphql_layout.specs.texts.Items.{Item, word, IsItems, words}
 use Rattle.graphql_layout.specs.inner.Tidied.{tidied, IsAdded}
 use Rattle.graphql_layout.specs.texts.LaidOut.{AreLaid, IsLaidOut}
-use Rattle.graphql_layout.specs.texts.SameTokens.{HasFault, HasTokens}
+use Rattle.graphql_layout.specs.texts.SameTokens.{HasFault}
 use Rattle.graphql_layout.proofs.Items.{word_item, itemized, items_written, one_list}
 use Rattle.graphql_layout.proofs.Joined.{proper_of, spells_of}
 use Rattle.graphql_layout.proofs.Readings.{Seam, seam, comments_of, are_tidied, both_laid, alike_words, whole_items}

@@ -213,7 +213,7 @@ impl Sheet {
     }
 
     /// Writes a block string of the value (GraphQL October 2021, section 2.9.4), with so many blanks before each line after its first.
-    /// It fails only where memory runs out, and then there is nothing on the sheet any more.
+    /// It fails only where memory runs out, and what was on the sheet may be lost then.
     pub fn block(&mut self, value: &str, indent: usize) -> Result<(), AllocError>
         ensures ok { OnOk result (self.new ≡ self.old
             ++ word (record { kind = kinds.Block; spelling = spelled indent value.now }) ∷ []) }

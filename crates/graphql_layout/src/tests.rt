@@ -1,6 +1,7 @@
-//! A sheet, worked out by hand, and block strings, as GraphQL.js 16.6 prints them.
+//! A sheet, worked out by hand, and block strings, as GraphQL.js 16.6 prints them, alone and in texts.
 use crate::blocks::{may_be_block, push_block};
 use crate::sheet::Sheet;
+use crate::{format, minify};
 use graphql_tokens::lexer::TokenKind;
 use std::io;
 
@@ -101,6 +102,133 @@ fn block_strings_are_printed_alike(rt: HostRuntime) -> Result<(), io::Error> {
         push_block(&mut out, value, indent)?;
         assert_eq!(rt; out.as_str(), printed);
         assert_eq!(rt; may_be_block(value), is_kept);
+    }
+    Ok(())
+}
+
+// A text, and as GraphQL.js prints its tree.
+const LAID_OUT: [(&str, &str); 14] = [
+    (
+        "type A{\"\"\" first\n   second\n  \"\"\"a(\"\"\"x\"\"\"b:Int):Int}",
+        "type A {\n  \"\"\"\n   first\n  second\n  \"\"\"\n  a(\n    \"\"\"x\"\"\"\n    b: Int\n  ): Int\n}",
+    ),
+    (
+        "\"\"\"\nA\n  b\n\nc\n\"\"\"enum E{\"\"\"\n  one\n    two\n  \"\"\"A B}",
+        "\"\"\"\nA\n  b\n\nc\n\"\"\"\nenum E {\n  \"\"\"\n  one\n    two\n  \"\"\"\n  A\n  B\n}",
+    ),
+    (
+        "{a{b(c:\"\"\"x\n   y\n z\"\"\",d:1)}}",
+        "{\n  a {\n    b(c: \"\"\"\n    x\n      y\n    z\n    \"\"\", d: 1)\n  }\n}",
+    ),
+    (
+        "{a{b(c:\"\"\"x\ny\"\"\",d:\"this one is long enough for two lines\",e:\"and this\",f:\"\"\"z\"\n\"\"\")}}",
+        "{\n  a {\n    b(\n      c: \"\"\"\n      x\n      y\n      \"\"\"\n      d: \"this one is long enough for two lines\"\n      e: \"and this\"\n      f: \"\"\"\n      z\"\n      \"\"\"\n    )\n  }\n}",
+    ),
+    ("{a(b:\"\"\"\"\"\")}", "{\n  a(b: \"\"\"\"\"\")\n}"),
+    ("{a(b:\"\"\"  \n\t \"\"\")}", "{\n  a(b: \"\"\"\"\"\")\n}"),
+    (
+        "{a(b:\"\"\"say \"hi\"\n\"\"\")}",
+        "{\n  a(b: \"\"\"\n  say \"hi\"\n  \"\"\")\n}",
+    ),
+    (
+        "{a(b:\"\"\"say \\\n\"\"\")}",
+        "{\n  a(b: \"\"\"\n  say \\\n  \"\"\")\n}",
+    ),
+    (
+        "{a(b:\"\"\"say \\\"\"\"\n\"\"\")}",
+        "{\n  a(b: \"\"\"\n  say \\\"\"\"\n  \"\"\")\n}",
+    ),
+    (
+        "{a(b:\"\"\"  a\n    b\n   c\"\"\")}",
+        "{\n  a(b: \"\"\"\n    a\n   b\n  c\n  \"\"\")\n}",
+    ),
+    (
+        "{a(b:\"\"\"a\r\n b\r c\r\n\"\"\")}",
+        "{\n  a(b: \"\"\"\n  a\n  b\n  c\n  \"\"\")\n}",
+    ),
+    (
+        "{a(b:\"\"\"\n\ta\n\t\tb\n\"\"\")}",
+        "{\n  a(b: \"\"\"\n  a\n  \tb\n  \"\"\")\n}",
+    ),
+    (
+        "query q($a:S=\"\"\"a\n b\nc\"\"\"){x}",
+        "query q($a: S = \"\"\"\na\n b\nc\n\"\"\") {\n  x\n}",
+    ),
+    (
+        "{a(b:\"\"\"\n  éé→😀 and so on, up to the end of the line that is seventy characters\n\"\"\")}",
+        "{\n  a(\n    b: \"\"\"éé→😀 and so on, up to the end of the line that is seventy characters\"\"\"\n  )\n}",
+    ),
+];
+
+#[test]
+fn block_strings_are_laid_out(rt: HostRuntime) -> Result<(), io::Error> {
+    for (text, printed) in LAID_OUT {
+        let laid_out = format(rt.alloc(), text)?;
+        assert_eq!(rt; laid_out.as_deref(), Some(printed));
+        let again = format(rt.alloc(), printed)?;
+        assert_eq!(rt; again.as_deref(), Some(printed));
+    }
+    Ok(())
+}
+
+// A text, and as GraphQL.js strips it; but in the last a block string would have more characters then, and is kept.
+const MINIFIED: [(&str, &str); 14] = [
+    ("{a(b:\"\"\"\n  x\n  \"\"\")}", "{a(b:\"\"\"x\"\"\")}"),
+    (
+        "{a(b:\"\"\"x\n   y\n z\"\"\")}",
+        "{a(b:\"\"\"x\n  y\nz\"\"\")}",
+    ),
+    (
+        "{a(b:\"\"\"\n   x\n  y\n   z\n\"\"\")}",
+        "{a(b:\"\"\" x\ny\n z\"\"\")}",
+    ),
+    (
+        "{a(b:\"\"\"\n  x\n\n   y\n\"\"\")}",
+        "{a(b:\"\"\"\nx\n\n y\"\"\")}",
+    ),
+    ("{a(b:\"\"\"\"\"\")}", "{a(b:\"\"\"\"\"\")}"),
+    ("{a(b:\"\"\"  \n\t \"\"\")}", "{a(b:\"\"\"\"\"\")}"),
+    (
+        "{a(b:\"\"\"\n say \"hi\"\n\"\"\")}",
+        "{a(b:\"\"\"say \"hi\"\n\"\"\")}",
+    ),
+    (
+        "{a(b:\"\"\"\n say \\\n\"\"\")}",
+        "{a(b:\"\"\"say \\\n\"\"\")}",
+    ),
+    (
+        "{a(b:\"\"\"\n say \\\"\"\"\n\"\"\")}",
+        "{a(b:\"\"\"say \\\"\"\"\"\"\")}",
+    ),
+    (
+        "{a(b:\"\"\"\n \"\"\\\"\"\"\n\"\"\")}",
+        "{a(b:\"\"\"\\\"\"\"\"\"\n\"\"\")}",
+    ),
+    (
+        "{a(b:\"\"\"  a\n    b\n   c\"\"\")}",
+        "{a(b:\"\"\"  a\n b\nc\"\"\")}",
+    ),
+    (
+        "{a(b:\"\"\"a\r\n b\r c\r\n\"\"\")}",
+        "{a(b:\"\"\"a\nb\nc\"\"\")}",
+    ),
+    (
+        "{a(b:\"\"\"\n\ta\n\t\tb\n\"\"\")}",
+        "{a(b:\"\"\"\na\n\tb\"\"\")}",
+    ),
+    (
+        "{ a(b: \"\"\"\"\"\\\"\"\"\"\"\") }",
+        "{a(b:\"\"\"\"\"\\\"\"\"\"\"\")}",
+    ),
+];
+
+#[test]
+fn block_strings_are_shortened(rt: HostRuntime) -> Result<(), io::Error> {
+    for (text, stripped) in MINIFIED {
+        let short = minify(rt.alloc(), text)?;
+        assert_eq!(rt; short.as_deref(), Some(stripped));
+        let again = minify(rt.alloc(), stripped)?;
+        assert_eq!(rt; again.as_deref(), Some(stripped));
     }
     Ok(())
 }

@@ -1,4 +1,4 @@
-use Rattle.std.proofs.Common.{◌≡◌, ◌++◌, List, ℕ, Bool, true, false, cond, [], ◌∷◌, string_bytes, sym, ap, ◌∙◌, append-nil, arith}
+use Rattle.std.proofs.Common.{◌≡◌, ◌++◌, List, ℕ, Bool, cond, [], ◌∷◌, string_bytes, sym, ap, ◌∙◌, append-nil, arith}
 use Rattle.std.proofs.lemmas.Str.{encode_ascii}
 use Rattle.graphql_tokens.specs.tokens.Seen.{seen}
 use Rattle.graphql_layout.proofs.Shortenings.{proper_block, short_written}

@@ -1,5 +1,5 @@
 use Rattle.std.proofs.Common.{◌≡◌, ℕ, ◌-◌, List, length, take, ap, ◌∙◌, arith}
-use Rattle.graphql_layout.proofs.QuotedBlocks.{before_quotes, after_quotes, enough}
+use Rattle.graphql_layout.proofs.QuotedBlocks.{before_quotes, after_quotes}
 use Rattle.graphql_layout.proofs.blocks.inside_quotes.Goals as goal
 
 pub range-front-requires-clause-end_boundary : goal.range-front-requires-clause-end_boundary

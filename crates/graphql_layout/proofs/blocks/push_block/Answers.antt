@@ -1,4 +1,4 @@
-use Rattle.std.proofs.Common.{◌++◌, List, ℕ, Bool, string_bytes, sym, ap, ap₂, ◌∙◌}
+use Rattle.std.proofs.Common.{◌++◌, List, ℕ, Bool, string_bytes, sym, ap, ◌∙◌}
 use Rattle.std.proofs.lemmas.Result.{on_ok_weaker}
 use Rattle.std.specs.Str.{chars}
 use Rattle.graphql_layout.specs.inner.Blocks.{block_of}

@@ -1,5 +1,5 @@
-use Rattle.std.proofs.Common.{◌≡◌, Bool, eqb, ◌&&◌, length, string_bytes, sym, ap, ◌∙◌, arith}
-use Rattle.graphql_layout.proofs.Marks.{Cut, cut_at, found_boundary, rest_plain, turned, ended, ends_open}
+use Rattle.std.proofs.Common.{Bool, eqb, ◌&&◌, length, string_bytes, sym, ap, ◌∙◌, arith}
+use Rattle.graphql_layout.proofs.Marks.{cut_at, found_boundary, rest_plain, turned, ended, ends_open}
 use Rattle.graphql_layout.proofs.blocks.push_body.Goals as goal
 
 pub split_at-requires : goal.split_at-requires

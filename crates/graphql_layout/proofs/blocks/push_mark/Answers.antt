@@ -1,8 +1,7 @@
-use Rattle.std.proofs.Common.{◌≡◌, ◌++◌, [], ◌∷◌, List, false, true, eqb, length, get_or, string_bytes, sym, ap, ◌∙◌, subst, ℕ, arith}
-use Rattle.std.proofs.lemmas.Str.{IsCharBoundary-after_ascii, IsCharBoundary-from_drop}
+use Rattle.std.proofs.Common.{◌≡◌, ◌++◌, [], ◌∷◌, List, false, true, eqb, get_or, string_bytes, sym, ap, ◌∙◌, ℕ}
+use Rattle.std.proofs.lemmas.Str.{IsCharBoundary-after_ascii}
 use Rattle.std.specs.List.{starts_with}
-use Rattle.std.specs.Str.{IsCharBoundary}
-use Rattle.graphql_layout.proofs.Marks.{begun, mark_begun, special_low, triple_front, triple_utf8, triple_marked, feed_marked, other_marked}
+use Rattle.graphql_layout.proofs.Marks.{mark_begun, special_low, triple_front, triple_utf8, triple_marked, feed_marked, other_marked}
 use Rattle.graphql_layout.proofs.blocks.push_mark.Goals as goal
 
 is_triple : (c : goal.In_ok-push_str) → starts_with eqb c.args.text.now (34 ∷ 34 ∷ 34 ∷ []) ≡ true

@@ -1,4 +1,4 @@
-use Rattle.std.proofs.Common.{◌≡◌, ◌≢◌, ◌++◌, List, [], ◌∷◌, ap, ◌∙◌, sym, subst, refl, true, false, string_bytes, rules}
+use Rattle.std.proofs.Common.{◌≡◌, ◌≢◌, List, ap, ◌∙◌, sym, subst, refl, true, false, string_bytes, rules}
 use denote.Enum.Bare.{sameb}
 use Rattle.graphql_tokens.specs.contracts.lexer.TokenKind.{the_type}
 use Rattle.graphql_tokens.specs.tokens.Cuts.{IsCutInto}

@@ -1,12 +1,8 @@
-use Rattle.std.proofs.Common.{List, ℕ, ◌++◌, [], ◌∷◌, sym, ap, ◌∙◌, string_bytes}
+use Rattle.std.proofs.Common.{List, ◌++◌, [], ◌∷◌, ap, ◌∙◌, string_bytes}
 use Rattle.std.proofs.lemmas.Str.{IsUtf8-string_bytes}
 use Rattle.graphql_tokens.specs.declared.lexer.TokenKind.TheVariants.{Block}
 use Rattle.graphql_layout.specs.inner.Blocks.{spelled}
-use Rattle.graphql_layout.specs.inner.Sheets.{Holds}
 use Rattle.graphql_layout.specs.texts.Items.{Item, word}
-use Rattle.graphql_layout.specs.declared.ending.Ending.TheVariants.{Open}
-use Rattle.graphql_layout.specs.declared.sheet.Last.TheVariants.{Other}
-use Rattle.graphql_layout.specs.inner.ItemsIn.{items_in}
 use Rattle.graphql_layout.proofs.QuotedBlocks.{held_same}
 use Rattle.graphql_layout.proofs.Sheets.{opened, token_added}
 use Rattle.graphql_layout.proofs.sheet.Sheet.block.Goals as goal
