@@ -503,6 +503,7 @@ union U=A|B ) type C ⇒ syntax error at 1:13 1:13, taken 7
 
 const MINIFY_QUERY: &str = r#"
 { a ( b : "c" , d : [ "" "" ] ) , e } # f ⇒ {a(b:"c"d:["" ""])e}
+{ a ( b : """␊␠c␊␠␠d␊""" ) } ⇒ {a(b:"""␊c␊␠d""")}
 {a ?} ⇒ syntax error at 1:4 1:4
 "#;
 
@@ -518,6 +519,7 @@ const FORMAT_QUERY: &str = r#"
 
 const FORMAT_SCHEMA: &str = r#"
 # c␊"d" type A { "e" f(␊#g␊h:I): [ B ! ] } ⇒ # c␊"d"␊type A {␊␠␠"e"␊␠␠f(␊␠␠␠␠#g␊␠␠␠␠h: I␊␠␠): [B!]␊}
+"""c␊␠d""" type A { """e␊f""" g : H } ⇒ """␊c␊d␊"""␊type A {␊␠␠"""␊␠␠e␊␠␠f␊␠␠"""␊␠␠g: H␊}
 extend type A {} ⇒ syntax error at 1:16 1:16
 "#;
 
@@ -527,6 +529,7 @@ query Q ( $v : [ Int ! ] = [ 1 ] ) { a : f ( x : { y : "z\n" } ) @d } fragment F
 
 const PRINT_SCHEMA: &str = r#"
 schema { query : Q } union U = | A | B directive @d ( x : Int = 1 ) repeatable on FIELD | QUERY ⇒ schema {␊␠␠query: Q␊}␊␊union U = A | B␊␊directive @d(x: Int = 1) repeatable on FIELD | QUERY
+"""c␊d""" scalar E ⇒ """␊c␊d␊"""␊scalar E
 "#;
 
 const STRING_VALUE: &str = r#"
