@@ -43,11 +43,11 @@ unfolding the_end
 makes_the_same language reader read made_of limits bs ds es again sound same printed utf8 keeps =
     let reads = is-read-by language reader read in
     let ys = again.tokens ++ the_end ∷ [] in
-    let has = keeps.1.0 in
+    let has = keeps.1 in
     let us = has.0 in
     let phrase : grammar language Current limits ys again.tree = record { value = (again.tree, the_end); holds = record { front = again.tokens; back = the_end ∷ []; joined = refl; first = again.holds; second = (refl, refl) }; is = refl } in
     let shown : bares ys ≡ bs ++ bare_end ∷ [] = map-append (λ (t : Token). t.bare) again.tokens (the_end ∷ []) ∙ ap (λ (l : List Bare). l ++ bare_end ∷ []) again.are in
-    let alike : AreAlike (bares ys) (bares us) = alike_as (sym shown) (sym has.2) (alike-append bs keeps.0 (bare_end ∷ []) (bare_end ∷ []) keeps.1.1 (inl refl, tt)) in
+    let alike : AreAlike (bares ys) (bares us) = alike_as (sym shown) (sym has.2) (alike-append bs keeps.0 (bare_end ∷ []) (bare_end ∷ []) keeps.2 (inl refl, tt)) in
     let rests = reads.alike limits ys in
     let t = rests.has_tree us alike again.tree phrase in
     let equal : language.placeless es ≡ language.placeless t.0 = sym again.same ∙ rests.same_tree us alike again.tree t.0 phrase t.1 in
