@@ -278,15 +278,15 @@ pub fn format_schema<T: AsRef<str>>(input: T, limits: Limits) -> Result<String> 
 ///
 /// # Errors
 ///
-/// [`Error::OutOfMemory`]; and where no text has the tree, as one made by hand with a name that is none, without an operation,
-/// or deeper than [`Limits::LARGEST`], why its tokens are no request: the places are those in them, which nobody sees.
+/// [`Error::OutOfMemory`]; and where no text has the tree, as one made by hand with a name that is none, without an operation, or
+/// deeper than [`Limits::LARGEST`], why its tokens are no request: the places are those in them, which nobody sees.
 pub fn print_query(document: &ExecutableDocument) -> Result<String> {
     format_query(print::request(document), Limits::MOST)
 }
 
-/// The schema file as text, laid out as [`format_schema`] lays out texts: its definitions in their order, the roots of a schema in
-/// the order of their places, descriptions as block strings where that keeps them, other strings in quotes, and nothing that may
-/// be left out. A parse of it gives the tree again, but for places.
+/// The schema file as text, laid out as [`format_schema`] lays out texts: its definitions in their order, the roots of a schema
+/// in the order of their places, descriptions as block strings where that keeps them, other strings in quotes, and nothing that
+/// may be left out. A parse of it gives the tree again, but for places.
 ///
 /// # Errors
 ///
