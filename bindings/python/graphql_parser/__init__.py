@@ -84,7 +84,8 @@ def explain_schema(text, *, selections=64, values=64, types=64):
 
 def minify_query(text, *, selections=64, values=64, types=64):
     """A request without what isn't needed in it: comments, and all blanks, line ends, commas and byte order marks, but for one
-    blank where two tokens would be read as others if they touched. Its tokens stay as they are spelled, so it means the same.
+    blank where two tokens would be read as others if they touched. Block strings are written in few characters with the same
+    values, and other tokens as they are spelled, so it means the same.
 
     >>> minify_query("{ hero { name } } # all")
     '{hero{name}}'
@@ -99,8 +100,8 @@ def minify_schema(text, *, selections=64, values=64, types=64):
 
 def format_query(text, *, selections=64, values=64, types=64):
     """A request laid out anew: two blanks for each level, a selection a line, a blank line between definitions. Its comments
-    stay, each between the same tokens, and its tokens are as they were spelled. No line feed stands at the end. The layout may
-    change with any version of the library.
+    stay, each between the same tokens. Block strings are laid out too, with the same values, and other tokens are as they were
+    spelled. No line feed stands at the end. The layout may change with any version of the library.
 
     >>> print(format_query("{hero(id:7){name}} # all"))
     {

@@ -191,7 +191,8 @@ pub fn explain_schema<T: AsRef<str>>(input: T, limits: Limits) -> Result<Option<
 }
 
 /// The request without what isn't needed in it: comments, and all blanks, line ends, commas and byte order marks, but for one
-/// blank where two tokens would be read as others if they touched. Its tokens stay as they are spelled, so it means the same.
+/// blank where two tokens would be read as others if they touched. Block strings are written in few characters with the same
+/// values, and other tokens as they are spelled, so it means the same.
 ///
 /// ```
 /// use graphql_parser::{minify_query, Limits};
@@ -227,8 +228,8 @@ pub fn minify_schema<T: AsRef<str>>(input: T, limits: Limits) -> Result<String> 
 }
 
 /// The request laid out anew: two blanks for each level, a selection a line, a blank line between definitions. Its comments
-/// stay, each between the same tokens, and its tokens are as they were spelled. No line feed stands at the end. The layout may
-/// change with any version of the library.
+/// stay, each between the same tokens. Block strings are laid out too, with the same values, and other tokens are as they were
+/// spelled. No line feed stands at the end. The layout may change with any version of the library.
 ///
 /// ```
 /// use graphql_parser::{format_query, Limits};

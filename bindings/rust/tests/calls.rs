@@ -197,6 +197,15 @@ fn a_text_is_written_anew() {
         format_schema(schema, Limits::default()),
         Ok("\"e\"\nscalar F\n\ntype G {\n  h: I!\n}".to_owned())
     );
+    let described = "type A{\"\"\"\n    b\n    c\n\"\"\" d:E}";
+    assert_eq!(
+        minify_schema(described, Limits::default()),
+        Ok("type A{\"\"\"b\nc\"\"\"d:E}".to_owned())
+    );
+    assert_eq!(
+        format_schema(described, Limits::default()),
+        Ok("type A {\n  \"\"\"\n  b\n  c\n  \"\"\"\n  d: E\n}".to_owned())
+    );
     // Errors are those of a check.
     for row in refused() {
         let (text, limits) = (&row.text, limits(row.limit));
