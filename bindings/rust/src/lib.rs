@@ -279,8 +279,8 @@ pub fn format_schema<T: AsRef<str>>(input: T, limits: Limits) -> Result<String> 
 ///
 /// # Errors
 ///
-/// [`Error::OutOfMemory`]; and where no text has the tree, as one made by hand with a name that is none, without an operation, or
-/// deeper than [`Limits::LARGEST`], why its tokens are no request: the places are those in them, which nobody sees.
+/// [`Error::OutOfMemory`]. If no text has the tree, such as one made by hand with an invalid name, without an operation, or deeper
+/// than [`Limits::LARGEST`], the error of a parse of its tokens; its places mean nothing outside of this call.
 pub fn print_query(document: &ExecutableDocument) -> Result<String> {
     format_query(print::request(document), Limits::MOST)
 }

@@ -1,8 +1,8 @@
 //! Trees as texts.
 //!
-//! A tree is written as its tokens, each with a blank after it, with nothing that may be left out. The library lays them out.
-//! Where a token would be read as another one, as a name that is none, a character is written that begins no token: so a text
-//! that the library takes has the tree, but for places.
+//! A tree is written as its tokens, each with a blank after it, and none that may be left out. The library lays them out. An
+//! invalid name is written as a character that begins no token, and so is a name that means something else where it stands:
+//! whatever text the library accepts has the tree, except for places.
 mod request;
 mod schema;
 mod values;
@@ -26,7 +26,7 @@ fn whole(document: &impl Print) -> String {
     out.0
 }
 
-// It begins no token.
+// Written for an invalid name: it begins no token.
 const NO_TOKEN: &str = "?";
 
 // Tokens, each with a blank after it.

@@ -353,13 +353,13 @@ fn is_syntax<T>(result: Result<T>) -> bool {
     matches!(result, Err(Error::Syntax { .. }))
 }
 
-// Texts that aren't names, some of which would make other trees.
+// Invalid names, some of which would make other trees.
 const NO_NAMES: [&str; 12] = [
     "", " ", "a b", "a:b", "a{b}", "a#", "é", "1", "-1", "$a", "\"a\"", "a\n",
 ];
 
 #[test]
-fn a_request_with_a_name_that_is_none_is_refused() {
+fn a_request_with_an_invalid_name_is_refused() {
     for (index, change) in NAMES.iter().enumerate() {
         for name in NO_NAMES {
             let mut document = parse_query(REQUEST).unwrap();
@@ -492,7 +492,7 @@ const NAMES_OF_SCHEMAS: [Change<ServiceDocument>; 10] = [
 ];
 
 #[test]
-fn a_schema_file_with_a_name_that_is_none_is_refused() {
+fn a_schema_file_with_an_invalid_name_is_refused() {
     for (index, change) in NAMES_OF_SCHEMAS.iter().enumerate() {
         for name in NO_NAMES {
             let mut document = parse_schema(SCHEMA_FILE).unwrap();

@@ -89,7 +89,7 @@ impl Print for TypeCondition {
     }
 }
 
-// Also one without selections, which no text has.
+// An empty one has braces too: a parser rejects it, where an operation or a fragment needs a set.
 impl Print for SelectionSet {
     fn print(&self, out: &mut Tokens) {
         out.token("{").part(&self.items[..]).token("}");

@@ -5,7 +5,7 @@ use crate::types::{BaseType, ConstDirective, Directive, OperationType, Type};
 use crate::value::{ConstValue, Name, Quoted, Value};
 
 impl Tokens {
-    // A name, unless it is one of those that mean something else where it stands.
+    // A name, if it is valid and none of those that mean something else where it stands.
     pub(super) fn name_but(&mut self, others: &[&str], name: &Name) -> &mut Tokens {
         let name = name.as_str();
         let is_good = is_name(name) && !others.contains(&name);
@@ -13,7 +13,7 @@ impl Tokens {
     }
 }
 
-// Whether a text is a name (section 2.1.9).
+// Whether a text is a valid name (section 2.1.9).
 fn is_name(text: &str) -> bool {
     let is_letter = |c: u8| c.is_ascii_alphabetic() || c == b'_';
     match text.as_bytes() {
