@@ -200,7 +200,7 @@ pages() {
 # Compiled anew with all warnings as errors.
 python_nodes() {
     mkdir -p "$out/nodes" && rm -f "$out"/nodes/* && CFLAGS=-Werror python3 "$here/python/build_nodes.py" "$out/nodes" &&
-        python_module test_nodes
+        python_module test_nodes && python_module test_printing
 }
 
 # Whether the module in C was made for the `python3` at hand.

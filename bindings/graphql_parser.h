@@ -225,7 +225,8 @@ uint32_t graphql_parser_explain_schema(
  *
  * minified                 is written on every call; what stood there isn't read. After any status but
  *                          GRAPHQL_PARSER_ACCEPTED it is null, and its length 0. What is handed over is UTF-8 with the
- *                          tokens of the text, as they were spelled, and no longer than the text.
+ *                          tokens of the text, as they were spelled, but that block strings are written in few characters
+ *                          with the same values; and no longer than the text.
  *
  * `text`, `places` and `minified` don't overlap. */
 uint32_t graphql_parser_minify_query(
@@ -236,8 +237,8 @@ uint32_t graphql_parser_minify_schema(
     graphql_parser_block *minified);
 
 /* The same, and hands over the text laid out anew: two blanks for each level, a selection, a field and a value a line, a blank
- * line between definitions, with the comments of the text, and no line end after the last. The layout may change with any
- * version; the tokens and comments don't. `formatted` is written as `minified` is; `text`, `places` and `formatted` don't
+ * line between definitions, with the comments of the text, and no line end after the last. Block strings are laid out too, with
+ * the same values. The layout may change with any version; the other tokens and the comments don't. `formatted` is written as `minified` is; `text`, `places` and `formatted` don't
  * overlap. */
 uint32_t graphql_parser_format_query(
     const uint8_t *text, size_t length, size_t selections, size_t values, size_t types, graphql_parser_places *places,

@@ -84,6 +84,8 @@ static const struct {
      "query Q($a: Int = 1) {\n  f(x: $a, y: [1, -2]) {\n    ... on T {\n      g\n    }\n  }\n}"},
     {&schema_files, "\"d\" type A{b(c:D=1):E!}\n\nscalar F", "\"d\"type A{b(c:D=1):E!}scalar F",
      "\"d\"\ntype A {\n  b(c: D = 1): E!\n}\n\nscalar F"},
+    {&schema_files, "type A{\"\"\"\n    b\n    c\n\"\"\" d:E}", "type A{\"\"\"b\nc\"\"\"d:E}",
+     "type A {\n  \"\"\"\n  b\n  c\n  \"\"\"\n  d: E\n}"},
 };
 
 static bool is_text(const graphql_parser_block *block, const char *text) {

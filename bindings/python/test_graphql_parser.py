@@ -94,6 +94,9 @@ class Calls(unittest.TestCase):
         self.assertEqual(graphql_parser.format_query(query.encode()), "query A {\n  b(c: [1, -2])\n} # d")
         self.assertEqual(graphql_parser.minify_schema(schema), '"e"scalar F type G{h:I!}')
         self.assertEqual(graphql_parser.format_schema(schema), '"e"\nscalar F\n\ntype G {\n  h: I!\n}')
+        described = 'type A{"""\n    b\n    c\n""" d:E}'
+        self.assertEqual(graphql_parser.minify_schema(described), 'type A{"""b\nc"""d:E}')
+        self.assertEqual(graphql_parser.format_schema(described), 'type A {\n  """\n  b\n  c\n  """\n  d: E\n}')
         for language, text, kind, places in REFUSED:
             for call in ANEW[language]:
                 with self.subTest(text=text, call=call.__name__):

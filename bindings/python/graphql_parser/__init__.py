@@ -10,8 +10,8 @@
 `check_query` and `check_schema` raise an error or return None. `explain_query` and `explain_schema` return a report for people
 of what is wrong with a text. `minify_query`, `format_query` and those of schema files return a text written anew.
 `parse_query` and `parse_schema` return the tree in the form of GraphQL.js, as dicts and lists;
-`query_json` and `schema_json` return it as the JSON that it is handed over in. `parse` stands in for `graphql.parse` of
-graphql-core: it returns graphql-core's nodes and raises its errors.
+`query_json` and `schema_json` return it as the JSON that it is handed over in. `parse`, `print_ast` and
+`strip_ignored_characters` stand in for those of graphql-core: they take and return its nodes, and raise its errors.
 
 A text is a str, or bytes, a bytearray or a memoryview in UTF-8; anything else is a TypeError. A text that isn't UTF-8, or a
 str with a lone surrogate, which has no UTF-8, is refused like any other, with the kind NOT_UTF8. `selections`, `values` and
@@ -41,8 +41,10 @@ __all__ = [
     "parse",
     "parse_query",
     "parse_schema",
+    "print_ast",
     "query_json",
     "schema_json",
+    "strip_ignored_characters",
 ]
 
 __version__ = "1.0.0"
@@ -82,7 +84,8 @@ def explain_schema(text, *, selections=64, values=64, types=64):
 
 def minify_query(text, *, selections=64, values=64, types=64):
     """A request without what isn't needed in it: comments, and all blanks, line ends, commas and byte order marks, but for one
-    blank where two tokens would be read as others if they touched. Its tokens stay as they are spelled, so it means the same.
+    blank where two tokens would be read as others if they touched. Block strings are written in few characters with the same
+    values, and other tokens as they are spelled, so it means the same.
 
     >>> minify_query("{ hero { name } } # all")
     '{hero{name}}'
@@ -97,8 +100,8 @@ def minify_schema(text, *, selections=64, values=64, types=64):
 
 def format_query(text, *, selections=64, values=64, types=64):
     """A request laid out anew: two blanks for each level, a selection a line, a blank line between definitions. Its comments
-    stay, each between the same tokens, and its tokens are as they were spelled. No line feed stands at the end. The layout may
-    change with any version of the library.
+    stay, each between the same tokens. Block strings are laid out too, with the same values, and other tokens are as they were
+    spelled. No line feed stands at the end. The layout may change with any version of the library.
 
     >>> print(format_query("{hero(id:7){name}} # all"))
     {
@@ -149,10 +152,32 @@ def parse(source, no_location=False, *, selections=64, values=64, types=64):
     ImportError where graphql-core isn't installed, or is older. The message says what was found and what was expected, as
     'Syntax Error: found ")", expected a name'; as in a report, its words may change with any version of the library.
     """
+    return _beside_graphql_core().parse(source, no_location, (selections, values, types))
+
+
+def strip_ignored_characters(source, *, selections=64, values=64, types=64):
+    """A request or a schema file without what isn't needed in it, as `graphql.strip_ignored_characters` of graphql-core 3.2
+    leaves it out: between two tokens that aren't punctuators, and before dots after one, a blank is left.
+
+    `source`, its language and what is raised are as at `parse`.
+    """
+    return _beside_graphql_core().strip_ignored_characters(source, (selections, values, types))
+
+
+def print_ast(ast):
+    """A node of graphql-core as text: what `graphql.print_ast` of graphql-core 3.2 gives of the same node."""
+    _beside_graphql_core()
+    from . import _printing
+
+    return _printing.print_ast(ast)
+
+
+def _beside_graphql_core():
+    """The module that reads with graphql-core; an ImportError where that isn't installed, or is older."""
     try:
         from . import _nodes
     except ModuleNotFoundError as error:
         if error.name != "graphql":
             raise
-        raise ImportError("graphql_parser.parse gives nodes of graphql-core: pip install 'graphql-core>=3.2,<3.3'") from error
-    return _nodes.parse(source, no_location, (selections, values, types))
+        raise ImportError("this call goes by graphql-core: pip install 'graphql-core>=3.2,<3.3'") from error
+    return _nodes

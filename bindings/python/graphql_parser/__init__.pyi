@@ -1,6 +1,6 @@
 from typing import Any, Dict, List, Optional, Tuple, Union
 
-from graphql.language import DocumentNode, Source
+from graphql.language import DocumentNode, Node, Source
 
 from ._errors import Kind as Kind
 
@@ -35,3 +35,7 @@ def parse_schema(
 def parse(
     source: Union[_Text, Source], no_location: bool = False, *, selections: int = 64, values: int = 64, types: int = 64
 ) -> DocumentNode: ...
+def strip_ignored_characters(
+    source: Union[_Text, Source], *, selections: int = 64, values: int = 64, types: int = 64
+) -> str: ...
+def print_ast(ast: Node) -> str: ...

@@ -38,6 +38,12 @@ _BLOCK = '"""'
 # A comment, a mark, or in one of the groups a token at which a value, a type or a name begins, or one that closes a list or an
 # object.
 _TOKEN = re.compile(r'#[^\n\r]*|([\w.+-]+|"""(?:\\"""|[^"]|"(?!""))*"""|"(?:\\.|[^"\\])*"|\$)|([\[{])|([\]}])|[():!=@&|]')
+# In a minified text a token that is no mark, and in the group how one begins that touches it, before which graphql-core leaves a
+# blank: another of these, or dots.
+_WHOLE_TOKEN = re.compile(
+    r'(?:"""(?:[^"\\]+|\\"""|\\|"(?!""))*"""|"(?:[^"\\]+|\\.)*"|[^\W\d]\w*|-?\d+(?:\.\d+)?(?:[eE][+-]?\d+)?)'
+    r'(?=(["\w-]|\.\.\.)?)'
+)
 _OPENS = 2
 _CLOSES = 3
 _CACHE = "_graphql_parser_locations"
@@ -63,21 +69,38 @@ class _Text:
         self.starts = [0, *itertools.accumulate(lengths, initial=-1)]
 
 
-def parse(source, no_location, limits):
-    """What `graphql_parser.parse` gives."""
+def _text_of(source, is_located):
     if not isinstance(source, Source):
         # What isn't UTF-8 becomes lone surrogates, which have none.
         is_text = isinstance(source, str)
         source = Source(source if is_text else _library.raw_bytes(source).decode(errors="surrogateescape"))
-    text = _Text(source, not no_location)
-    is_schema = _FIRST.match(text.body).group(1) in _SCHEMA_WORDS
-    call = _library.parse_schema if is_schema else _library.parse_query
+    return _Text(source, is_located)
+
+
+def _answer(text, name, take, limits, *options):
+    """What a call of the language that the first token tells gives of a text; graphql-core's error where it is refused."""
+    language = "schema" if _FIRST.match(text.body).group(1) in _SCHEMA_WORDS else "query"
+    call, explain = (getattr(_library, f"{word}_{language}") for word in (name, "explain"))
     try:
-        written = _library.parse_bytes(call, text.body, limits, True)
+        return take(call, text.body, limits, *options)
     except GraphQLError as error:
-        explain = _library.explain_schema if is_schema else _library.explain_query
         raise _syntax_error(text, *_told(error, text, explain, limits)) from error
-    return _document(written, text)
+
+
+def parse(source, no_location, limits):
+    """What `graphql_parser.parse` gives."""
+    text = _text_of(source, not no_location)
+    return _document(_answer(text, "parse", _library.parse_bytes, limits, True), text)
+
+
+def strip_ignored_characters(source, limits):
+    """What `graphql_parser.strip_ignored_characters` gives."""
+    minified = _answer(_text_of(source, False), "minify", _library.rewrite, limits)
+    return _WHOLE_TOKEN.sub(_with_blank, minified)
+
+
+def _with_blank(token):
+    return token[0] + " " if token[1] else token[0]
 
 
 def _syntax_error(text, message, places):

@@ -4,7 +4,8 @@
 //! node with its line and its column. They have the names of async-graphql-parser 7.2.1, so that a program that was
 //! written for that crate changes its imports. [`check_query`] and [`check_schema`] tell whether a text is good, and make
 //! no tree. [`explain_query`] and [`explain_schema`] tell people what is wrong with a text. [`minify_query`], [`format_query`]
-//! and those of schema files write a text anew. [`json`] hands over trees as JSON.
+//! and those of schema files write a text anew; [`print_query`] and [`print_schema`] give a tree as text. [`json`] hands over
+//! trees as JSON.
 //!
 //! All of them borrow the text, may be called from any number of threads, and never panic. Selection sets, values and types
 //! nest 64 deep each, unless [`Limits`] say otherwise.
@@ -35,6 +36,7 @@ mod as_str;
 mod error;
 pub mod json;
 mod pos;
+mod print;
 mod raw;
 mod read;
 pub mod types;
@@ -60,6 +62,13 @@ pub struct Limits {
 impl Limits {
     /// The largest number that each of the three may be.
     pub const LARGEST: usize = 256;
+
+    // The largest of each.
+    const MOST: Limits = Limits {
+        selections: Limits::LARGEST,
+        values: Limits::LARGEST,
+        types: Limits::LARGEST,
+    };
 }
 
 /// 64 each.
@@ -182,7 +191,8 @@ pub fn explain_schema<T: AsRef<str>>(input: T, limits: Limits) -> Result<Option<
 }
 
 /// The request without what isn't needed in it: comments, and all blanks, line ends, commas and byte order marks, but for one
-/// blank where two tokens would be read as others if they touched. Its tokens stay as they are spelled, so it means the same.
+/// blank where two tokens would be read as others if they touched. Block strings are written in few characters with the same
+/// values, and other tokens as they are spelled, so it means the same.
 ///
 /// ```
 /// use graphql_parser::{minify_query, Limits};
@@ -218,8 +228,8 @@ pub fn minify_schema<T: AsRef<str>>(input: T, limits: Limits) -> Result<String> 
 }
 
 /// The request laid out anew: two blanks for each level, a selection a line, a blank line between definitions. Its comments
-/// stay, each between the same tokens, and its tokens are as they were spelled. No line feed stands at the end. The layout may
-/// change with any version of the library.
+/// stay, each between the same tokens. Block strings are laid out too, with the same values, and other tokens are as they were
+/// spelled. No line feed stands at the end. The layout may change with any version of the library.
 ///
 /// ```
 /// use graphql_parser::{format_query, Limits};
@@ -253,6 +263,37 @@ pub fn format_schema<T: AsRef<str>>(input: T, limits: Limits) -> Result<String> 
         input.as_ref(),
         limits,
     )
+}
+
+/// The request as text, laid out as [`format_query`] lays out texts: its operations and fragments in the order of their places,
+/// each string in quotes, a query without a name, variables and directives as its selection set alone, and nothing that may be
+/// left out. A parse of it gives the tree again, but for places.
+///
+/// ```
+/// use graphql_parser::{parse_query, print_query};
+///
+/// let document = parse_query("query { hero(id: 7) { name } } # all")?;
+/// assert_eq!(print_query(&document)?, "{\n  hero(id: 7) {\n    name\n  }\n}");
+/// # Ok::<(), graphql_parser::Error>(())
+/// ```
+///
+/// # Errors
+///
+/// [`Error::OutOfMemory`]. If no text has the tree, such as one made by hand with an invalid name, without an operation, or deeper
+/// than [`Limits::LARGEST`], the error of a parse of its tokens; its places mean nothing outside of this call.
+pub fn print_query(document: &ExecutableDocument) -> Result<String> {
+    format_query(print::request(document), Limits::MOST)
+}
+
+/// The schema file as text, laid out as [`format_schema`] lays out texts: its definitions in their order, the roots of a schema
+/// in the order of their places, descriptions as block strings where that keeps them, other strings in quotes, and nothing that
+/// may be left out. A parse of it gives the tree again, but for places.
+///
+/// # Errors
+///
+/// As those of [`print_query`].
+pub fn print_schema(document: &ServiceDocument) -> Result<String> {
+    format_schema(print::schema_file(document), Limits::MOST)
 }
 
 /// The three numbers of the version of the library that is linked, such as 1, 0 and 0.

@@ -3,9 +3,9 @@ use graphql_parser::json::{self, Places};
 use graphql_parser::types::{DocumentOperations, OperationType, Selection};
 use graphql_parser::value::Name;
 use graphql_parser::{
-    check_query, check_schema, explain_query, explain_schema, format_query, format_schema, minify_query, minify_schema,
-    parse_query, parse_query_limited,
-    parse_schema, parse_schema_limited, Error, Limits, Pos,
+    check_query, check_schema, explain_query, explain_schema, format_query, format_schema,
+    minify_query, minify_schema, parse_query, parse_query_limited, parse_schema,
+    parse_schema_limited, Error, Limits, Pos,
 };
 use std::thread;
 
@@ -177,13 +177,34 @@ fn each_refused_text_is_explained() {
 
 #[test]
 fn a_text_is_written_anew() {
-    let (query, schema) = ("query A { b(c: [1 -2]) } # d", "\"e\" scalar F, type G { h: I! }");
-    assert_eq!(minify_query(query, Limits::default()), Ok("query A{b(c:[1-2])}".to_owned()));
-    assert_eq!(format_query(query, Limits::default()), Ok("query A {\n  b(c: [1, -2])\n} # d".to_owned()));
-    assert_eq!(minify_schema(schema, Limits::default()), Ok("\"e\"scalar F type G{h:I!}".to_owned()));
+    let (query, schema) = (
+        "query A { b(c: [1 -2]) } # d",
+        "\"e\" scalar F, type G { h: I! }",
+    );
+    assert_eq!(
+        minify_query(query, Limits::default()),
+        Ok("query A{b(c:[1-2])}".to_owned())
+    );
+    assert_eq!(
+        format_query(query, Limits::default()),
+        Ok("query A {\n  b(c: [1, -2])\n} # d".to_owned())
+    );
+    assert_eq!(
+        minify_schema(schema, Limits::default()),
+        Ok("\"e\"scalar F type G{h:I!}".to_owned())
+    );
     assert_eq!(
         format_schema(schema, Limits::default()),
         Ok("\"e\"\nscalar F\n\ntype G {\n  h: I!\n}".to_owned())
+    );
+    let described = "type A{\"\"\"\n    b\n    c\n\"\"\" d:E}";
+    assert_eq!(
+        minify_schema(described, Limits::default()),
+        Ok("type A{\"\"\"b\nc\"\"\"d:E}".to_owned())
+    );
+    assert_eq!(
+        format_schema(described, Limits::default()),
+        Ok("type A {\n  \"\"\"\n  b\n  c\n  \"\"\"\n  d: E\n}".to_owned())
     );
     // Errors are those of a check.
     for row in refused() {

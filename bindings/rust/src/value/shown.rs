@@ -12,7 +12,7 @@ macro_rules! shown {
                     $($value::$variable(name) => write!(f, "${name}"),)?
                     $value::Null => f.write_str("null"),
                     $value::Number(number) => f.write_str(number.as_str()),
-                    $value::String(text) => write_string(text, f),
+                    $value::String(text) => Quoted(text).fmt(f),
                     $value::Boolean(value) => write!(f, "{value}"),
                     $value::Enum(name) => f.write_str(name),
                     $value::List(items) => write_list(items, f),
@@ -56,21 +56,26 @@ fn write_object<V: Display>(fields: &IndexMap<Name, V>, f: &mut Formatter<'_>) -
     f.write_str("}")
 }
 
-fn write_string(text: &str, f: &mut Formatter<'_>) -> fmt::Result {
-    f.write_str("\"")?;
-    for c in text.chars() {
-        match c {
-            '"' | '\\' => write!(f, "\\{c}")?,
-            '\n' => f.write_str("\\n")?,
-            '\r' => f.write_str("\\r")?,
-            '\t' => f.write_str("\\t")?,
-            '\u{8}' => f.write_str("\\b")?,
-            '\u{c}' => f.write_str("\\f")?,
-            c if c < ' ' => write!(f, "\\u{:04x}", u32::from(c))?,
-            c => f.write_char(c)?,
+/// The string in quotes that stands for a text.
+pub(crate) struct Quoted<'a>(pub &'a str);
+
+impl Display for Quoted<'_> {
+    fn fmt(&self, f: &mut Formatter<'_>) -> fmt::Result {
+        f.write_str("\"")?;
+        for c in self.0.chars() {
+            match c {
+                '"' | '\\' => write!(f, "\\{c}")?,
+                '\n' => f.write_str("\\n")?,
+                '\r' => f.write_str("\\r")?,
+                '\t' => f.write_str("\\t")?,
+                '\u{8}' => f.write_str("\\b")?,
+                '\u{c}' => f.write_str("\\f")?,
+                c if c < ' ' => write!(f, "\\u{:04x}", u32::from(c))?,
+                c => f.write_char(c)?,
+            }
         }
+        f.write_str("\"")
     }
-    f.write_str("\"")
 }
 
 #[cfg(test)]
