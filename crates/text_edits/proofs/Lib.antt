@@ -1,0 +1,9 @@
+pub mod Backs
+pub mod Boundaries
+pub mod CharLoops
+pub mod Cuts
+pub mod FirstLines
+pub mod Passed
+pub mod Rounds
+pub mod Starts
+pub mod Widths
