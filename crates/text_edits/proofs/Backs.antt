@@ -8,7 +8,7 @@ use Rattle.text_edits.specs.Positions.{offset_of, position_of, IsInLineEnd}
 use Rattle.text_edits.specs.Units.{width}
 use Rattle.text_edits.proofs.Boundaries.{width_front}
 use Rattle.text_edits.proofs.Cuts.{chars_split}
-use Rattle.text_edits.proofs.Rounds.{InEnd, snap, snaps, offset_back}
+use Rattle.text_edits.proofs.Rounds.{InEnd, snap, snaps, snaps_in_end, offset_back}
 use Rattle.text_edits.proofs.Widths.{width-append}
 
 in_end : (text : List ℕ) (offset : ℕ) → IsUtf8 text → IsCharBoundary text offset → InEnd (chars (take offset text)) (chars (drop offset text)) → IsInLineEnd text offset
@@ -25,3 +25,10 @@ back encoding text offset u b free =
     let ls : List (List ℕ) = lines (chars text) in
     offset_back encoding ls offset ∙ ap (snap ls) (sym wide)
     ∙ snaps ls (chars text) (chars (take offset text)) (chars (drop offset text)) refl (chars_split text offset u b) (λ i. free (in_end text offset u b i)) ∙ wide
+
+pub back_in_end : (encoding : Encoding) (text : List ℕ) (offset : ℕ) → IsInLineEnd text offset → offset_of encoding text (position_of encoding text offset) + 1 ≡ offset
+back_in_end encoding text offset i =
+    let ls : List (List ℕ) = lines (chars text) in
+    let before : offset_of encoding text (position_of encoding text offset) ≡ width Utf8 i.front =
+    offset_back encoding ls offset ∙ ap (snap ls) i.here ∙ snaps_in_end ls (chars text) i.front i.rest refl i.whole in
+    omega (arith, before, i.here)

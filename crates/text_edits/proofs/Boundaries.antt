@@ -2,10 +2,11 @@
 use Rattle.std.proofs.Common.{◌≡◌, ℕ, ◌+◌, ◌-◌, ◌≤◌, ◌<◌, ◌⊎◌, Bool, true, false, ◌&&◌, List, [], ◌∷◌, ◌++◌, length, take, drop, refl, sym, ap, ◌∙◌, subst, arith, inl, inr, append_assoc, length-take}
 use Rattle.std.proofs.Math.Seq.{take-append_seam, drop-append_seam}
 use Rattle.std.proofs.lemmas.Bool.{cases_lt}
-use Rattle.std.proofs.lemmas.Str.{encodes-append, encodes-chars, chars-encodes, scalars-chars, IsUtf8-take, IsUtf8-drop, IsCharBoundary-at_seam, IsCharBoundary-from_rest}
+use Rattle.std.proofs.lemmas.Str.{chars-append, encodes-append, encodes-chars, chars-encodes, scalars-chars, IsUtf8-take, IsUtf8-drop, IsCharBoundary-at_seam, IsCharBoundary-from_rest}
 use Rattle.std.specs.Str.{chars, IsUtf8, IsCharBoundary, encode_utf8_all, all_scalars}
 use Rattle.text_edits.specs.declared.Encoding.{Encoding}
 use Rattle.text_edits.specs.declared.Encoding.TheVariants.{Utf8}
+use Rattle.text_edits.specs.Edits.{before, from}
 use Rattle.text_edits.specs.Lines.{is_line_end, content}
 use Rattle.text_edits.specs.Units.{units, width, fitting}
 use Rattle.text_edits.proofs.Cuts.{chars_split}
@@ -96,3 +97,28 @@ boundary_on_line bs rest line start n k encoding u b e same is =
     let holds : content (chars (drop start bs)) ≡ chars line = ap (λ (l : List ℕ). content (chars l)) (sym e) ∙ sym same in
     let there = boundary_in_line (drop start bs) n (chars line) encoding (IsUtf8-drop bs start u b) holds in
     IsCharBoundary-from_rest bs start k b.0 (subst (IsCharBoundary (drop start bs)) (sym is) there)
+
+-- ---- what is before and after the last place up to an offset where the text may be cut
+
+pub fitting_rises : (m n : ℕ) (cs : List ℕ) → m ≤ n → width Utf8 (fitting Utf8 m cs) ≤ width Utf8 (fitting Utf8 n cs)
+fitting_rises m n cs l =
+    let f = fits Utf8 m cs in
+    let h : width Utf8 (fitting Utf8 m cs) ≤ width Utf8 (fitting Utf8 n (fitting Utf8 m cs ++ f.rest)) = longest (fitting Utf8 m cs) f.rest n (omega (arith, f.within)) in
+    subst (λ (k : List ℕ). width Utf8 (fitting Utf8 m cs) ≤ width Utf8 (fitting Utf8 n k)) (sym f.whole) h
+
+pub before_floor : (bs : List ℕ) (offset floor : ℕ) → IsUtf8 bs → floor ≡ width Utf8 (fitting Utf8 offset (chars bs)) → chars (take floor bs) ≡ before offset (chars bs)
+before_floor bs offset floor u e =
+    let f = fits Utf8 offset (chars bs) in
+    ap (λ n. chars (take n bs)) e ∙ (cut_at bs (fitting Utf8 offset (chars bs)) f.rest u f.whole).before
+
+pub after_floor : (bs : List ℕ) (offset floor : ℕ) → IsUtf8 bs → floor ≡ width Utf8 (fitting Utf8 offset (chars bs)) → chars (drop floor bs) ≡ from offset (chars bs)
+after_floor bs offset floor u e =
+    let f = fits Utf8 offset (chars bs) in
+    let front : List ℕ = fitting Utf8 offset (chars bs) in
+    let rest : drop (length front) (chars bs) ≡ f.rest = ap (drop (length front)) f.whole ∙ drop-append_seam front f.rest in
+    ap (λ n. chars (drop n bs)) e ∙ (cut_at bs front f.rest u f.whole).after ∙ sym rest
+
+-- three texts one after another
+pub chars_three : (xs ys zs : List ℕ) → IsUtf8 xs → IsUtf8 ys → chars ((xs ++ ys) ++ zs) ≡ chars xs ++ (chars ys ++ chars zs)
+chars_three xs ys zs u v =
+    ap chars (append_assoc xs ys zs) ∙ chars-append xs (ys ++ zs) u ∙ ap (λ (l : List ℕ). chars xs ++ l) (chars-append ys zs v)

@@ -1,31 +1,31 @@
 -- From a position to its offset and back, and from an offset to its position and back.
-use Rattle.std.proofs.Common.{◌≡◌, ℕ, zero, suc, ◌+◌, ◌-◌, ◌≤◌, ◌<◌, ◌⊎◌, List, [], ◌∷◌, ◌++◌, length, get_or, refl, sym, ap, ap₂, ◌∙◌, subst, arith, inl, inr, append_assoc, length-append}
+use Rattle.std.proofs.Common.{◌≡◌, ℕ, zero, suc, ◌+◌, ◌-◌, ◌≤◌, ◌<◌, ◌⊎◌, true, List, [], ◌∷◌, ◌++◌, length, get_or, refl, sym, ap, ap₂, ◌∙◌, subst, arith, inl, inr, append_assoc, length-append}
 use Rattle.std.proofs.lemmas.Bool.{cases_lt}
 use Rattle.std.proofs.lemmas.List.{append-nil}
 use Rattle.text_edits.specs.declared.Encoding.{Encoding}
 use Rattle.text_edits.specs.declared.Encoding.TheVariants.{Utf8}
 use Rattle.text_edits.specs.declared.Position.{Position}
-use Rattle.text_edits.specs.Lines.{lines, content}
+use Rattle.text_edits.specs.Lines.{begins_with_line_feed, lines, content}
 use Rattle.text_edits.specs.Positions.{start_of, line_at, lines_passed, offset_in, position_in, IsPositionIn}
 use Rattle.text_edits.specs.Units.{width, fitting}
 use Rattle.text_edits.proofs.FirstLines.{InLine, IsEnd, More, first_line, lines_all, lines_end, lines_some, content_all, content_end, end_some}
 use Rattle.text_edits.proofs.Passed.{passed_stop, passed_step}
-use Rattle.text_edits.proofs.Widths.{width-append, units_some, fitting_front, fits}
+use Rattle.text_edits.proofs.Widths.{width-append, units_some, fitting_front, fitting_all, fits}
 
 -- ---- each line but the last is longer than what it contains
 
-abbrev Lined : List (List ℕ) → Type 0
+abbrev pub Lined : List (List ℕ) → Type 0
 Lined [] = Unit {0}
 Lined (l ∷ []) = Unit {0}
 Lined (l ∷ m ∷ ls) = (width Utf8 (content l) < width Utf8 l) × Lined (m ∷ ls)
 
-more_lines : (cs : List ℕ) (m : More cs) → lines cs ≡ (m.body ++ m.end) ∷ lines m.rest
+pub more_lines : (cs : List ℕ) (m : More cs) → lines cs ≡ (m.body ++ m.end) ∷ lines m.rest
 more_lines cs m = ap lines m.whole ∙ lines_end m.body m.end m.rest m.in_line m.is
 
-more_content : (cs : List ℕ) (m : More cs) → content (m.body ++ m.end) ≡ m.body
+pub more_content : (cs : List ℕ) (m : More cs) → content (m.body ++ m.end) ≡ m.body
 more_content cs m = ap content (ap (λ (l : List ℕ). m.body ++ l) (sym (append-nil m.end))) ∙ content_end m.body m.end m.rest [] m.in_line m.is
 
-lined : (ls : List (List ℕ)) (cs : List ℕ) → lines cs ≡ ls → Lined ls
+pub lined : (ls : List (List ℕ)) (cs : List ℕ) → lines cs ≡ ls → Lined ls
 lined [] cs e = tt
 lined (l ∷ []) cs e = tt
 lined (l ∷ m ∷ ls) cs e = by (first_line cs) (λ d f. lined (m ∷ ls) d f)
@@ -247,3 +247,85 @@ snaps (l ∷ m ∷ ls) cs front rest e whole free = by (first_line cs) (λ d f r
               feeds = i.feeds;
             })) in
             snap_step l2 m ls (width Utf8 front) (omega arith) ∙ ap (λ k. width Utf8 l2 + snap (m ∷ ls) k) left ∙ omega (arith, here, long)
+
+not_in_line : (front rest : List ℕ) → InLine (front ++ (13 ∷ rest)) → ⊥
+not_in_line [] rest a = let h = a.0 in absurd cc
+not_in_line (c ∷ front) rest a = not_in_line front rest a.1
+
+-- the end of a line that begins so is the one of two characters
+begins_end : (end more between later us : List ℕ) → IsEnd end more → between ++ more ≡ 10 ∷ later → end ≡ us ++ (13 ∷ between) → (us ≡ []) × (end ≡ 13 ∷ 10 ∷ [])
+begins_end end more between later [] (inl e) same cut = let h : 10 ∷ [] ≡ 13 ∷ between = sym e ∙ cut in absurd cc
+begins_end end more between later [] (inr (inl e)) same cut = (refl, e)
+begins_end end more between later [] (inr (inr e)) same cut =
+    let h : 13 ∷ [] ≡ 13 ∷ between = sym e.0 ∙ cut in
+    let none : between ≡ [] = cc in
+    let feed : more ≡ 10 ∷ later = sym (ap (λ (l : List ℕ). l ++ more) none) ∙ same in
+    let test : begins_with_line_feed more ≡ true = ap begins_with_line_feed feed in
+    let other = e.1 in
+    absurd cc
+begins_end end more between later (u ∷ us) (inl e) same cut = absurd (omega (arith, ap length (sym e ∙ cut), length-append us (13 ∷ between)))
+begins_end end more between later (u ∷ us) (inr (inr e)) same cut = absurd (omega (arith, ap length (sym e.0 ∙ cut), length-append us (13 ∷ between)))
+begins_end end more between later (u ∷ []) (inr (inl e)) same cut = let h : 13 ∷ 10 ∷ [] ≡ u ∷ 13 ∷ between = sym e ∙ cut in absurd cc
+begins_end end more between later (u ∷ v ∷ us) (inr (inl e)) same cut = absurd (omega (arith, ap length (sym e ∙ cut), length-append us (13 ∷ between)))
+
+snap_end : (body end more before between later m : List ℕ) (ls : List (List ℕ)) → InLine body → IsEnd end more → content (body ++ end) ≡ body → body ++ end ≡ before ++ (13 ∷ between) → between ++ more ≡ 10 ∷ later
+    → snap ((body ++ end) ∷ (m ∷ ls)) (width Utf8 before + 1) ≡ width Utf8 before
+snap_end body end more before between later m ls in_line is holds cut same = by (meet body end before (13 ∷ between) cut)
+  where
+    by : Short body end before (13 ∷ between) ⊎ Long body end before (13 ∷ between) → snap ((body ++ end) ∷ (m ∷ ls)) (width Utf8 before + 1) ≡ width Utf8 before
+    by (inr l) =
+        let first : 13 ≡ l.first = let e = l.shorter in cc in
+        let there : body ≡ before ++ (13 ∷ l.between) = l.longer ∙ ap (λ x. before ++ (x ∷ l.between)) (sym first) in
+        absurd (not_in_line before l.between (subst InLine there in_line))
+    by (inl s) =
+        let two = begins_end end more between later s.between is same s.shorter in
+        let whole : before ≡ body = s.longer ∙ ap (λ (l : List ℕ). body ++ l) two.0 ∙ append-nil body in
+        let short : width Utf8 before ≡ width Utf8 body = ap (width Utf8) whole in
+        let long : width Utf8 (body ++ end) ≡ width Utf8 body + 2 = width-append Utf8 body end ∙ ap (λ (l : List ℕ). width Utf8 body + width Utf8 l) two.1 in
+        snap_stop (body ++ end) m ls (width Utf8 before + 1) (omega arith)
+        ∙ ap (λ (l : List ℕ). width Utf8 (fitting Utf8 (width Utf8 before + 1) l)) holds
+        ∙ ap (width Utf8) (fitting_all Utf8 (width Utf8 before + 1) body (omega arith)) ∙ sym short
+
+-- an offset in the middle of a line end is where that begins
+pub snaps_in_end : (ls : List (List ℕ)) (cs before later : List ℕ) → lines cs ≡ ls → cs ≡ before ++ (13 ∷ 10 ∷ later) → snap ls (width Utf8 before + 1) ≡ width Utf8 before
+snaps_in_end [] cs before later e whole = let some = lines_some cs in let is = some.is in absurd cc
+snaps_in_end (l ∷ []) cs before later e whole = by (first_line cs)
+  where
+    by : InLine cs ⊎ More cs → snap (l ∷ []) (width Utf8 before + 1) ≡ width Utf8 before
+    by (inl all) = absurd (not_in_line before (10 ∷ later) (subst InLine whole all))
+    by (inr more) =
+        let there = more_lines cs more in
+        let some = lines_some more.rest in
+        let more_is = some.is in
+        absurd cc
+snaps_in_end (l ∷ m ∷ ls) cs before later e whole = by (first_line cs) (λ d b r. snaps_in_end (m ∷ ls) d b r)
+  where
+    by : InLine cs ⊎ More cs → ((d b r : List ℕ) → lines d ≡ m ∷ ls → d ≡ b ++ (13 ∷ 10 ∷ r) → snap (m ∷ ls) (width Utf8 b + 1) ≡ width Utf8 b) → snap (l ∷ m ∷ ls) (width Utf8 before + 1) ≡ width Utf8 before
+    by (inl all) ih = let one = lines_all cs all in absurd cc
+    by (inr more) ih =
+        let there = more_lines cs more in
+        let first : l ≡ more.body ++ more.end = cc in
+        let rest_is : lines more.rest ≡ m ∷ ls = cc in
+        let parts : before ++ (13 ∷ 10 ∷ later) ≡ (more.body ++ more.end) ++ more.rest = sym whole ∙ more.whole ∙ sym (append_assoc more.body more.end more.rest) in
+        subst (λ (k : List ℕ). snap (k ∷ m ∷ ls) (width Utf8 before + 1) ≡ width Utf8 before) (sym first) (cases rest_is (meet before (13 ∷ 10 ∷ later) (more.body ++ more.end) more.rest parts))
+      where
+        cases : lines more.rest ≡ m ∷ ls → Short before (13 ∷ 10 ∷ later) (more.body ++ more.end) more.rest ⊎ Long before (13 ∷ 10 ∷ later) (more.body ++ more.end) more.rest → snap ((more.body ++ more.end) ∷ m ∷ ls) (width Utf8 before + 1) ≡ width Utf8 before
+        cases rest_is (inl s) = piece s.between s.longer s.shorter
+          where
+            piece : (zs : List ℕ) → more.body ++ more.end ≡ before ++ zs → 13 ∷ 10 ∷ later ≡ zs ++ more.rest → snap ((more.body ++ more.end) ∷ m ∷ ls) (width Utf8 before + 1) ≡ width Utf8 before
+            piece [] f r =
+                let same : width Utf8 (more.body ++ more.end) ≡ width Utf8 before = ap (width Utf8) (f ∙ append-nil before) in
+                let one : width Utf8 before + 1 - width Utf8 (more.body ++ more.end) ≡ width Utf8 [] + 1 = omega arith in
+                let here : snap (m ∷ ls) (width Utf8 [] + 1) ≡ width Utf8 [] = ih more.rest [] later rest_is (sym r) in
+                snap_step (more.body ++ more.end) m ls (width Utf8 before + 1) (omega arith) ∙ ap (λ k. width Utf8 (more.body ++ more.end) + snap (m ∷ ls) k) one ∙ omega (arith, here, same)
+            piece (z ∷ zs) f r =
+                let first : z ≡ 13 = cc in
+                let rest_here : zs ++ more.rest ≡ 10 ∷ later = cc in
+                snap_end more.body more.end more.rest before zs later m ls more.in_line more.is (more_content cs more) (f ∙ ap (λ x. before ++ (x ∷ zs)) first) rest_here
+        cases rest_is (inr s) =
+            let f : List ℕ = s.first ∷ s.between in
+            let line : List ℕ = more.body ++ more.end in
+            let long : width Utf8 before ≡ width Utf8 line + width Utf8 f = ap (width Utf8) s.longer ∙ width-append Utf8 line f in
+            let left : width Utf8 before + 1 - width Utf8 line ≡ width Utf8 f + 1 = omega arith in
+            let here : snap (m ∷ ls) (width Utf8 f + 1) ≡ width Utf8 f = ih more.rest f later rest_is s.shorter in
+            snap_step line m ls (width Utf8 before + 1) (omega arith) ∙ ap (λ k. width Utf8 line + snap (m ∷ ls) k) left ∙ omega (arith, here, long)

@@ -19,7 +19,7 @@ start_more ls zero l rest e = rw e (omega arith, refl)
 start_more [] (suc i) l rest e = absurd cc
 start_more (m ∷ ls) (suc i) l rest e = let h = start_more ls i l rest e in (omega (arith, h.0), h.1)
 
-start_nil : (n : ℕ) → start_of [] n ≡ 0
+pub start_nil : (n : ℕ) → start_of [] n ≡ 0
 start_nil zero = refl
 start_nil (suc n) = refl
 

@@ -3,5 +3,7 @@
 pub mod Lines
 pub mod Units
 pub mod Positions
-pub mod Starts
 pub mod Edits
+pub mod Indexes
+-- Inner: how a text is walked line after line.
+pub mod Starts

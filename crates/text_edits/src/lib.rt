@@ -2,8 +2,16 @@
 #![tactic(auto)]
 
 mod columns;
+mod document;
+mod edits;
+mod line_index;
 mod lines;
-pub mod positions;
+mod positions;
+
+pub use document::Document;
+pub use edits::{apply, replace};
+pub use line_index::LineIndex;
+pub use positions::{offset_of, position_of};
 
 /// In what units the columns of a line are counted.
 #[derive(Clone, Copy)]
@@ -23,4 +31,13 @@ pub struct Position {
     pub line: usize,
     /// How many units of the line, in an [`Encoding`], are before the position.
     pub character: usize,
+}
+
+/// A part of a text, from one position to another.
+#[derive(Clone, Copy)]
+pub struct Range {
+    /// Where it begins.
+    pub start: Position,
+    /// Where it ends: the first position after it.
+    pub end: Position,
 }

@@ -76,6 +76,7 @@ pub fn position_of(text: &str, encoding: Encoding, offset: usize) -> Position
     ensures is { IsPosition encoding text.now result }
     ensures back { IsCharBoundary text.now offset → ¬ (IsInLineEnd text.now offset) →
         offset_of encoding text.now result ≡ offset }
+    ensures in_line_end { IsInLineEnd text.now offset → offset_of encoding text.now result + 1 ≡ offset }
 {
     position_on(text, encoding, line_of(text, offset), offset)
 }
