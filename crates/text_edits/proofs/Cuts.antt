@@ -43,9 +43,10 @@ begins_byte bs u other = by u.0 u.1.1 (chars bs) (ap chars (sym u.1.1) ∙ chars
 -- if none of its bytes ends a line, none of its characters does
 in_line_encodes : (cs : List ℕ) → ((k : ℕ) → k < length (encode_utf8_all cs) → is_line_end (get_or (encode_utf8_all cs) k 0) ≡ false) → InLine cs
 in_line_encodes [] h = tt
-in_line_encodes (c ∷ cs) h =
-    (first (cases_lt c 128),
-    in_line_encodes cs (λ k l. ap is_line_end (sym (get_or-append-add (encode_utf8 c) (encode_utf8_all cs) k 0)) ∙ h (length (encode_utf8 c) + k) (omega (arith, length-append (encode_utf8 c) (encode_utf8_all cs)))))
+in_line_encodes (c ∷ cs) h = (
+  first (cases_lt c 128),
+  in_line_encodes cs (λ k l. ap is_line_end (sym (get_or-append-add (encode_utf8 c) (encode_utf8_all cs) k 0)) ∙ h (length (encode_utf8 c) + k) (omega (arith, length-append (encode_utf8 c) (encode_utf8_all cs)))),
+)
   where
     first : (c < 128) ⊎ (128 ≤ c) → is_line_end c ≡ false
     first (inl low) = ap (λ (l : List ℕ). is_line_end (get_or (l ++ encode_utf8_all cs) 0 0)) (sym (encode_ascii c low)) ∙ h 0 (omega (arith, length-append (encode_utf8 c) (encode_utf8_all cs), ap length (encode_ascii c low)))

@@ -89,7 +89,9 @@ first_line (c ∷ cs) = by (cases_Bool (eqb c 10)) (cases_Bool (eqb c 13)) (firs
     by (inr no_feed) (inl back) f = inr (rw (eqb-true c 13 back) (return cs))
     by (inr no_feed) (inr other) (inl all) = inl (rw (no_feed, other) refl, all)
     by (inr no_feed) (inr other) (inr more) = inr (record {
-      body = c ∷ more.body; end = more.end; rest = more.rest;
+      body = c ∷ more.body;
+      end = more.end;
+      rest = more.rest;
       whole = ap (λ (l : List ℕ). c ∷ l) more.whole;
       in_line = (rw (no_feed, other) refl, more.in_line);
       is = more.is;
@@ -109,7 +111,8 @@ lines_some cs = by (first_line cs)
     by : InLine cs ⊎ More cs → Some cs
     by (inl all) = record { first = cs; more = []; is = lines_all cs all; holds = refl }
     by (inr m) = record {
-      first = m.body ++ m.end; more = lines m.rest;
+      first = m.body ++ m.end;
+      more = lines m.rest;
       is = ap lines m.whole ∙ lines_end m.body m.end m.rest m.in_line m.is;
       holds = ap content (ap (λ (l : List ℕ). m.body ++ l) (sym (append-nil m.end))) ∙ content_end m.body m.end m.rest [] m.in_line m.is ∙ sym (content_end m.body m.end m.rest m.rest m.in_line m.is) ∙ sym (ap content m.whole);
     }

@@ -75,8 +75,8 @@ made_next text starts more start n u made next e =
     record {
       boundary = IsCharBoundary-from_rest text start n made.boundary.0 next.boundary;
       same = made.same ∙ ap (λ (l : List ℕ). starts ++ l) after
-      ∙ sym (append_assoc starts ((start + n) ∷ []) (later_starts (start + n) (lines (chars (drop (start + n) text)))))
-      ∙ ap (λ (l : List ℕ). l ++ later_starts (start + n) (lines (chars (drop (start + n) text)))) (sym e);
+          ∙ sym (append_assoc starts ((start + n) ∷ []) (later_starts (start + n) (lines (chars (drop (start + n) text)))))
+          ∙ ap (λ (l : List ℕ). l ++ later_starts (start + n) (lines (chars (drop (start + n) text)))) (sym e);
     }
 
 pub made_last : (text starts : List ℕ) (start : ℕ) → Made text starts start → IsLastLine (drop start text) → starts ≡ starts_of text
@@ -98,7 +98,10 @@ front_at : (n : ℕ) (cs : List ℕ) → FrontAt cs n
 front_at zero cs =
     let some = lines_some cs in
     record {
-      front = []; rest = cs; whole = refl; wide = refl;
+      front = [];
+      rest = cs;
+      whole = refl;
+      wide = refl;
       holds = sym some.holds ∙ sym (ap (λ (l : List (List ℕ)). line_at l 0) some.is);
       past = λ l. absurd (omega (arith, ap length some.is));
     }
@@ -108,7 +111,9 @@ front_at (suc n) cs = by (first_line cs) (λ ds. front_at n ds)
     by (inl all) ih =
         let one = lines_all cs all in
         record {
-          front = cs; rest = []; whole = sym (append-nil cs);
+          front = cs;
+          rest = [];
+          whole = sym (append-nil cs);
           wide = sym (ap (λ (l : List (List ℕ)). start_of l (suc n)) one ∙ ap (λ k. width Utf8 cs + k) (start_nil n) ∙ omega arith);
           holds = sym (ap (λ (l : List (List ℕ)). line_at l (suc n)) one);
           past = λ l. refl;

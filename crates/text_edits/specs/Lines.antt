@@ -1,6 +1,6 @@
 -- The lines of a text, each a list of characters with the line's end.
--- Source: Language Server Protocol 3.17, "Text Documents": "\n", "\r\n" and "\r" end a line. That a text with nothing in it, or
--- nothing after its last line end, has an empty last line is this project's choice.
+-- Source: Language Server Protocol 3.17, "Text Documents": "\n", "\r\n" and "\r" end a line. That the last line of a text is empty
+-- if the text is empty or ends with a line end is this project's choice.
 use Rattle.std.specs.Prelude.{ℕ, Bool, false, not, ◌==◌, ◌&&◌, ◌||◌, List, [], ◌∷◌, if◌then◌else◌}
 
 abbrev pub begins_with_line_feed : List ℕ → Bool

@@ -1,6 +1,6 @@
 -- In what units the columns of a line are counted, and how many characters fit in so many units.
 -- Source: Language Server Protocol 3.17, "Position" and "PositionEncodingKind": bytes of UTF-8, code units of UTF-16, or code
--- points. That of a character of several units none is counted where not all fit is this project's choice.
+-- points. That a character isn't counted if only some of its units fit is this project's choice.
 use Rattle.std.specs.Prelude.{ℕ, ◌+◌, ◌-◌, nat_lt, List, [], ◌∷◌, if◌then◌else◌}
 use Rattle.std.specs.Char.{len_utf8}
 use Rattle.text_edits.specs.declared.Encoding.{Encoding}

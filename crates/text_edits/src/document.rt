@@ -11,7 +11,7 @@ use crate::{Encoding, LineIndex, Position, Range};
 use std::alloc::{AllocError, Global};
 use std::marker::Model;
 
-/// A text, and where its lines begin.
+/// A text that an editor changes, with the index of its lines.
 #[derive(Drop)]
 pub struct Document {
     text: String,
@@ -28,6 +28,8 @@ impl Model for Document {
 
 impl Document {
     /// The document that has this text.
+    ///
+    /// It fails only where memory runs out, and then the text is gone too.
     pub fn new(alloc: Global, text: String) -> Result<Document, AllocError>
         ensures { IfOk result (λ document. document ≡ string_bytes text) }
     {
@@ -42,7 +44,7 @@ impl Document {
         self.text.as_str()
     }
 
-    /// The byte offset of a position.
+    /// The byte offset of a position: what [`offset_of`](crate::offset_of) gives.
     pub fn offset_of(&self, encoding: Encoding, position: Position) -> usize
         ensures value { result ≡ offset_of encoding self.now position }
         ensures boundary { IsCharBoundary self.now result }
@@ -51,7 +53,7 @@ impl Document {
         self.index.offset_of(&self.text, encoding, position)
     }
 
-    /// The position of a byte offset.
+    /// The position of a byte offset: what [`position_of`](crate::position_of) gives.
     pub fn position_of(&self, encoding: Encoding, offset: usize) -> Position
         ensures value { result ≡ position_of encoding self.now offset }
         ensures is { IsPosition encoding self.now result }
@@ -62,7 +64,9 @@ impl Document {
         self.index.position_of(&self.text, encoding, offset)
     }
 
-    /// Puts `new` in the place of what is in the range.
+    /// Puts `new` in the place of what is in the range, as [`apply`](crate::apply) does.
+    ///
+    /// It fails only where memory runs out, and then the document is as it was.
     pub fn apply(
         &mut self,
         alloc: Global,

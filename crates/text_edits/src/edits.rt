@@ -16,7 +16,12 @@ fn later(start: usize, end: usize) -> usize
     if start < end { end } else { start }
 }
 
-/// The text with `new` in the place of the bytes from `start` to `end`.
+/// The text with `new` in the place of what is between two offsets in bytes: from `start` up to `end`.
+///
+/// An offset beyond the end of the text is its end, and one in the middle of a character is where the character begins. If the end
+/// is before the start, nothing is taken out, and `new` is put in at the start (this project's choice).
+///
+/// It fails only where memory runs out.
 pub fn replace(
     alloc: Global,
     text: &str,
@@ -35,7 +40,13 @@ pub fn replace(
     Ok(replaced)
 }
 
-/// The text with `new` in the place of what is in the range.
+/// The text with `new` in the place of what is in the range, whose columns are in units of the encoding (Language Server Protocol
+/// 3.17, "TextDocumentContentChangeEvent").
+///
+/// Where the range begins and where it ends are as [`offset_of`] says. If the end is before the start, nothing is taken out, and
+/// `new` is put in at the start (this project's choice).
+///
+/// It fails only where memory runs out.
 pub fn apply(
     alloc: Global,
     text: &str,

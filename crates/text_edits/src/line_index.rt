@@ -13,7 +13,10 @@ use crate::{Encoding, Position};
 use std::alloc::{AllocError, Global};
 use std::marker::Model;
 
-/// The byte offsets at which the lines of one text begin.
+/// The offsets in bytes at which the lines of one text begin.
+///
+/// To find a position it goes over that position's line alone. It doesn't hold the text, so each call is given the text that the
+/// index was made of; a [`Document`](crate::Document) holds both. (This project's choice.)
 #[derive(Drop)]
 pub struct LineIndex {
     starts: Vec<usize>,
@@ -26,7 +29,9 @@ impl Model for LineIndex {
 }
 
 impl LineIndex {
-    /// The index of a text.
+    /// The index of a text, in one pass over it.
+    ///
+    /// It fails only where memory runs out.
     pub fn new(alloc: Global, text: &str) -> Result<LineIndex, AllocError>
         ensures { IfOk result (λ index. index ≡ starts_of text.now) }
     {
@@ -73,7 +78,7 @@ impl LineIndex {
         }
     }
 
-    /// The byte offset of a position.
+    /// The byte offset of a position in the text of the index: what [`offset_of`](crate::offset_of) gives.
     pub fn offset_of(&self, text: &str, encoding: Encoding, position: Position) -> usize
         requires { self.now ≡ starts_of text.now }
         ensures value { result ≡ offset_of encoding text.now position }
@@ -85,7 +90,7 @@ impl LineIndex {
         offset_on(text, encoding, Line { number, start }, position.character)
     }
 
-    /// The position of a byte offset.
+    /// The position of a byte offset in the text of the index: what [`position_of`](crate::position_of) gives.
     pub fn position_of(&self, text: &str, encoding: Encoding, offset: usize) -> Position
         requires { self.now ≡ starts_of text.now }
         ensures value { result ≡ position_of encoding text.now offset }

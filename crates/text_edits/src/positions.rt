@@ -38,7 +38,10 @@ pub(crate) fn position_on(text: &str, encoding: Encoding, line: Line, offset: us
 {
     let content = first_line(&text[line.start..]);
     let character = converted(content, Encoding::Utf8, offset - line.start, encoding);
-    Position { line: line.number, character }
+    Position {
+        line: line.number,
+        character,
+    }
 }
 
 // The line that a byte offset is on: the last one that begins at or before it.
@@ -59,7 +62,13 @@ fn line_of(text: &str, offset: usize) -> Line
     Line { number, start }
 }
 
-/// The byte offset of a position.
+/// The byte offset of a position, whose column is in units of the encoding.
+///
+/// A column beyond the end of its line is the line's end, before its line end (Language Server Protocol 3.17, "Position"). A line
+/// beyond the last one is the end of the text, and a column in the middle of a character, as between the two surrogates of a pair,
+/// is where the character begins (this project's choice).
+///
+/// It goes over the text up to the position; [`LineIndex`](crate::LineIndex) goes over its line alone.
 pub fn offset_of(text: &str, encoding: Encoding, position: Position) -> usize
     ensures value { result ≡ offset_of encoding text.now position }
     ensures boundary { IsCharBoundary text.now result }
@@ -70,7 +79,12 @@ pub fn offset_of(text: &str, encoding: Encoding, position: Position) -> usize
     offset_on(text, encoding, Line { number, start }, position.character)
 }
 
-/// The position of a byte offset.
+/// The position of an offset in bytes, with its column in units of the encoding.
+///
+/// An offset beyond the end of the text is its end, one in the middle of a character is where the character begins, and one in the
+/// middle of a `\r\n` is where that begins, which is the end of its line (this project's choice).
+///
+/// It goes over the text up to the offset; [`LineIndex`](crate::LineIndex) goes over its line alone.
 pub fn position_of(text: &str, encoding: Encoding, offset: usize) -> Position
     ensures value { result ≡ position_of encoding text.now offset }
     ensures is { IsPosition encoding text.now result }
