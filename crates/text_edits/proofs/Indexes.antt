@@ -1,5 +1,5 @@
 -- Where lines begin, as an index has it.
-use Rattle.std.proofs.Common.{◌≡◌, ℕ, zero, suc, ◌+◌, ◌-◌, ◌≤◌, ◌<◌, ◌⊎◌, List, [], ◌∷◌, ◌++◌, length, take, drop, get_or, refl, sym, ap, ap₂, ◌∙◌, subst, arith, inl, inr, append_assoc}
+use Rattle.std.proofs.Common.{◌≡◌, ℕ, zero, suc, ◌+◌, ◌-◌, ◌≤◌, ◌<◌, ◌⊎◌, List, [], ◌∷◌, ◌++◌, length, drop, get_or, refl, sym, ap, ◌∙◌, subst, arith, inl, inr, append_assoc}
 use Rattle.std.proofs.lemmas.List.{append-nil, drop-drop, get_or_default}
 use Rattle.std.proofs.lemmas.Str.{IsUtf8-drop, IsCharBoundary-start, IsCharBoundary-from_rest}
 use Rattle.std.specs.Str.{chars, IsUtf8, IsCharBoundary}
@@ -9,10 +9,10 @@ use Rattle.text_edits.specs.Lines.{lines, content}
 use Rattle.text_edits.specs.Positions.{start_of, line_at, lines_passed}
 use Rattle.text_edits.specs.Starts.{IsLastLine, IsNextLine, IsLineStart}
 use Rattle.text_edits.specs.Units.{width}
-use Rattle.text_edits.proofs.Boundaries.{CutAt, cut_at}
-use Rattle.text_edits.proofs.FirstLines.{InLine, More, first_line, lines_all, lines_some, content_all, content_end}
+use Rattle.text_edits.proofs.Boundaries.{cut_at}
+use Rattle.text_edits.proofs.FirstLines.{InLine, More, first_line, lines_all, lines_some}
 use Rattle.text_edits.proofs.Passed.{passed_stop, passed_step}
-use Rattle.text_edits.proofs.Rounds.{Lined, lined, more_lines, more_content}
+use Rattle.text_edits.proofs.Rounds.{Lined, lined, more_lines}
 use Rattle.text_edits.proofs.Starts.{next_width, start_nil}
 use Rattle.text_edits.proofs.Widths.{width-append, width-chars}
 

@@ -1,12 +1,12 @@
 -- Where the lines of a text begin, in a loop over them.
-use Rattle.std.proofs.Common.{◌≡◌, ℕ, zero, suc, ◌+◌, ◌-◌, ◌≤◌, ◌<◌, List, [], ◌∷◌, ◌++◌, length, take, drop, get_or, refl, sym, ap, ◌∙◌, subst, arith, length-append, length-drop, length-take, add-one, add-zero, zero-add}
+use Rattle.std.proofs.Common.{◌≡◌, ℕ, zero, suc, ◌+◌, ◌≤◌, ◌<◌, List, [], ◌∷◌, length, take, drop, get_or, refl, sym, ap, ◌∙◌, arith, length-drop, length-take, add-one}
 use Rattle.std.proofs.Math.Seq.{drop-length}
 use Rattle.std.proofs.lemmas.List.{drop-drop}
 use Rattle.std.proofs.lemmas.Str.{IsUtf8-take, IsUtf8-drop, IsCharBoundary-start, IsCharBoundary-end, IsCharBoundary-from_rest, chars-nil}
 use Rattle.std.specs.Str.{chars, IsUtf8, IsCharBoundary}
 use Rattle.text_edits.specs.declared.Encoding.TheVariants.{Utf8}
 use Rattle.text_edits.specs.Lines.{lines, content}
-use Rattle.text_edits.specs.Positions.{start_of, line_at}
+use Rattle.text_edits.specs.Positions.{start_of}
 use Rattle.text_edits.specs.Starts.{IsLastLine, IsNextLine, IsLineStart}
 use Rattle.text_edits.specs.Units.{width}
 use Rattle.text_edits.proofs.FirstLines.{lines_some}

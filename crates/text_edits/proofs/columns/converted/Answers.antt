@@ -1,8 +1,7 @@
-use Rattle.std.proofs.Common.{◌≡◌, ℕ, ◌+◌, ◌-◌, ◌≤◌, ◌<◌, ◌^◌, List, ◌∷◌, ◌++◌, length, drop, sym, ap, ◌∙◌, arith}
+use Rattle.std.proofs.Common.{ℕ, ◌<◌, ◌^◌, List, length, arith}
 use Rattle.std.proofs.lemmas.Iterator.{YieldsList-from_chars}
 use Rattle.std.proofs.lemmas.Iterator.Consumers.{YieldsList-turn, YieldsList-end}
 use Rattle.std.specs.Str.{chars}
-use Rattle.text_edits.specs.Units.{units, width, fitting}
 use Rattle.text_edits.proofs.CharLoops.{next_left, none_left}
 use Rattle.text_edits.proofs.Widths.{counted_step, counted_stop, counted_end, width_fitting_le, width-chars}
 use Rattle.text_edits.proofs.columns.converted.Goals as goal

@@ -1,6 +1,6 @@
 use Rattle.std.proofs.Common.{◌≡◌, ◌-◌, take, sym, ap, ◌∙◌, arith}
 use Rattle.std.specs.Str.{chars}
-use Rattle.text_edits.proofs.Cuts.{Ends, found, found_none, content_here}
+use Rattle.text_edits.proofs.Cuts.{found, found_none, content_here}
 use Rattle.text_edits.proofs.FirstLines.{content_all}
 use Rattle.text_edits.proofs.lines.first_line.Goals as goal
 

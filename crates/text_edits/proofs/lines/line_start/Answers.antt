@@ -1,6 +1,6 @@
-use Rattle.std.proofs.Common.{◌≡◌, ℕ, ◌<◌, ◌+◌, List, sym, ap, subst, arith}
+use Rattle.std.proofs.Common.{◌≡◌, ℕ, List, subst, arith}
 use Rattle.text_edits.specs.Starts.{IsLastLine, IsNextLine, IsLineStart}
-use Rattle.text_edits.proofs.Starts.{IsAt, at_start, at_next, at_line, at_past}
+use Rattle.text_edits.proofs.Starts.{at_start, at_next, at_line, at_past}
 use Rattle.text_edits.proofs.lines.line_start.Goals as goal
 
 pub loop-passed-init : goal.loop-passed-init

@@ -1,6 +1,6 @@
-use Rattle.std.proofs.Common.{◌≡◌, ℕ, ◌≤◌, ◌-◌, List, subst, arith}
-use Rattle.text_edits.specs.Starts.{IsLastLine, IsNextLine}
-use Rattle.text_edits.proofs.Passed.{walked_start, walked_next, walked_last, walked_here}
+use Rattle.std.proofs.Common.{ℕ, List, subst}
+use Rattle.text_edits.specs.Starts.{IsNextLine}
+use Rattle.text_edits.proofs.Passed.{walked_start, walked_next, walked_here}
 use Rattle.text_edits.proofs.Starts.{at_line}
 use Rattle.text_edits.proofs.positions.line_of.Goals as goal
 
