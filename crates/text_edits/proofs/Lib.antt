@@ -1,0 +1,10 @@
+pub mod Backs
+pub mod Boundaries
+pub mod CharLoops
+pub mod Cuts
+pub mod FirstLines
+pub mod Indexes
+pub mod Passed
+pub mod Rounds
+pub mod Starts
+pub mod Widths
