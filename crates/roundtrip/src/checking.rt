@@ -186,14 +186,16 @@ fn in_lines(alloc: Global, text: &str) -> Result<String, AllocError> {
     lines.finish()
 }
 
-// Whether two texts have the same tokens, one for one as they are spelled.
+// Whether two texts have the same tokens, one for one as they are spelled. A block string may be spelled otherwise: that it has
+// the same value is seen in the trees.
 fn has_same_tokens(text: &str, other: &str) -> bool {
     let mut others = Tokens::new(other);
     for token in Tokens::new(text) {
         let Some(same) = others.next() else {
             return false;
         };
-        if token.text != same.text {
+        let are_blocks = token.kind.is_block() && same.kind.is_block();
+        if !are_blocks && token.text != same.text {
             return false;
         }
     }
