@@ -245,7 +245,9 @@ class StripIgnoredCharacters(unittest.TestCase):
                         call(text)
                     errors.append(caught.exception)
                 parsed, stripped = errors
-                self.assertEqual(stripped.message, parsed.message)
+                # This call is told no names.
+                message = parsed.message.replace("operation A is", "an operation is").replace("fragment A is", "a fragment is")
+                self.assertEqual(stripped.message, message)
                 self.assertEqual((stripped.__cause__.kind, stripped.positions), (kind, positions))
 
     def test_limits(self):
