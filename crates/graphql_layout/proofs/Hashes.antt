@@ -8,7 +8,7 @@ use Rattle.graphql_tokens.specs.tokens.Classes.{is_ignored}
 use Rattle.graphql_tokens.specs.tokens.Ignored.{IsComment, EndsLine}
 use Rattle.graphql_tokens.specs.tokens.Place.{is_line_end}
 use Rattle.graphql_tokens.proofs.Chars.{chars_split}
-use Rattle.graphql_layout.specs.inner.FirstLine.{IsFirstLine}
+use Rattle.graphql_layout.specs.inner.FirstLine.{IsFirstLine, IsFirstHash}
 use Rattle.graphql_layout.specs.texts.Items.{Item, comment, word, IsBlankText, IsItems, words}
 use Rattle.graphql_layout.specs.inner.Tidied.{tidied}
 use Rattle.graphql_layout.specs.texts.LaidOut.{trimmed}
@@ -114,8 +114,13 @@ begun [] body more [] e f l r = absurd cc
 begun [] body more (y ∷ rest) e f l r = absurd (let g : 35 ≡ y = cc in let t : is_line_end 35 ≡ true = ap is_line_end g ∙ r in cc)
 begun (x ∷ c) body more rest e f l r = let g : x ≡ 35 = cc in (g, l.1)
 
-pub hash : (rest from first after : List ℕ) (i j : ℕ) → IsUtf8 rest → IsCharBoundary rest i → FindsChar 35 rest (Some (i, j)) → from ≡ drop i rest → IsFirstLine from first after → Hash rest from first after
-hash rest from first after i j u b f is l =
+pub hash : (rest before from first after : List ℕ) → IsUtf8 rest → IsFirstHash rest before from → IsFirstLine from first after → Hash rest from first after
+hash rest before from first after u h l =
+    let i = h.start in
+    let j = h.end in
+    let b = h.boundary in
+    let f = h.found in
+    let is = h.back in
     let utf8 = IsUtf8-drop rest i u b in
     let begins : chars from ≡ 35 ∷ chars (drop j rest) = ap chars is ∙ chars_past_char (drop i rest) (drop j rest) 35 utf8 f.1.split in
     let is_comment = begun (chars first) (chars (drop j rest)) (chars from) (chars after) begins l.whole l.in_line l.ends in

@@ -9,6 +9,7 @@ pub mod BlockTexts
 pub mod BlockValues
 pub mod CharLoops
 pub mod Hashes
+pub mod FirstHashes
 pub mod FirstLines
 pub mod Firsts
 pub mod Items

@@ -1,7 +1,8 @@
 //! The comments between two tokens.
-ghost use Rattle.std.specs.Prelude.{◌≡◌, [], ◌++◌, List, OnOk};
-ghost use Rattle.std.specs.Str.{chars};
-ghost use Rattle.graphql_layout.specs.inner.FirstLine.{IsFirstLine};
+ghost use Rattle.std.specs.Prelude.{◌≡◌, [], ◌++◌, List, None, OnOk, MatchOption};
+ghost use Rattle.std.specs.Str.{byte, chars};
+ghost use Rattle.std.specs.Str.Pattern.{FindsChar};
+ghost use Rattle.graphql_layout.specs.inner.FirstLine.{IsFirstLine, IsFirstHash};
 ghost use Rattle.graphql_layout.specs.texts.Items.{Item, IsItems, words};
 ghost use Rattle.graphql_layout.specs.inner.Tidied.{tidied};
 ghost use Rattle.graphql_layout.specs.texts.LaidOut.{trimmed};
@@ -9,8 +10,18 @@ ghost use Rattle.graphql_layout.specs.texts.LaidOut.{trimmed};
 use crate::layout::gaps::Place;
 use crate::layout::lines::{Before, begin_comment};
 use crate::sheet::Sheet;
-use memchr::memchr2;
+use memchr::{memchr, memchr2};
 use std::alloc::AllocError;
+
+// The text before its first `#`, and the text from there on.
+fn split_hash(text: &str) -> Option<(&str, &str)>
+    ensures { MatchOption result (FindsChar (byte "#") text.now None) (λ parts. IsFirstHash text.now parts.0.now parts.1.now) }
+{
+    match memchr(b'#', text.as_bytes()) {
+        None => None,
+        Some(start) => Some(text.split_at(start)),
+    }
+}
 
 // The first line of the text, without its end, and the rest.
 fn split_line(text: &str) -> (&str, &str)
@@ -35,8 +46,7 @@ pub fn push_comments(sheet: &mut Sheet, place: &Place, gap: &str) -> Result<Befo
 {
     let mut before = Before::nothing();
     let mut rest = gap;
-    while let Some(start) = rest.find('#') {
-        let (blanks, from) = rest.split_at(start);
+    while let Some((blanks, from)) = split_hash(rest) {
         let (comment, after) = split_line(from);
         before = before.with_blanks(blanks);
         begin_comment(sheet, place, before)?;

@@ -13,7 +13,6 @@ pub mod walk;
 use crate::blocks::value_of;
 use crate::comments::push_comments;
 use crate::sheet::Sheet;
-use breaks::{Plan, planned};
 use gaps::{Layout, Place};
 use graphql_tokens::lexer::{TokenKind, Tokens};
 use lines::begin_token;
@@ -49,24 +48,16 @@ pub fn format(alloc: Global, text: &str) -> Result<Option<String>, AllocError>
     ensures { IfOk result (λ r.
         MatchOption r (HasFault text.now) (λ s. IsLaidOut text.now (string_bytes s))) }
 {
-    format_planned(alloc, text, planned(alloc, text)?)
-}
-
-/// As [`format`], by a plan that was made of the text's tokens. By another plan lines break elsewhere.
-pub fn format_planned(alloc: Global, text: &str, plan: Plan) -> Result<Option<String>, AllocError>
-    ensures { IfOk result (λ r.
-        MatchOption r (HasFault text.now) (λ s. IsLaidOut text.now (string_bytes s))) }
-{
-    let mut layout = Layout::new(alloc, plan);
+    let mut layout = Layout::new(alloc);
     let mut sheet = Sheet::with_room(alloc, text.len())?;
     let mut rest = text;
     for token in Tokens::new(text) {
         if token.kind == TokenKind::Fault {
             return Ok(None);
         }
-        let place = layout.pass()?;
         let end = text.len() - rest.len();
         let (gap, from) = rest.split_at(token.start - end);
+        let place = layout.pass(token.kind, token.text, from)?;
         let before = push_comments(&mut sheet, &place, gap)?;
         if token.kind.is_end() {
             return Ok(Some(sheet.finish()));

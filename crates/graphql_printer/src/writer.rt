@@ -5,17 +5,16 @@ ghost use Rattle.graphql_layout.specs.inner.Blocks.{spelled as spelled_block};
 ghost use Rattle.graphql_printer.specs.inner.SpelledTexts.{KeepsTokens};
 
 use graphql_layout::blocks::push_block;
-use graphql_layout::{Planner, format_planned};
+use graphql_layout::format;
 use graphql_syntax::value::ValueView;
 use graphql_tokens::lexer::TokenKind;
 use std::alloc::{AllocError, Global};
 use std::marker::Model;
 
-/// Tokens as text, each with a blank after it, and what is known of them for their layout.
+/// Tokens as text, each with a blank after it.
 #[derive(Drop)]
 pub struct Writer {
     text: String,
-    planner: Planner,
 }
 
 impl Model for Writer {
@@ -33,15 +32,13 @@ impl Writer {
     {
         Writer {
             text: String::new(alloc),
-            planner: Planner::new(alloc),
         }
     }
 
     /// Writes a token of this kind.
-    pub fn token(&mut self, kind: TokenKind, spelling: &str) -> Result<(), AllocError>
+    pub fn token(&mut self, _kind: TokenKind, spelling: &str) -> Result<(), AllocError>
         ensures { OnOk result (self.new ≡ self.old ++ (spelling.now ++ codes " ")) }
     {
-        self.planner.pass("", kind, spelling)?;
         self.text.push_str(spelling)?;
         self.text.push(' ')
     }
@@ -50,19 +47,14 @@ impl Writer {
     pub fn string(&mut self, text: &str) -> Result<(), AllocError>
         ensures { OnOk result (self.new ≡ self.old ++ (string_text text.now ++ codes " ")) }
     {
-        let start = self.text.len();
         let shown = ValueView::String(text);
-        write!(self.text, "{shown} ")?;
-        let spelling = self.text.get(start..).unwrap_or("");
-        self.planner
-            .pass("", TokenKind::String, spelling.trim_ascii_end())
+        write!(self.text, "{shown} ")
     }
 
     /// Writes a block string of a text, which the layout indents.
     pub fn block(&mut self, text: &str) -> Result<(), AllocError>
         ensures { OnOk result (self.new ≡ self.old ++ (spelled_block 0 text.now ++ codes " ")) }
     {
-        self.planner.pass("", TokenKind::Block, "")?;
         push_block(&mut self.text, text, 0)?;
         self.text.push(' ')
     }
@@ -72,11 +64,9 @@ impl Writer {
     pub fn lay_out(self, alloc: Global) -> Result<String, AllocError>
         ensures { IfOk result (λ s. KeepsTokens self (string_bytes s)) }
     {
-        let Writer { text, mut planner } = self;
-        planner.pass("", TokenKind::End, "")?;
-        match format_planned(alloc, text.as_str(), planner.finish())? {
+        match format(alloc, self.text.as_str())? {
             Some(formatted) => Ok(formatted),
-            None => Ok(text),
+            None => Ok(self.text),
         }
     }
 }

@@ -1,8 +1,9 @@
--- The first line of a text.
+-- The first line of a text, and its first `#`.
 -- Source: this project's choice.
-use Rattle.std.specs.Prelude.{◌≡◌, ℕ, false, List, ◌++◌, ◌+◌, length}
+use Rattle.std.specs.Prelude.{◌≡◌, ℕ, false, Some, List, ◌++◌, ◌+◌, length, take, drop}
 use Rattle.std.specs.List.{AllByRecursion}
-use Rattle.std.specs.Str.{chars, IsUtf8}
+use Rattle.std.specs.Str.{byte, chars, IsUtf8, IsCharBoundary}
+use Rattle.std.specs.Str.Pattern.{FindsChar}
 use Rattle.graphql_tokens.specs.tokens.Ignored.{EndsLine}
 use Rattle.graphql_tokens.specs.tokens.Place.{is_line_end}
 
@@ -14,3 +15,12 @@ pub record IsFirstLine (text first rest : List ℕ) : Type 0 where
   pub utf8 : IsUtf8 first
   pub rest_utf8 : IsUtf8 rest
   pub long : length text ≡ length first + length rest
+
+-- the text from its first `#` on, and what comes before it
+pub record IsFirstHash (text before from : List ℕ) : Type 0 where
+  pub start : ℕ
+  pub end : ℕ
+  pub found : FindsChar (byte "#") text (Some (start, end))
+  pub boundary : IsCharBoundary text start
+  pub front : before ≡ take start text
+  pub back : from ≡ drop start text

@@ -1,61 +1,43 @@
-//! What is known of a text before it is laid out: what its tokens are, and which brackets are broken over lines.
+//! Which brackets are broken over lines, and what each token is. Sets are always broken. Of another bracket it is known by what
+//! is in it, so the text is read up to its end before it is laid out, and each token in it is met twice.
 use crate::blocks::push_block;
 use crate::layout::walk::{Bracket, Role, Step, Walk};
 use graphql_tokens::lexer::{TokenKind, Tokens};
 use graphql_tokens::text::block_string_value;
+use memchr::{memchr, memchr2};
 use std::alloc::{AllocError, Global};
 
 // The arguments of a field are broken where it would be longer than this with them.
 const LONGEST_CALL: usize = 80;
 
-/// How a text is to be laid out.
+/// The tokens of a text up to one of them, and what is known of those after it.
 #[derive(Debug, Drop)]
-pub struct Plan {
-    // What each token is among those before it, in their order.
-    pub(crate) steps: Vec<Step>,
-    // Whether each bracket is broken over lines, in the order in which they open. Sets are, and what has a comment in it, lists
-    // and objects that were broken after the opening bracket, definitions of arguments of which one is described, and the
-    // arguments of a field that are too long.
-    pub(crate) broken: Vec<bool>,
+pub struct Planner {
+    alloc: Global,
+    walk: Walk,
+    // What each token is that was read ahead, and whether each bracket is broken that opens among them: a list or an object that
+    // was broken after the opening bracket, definitions of arguments of which one is described, the arguments of a field that are
+    // too long, and what has a comment in it. How many of both were passed since.
+    steps: Vec<Step>,
+    passed: usize,
+    broken: Vec<bool>,
+    opened: usize,
+    // The brackets that are open where it reads ahead.
+    open: Vec<Open>,
+    // How long a selection or a field is up to there, on one line.
+    column: usize,
 }
 
-/// The plan of a text. It fails only where memory runs out.
-pub fn planned(alloc: Global, text: &str) -> Result<Plan, AllocError> {
-    let mut planner = Planner::new(alloc);
-    let mut end = 0;
-    for token in Tokens::new(text) {
-        let gap = text.get(end..token.start).unwrap_or("");
-        planner.pass(gap, token.kind, token.text)?;
-        end = token.start.saturating_add(token.text.len());
-    }
-    Ok(planner.finish())
-}
-
-// An open bracket. Columns are those of a text on one line.
+// A bracket that is open where it reads ahead.
 #[derive(Clone, Copy, Debug)]
 struct Open {
     bracket: Bracket,
     // Which one it is.
     index: usize,
-    // Where what it belongs to begins.
-    start: usize,
-    // Where what it holds begins.
+    // The column at which what it holds begins.
     inside: usize,
-    // Where the line ends first, in a bracket in it that is broken.
+    // The column at which the line ends first, in a bracket in it that is broken.
     stop: Option<usize>,
-}
-
-/// Makes the plan of a text while its tokens pass by.
-#[derive(Debug, Drop)]
-pub struct Planner {
-    alloc: Global,
-    walk: Walk,
-    steps: Vec<Step>,
-    open: Vec<Open>,
-    broken: Vec<bool>,
-    column: usize,
-    // Where the last member of a set begins.
-    member: usize,
 }
 
 impl Planner {
@@ -65,45 +47,83 @@ impl Planner {
             alloc,
             walk: Walk::new(alloc),
             steps: Vec::new(alloc),
-            open: Vec::new(alloc),
+            passed: 0,
             broken: Vec::new(alloc),
+            opened: 0,
+            open: Vec::new(alloc),
             column: 0,
-            member: 0,
         }
     }
 
-    /// Passes the next token, after what is ignored before it. The end is one too. It fails only where memory runs out.
-    pub fn pass(&mut self, gap: &str, kind: TokenKind, spelling: &str) -> Result<(), AllocError> {
+    /// Passes the next token, and gives what it is. It fails only where memory runs out.
+    pub fn pass(&mut self, kind: TokenKind, spelling: &str) -> Result<Step, AllocError> {
+        if let Some(step) = self.steps.get(self.passed).copied() {
+            self.passed = self.passed.saturating_add(1);
+            return Ok(step);
+        }
         let step = self.walk.step(kind, spelling)?;
-        self.steps.push(step)?;
-        if self.breaks(gap, &step) {
-            self.break_innermost();
-        }
-        self.column = self.column.saturating_add(gap_width(&step));
-        if step.role == Role::Member && self.is_in(Bracket::Set) {
-            self.member = self.column;
-        }
-        let width = self.width(kind, spelling)?;
-        self.column = self.column.saturating_add(width);
-        if step.role == Role::Closing {
-            self.close();
-        }
-        match step.opens {
-            Some(bracket) => self.open(bracket),
-            None => Ok(()),
-        }
+        // Only members of sets, which begin lines, are not read ahead.
+        let before = match step.role {
+            Role::Member => 0,
+            _ => self.column.saturating_add(gap_width(&step)),
+        };
+        self.column = before.saturating_add(spelling.len());
+        Ok(step)
     }
 
-    /// The plan of the tokens that passed.
-    pub fn finish(self) -> Plan {
-        let Planner { steps, broken, .. } = self;
-        Plan { steps, broken }
+    /// Whether the bracket is broken that was passed last, where this text comes after it. It fails only where memory runs out.
+    pub fn is_broken(&mut self, bracket: Bracket, after: &str) -> Result<bool, AllocError> {
+        if bracket == Bracket::Set {
+            return Ok(true);
+        }
+        if self.opened >= self.broken.len() {
+            self.read_ahead(bracket, after)?;
+        }
+        let is_broken = self.broken.get(self.opened).copied() == Some(true);
+        self.opened = self.opened.saturating_add(1);
+        Ok(is_broken)
+    }
+
+    // Reads the text up to the end of this bracket, which opens before it.
+    fn read_ahead(&mut self, bracket: Bracket, after: &str) -> Result<(), AllocError> {
+        self.steps.clear();
+        self.passed = 0;
+        self.broken.clear();
+        self.opened = 0;
+        self.open.clear();
+        self.open(bracket)?;
+        let is_call = bracket == Bracket::Call;
+        let mut end = 0;
+        for token in Tokens::new(after) {
+            let step = self.walk.step(token.kind, token.text)?;
+            self.steps.push(step)?;
+            let gap = after.get(end..token.start).unwrap_or("");
+            if self.breaks(gap, &step) {
+                self.break_innermost();
+            }
+            if is_call {
+                let width = self.width(token.kind, token.text)?;
+                let start = self.column.saturating_add(gap_width(&step));
+                self.column = start.saturating_add(width);
+            }
+            if let Some(inner) = step.opens {
+                self.open(inner)?;
+            }
+            if step.role == Role::Closing {
+                self.close();
+                if self.open.is_empty() {
+                    break;
+                }
+            }
+            end = token.start.saturating_add(token.text.len());
+        }
+        Ok(())
     }
 
     // How long a token is. Only a string has other characters than ASCII, and those past U+FFFF count twice. A block string is
-    // measured as it is written anew, where it is among the arguments of a field.
+    // measured as it is written anew.
     fn width(&self, kind: TokenKind, spelling: &str) -> Result<usize, AllocError> {
-        if kind.is_block() && self.is_in_call() {
+        if kind.is_block() {
             let end = spelling.len().saturating_sub(3);
             let value = block_string_value(self.alloc, spelling.get(3..end).unwrap_or(""))?;
             let mut written = String::new(self.alloc);
@@ -114,10 +134,6 @@ impl Planner {
             return Ok(spelling.encode_utf16().count());
         }
         Ok(spelling.len())
-    }
-
-    fn is_in_call(&self) -> bool {
-        self.open.iter().any(|open| open.bracket == Bracket::Call)
     }
 
     fn is_in(&self, bracket: Bracket) -> bool {
@@ -135,8 +151,8 @@ impl Planner {
         let was_broken = step.is_first
             && step.role != Role::Closing
             && (self.is_in(Bracket::List) || self.is_in(Bracket::Object))
-            && (gap.contains('\n') || gap.contains('\r'));
-        was_broken || gap.contains('#')
+            && memchr2(b'\n', b'\r', gap.as_bytes()).is_some();
+        was_broken || memchr(b'#', gap.as_bytes()).is_some()
     }
 
     fn break_innermost(&mut self) {
@@ -155,11 +171,10 @@ impl Planner {
         self.open.push(Open {
             bracket,
             index: self.broken.len(),
-            start: self.member,
             inside: self.column,
             stop: None,
         })?;
-        self.broken.push(bracket == Bracket::Set)?;
+        self.broken.push(false)?;
         Ok(())
     }
 
@@ -168,7 +183,7 @@ impl Planner {
             return;
         };
         let end = open.stop.unwrap_or(self.column);
-        if open.bracket == Bracket::Call && end.saturating_sub(open.start) > LONGEST_CALL {
+        if open.bracket == Bracket::Call && end > LONGEST_CALL {
             self.break_at(open.index);
         }
         let is_broken = self.broken.get(open.index).copied() == Some(true);

@@ -1,6 +1,7 @@
 //! What stands before each token.
-use crate::layout::breaks::Plan;
+use crate::layout::breaks::Planner;
 use crate::layout::walk::{Role, Step};
+use graphql_tokens::lexer::TokenKind;
 use std::alloc::{AllocError, Global};
 
 /// What stands before a token.
@@ -40,48 +41,46 @@ pub struct Place {
 /// A text up to one of its tokens.
 #[derive(Debug, Drop)]
 pub struct Layout {
-    plan: Plan,
-    // How many tokens were passed, and how many brackets have opened.
-    passed: usize,
-    opened: usize,
-    // Whether each open bracket is broken, and how many of them are.
+    planner: Planner,
+    // Whether each open bracket is broken, whether the innermost is, and how many are.
     open: Vec<bool>,
+    is_broken: bool,
     depth: usize,
 }
 
 impl Layout {
     /// Before the first token of a text.
-    pub fn new(alloc: Global, plan: Plan) -> Layout {
+    pub fn new(alloc: Global) -> Layout {
         Layout {
-            plan,
-            passed: 0,
-            opened: 0,
+            planner: Planner::new(alloc),
             open: Vec::new(alloc),
+            is_broken: false,
             depth: 0,
         }
     }
 
-    /// Passes the next token, and gives where it stands. It fails only where memory runs out.
-    pub fn pass(&mut self) -> Result<Place, AllocError> {
-        let step = self.next_step();
+    /// Passes the next token, with which this text begins, and gives where it stands. It fails only where memory runs out.
+    pub fn pass(
+        &mut self,
+        kind: TokenKind,
+        spelling: &str,
+        text: &str,
+    ) -> Result<Place, AllocError> {
+        let step = self.planner.pass(kind, spelling)?;
         let place = self.place(&step);
         if step.role == Role::Closing {
             self.close();
         }
-        if step.opens.is_some() {
-            self.open()?;
+        if let Some(bracket) = step.opens {
+            let after = text.get(spelling.len()..).unwrap_or("");
+            let is_broken = self.planner.is_broken(bracket, after)?;
+            self.open(is_broken)?;
         }
         Ok(place)
     }
 
-    fn next_step(&mut self) -> Step {
-        let step = self.plan.steps.get(self.passed).copied();
-        self.passed = self.passed.saturating_add(1);
-        step.unwrap_or(Step::end())
-    }
-
     fn place(&self, step: &Step) -> Place {
-        let is_broken = self.open.last().copied() == Some(true);
+        let is_broken = self.is_broken;
         let deeper = self.depth.saturating_add(1);
         let outer = self.depth.saturating_sub(1);
         let (gap, depth, comments) = match step.role {
@@ -106,13 +105,12 @@ impl Layout {
         }
     }
 
-    fn open(&mut self) -> Result<(), AllocError> {
-        let is_broken = self.plan.broken.get(self.opened).copied() == Some(true);
-        self.opened = self.opened.saturating_add(1);
+    fn open(&mut self, is_broken: bool) -> Result<(), AllocError> {
+        self.open.push(is_broken)?;
+        self.is_broken = is_broken;
         if is_broken {
             self.depth = self.depth.saturating_add(1);
         }
-        self.open.push(is_broken)?;
         Ok(())
     }
 
@@ -120,5 +118,6 @@ impl Layout {
         if self.open.pop() == Some(true) {
             self.depth = self.depth.saturating_sub(1);
         }
+        self.is_broken = self.open.last().copied() == Some(true);
     }
 }

@@ -52,18 +52,6 @@ pub struct Step {
     pub opens: Option<Bracket>,
 }
 
-impl Step {
-    /// The end of a text that has other tokens.
-    pub fn end() -> Step {
-        Step {
-            role: Role::End,
-            is_first: false,
-            describes: false,
-            opens: None,
-        }
-    }
-}
-
 // What the token before was, as far as it decides what the next one is.
 #[derive(Clone, Copy, Debug, PartialEq, Eq)]
 enum Last {
@@ -87,18 +75,12 @@ enum Last {
     Closed,
 }
 
-// The first character of a punctuator, which no other has, and a blank for what is none.
-fn mark_of(kind: TokenKind, spelling: &str) -> u8 {
-    if !kind.is_punct() {
-        return b' ';
-    }
-    spelling.as_bytes().first().copied().unwrap_or(b' ')
-}
-
 /// The tokens of a text up to one of them.
 #[derive(Debug, Drop)]
 pub struct Walk {
+    // The open brackets, and the innermost of them.
     open: Vec<Bracket>,
+    innermost: Option<Bracket>,
     last: Last,
     // Whether the definition is one of a request.
     is_request: bool,
@@ -111,6 +93,7 @@ impl Walk {
     pub fn new(alloc: Global) -> Walk {
         Walk {
             open: Vec::new(alloc),
+            innermost: None,
             last: Last::Start,
             is_request: false,
             is_directive: false,
@@ -119,99 +102,160 @@ impl Walk {
 
     /// Passes the next token. It fails only where memory runs out.
     pub fn step(&mut self, kind: TokenKind, spelling: &str) -> Result<Step, AllocError> {
-        let mark = mark_of(kind, spelling);
-        let opens = self.opened(mark);
-        let role = self.role(kind, mark, spelling, opens);
-        let step = Step {
+        match kind {
+            TokenKind::Name => Ok(self.pass_name(spelling)),
+            TokenKind::Punct => self.pass_punct(spelling),
+            TokenKind::End => Ok(self.at(Role::End)),
+            _ => Ok(self.pass_literal(kind)),
+        }
+    }
+
+    // A token that is this, and opens nothing.
+    fn at(&self, role: Role) -> Step {
+        Step {
             role,
             is_first: matches!(self.last, Last::Start | Last::Opening),
-            describes: self.describes(role, kind),
-            opens,
-        };
-        self.note_name(role, kind, spelling);
-        if role == Role::Closing {
-            self.open.pop();
+            describes: false,
+            opens: None,
         }
-        self.last = self.after(&step, kind, mark, spelling);
-        if let Some(bracket) = step.opens {
+    }
+
+    // What a token is that begins something.
+    fn beginning(&self) -> Role {
+        if self.innermost.is_none() {
+            Role::Definition
+        } else {
+            Role::Member
+        }
+    }
+
+    fn is_in(&self, bracket: Bracket) -> bool {
+        self.innermost == Some(bracket)
+    }
+
+    // ---- names
+
+    fn pass_name(&mut self, name: &str) -> Step {
+        let step = self.at(self.role_of_name(name));
+        if step.role == Role::Definition {
+            self.is_request = matches!(name, "query" | "mutation" | "subscription" | "fragment");
+        }
+        self.is_directive = self.last == Last::Sigil;
+        self.last = if self.innermost.is_some() {
+            self.after_inner_name(name)
+        } else {
+            self.after_outer_name(step.role, name)
+        };
+        step
+    }
+
+    fn role_of_name(&self, name: &str) -> Role {
+        match self.last {
+            Last::Start | Last::Opening | Last::Closed => self.beginning(),
+            Last::Whole if self.innermost.is_some() => Role::Member,
+            Last::Whole if !matches!(name, "implements" | "on" | "repeatable") => Role::Definition,
+            Last::Description => Role::Described,
+            Last::Sigil => Role::Touching,
+            Last::Dots if name != "on" => Role::Touching,
+            _ => Role::Apart,
+        }
+    }
+
+    fn after_inner_name(&self, name: &str) -> Last {
+        if self.last == Last::Dots && name == "on" {
+            Last::Wanting
+        } else {
+            Last::Whole
+        }
+    }
+
+    fn after_outer_name(&self, role: Role, name: &str) -> Last {
+        let is_keyword =
+            matches!(role, Role::Definition | Role::Described) || self.last == Last::Extend;
+        if is_keyword && name == "extend" {
+            return Last::Extend;
+        }
+        let is_clause = self.last == Last::Whole && matches!(name, "implements" | "on");
+        if is_keyword || is_clause {
+            Last::Wanting
+        } else {
+            Last::Whole
+        }
+    }
+
+    // ---- punctuators
+
+    // The first character of a punctuator tells which one it is.
+    fn pass_punct(&mut self, spelling: &str) -> Result<Step, AllocError> {
+        let mark = spelling.as_bytes().first().copied().unwrap_or(b' ');
+        if matches!(mark, b')' | b']' | b'}') {
+            return Ok(self.pass_closing(mark));
+        }
+        let opens = self.opened(mark);
+        let step = Step {
+            opens,
+            ..self.at(self.role_of_punct(mark, opens))
+        };
+        if step.role == Role::Definition {
+            self.is_request = mark == b'{';
+        }
+        self.last = after_punct(mark);
+        if let Some(bracket) = opens {
             self.open.push(bracket)?;
+            self.innermost = opens;
         }
         Ok(step)
     }
 
-    fn role(&self, kind: TokenKind, mark: u8, spelling: &str, opens: Option<Bracket>) -> Role {
-        if kind.is_end() {
-            return Role::End;
-        }
-        if matches!(mark, b')' | b']' | b'}') {
-            return Role::Closing;
-        }
+    fn pass_closing(&mut self, mark: u8) -> Step {
+        let step = self.at(Role::Closing);
+        self.open.pop();
+        self.innermost = self.open.last().copied();
+        self.last = if mark == b'}' && self.innermost.is_none() {
+            Last::Closed
+        } else {
+            Last::Whole
+        };
+        step
+    }
+
+    fn role_of_punct(&self, mark: u8, opens: Option<Bracket>) -> Role {
         if self.last == Last::Description {
-            return Role::Described;
-        }
-        if self.begins(kind, mark, spelling) {
-            return if self.open.is_empty() {
-                Role::Definition
-            } else {
-                Role::Member
-            };
-        }
-        if opens == Some(Bracket::Set) {
-            return Role::Body;
-        }
-        if self.touches(kind, mark, spelling) {
+            Role::Described
+        } else if self.begins(mark) {
+            self.beginning()
+        } else if opens == Some(Bracket::Set) {
+            Role::Body
+        } else if self.touches(mark) {
             Role::Touching
         } else {
             Role::Apart
         }
     }
 
-    // Whether a definition or a member begins.
-    fn begins(&self, kind: TokenKind, mark: u8, spelling: &str) -> bool {
+    // Whether a definition or a member begins with this punctuator.
+    fn begins(&self, mark: u8) -> bool {
         match self.last {
             Last::Start | Last::Opening | Last::Closed => true,
-            Last::Whole => self.begins_after_whole(kind, mark, spelling),
-            _ => false,
-        }
-    }
-
-    fn begins_after_whole(&self, kind: TokenKind, mark: u8, spelling: &str) -> bool {
-        match kind {
-            TokenKind::Name => {
-                !self.open.is_empty() || !matches!(spelling, "implements" | "on" | "repeatable")
-            }
-            TokenKind::Punct => match mark {
+            Last::Whole => match mark {
                 b'.' | b'$' | b'[' => true,
                 b'{' => self.is_in(Bracket::List),
                 _ => false,
             },
-            _ => true,
+            _ => false,
         }
     }
 
     // Whether nothing stands between the token before and this one, which belongs to it.
-    fn touches(&self, kind: TokenKind, mark: u8, spelling: &str) -> bool {
+    fn touches(&self, mark: u8) -> bool {
         match mark {
             b':' | b'!' => true,
             b'(' => self.last != Last::Wanting,
-            _ => {
-                self.last == Last::Sigil
-                    || self.last == Last::Dots && kind.is_name() && spelling != "on"
-            }
+            _ => self.last == Last::Sigil,
         }
     }
 
-    fn describes(&self, role: Role, kind: TokenKind) -> bool {
-        (kind.is_string() || kind.is_block())
-            && matches!(role, Role::Definition | Role::Member)
-            && !self.is_in(Bracket::List)
-    }
-
-    fn is_in(&self, bracket: Bracket) -> bool {
-        self.open.last().copied() == Some(bracket)
-    }
-
-    // The bracket that this token opens.
+    // The bracket that this punctuator opens.
     fn opened(&self, mark: u8) -> Option<Bracket> {
         match mark {
             b'[' => Some(Bracket::List),
@@ -219,65 +263,52 @@ impl Walk {
                 Some(Bracket::Call)
             }
             b'(' => Some(Bracket::Other),
-            b'{' if self.open.is_empty() => Some(Bracket::Set),
+            b'{' if self.innermost.is_none() => Some(Bracket::Set),
             b'{' if self.is_in(Bracket::Set) && self.last != Last::Wanting => Some(Bracket::Set),
             b'{' => Some(Bracket::Object),
             _ => None,
         }
     }
 
-    // Notes whether the definition is one of a request, and whether a name is that of a directive.
-    fn note_name(&mut self, role: Role, kind: TokenKind, spelling: &str) {
-        if kind.is_name() {
-            self.is_directive = self.last == Last::Sigil;
-        }
+    // ---- strings and numbers
+
+    fn pass_literal(&mut self, kind: TokenKind) -> Step {
+        let role = self.role_of_literal();
+        let describes = (kind.is_string() || kind.is_block())
+            && matches!(role, Role::Definition | Role::Member)
+            && !self.is_in(Bracket::List);
+        let step = Step {
+            describes,
+            ..self.at(role)
+        };
         if role == Role::Definition {
-            self.is_request = matches!(
-                spelling,
-                "{" | "query" | "mutation" | "subscription" | "fragment"
-            );
+            self.is_request = false;
         }
-    }
-
-    // What this token is to the next one.
-    fn after(&self, step: &Step, kind: TokenKind, mark: u8, spelling: &str) -> Last {
-        match kind {
-            _ if step.describes => Last::Description,
-            TokenKind::Punct => self.after_punct(mark),
-            TokenKind::Name => self.after_name(step.role, spelling),
-            _ => Last::Whole,
-        }
-    }
-
-    fn after_punct(&self, mark: u8) -> Last {
-        match mark {
-            b'(' | b'[' | b'{' => Last::Opening,
-            b'}' if self.open.is_empty() => Last::Closed,
-            b')' | b']' | b'}' | b'!' => Last::Whole,
-            b'@' | b'$' => Last::Sigil,
-            b'.' => Last::Dots,
-            _ => Last::Wanting,
-        }
-    }
-
-    fn after_name(&self, role: Role, spelling: &str) -> Last {
-        if !self.open.is_empty() {
-            return if self.last == Last::Dots && spelling == "on" {
-                Last::Wanting
-            } else {
-                Last::Whole
-            };
-        }
-        let is_keyword = matches!(role, Role::Definition | Role::Described)
-            || self.last == Last::Extend;
-        if is_keyword && spelling == "extend" {
-            return Last::Extend;
-        }
-        let is_clause = self.last == Last::Whole && matches!(spelling, "implements" | "on");
-        if is_keyword || is_clause {
-            Last::Wanting
+        self.last = if describes {
+            Last::Description
         } else {
             Last::Whole
+        };
+        step
+    }
+
+    fn role_of_literal(&self) -> Role {
+        match self.last {
+            Last::Start | Last::Opening | Last::Closed | Last::Whole => self.beginning(),
+            Last::Description => Role::Described,
+            Last::Sigil => Role::Touching,
+            _ => Role::Apart,
         }
+    }
+}
+
+// What a punctuator that closes nothing is to the token after it.
+fn after_punct(mark: u8) -> Last {
+    match mark {
+        b'(' | b'[' | b'{' => Last::Opening,
+        b'!' => Last::Whole,
+        b'@' | b'$' => Last::Sigil,
+        b'.' => Last::Dots,
+        _ => Last::Wanting,
     }
 }

@@ -10,7 +10,7 @@ use Rattle.graphql_tokens.specs.declared.lexer.TokenKind.TheVariants.{Punct, Nam
 use Rattle.graphql_layout.specs.inner.Tidied.{IsAdded}
 use Rattle.graphql_layout.specs.texts.Items.{Item}
 use Rattle.graphql_layout.proofs.Takings.{next, boundary, all_laid_out, next_spells, boundary_after, one_read}
-use Rattle.graphql_layout.proofs.layout.format_planned.Goals as goal
+use Rattle.graphql_layout.proofs.layout.format.Goals as goal
 
 not_fault : (kind : TokenKind) → sameb the_type kind Fault ≡ false → kind ≢ Fault
 not_fault kind h e = let same : sameb the_type kind Fault ≡ true = ap (λ k. sameb the_type k Fault) e in cc
