@@ -1,5 +1,5 @@
 //! The comments between two tokens.
-ghost use Rattle.std.specs.Prelude.{◌≡◌, [], ◌++◌, List, None, OnOk, MatchOption};
+ghost use Rattle.std.specs.Prelude.{◌≡◌, [], ◌++◌, List, None, true, OnOk, MatchOption};
 ghost use Rattle.std.specs.Str.{byte, chars};
 ghost use Rattle.std.specs.Str.Pattern.{FindsChar};
 ghost use Rattle.graphql_layout.specs.inner.FirstLine.{IsFirstLine, IsFirstHash};
@@ -12,6 +12,13 @@ use crate::layout::lines::{Before, begin_comment};
 use crate::sheet::Sheet;
 use memchr::{memchr, memchr2};
 use std::alloc::AllocError;
+
+// Whether it is empty or a blank, as most of what is ignored between two tokens.
+fn is_short(gap: &str) -> bool
+    ensures { result ≡ true → FindsChar (byte "#") gap.now None }
+{
+    gap.is_empty() || gap == " "
+}
 
 // The text before its first `#`, and the text from there on.
 fn split_hash(text: &str) -> Option<(&str, &str)>
@@ -39,20 +46,35 @@ fn without_blanks(comment: &str) -> &str
     comment.trim_end_matches(['\t', ' '])
 }
 
-/// Writes the comments between two tokens, less the blanks at their ends, before a token that stands there.
-pub fn push_comments(sheet: &mut Sheet, place: &Place, gap: &str) -> Result<Before, AllocError>
+// The text from the rest of the gap on, of the text that begins with the gap.
+fn from_rest<'a>(text: &'a str, gap: &str, rest: &str) -> &'a [u8] {
+    let passed = gap.len().saturating_sub(rest.len());
+    text.as_bytes().get(passed..).unwrap_or(b"")
+}
+
+/// Writes the comments between two tokens, less the blanks at their ends, before a token that stands there. The text begins with
+/// what is between the two.
+pub fn push_comments(
+    sheet: &mut Sheet,
+    place: &Place,
+    gap: &str,
+    text: &str,
+) -> Result<Before, AllocError>
     ensures { (items : List Item) → IsItems (chars gap.now) items → words items ≡ [] →
         OnOk result (sheet.new ≡ sheet.old ++ tidied items) }
 {
+    if is_short(gap) {
+        return Ok(Before::nothing());
+    }
     let mut before = Before::nothing();
     let mut rest = gap;
     while let Some((blanks, from)) = split_hash(rest) {
         let (comment, after) = split_line(from);
-        before = before.with_blanks(blanks);
+        before = before.with_blanks(from_rest(text, gap, rest), blanks.len());
         begin_comment(sheet, place, before)?;
         sheet.comment(without_blanks(comment))?;
         before = before.with_comment(place);
         rest = after;
     }
-    Ok(before.with_blanks(rest))
+    Ok(before.with_blanks(from_rest(text, gap, rest), rest.len()))
 }

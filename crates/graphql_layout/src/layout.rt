@@ -48,7 +48,7 @@ pub fn format(alloc: Global, text: &str) -> Result<Option<String>, AllocError>
     ensures { IfOk result (λ r.
         MatchOption r (HasFault text.now) (λ s. IsLaidOut text.now (string_bytes s))) }
 {
-    let mut layout = Layout::new(alloc);
+    let mut layout = Layout::new(alloc, text);
     let mut sheet = Sheet::with_room(alloc, text.len())?;
     let mut rest = text;
     for token in Tokens::new(text) {
@@ -58,7 +58,7 @@ pub fn format(alloc: Global, text: &str) -> Result<Option<String>, AllocError>
         let end = text.len() - rest.len();
         let (gap, from) = rest.split_at(token.start - end);
         let place = layout.pass(token.kind, token.text, from)?;
-        let before = push_comments(&mut sheet, &place, gap)?;
+        let before = push_comments(&mut sheet, &place, gap, rest)?;
         if token.kind.is_end() {
             return Ok(Some(sheet.finish()));
         }

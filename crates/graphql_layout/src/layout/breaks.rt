@@ -1,10 +1,11 @@
 //! Which brackets are broken over lines, and what each token is. Sets are always broken. Of another bracket it is known by what
-//! is in it, so the text is read up to its end before it is laid out, and each token in it is met twice.
+//! is in it: by its beginning where no comment comes any more; else the text is read up to its end before it is laid out, and each
+//! token in it is met twice.
 use crate::blocks::push_block;
 use crate::layout::walk::{Bracket, Role, Step, Walk};
 use graphql_tokens::lexer::{TokenKind, Tokens};
 use graphql_tokens::text::block_string_value;
-use memchr::{memchr, memchr2};
+use memchr::{memchr, memchr2, memrchr};
 use std::alloc::{AllocError, Global};
 
 // The arguments of a field are broken where it would be longer than this with them.
@@ -26,6 +27,8 @@ pub struct Planner {
     open: Vec<Open>,
     // How long a selection or a field is up to there, on one line.
     column: usize,
+    // In the text's last bytes, fewer than these, no comment begins.
+    uncommented: usize,
 }
 
 // A bracket that is open where it reads ahead.
@@ -41,8 +44,9 @@ struct Open {
 }
 
 impl Planner {
-    /// Before the first token.
-    pub fn new(alloc: Global) -> Planner {
+    /// Before the first token of a text.
+    pub fn new(alloc: Global, text: &str) -> Planner {
+        let before = memrchr(b'#', text.as_bytes()).unwrap_or(0);
         Planner {
             alloc,
             walk: Walk::new(alloc),
@@ -52,6 +56,7 @@ impl Planner {
             opened: 0,
             open: Vec::new(alloc),
             column: 0,
+            uncommented: text.len().saturating_sub(before),
         }
     }
 
@@ -62,7 +67,7 @@ impl Planner {
             return Ok(step);
         }
         let step = self.walk.step(kind, spelling)?;
-        // Only members of sets, which begin lines, are not read ahead.
+        // A field with arguments is a member of a set, and begins a line.
         let before = match step.role {
             Role::Member => 0,
             _ => self.column.saturating_add(gap_width(&step)),
@@ -77,11 +82,68 @@ impl Planner {
             return Ok(true);
         }
         if self.opened >= self.broken.len() {
+            if closes_soon(bracket, after, self.room(bracket)) {
+                return Ok(bracket.breaks_by_its_beginning() && begins_on_next_line(after));
+            }
+            if after.len() < self.uncommented {
+                return self.is_broken_without_comment(bracket, after);
+            }
             self.read_ahead(bracket, after)?;
         }
         let is_broken = self.broken.get(self.opened).copied() == Some(true);
         self.opened = self.opened.saturating_add(1);
         Ok(is_broken)
+    }
+
+    // How many columns a bracket may take that is not looked at closely: for the arguments of a field those that are left.
+    fn room(&self, bracket: Bracket) -> usize {
+        match bracket {
+            Bracket::Call => LONGEST_CALL.saturating_sub(self.column),
+            _ => LONGEST_CALL,
+        }
+    }
+
+    // The same of a bracket in which there is no comment, by as much of it as tells.
+    fn is_broken_without_comment(
+        &self,
+        bracket: Bracket,
+        after: &str,
+    ) -> Result<bool, AllocError> {
+        match bracket {
+            Bracket::Set => Ok(true),
+            Bracket::List | Bracket::Object => Ok(begins_on_next_line(after)),
+            Bracket::Call => self.is_long(after),
+            Bracket::Other => Ok(!self.walk.is_in_request() && is_described(after)),
+        }
+    }
+
+    // Whether the line of a field is too long with its arguments, which begin here: it ends where a list or an object in them is
+    // broken, or else where they do.
+    fn is_long(&self, arguments: &str) -> Result<bool, AllocError> {
+        let mut column = self.column;
+        let mut depth = 1usize;
+        let mut last = b'(';
+        for token in Tokens::new(arguments) {
+            let mark = token.text.as_bytes().first().copied().unwrap_or(b' ');
+            column = column.saturating_add(gap_in_call(last, mark));
+            column = column.saturating_add(self.width(token.kind, token.text)?);
+            last = mark;
+            match mark {
+                b'[' | b'{' => {
+                    let after = token.start.saturating_add(1);
+                    if begins_on_next_line(arguments.get(after..).unwrap_or("")) {
+                        return Ok(column > LONGEST_CALL);
+                    }
+                    depth = depth.saturating_add(1);
+                }
+                b')' | b']' | b'}' => depth = depth.saturating_sub(1),
+                _ => {}
+            }
+            if depth == 0 || column > LONGEST_CALL {
+                break;
+            }
+        }
+        Ok(column > LONGEST_CALL)
     }
 
     // Reads the text up to the end of this bracket, which opens before it.
@@ -207,4 +269,84 @@ fn gap_width(step: &Step) -> usize {
         Role::Apart | Role::Body => 1,
         _ => 0,
     }
+}
+
+// The same among the arguments of a field, after a token that begins so.
+fn gap_in_call(last: u8, mark: u8) -> usize {
+    match (last, mark) {
+        (b'(' | b'[' | b'{' | b'$', _) | (_, b':' | b')' | b']' | b'}') => 0,
+        (b':', _) => 1,
+        _ => 2,
+    }
+}
+
+// Whether this bracket closes within so many columns, however what it holds is written on one line, and without strings, comments
+// and brackets of its kind in it.
+fn closes_soon(bracket: Bracket, after: &str, room: usize) -> bool {
+    let (opening, closing) = bracket.marks();
+    let mut width = 1usize;
+    for next in after.bytes() {
+        if next == closing {
+            return width <= room;
+        }
+        if next == opening || next == b'"' || next == b'#' {
+            return false;
+        }
+        width = width.saturating_add(most_columns(next));
+        if width > room {
+            return false;
+        }
+    }
+    false
+}
+
+// How many columns a character of a text without strings takes at most, with what may be put beside it.
+fn most_columns(c: u8) -> usize {
+    match c {
+        b':' | b' ' | b',' | b'\t' | b'\n' | b'\r' => 2,
+        b'[' | b']' | b'{' | b'}' | b'$' => 3,
+        _ => 1,
+    }
+}
+
+// Whether one of the arguments that are defined here has a description. No parser accepts parentheses in parentheses in theirs, so
+// nothing after them is looked at.
+fn is_described(arguments: &str) -> bool {
+    let mut depth = 1usize;
+    let mut parentheses = 1usize;
+    let mut last = b'(';
+    for token in Tokens::new(arguments) {
+        let is_value = matches!(last, b':' | b'=');
+        if depth == 1 && !is_value && (token.kind.is_string() || token.kind.is_block()) {
+            return true;
+        }
+        last = token.text.as_bytes().first().copied().unwrap_or(b' ');
+        match last {
+            b'(' | b'[' | b'{' => depth = depth.saturating_add(1),
+            b')' | b']' | b'}' => depth = depth.saturating_sub(1),
+            _ => {}
+        }
+        match last {
+            b'(' => parentheses = parentheses.saturating_add(1),
+            b')' => parentheses = parentheses.saturating_sub(1),
+            _ => {}
+        }
+        if depth == 0 || parentheses > 2 {
+            break;
+        }
+    }
+    false
+}
+
+// Whether what a bracket holds begins on a line after it, if it holds anything.
+fn begins_on_next_line(after: &str) -> bool {
+    let mut ends_line = false;
+    for next in after.bytes() {
+        match next {
+            b'\n' | b'\r' => ends_line = true,
+            b' ' | b'\t' | b',' => {}
+            _ => return ends_line && !matches!(next, b')' | b']' | b'}'),
+        }
+    }
+    false
 }

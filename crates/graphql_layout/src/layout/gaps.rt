@@ -50,9 +50,9 @@ pub struct Layout {
 
 impl Layout {
     /// Before the first token of a text.
-    pub fn new(alloc: Global) -> Layout {
+    pub fn new(alloc: Global, text: &str) -> Layout {
         Layout {
-            planner: Planner::new(alloc),
+            planner: Planner::new(alloc, text),
             open: Vec::new(alloc),
             is_broken: false,
             depth: 0,

@@ -18,6 +18,22 @@ pub enum Bracket {
     Other,
 }
 
+impl Bracket {
+    /// The opening and the closing bracket.
+    pub fn marks(self) -> (u8, u8) {
+        match self {
+            Bracket::Set | Bracket::Object => (b'{', b'}'),
+            Bracket::List => (b'[', b']'),
+            Bracket::Call | Bracket::Other => (b'(', b')'),
+        }
+    }
+
+    /// Whether it is broken where what it holds begins on the next line.
+    pub fn breaks_by_its_beginning(self) -> bool {
+        matches!(self, Bracket::List | Bracket::Object)
+    }
+}
+
 /// What a token is among those before it.
 #[derive(Clone, Copy, Debug, PartialEq, Eq)]
 pub enum Role {
@@ -108,6 +124,11 @@ impl Walk {
             TokenKind::End => Ok(self.at(Role::End)),
             _ => Ok(self.pass_literal(kind)),
         }
+    }
+
+    /// Whether the definition is one of a request.
+    pub fn is_in_request(&self) -> bool {
+        self.is_request
     }
 
     // A token that is this, and opens nothing.
