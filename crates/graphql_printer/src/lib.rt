@@ -35,6 +35,7 @@ mod schema_tests;
 mod schemas;
 #[cfg(test)]
 mod tests;
+mod widths;
 mod writer;
 
 pub use formatting::{format_query, format_schema};
