@@ -21,3 +21,5 @@ pub mod ShownRequests
 pub mod ShownStrings
 pub mod ShownValues
 pub mod SpelledTexts
+pub mod Spellings
+pub mod Writing

@@ -1,5 +1,6 @@
 //! Tokens that are laid out while they are written.
-ghost use Rattle.std.specs.Prelude.{◌≡◌, ◌++◌, ◌∷◌, [], true, OnOk, IfOk, string_bytes};
+ghost use Rattle.std.specs.Prelude.{◌≡◌, ◌++◌, ◌∷◌, [], true, OnOk, OnErr, IfOk, string_bytes};
+ghost use Rattle.std.specs.List.{list_all};
 ghost use Rattle.std.specs.Str.{chars};
 ghost use Rattle.graphql_tokens.specs.tokens.Proper.{Spells};
 ghost use Rattle.graphql_tokens.specs.declared.lexer.TokenKind.TheVariants as kinds;
@@ -7,7 +8,7 @@ ghost use Rattle.graphql_layout.specs.inner.Blocks.{may_be_block, spelled as spe
 ghost use Rattle.graphql_printer.specs.inner.Shown.{by_values, quoted};
 ghost use Rattle.graphql_printer.specs.inner.SpelledTexts.{KeepsTokens};
 ghost use Rattle.graphql_tokens.specs.tokens.Classes.{is_name_char};
-ghost use Rattle.graphql_printer.specs.inner.Words.{is_word as is_word_of, stays_in_string};
+ghost use Rattle.graphql_printer.specs.inner.Words.{is_word as is_word_of, loose_tokens, stays_in_string};
 
 use graphql_layout::blocks::push_block;
 use graphql_layout::sheet::Sheet;
@@ -67,7 +68,7 @@ fn is_word(text: &str) -> bool
     ensures { result ≡ is_word_of text.now }
 {
     match text.as_bytes().first() {
-        Some(first) => !first.is_ascii_digit() && text.bytes().all(is_name_byte),
+        Some(first) => !first.is_ascii_digit() && text.bytes().all(|b| is_name_byte(b)),
         None => false,
     }
 }
@@ -77,6 +78,30 @@ fn is_plain(c: char) -> bool
     ensures { result ≡ stays_in_string c }
 {
     c >= ' ' && c != '"' && c != '\\'
+}
+
+// Whether all of its characters do.
+fn are_plain(text: &str) -> bool
+    ensures { result ≡ list_all stays_in_string (chars text.now) }
+{
+    text.chars().all(|c| is_plain(c))
+}
+
+// Keeps a token aside, where it or one before it is spelled otherwise than tokens of its kind are.
+#[inline(never)]
+fn keep(
+    alloc: Global,
+    rest: &mut Vec<Loose>,
+    kind: TokenKind,
+    spelling: &str,
+) -> Result<(), AllocError>
+    ensures ok { OnOk result (loose_tokens rest.new.items ≡ loose_tokens rest.old.items
+        ++ record { kind = kind; spelling = spelling.now } ∷ []) }
+    ensures err { OnErr result (rest.new.items ≡ rest.old.items) }
+{
+    let spelling = String::from_str(alloc, spelling)?;
+    rest.push(Loose { kind, spelling })?;
+    Ok(())
 }
 
 // Writes a token, and a blank after it.
@@ -184,7 +209,7 @@ impl Writer {
             ++ by_values (record { kind = kind; spelling = spelling.now } ∷ [])) }
     {
         if !self.rest.is_empty() {
-            return self.keep(kind, spelling);
+            return keep(self.alloc, &mut self.rest, kind, spelling);
         }
         self.sheet.token(kind, spelling)
     }
@@ -194,25 +219,17 @@ impl Writer {
         ensures { OnOk result (self.new ≡ self.old
             ++ by_values (record { kind = kinds.Name; spelling = name.now } ∷ [])) }
     {
-        if !is_word(name) || !self.rest.is_empty() {
-            return self.keep(TokenKind::Name, name);
+        if !is_word(name) {
+            return keep(self.alloc, &mut self.rest, TokenKind::Name, name);
         }
-        self.sheet.token(TokenKind::Name, name)
-    }
-
-    // Keeps a token aside, where it or one before it is spelled otherwise than tokens of its kind are.
-    #[inline(never)]
-    fn keep(&mut self, kind: TokenKind, spelling: &str) -> Result<(), AllocError> {
-        let spelling = String::from_str(self.alloc, spelling)?;
-        self.rest.push(Loose { kind, spelling })?;
-        Ok(())
+        self.token(TokenKind::Name, name)
     }
 
     /// Writes the string that stands for a text.
     pub fn string(&mut self, text: &str) -> Result<(), AllocError>
         ensures { OnOk result (self.new ≡ self.old ++ by_values (quoted text.now ∷ [])) }
     {
-        if self.rest.is_empty() && text.chars().all(is_plain) {
+        if self.rest.is_empty() && are_plain(text) {
             return self.sheet.quoted(text);
         }
         let shown = ValueView::String(text);
@@ -229,7 +246,7 @@ impl Writer {
         if !self.rest.is_empty() {
             let mut spelling = String::new(self.alloc);
             push_block(&mut spelling, text, 0)?;
-            return self.keep(TokenKind::Block, &spelling);
+            return keep(self.alloc, &mut self.rest, TokenKind::Block, &spelling);
         }
         self.sheet.block(text, self.depth.saturating_mul(INDENT))
     }
