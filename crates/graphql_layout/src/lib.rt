@@ -36,8 +36,7 @@ mod tests;
 use blocks::push_shortened;
 use ending::Ending;
 use graphql_tokens::lexer::{Token, TokenKind, Tokens};
-pub use layout::breaks::{Plan, Planner};
-pub use layout::{format, format_planned};
+pub use layout::format;
 use std::alloc::{AllocError, Global};
 
 // Writes a token in few characters.

@@ -39,6 +39,7 @@ pub fn word(out: &mut Writer, name: &str) -> Outcome
 
 /// A punctuator.
 #[inline(always)]
+#[tactic(auto, using(crate::proofs::Spellings::sign_spells))]
 pub fn sign(out: &mut Writer, sign: &str) -> Outcome
     requires { is_sign sign.now ≡ true }
     ensures { Prints result out.old out.new (record { kind = Punct; spelling = sign.now } ∷ []) }

@@ -46,6 +46,7 @@ pub fn operation_word(kind: OperationType) -> &'static str
 }
 
 // A number, by its literal.
+#[tactic(auto, using(crate::proofs::Spellings::number_spells))]
 fn print_number(out: &mut Writer, number: &Number) -> Outcome
     ensures { Prints result out.old out.new
         (literal number.now ∷ []) }

@@ -215,6 +215,7 @@ impl Writer {
     }
 
     /// Writes a name or a keyword, whatever it is.
+    #[tactic(auto, using(crate::proofs::Spellings::word_spells))]
     pub fn word(&mut self, name: &str) -> Result<(), AllocError>
         ensures { OnOk result (self.new ≡ self.old
             ++ by_values (record { kind = kinds.Name; spelling = name.now } ∷ [])) }
