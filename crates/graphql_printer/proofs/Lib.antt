@@ -12,6 +12,7 @@ pub mod PrintedTexts
 pub mod Printing
 pub mod Reprints
 pub mod Scalars
+pub mod Scans
 pub mod SchemaBodies
 pub mod SchemaDefinitions
 pub mod SchemaParts

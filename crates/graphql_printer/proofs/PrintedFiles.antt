@@ -26,7 +26,7 @@ file_printed document raw printed utf8 is keeps limits text of =
     let ds = of.definitions in
     let bs = shown_file (document_of ds) in
     let part = of_text schemas limits text document of in
-    let again = again-file limits part.tokens ds part.holds part.by_values in
+    let again = again-file limits part.tokens ds part.holds part.spelled in
     let has = keeps bs (again_spellings (definitions Current limits) placeless_definitions bs (map arranged ds) again) (is ∙ ap (λ (tree : Document). by_values (shown_file tree)) of.made) in
     makes_the_same schemas definitions_at schemas-are-read document_of limits bs ds (map arranged ds) again (arranged-unbroken ds of.sound.0, refl) (sym (arranged-document ds)) printed utf8 has
 

@@ -40,7 +40,7 @@ module _ (document : ExecutableDocument) (limits : Limits) (text : List ℕ) (of
   again : Again (definitions Current limits) placeless_definitions (flat_map shown_definition es) es
   again =
       let h = of_text requests limits text document of in
-      let each : AllByRecursion AgainOne ds = star-each reprints-definition limits h.tokens ds (plus-star (a_definition Current limits) h.tokens ds h.holds) h.by_values in
+      let each : AllByRecursion AgainOne ds = star-each reprints-definition limits h.tokens ds (plus-star (a_definition Current limits) h.tokens ds h.holds) h.spelled in
       again-plus es (some es (complete-alike ds es (definitions-alike ds of.sound.0) of.sound.1)) (again-star shown_definition es (each-printed AgainOne ds of.sound.0 each))
     where
       some : (l : List Definition) → lack_of l ≡ None → l ≡ [] → ⊥

@@ -19,7 +19,7 @@ one_cut text ts us c d = tokens_only [] (chars text) ts c ∙ sym (tokens_only [
 
 -- ---- tokens with the same values are alike
 
-bare : TokenKind → List ℕ → Bare
+abbrev bare : TokenKind → List ℕ → Bare
 bare kind spelling = record { kind = kind; spelling = spelling }
 
 alike_by : (kind : TokenKind) (s t : List ℕ) → by_value (bare kind s) ≡ by_value (bare kind t) → IsAlike (bare kind s) (bare kind t)
@@ -37,11 +37,11 @@ alike_by_value a b e =
     let moved : by_value (bare b.kind a.spelling) ≡ by_value b = ap (λ (k : TokenKind). by_value (bare k a.spelling)) (sym same) ∙ e in
     subst (λ (k : TokenKind). IsAlike (bare k a.spelling) b) (sym same) (alike_by b.kind a.spelling b.spelling moved)
 
-first_of : Bare → List Bare → Bare
+abbrev first_of : Bare → List Bare → Bare
 first_of b [] = b
 first_of b (c ∷ cs) = c
 
-others_of : List Bare → List Bare
+abbrev others_of : List Bare → List Bare
 others_of [] = []
 others_of (c ∷ cs) = cs
 

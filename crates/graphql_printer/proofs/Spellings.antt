@@ -1,9 +1,10 @@
 -- Punctuators, names, number literals and texts that need no escape, as tokens.
-use Rattle.std.proofs.Common.{◌≡◌, ℕ, ◌<◌, Bool, true, false, not, ◌&&◌, ◌||◌, cond, eqb, nat_lt, inl, inr, List, [], ◌∷◌, ◌++◌, length, Option, Some, None, refl, sym, ap, ◌∙◌, subst, arith, append-nil, codes}
+use Rattle.std.proofs.Common.{◌≡◌, ℕ, ◌≤◌, ◌<◌, ◌/◌, ◌%◌, Bool, true, false, not, ◌&&◌, ◌||◌, cond, eqb, nat_lt, inl, inr, List, [], ◌∷◌, ◌++◌, length, Option, Some, None, refl, sym, ap, ◌∙◌, subst, arith, append-nil, codes}
 use Rattle.std.proofs.lemmas.Bool.Decides.{nat_tests}
-use Rattle.std.proofs.lemmas.Str.{encodes-chars}
+use Rattle.std.proofs.lemmas.List.Folds.{list_all-append}
+use Rattle.std.proofs.lemmas.Str.{encodes-append, encodes-chars}
 use Rattle.std.proofs.Math.Utf8.{low_scalar}
-use Rattle.std.specs.Char.{IsScalar, is_ascii_digit}
+use Rattle.std.specs.Char.{IsScalar, is_ascii_digit, digit_char}
 use Rattle.std.specs.List.{AllByRecursion, list_all, flat_map}
 use Rattle.std.specs.Map.{lookup}
 use Rattle.std.specs.Str.{chars, IsUtf8, encode_utf8_all}
@@ -57,7 +58,7 @@ not_false false e = refl
 punct : (c : ℕ) → is_sign (c ∷ []) ≡ true → Spells Punct (c ∷ [])
 punct c e =
     let low : AreLow (c ∷ []) = (grind (arith, nat_tests, second_true (is_punct c) (nat_lt c 128) e), tt) in
-    (c ∷ [], (low_scalars (c ∷ []) low, (sym (low_bytes (c ∷ []) low), inl (c, (refl, first_true (is_punct c) (nat_lt c 128) e)))))
+    (c ∷ [], low_scalars (c ∷ []) low, sym (low_bytes (c ∷ []) low), inl (c, refl, first_true (is_punct c) (nat_lt c 128) e))
 
 dots : (c d e : ℕ) → is_sign (c ∷ d ∷ e ∷ []) ≡ true → c ∷ d ∷ e ∷ [] ≡ codes "..."
 dots c d e h =
@@ -70,7 +71,7 @@ dots c d e h =
 dots_spell : Spells Punct (codes "...")
 dots_spell =
     let low : AreLow (46 ∷ 46 ∷ 46 ∷ []) = (omega arith, (omega arith, (omega arith, tt))) in
-    (46 ∷ 46 ∷ 46 ∷ [], (low_scalars (46 ∷ 46 ∷ 46 ∷ []) low, (sym (low_bytes (46 ∷ 46 ∷ 46 ∷ []) low), inr refl)))
+    (46 ∷ 46 ∷ 46 ∷ [], low_scalars (46 ∷ 46 ∷ 46 ∷ []) low, sym (low_bytes (46 ∷ 46 ∷ 46 ∷ []) low), inr refl)
 
 pub sign_spells : (bytes : List ℕ) → is_sign bytes ≡ true → Spells Punct bytes
 sign_spells [] e = absurd cc
@@ -110,7 +111,7 @@ word_spells (c ∷ cs) e =
     let digit = not_false (is_ascii_digit c) (first_true (not (is_ascii_digit c)) (list_all is_name_char (c ∷ cs)) e) in
     let all = all_names (c ∷ cs) (second_true (not (is_ascii_digit c)) (list_all is_name_char (c ∷ cs)) e) in
     let low = names_low (c ∷ cs) all in
-    (c ∷ cs, (low_scalars (c ∷ cs) low, (sym (low_bytes (c ∷ cs) low), (starts c all.0 digit, all.1))))
+    (c ∷ cs, low_scalars (c ∷ cs) low, sym (low_bytes (c ∷ cs) low), (starts c all.0 digit, all.1))
 
 start_char : (c : ℕ) → is_name_start c ≡ true → is_name_char c ≡ true
 start_char c e = ap (λ (b : Bool). b || is_ascii_digit c) e
@@ -145,7 +146,7 @@ number_chars text utf8 n = by (past_number (chars text)) refl
     by (Some (c ∷ cs)) e = let no : false ≡ true = number_passed text (c ∷ cs) true utf8 e (λ h none. cc) (λ h. cc) ∙ is in cc
 
 pub number_spells : (text : List ℕ) → IsUtf8 text → IsNumber text → Spells Number text
-number_spells text utf8 n = (chars text, (text_scalars text utf8, (sym (encodes-chars text utf8), number_chars text utf8 n)))
+number_spells text utf8 n = (chars text, text_scalars text utf8, sym (encodes-chars text utf8), number_chars text utf8 n)
 
 -- ---- strings without escapes
 
@@ -164,12 +165,17 @@ no_letter c e =
     let marks = second_true (not (nat_lt c 32)) (not (eqb c 34) && not (eqb c 92)) e in
     let quote = not_false (eqb c 34) (first_true (not (eqb c 34)) (not (eqb c 92)) marks) in
     let backslash = not_false (eqb c 92) (second_true (not (eqb c 34)) (not (eqb c 92)) marks) in
-    skipped c 34 34 _ quote (skipped c 92 92 _ backslash
-    (skipped c 10 110 _ (other_than c 10 high (omega arith)) (skipped c 13 114 _ (other_than c 13 high (omega arith))
-    (skipped c 9 116 _ (other_than c 9 high (omega arith)) (skipped c 8 98 _ (other_than c 8 high (omega arith)) (skipped c 12 102 [] (other_than c 12 high (omega arith)) refl))))))
+    let feed = (12, 102) ∷ [] in
+    let back = (8, 98) ∷ feed in
+    let tab = (9, 116) ∷ back in
+    let return = (13, 114) ∷ tab in
+    let line = (10, 110) ∷ return in
+    skipped c 34 34 ((92, 92) ∷ line) quote (skipped c 92 92 line backslash
+    (skipped c 10 110 return (other_than c 10 high (omega arith)) (skipped c 13 114 tab (other_than c 13 high (omega arith))
+    (skipped c 9 116 back (other_than c 9 high (omega arith)) (skipped c 8 98 feed (other_than c 8 high (omega arith)) (skipped c 12 102 [] (other_than c 12 high (omega arith)) refl))))))
 
 same_unit : (c : ℕ) → stays_in_string c ≡ true → unit_for c ≡ c ∷ []
-same_unit c e = ap (unit_with c) (no_letter c e) ∙ ap (λ (b : Bool). cond b (codes "\\u00" ++ _) (c ∷ [])) (is_high c e)
+same_unit c e = ap (unit_with c) (no_letter c e) ∙ ap (λ (b : Bool). cond b (codes "\\u00" ++ (digit_char (c / 16) ∷ digit_char (c % 16) ∷ [])) (c ∷ [])) (is_high c e)
 
 same_content : (cs : List ℕ) → list_all stays_in_string cs ≡ true → content_for cs ≡ cs
 same_content [] e = refl
@@ -177,8 +183,33 @@ same_content (c ∷ cs) e =
     ap (λ (u : List ℕ). u ++ content_for cs) (same_unit c (first_true (stays_in_string c) (list_all stays_in_string cs) e))
     ∙ ap (λ (l : List ℕ). c ∷ l) (same_content cs (second_true (stays_in_string c) (list_all stays_in_string cs) e))
 
-pub same_string : (text : List ℕ) → IsUtf8 text → list_all stays_in_string (chars text) ≡ true → string_text text ≡ in_quotes text
-same_string text utf8 e = ap in_quotes (ap encode_utf8_all (same_content (chars text) e) ∙ encodes-chars text utf8)
+-- a class that all other characters than ASCII ones are of has the characters of a text where it has its bytes
+char_passes : (p : ℕ → Bool) → ((c : ℕ) → 128 ≤ c → p c ≡ true) → (c : ℕ) → list_all p (encode_utf8_all (c ∷ [])) ≡ true → p c ≡ true
+char_passes p high c e = by (nat_lt c 128) refl
+  where
+    by : (b : Bool) → nat_lt c 128 ≡ b → p c ≡ true
+    by true l =
+        let one : encode_utf8_all (c ∷ []) ≡ c ∷ [] = same_byte c [] (grind (arith, nat_tests)) in
+        first_true (p c) true (sym (ap (list_all p) one) ∙ e)
+    by false l = high c (grind (arith, nat_tests))
 
-pub plain_spells : (text : List ℕ) → IsUtf8 text → list_all stays_in_string (chars text) ≡ true → Spells String (in_quotes text)
+chars_pass : (p : ℕ → Bool) → ((c : ℕ) → 128 ≤ c → p c ≡ true) → (cs : List ℕ) → list_all p (encode_utf8_all cs) ≡ true → list_all p cs ≡ true
+chars_pass p high [] e = refl
+chars_pass p high (c ∷ cs) e =
+    let parts : (list_all p (encode_utf8_all (c ∷ [])) && list_all p (encode_utf8_all cs)) ≡ true =
+    sym (list_all-append p (encode_utf8_all (c ∷ [])) (encode_utf8_all cs)) ∙ ap (list_all p) (sym (encodes-append (c ∷ []) cs)) ∙ e in
+    let first = char_passes p high c (first_true (list_all p (encode_utf8_all (c ∷ []))) (list_all p (encode_utf8_all cs)) parts) in
+    let rest = chars_pass p high cs (second_true (list_all p (encode_utf8_all (c ∷ []))) (list_all p (encode_utf8_all cs)) parts) in
+    ap (λ (b : Bool). b && list_all p cs) first ∙ rest
+
+high_stays : (c : ℕ) → 128 ≤ c → stays_in_string c ≡ true
+high_stays c h = grind (arith, nat_tests)
+
+chars_stay : (text : List ℕ) → IsUtf8 text → list_all stays_in_string text ≡ true → list_all stays_in_string (chars text) ≡ true
+chars_stay text utf8 e = chars_pass stays_in_string high_stays (chars text) (ap (list_all stays_in_string) (encodes-chars text utf8) ∙ e)
+
+pub same_string : (text : List ℕ) → IsUtf8 text → list_all stays_in_string text ≡ true → string_text text ≡ in_quotes text
+same_string text utf8 e = ap in_quotes (ap encode_utf8_all (same_content (chars text) (chars_stay text utf8 e)) ∙ encodes-chars text utf8)
+
+pub plain_spells : (text : List ℕ) → IsUtf8 text → list_all stays_in_string text ≡ true → Spells String (in_quotes text)
 plain_spells text utf8 e = subst (Spells String) (same_string text utf8 e) (string_spells text utf8)

@@ -30,6 +30,7 @@ mod nodes;
 mod parts;
 mod places;
 mod requests;
+mod scans;
 #[cfg(test)]
 mod schema_tests;
 mod schemas;

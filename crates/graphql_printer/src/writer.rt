@@ -7,9 +7,9 @@ ghost use Rattle.graphql_tokens.specs.declared.lexer.TokenKind.TheVariants as ki
 ghost use Rattle.graphql_layout.specs.inner.Blocks.{may_be_block, spelled as spelled_block};
 ghost use Rattle.graphql_printer.specs.inner.Shown.{by_values, quoted};
 ghost use Rattle.graphql_printer.specs.inner.SpelledTexts.{KeepsTokens};
-ghost use Rattle.graphql_tokens.specs.tokens.Classes.{is_name_char};
 ghost use Rattle.graphql_printer.specs.inner.Words.{is_word as is_word_of, loose_tokens, stays_in_string};
 
+use crate::scans::{NameBytes, StringBytes, are_all};
 use graphql_layout::blocks::push_block;
 use graphql_layout::sheet::Sheet;
 use graphql_syntax::value::ValueView;
@@ -55,36 +55,24 @@ impl Model for Writer {
     ghost invariant = { λ w. BeginsBadly (loose_tokens w.rest.items) };
 }
 
-// Whether it is a letter, `_` or a digit.
-#[inline(always)]
-fn is_name_byte(b: u8) -> bool
-    ensures { result ≡ is_name_char b }
-{
-    b.is_ascii_alphabetic() || b == b'_' || b.is_ascii_digit()
-}
-
 // Whether it is a name.
+#[inline(always)]
 fn is_word(text: &str) -> bool
     ensures { result ≡ is_word_of text.now }
 {
-    match text.as_bytes().first() {
-        Some(first) => !first.is_ascii_digit() && text.bytes().all(|b| is_name_byte(b)),
+    let bytes = text.as_bytes();
+    match bytes.first() {
+        Some(first) => !first.is_ascii_digit() && are_all::<NameBytes>(bytes),
         None => false,
     }
 }
 
-// Whether a character stands for itself in the string that is written of a text.
-fn is_plain(c: char) -> bool
-    ensures { result ≡ stays_in_string c }
+// Whether each of its characters stands for itself in the string that is written of it.
+#[inline(always)]
+fn is_plain(text: &str) -> bool
+    ensures { result ≡ list_all stays_in_string text.now }
 {
-    c >= ' ' && c != '"' && c != '\\'
-}
-
-// Whether all of its characters do.
-fn are_plain(text: &str) -> bool
-    ensures { result ≡ list_all stays_in_string (chars text.now) }
-{
-    text.chars().all(|c| is_plain(c))
+    are_all::<StringBytes>(text.as_bytes())
 }
 
 // Keeps a token aside, where it or one before it is spelled otherwise than tokens of its kind are.
@@ -230,7 +218,7 @@ impl Writer {
     pub fn string(&mut self, text: &str) -> Result<(), AllocError>
         ensures { OnOk result (self.new ≡ self.old ++ by_values (quoted text.now ∷ [])) }
     {
-        if self.rest.is_empty() && are_plain(text) {
+        if self.rest.is_empty() && is_plain(text) {
             return self.sheet.quoted(text);
         }
         let shown = ValueView::String(text);
