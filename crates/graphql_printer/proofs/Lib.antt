@@ -2,6 +2,7 @@ pub mod Accepted
 pub mod ArrangedRequests
 pub mod ArrangedSchemas
 pub mod Changes
+pub mod Lanes
 pub mod Meaning
 pub mod Parsed
 pub mod PrintedFiles
@@ -12,7 +13,6 @@ pub mod PrintedTexts
 pub mod Printing
 pub mod Reprints
 pub mod Scalars
-pub mod Scans
 pub mod SchemaBodies
 pub mod SchemaDefinitions
 pub mod SchemaParts

@@ -1,6 +1,7 @@
 -- Texts with the tokens that were written, and what is known of tokens by their values.
-use Rattle.std.proofs.Common.{◌≡◌, ℕ, true, false, inl, inr, List, [], ◌∷◌, ◌++◌, refl, sym, ap, ◌∙◌, subst, append-nil}
+use Rattle.std.proofs.Common.{◌≡◌, ℕ, true, false, Result, Ok, Err, IfOk, Global, string_bytes, inl, inr, List, [], ◌∷◌, ◌++◌, refl, sym, ap, ◌∙◌, subst, append-nil}
 use Rattle.std.specs.Str.{chars}
+use Rattle.std.proofs.Common.{String as Text}
 use Rattle.graphql_tokens.specs.declared.lexer.TokenKind.{TokenKind}
 use Rattle.graphql_tokens.specs.declared.lexer.TokenKind.TheVariants.{Punct, Name, Number, String, Block, Fault, End}
 use Rattle.graphql_tokens.specs.tokens.Alike.{IsAlike, AreAlike}
@@ -77,6 +78,10 @@ never (f ∷ front) r rest [] kind bad h e = cc
 never [] r rest (b ∷ bs) kind bad h e = no_name r b kind bad h.0 (alike_by_value r b (first r b rest bs e))
 never (f ∷ front) r rest (b ∷ bs) kind bad h e = never front r rest bs kind bad h.1 (others f b (front ++ r ∷ rest) bs e)
 
-pub badly_keeps : (front rest : List Bare) (text : List ℕ) → BeginsBadly rest → ((rest ≡ []) → ⊥) → KeepsTokens (by_values (front ++ rest)) text
-badly_keeps front [] text bad some bs h e = absurd (some refl)
-badly_keeps front (r ∷ rest) text bad some bs h e = absurd (never front r rest bs bad.0 bad.1 h e)
+never_kept : (front rest view : List Bare) (text : List ℕ) → by_values (front ++ rest) ≡ view → BeginsBadly rest → ((rest ≡ []) → ⊥) → KeepsTokens view text
+never_kept front [] view text is bad some bs h e = absurd (some refl)
+never_kept front (r ∷ rest) view text is bad some bs h e = absurd (never front r rest bs bad.0 bad.1 h (is ∙ e))
+
+pub badly_keeps : {E : Type 0} (result : Result (Text Global) E) (front rest view : List Bare) → by_values (front ++ rest) ≡ view → BeginsBadly rest → ((rest ≡ []) → ⊥) → IfOk result (λ s. KeepsTokens view (string_bytes s))
+badly_keeps (Ok s) front rest view is bad some = never_kept front rest view (string_bytes s) is bad some
+badly_keeps (Err x) front rest view is bad some = tt

@@ -165,11 +165,11 @@ no_letter c e =
     let marks = second_true (not (nat_lt c 32)) (not (eqb c 34) && not (eqb c 92)) e in
     let quote = not_false (eqb c 34) (first_true (not (eqb c 34)) (not (eqb c 92)) marks) in
     let backslash = not_false (eqb c 92) (second_true (not (eqb c 34)) (not (eqb c 92)) marks) in
-    let feed = (12, 102) ∷ [] in
-    let back = (8, 98) ∷ feed in
-    let tab = (9, 116) ∷ back in
-    let return = (13, 114) ∷ tab in
-    let line = (10, 110) ∷ return in
+    let feed : List (ℕ × ℕ) = (12, 102) ∷ [] in
+    let back : List (ℕ × ℕ) = (8, 98) ∷ feed in
+    let tab : List (ℕ × ℕ) = (9, 116) ∷ back in
+    let return : List (ℕ × ℕ) = (13, 114) ∷ tab in
+    let line : List (ℕ × ℕ) = (10, 110) ∷ return in
     skipped c 34 34 ((92, 92) ∷ line) quote (skipped c 92 92 line backslash
     (skipped c 10 110 return (other_than c 10 high (omega arith)) (skipped c 13 114 tab (other_than c 13 high (omega arith))
     (skipped c 9 116 back (other_than c 9 high (omega arith)) (skipped c 8 98 feed (other_than c 8 high (omega arith)) (skipped c 12 102 [] (other_than c 12 high (omega arith)) refl))))))

@@ -44,6 +44,7 @@ pub fn are_all<C: ByteClass>(bytes: &[u8]) -> bool
 #[inline(always)]
 fn are_last<C: ByteClass>(bytes: &[u8], from: usize) -> bool
     requires within { from ≤ length bytes.now }
+    requires few { length bytes.now < from + 8 }
     requires run { list_all C.has (drop from bytes.now) ≡ list_all C.has bytes.now }
     ensures { result ≡ list_all C.has bytes.now }
 {

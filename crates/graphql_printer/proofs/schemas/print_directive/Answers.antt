@@ -1,9 +1,13 @@
-use Rattle.std.proofs.Common.{ap, [], ◌∷◌}
+use Rattle.std.proofs.Common.{ap, [], ◌∷◌, codes, refl}
 use Rattle.graphql_printer.proofs.PrintedSchemas.{same_led}
 use Rattle.graphql_printer.proofs.Printing.{next, kept, as_tokens}
+use Rattle.graphql_printer.proofs.Spellings.{word_spells}
 use Rattle.graphql_printer.specs.inner.Shown.{word, shown_node}
 use Rattle.graphql_printer.specs.inner.ShownSchemas.{shown_location}
 use Rattle.graphql_printer.proofs.schemas.print_directive.Goals as goal
+
+pub separated-requires-clause-lead : goal.separated-requires-clause-lead
+separated-requires-clause-lead c = word_spells (codes "on") refl
 
 pub returns : goal.returns
 returns c =

@@ -1,12 +1,15 @@
 -- Bytes that are tested eight at once.
-use Rattle.std.proofs.Common.{◌≡◌, ℕ, zero, suc, ◌+◌, ◌*◌, ◌≤◌, ◌<◌, Bool, true, false, not, ◌&&◌, cond, List, [], ◌∷◌, ◌++◌, map, length, drop, refl, sym, ap, ◌∙◌, subst, arith}
+use Rattle.std.proofs.Common.{◌≡◌, ℕ, zero, suc, ◌+◌, ◌-◌, ◌*◌, ◌≤◌, ◌<◌, Bool, true, false, not, ◌&&◌, cond, eqb, List, [], ◌∷◌, ◌++◌, map, length, drop, refl, sym, ap, ◌∙◌, arith}
+use Rattle.std.proofs.lemmas.Bool.{eqb-true, eqb-false}
+use Rattle.std.proofs.lemmas.List.{drop-drop}
 use Rattle.std.proofs.lemmas.List.Folds.{list_all-append}
 use Rattle.std.proofs.lemmas.Simd.{chunk-drop}
-use Rattle.std.proofs.lemmas.Str.{encodes-append, encodes-chars, encode_ascii}
 use Rattle.std.specs.List.{list_all}
-use Rattle.std.specs.Str.{chars, IsUtf8, encode_utf8_all}
 use lib.Lanes.{chunk, mask_l}
 use Rattle.graphql_tokens.specs.inner.ByteClasses.{is_outside}
+
+pub eight : (v : List ℕ) → length v ≡ 8 → length v ≤ 64
+eight v e = omega arith
 
 module _ (p : ℕ → Bool) where
   -- no bit is set where all pass, and all pass where none is set
@@ -42,14 +45,36 @@ module _ (p : ℕ → Bool) where
   all_left : (n : ℕ) (xs : List ℕ) → list_all p xs ≡ true → list_all p (drop n xs) ≡ true
   all_left zero xs e = e
   all_left (suc n) [] e = refl
-  all_left (suc n) (x ∷ xs) e = by (p x) e
+  all_left (suc n) (x ∷ xs) e = by (p x) e (all_left n xs)
     where
-      by : (b : Bool) → (b && list_all p xs) ≡ true → list_all p (drop n xs) ≡ true
-      by true e = all_left n xs e
-      by false e = absurd cc
+      by : (b : Bool) → (b && list_all p xs) ≡ true → (list_all p xs ≡ true → list_all p (drop n xs) ≡ true) → list_all p (drop n xs) ≡ true
+      by true e h = h e
+      by false e h = absurd cc
 
   none_left : (xs : List ℕ) (n : ℕ) → length xs ≤ n → list_all p (drop n xs) ≡ true
   none_left [] zero le = refl
   none_left [] (suc n) le = refl
   none_left (x ∷ xs) zero le = absurd (omega arith)
   none_left (x ∷ xs) (suc n) le = none_left xs n (omega arith)
+
+  none_in : (bs : List ℕ) (from last : ℕ) → last ≤ from → list_all p (drop from bs) ≡ list_all p bs → list_all p (drop last bs) ≡ true → list_all p bs ≡ true
+  none_in bs from last le run e =
+      let same : last + (from - last) ≡ from = omega arith in
+      sym run ∙ ap (λ (k : ℕ). list_all p (drop k bs)) (sym same) ∙ ap (list_all p) (sym (drop-drop (from - last) last bs)) ∙ all_left (from - last) (drop last bs) e
+
+  some_in : (bs : List ℕ) (last : ℕ) (b : Bool) → list_all p bs ≡ b → list_all p (drop last bs) ≡ false → b ≡ false
+  some_in bs last false e h = refl
+  some_in bs last true e h = let no : true ≡ false = sym (all_left last bs e) ∙ h in cc
+
+  -- the last of them, some once more
+  tested : (bs : List ℕ) (from last n mask : ℕ) → last ≤ from → last + n ≡ length bs → list_all p (drop from bs) ≡ list_all p bs → mask ≡ mask_l (map (is_outside p) (chunk last n bs)) → (b : Bool) → eqb mask 0 ≡ b → b ≡ list_all p bs
+  tested bs from last n mask le whole run is true e =
+      let zero : mask_l (map (is_outside p) (chunk last n bs)) ≡ 0 = sym is ∙ eqb-true mask 0 e in
+      sym (none_in bs from last le run (sym (goes_on bs last n zero) ∙ none_left bs (last + n) (omega arith)))
+  tested bs from last n mask le whole run is false e =
+      let set : 0 < mask_l (map (is_outside p) (chunk last n bs)) = omega (arith, is, eqb-false mask 0 e) in
+      sym (some_in bs last (list_all p bs) refl (stops bs last n set))
+
+  pub last_tested : (bs : List ℕ) (from n mask : ℕ) → n ≤ length bs → length bs < from + n → list_all p (drop from bs) ≡ list_all p bs → mask ≡ mask_l (map (is_outside p) (chunk (length bs - n) n bs))
+      → eqb mask 0 ≡ list_all p bs
+  last_tested bs from n mask long few run is = tested bs from (length bs - n) n mask (omega arith) (omega arith) run is (eqb mask 0) refl
