@@ -1,11 +1,11 @@
 -- Punctuators, names, number literals and texts that need no escape, as tokens.
-use Rattle.std.proofs.Common.{◌≡◌, ℕ, ◌≤◌, ◌<◌, ◌/◌, ◌%◌, Bool, true, false, not, ◌&&◌, ◌||◌, cond, eqb, nat_lt, inl, inr, List, [], ◌∷◌, ◌++◌, length, Option, Some, None, refl, sym, ap, ◌∙◌, subst, arith, append-nil, codes}
+use Rattle.std.proofs.Common.{◌≡◌, ℕ, ◌≤◌, ◌<◌, ◌/◌, ◌%◌, Bool, true, false, not, ◌&&◌, ◌||◌, cond, eqb, nat_lt, inl, inr, List, [], ◌∷◌, ◌++◌, Option, Some, None, refl, sym, ap, ◌∙◌, subst, arith, append-nil, codes}
 use Rattle.std.proofs.lemmas.Bool.Decides.{nat_tests}
 use Rattle.std.proofs.lemmas.List.Folds.{list_all-append}
 use Rattle.std.proofs.lemmas.Str.{encodes-append, encodes-chars}
 use Rattle.std.proofs.Math.Utf8.{low_scalar}
-use Rattle.std.specs.Char.{IsScalar, is_ascii_digit, digit_char}
-use Rattle.std.specs.List.{AllByRecursion, list_all, flat_map}
+use Rattle.std.specs.Char.{is_ascii_digit, digit_char}
+use Rattle.std.specs.List.{AllByRecursion, list_all}
 use Rattle.std.specs.Map.{lookup}
 use Rattle.std.specs.Str.{chars, IsUtf8, encode_utf8_all}
 use Rattle.graphql_tokens.specs.declared.lexer.TokenKind.TheVariants.{Punct, Name, Number, String}
@@ -14,14 +14,14 @@ use Rattle.graphql_tokens.specs.inner.Numerals.{is_numeral}
 use Rattle.graphql_tokens.specs.tokens.Classes.{is_punct, is_name_start, is_name_char}
 use Rattle.graphql_tokens.specs.tokens.Numbers.{IsNumber}
 use Rattle.graphql_tokens.specs.tokens.Proper.{Spells}
-use Rattle.graphql_tokens.specs.tokens.Spelling.{IsPunct, IsName}
+use Rattle.graphql_tokens.specs.tokens.Spelling.{IsName}
 use Rattle.graphql_tokens.proofs.Numbers.{number_is}
 use Rattle.graphql_tokens.proofs.Numerals.{is_numeral-is}
 use Rattle.graphql_tokens.proofs.NumberTexts.{number_passed, number_missed}
 use Rattle.graphql_tokens.proofs.Propers.{text_scalars}
 use Rattle.graphql_layout.specs.inner.Sheets.{in_quotes}
 use Rattle.graphql_layout.proofs.BlockPushes.{same_byte}
-use Rattle.graphql_syntax.specs.trees.ValueText.{letters, escape_letter, unit_for, unit_with, content_for, string_text}
+use Rattle.graphql_syntax.specs.trees.ValueText.{escape_letter, unit_for, unit_with, content_for, string_text}
 use Rattle.graphql_printer.specs.inner.Words.{is_sign, is_word, stays_in_string}
 use Rattle.graphql_printer.proofs.Scalars.{AreScalars}
 use Rattle.graphql_printer.proofs.ShownStrings.{string_spells}

@@ -1,7 +1,7 @@
 -- Which texts are punctuators and names, which characters need no escape, and tokens that are kept aside.
 -- Source: GraphQL October 2021, sections 2.1.8 (Punctuators), 2.1.9 (Names) and 2.9.4 (String Value). That tokens are kept aside
 -- from the first on that isn't spelled as its kind is, is this project's choice.
-use Rattle.std.specs.Prelude.{◌≡◌, ℕ, Bool, true, false, not, ◌&&◌, ◌==◌, nat_lt, List, [], ◌∷◌, map, string_bytes}
+use Rattle.std.specs.Prelude.{◌≡◌, ℕ, Bool, false, not, ◌&&◌, ◌==◌, nat_lt, List, [], ◌∷◌, map, string_bytes}
 use Rattle.std.specs.Char.{is_ascii_digit}
 use Rattle.std.specs.List.{list_all}
 use Rattle.std.specs.Str.{byte}
