@@ -19,6 +19,7 @@ pub mod Marks
 pub mod Minified
 pub mod Pushes
 pub mod QuotedBlocks
+pub mod Quotes
 pub mod Readings
 pub mod Remains
 pub mod Room

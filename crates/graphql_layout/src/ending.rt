@@ -1,6 +1,6 @@
 //! What may touch what.
 
-ghost use Rattle.std.specs.Prelude.{◌≡◌};
+ghost use Rattle.std.specs.Prelude.{◌≡◌, ◌+◌, length};
 ghost use Rattle.graphql_layout.specs.inner.Endings.{stops, string_ending};
 ghost use Rattle.graphql_tokens.specs.tokens.Classes.{is_name_char};
 
@@ -23,6 +23,7 @@ impl Ending {
     ghost use Rattle.graphql_layout.specs.inner.Endings.{ending_of, stops_token};
 
     /// How a token of this kind, so spelled, ends.
+    #[inline(always)]
     pub fn of(kind: TokenKind, spelling: &str) -> Ending
         ensures { result ≡ ending_of (record { kind = kind; spelling = spelling.now }) }
     {
@@ -34,7 +35,20 @@ impl Ending {
         }
     }
 
+    /// How a string of this content ends.
+    #[inline(always)]
+    pub fn of_content(content: &str) -> Ending
+        ensures { result ≡ string_ending (2 + length content.now) }
+    {
+        if content.is_empty() {
+            Ending::EmptyString
+        } else {
+            Ending::Open
+        }
+    }
+
     /// Whether what is spelled so may not follow.
+    #[inline(always)]
     pub fn stops(self, spelling: &str) -> bool
         ensures { result ≡ stops_token self spelling.now }
     {
@@ -46,6 +60,7 @@ impl Ending {
 }
 
 // How a string of so many bytes, with its quotes, ends.
+#[inline(always)]
 fn of_string(length: usize) -> Ending
     ensures { result ≡ string_ending length }
 {
@@ -57,6 +72,7 @@ fn of_string(length: usize) -> Ending
 }
 
 // Whether this character may not follow.
+#[inline(always)]
 fn stops(ending: Ending, next: u8) -> bool
     ensures { result ≡ stops ending next }
 {
@@ -68,6 +84,7 @@ fn stops(ending: Ending, next: u8) -> bool
     }
 }
 
+#[inline(always)]
 fn is_name_char(c: u8) -> bool
     ensures { result ≡ is_name_char c }
 {

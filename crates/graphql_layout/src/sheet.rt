@@ -7,7 +7,7 @@ ghost use Rattle.graphql_tokens.specs.tokens.Proper.{Spells};
 ghost use Rattle.graphql_tokens.specs.declared.lexer.TokenKind.TheVariants as kinds;
 ghost use Rattle.graphql_layout.specs.inner.Blocks.{spelled};
 ghost use Rattle.graphql_layout.specs.inner.ItemsIn.{items_in};
-ghost use Rattle.graphql_layout.specs.inner.Sheets.{IsSheet, Holds, holds_off, holds_off_token};
+ghost use Rattle.graphql_layout.specs.inner.Sheets.{IsSheet, Holds, holds_off, holds_off_token, in_quotes};
 ghost use Rattle.graphql_layout.specs.texts.Items.{comment, word};
 
 use crate::blocks::push_block;
@@ -49,6 +49,7 @@ impl Model for Sheet {
 }
 
 // Whether a token that is spelled so may not come next.
+#[inline(always)]
 fn is_held_off(last: Last, spelling: &str) -> bool
     ensures { result ≡ holds_off_token last spelling.now }
 {
@@ -59,6 +60,7 @@ fn is_held_off(last: Last, spelling: &str) -> bool
 }
 
 // Writes a blank, or ends the line of a comment.
+#[inline(always)]
 fn push_blank(text: &mut String, last: Last) -> Result<(), AllocError>
     requires { IsSheet (string_bytes text.old) last }
     ensures ok { OnOk result (Holds (string_bytes text.new) (Last.Other Ending.Open)
@@ -72,6 +74,7 @@ fn push_blank(text: &mut String, last: Last) -> Result<(), AllocError>
 }
 
 // Writes a comma, or ends the line of a comment.
+#[inline(always)]
 fn push_comma(text: &mut String, last: Last) -> Result<(), AllocError>
     requires { IsSheet (string_bytes text.old) last }
     ensures ok { OnOk result (Holds (string_bytes text.new) (Last.Other Ending.Open)
@@ -84,6 +87,7 @@ fn push_comma(text: &mut String, last: Last) -> Result<(), AllocError>
     }
 }
 
+#[inline(always)]
 fn push_line(text: &mut String, last: Last) -> Result<(), AllocError>
     requires { IsSheet (string_bytes text.old) last }
     ensures ok { OnOk result (Holds (string_bytes text.new) (Last.Other Ending.Open)
@@ -108,6 +112,7 @@ fn push_levels(text: &mut String, depth: usize) -> Result<(), AllocError>
 }
 
 // Writes a blank or ends the line of a comment where this token may not come next, and gives what is then last.
+#[inline(always)]
 fn make_room(text: &mut String, last: Last, spelling: &str) -> Result<Last, AllocError>
     requires { IsSheet (string_bytes text.old) last }
     ensures ok { IfOk result (λ next. Holds (string_bytes text.new) next (items_in (string_bytes text.old))) }
@@ -137,6 +142,16 @@ fn end_comment(text: &mut String, last: Last) -> Result<Last, AllocError>
     }
 }
 
+// Writes a quote, the content and a quote.
+#[inline(always)]
+fn push_quoted(text: &mut String, content: &str) -> Result<(), AllocError>
+    ensures { OnOk result (string_bytes text.new ≡ string_bytes text.old ++ in_quotes content.now) }
+{
+    text.push('"')?;
+    text.push_str(content)?;
+    text.push('"')
+}
+
 impl Sheet {
     ghost use Rattle.graphql_layout.specs.texts.Items.{IsItems, words};
     ghost use Rattle.graphql_layout.specs.texts.SameTokens.{HasTokens};
@@ -162,6 +177,7 @@ impl Sheet {
     }
 
     /// Writes a blank, or ends the line of a comment. It fails only where memory runs out.
+    #[inline(always)]
     pub fn blank(&mut self) -> Result<(), AllocError>
         ensures { self.new ≡ self.old }
     {
@@ -181,6 +197,7 @@ impl Sheet {
 
     /// Writes a comma, which is as good as a blank (GraphQL October 2021, section 2.1.5), or ends the line of a comment. It fails
     /// only where memory runs out.
+    #[inline(always)]
     pub fn comma(&mut self) -> Result<(), AllocError>
         ensures { self.new ≡ self.old }
     {
@@ -190,6 +207,7 @@ impl Sheet {
     }
 
     /// Writes a line feed. It fails only where memory runs out.
+    #[inline(always)]
     pub fn line(&mut self) -> Result<(), AllocError>
         ensures { self.new ≡ self.old }
     {
@@ -200,6 +218,7 @@ impl Sheet {
 
     /// Writes a token, after a blank where it may not touch the one before (GraphQL October 2021, section 2.1.7). The caller owes
     /// a spelling of the kind. It fails only where memory runs out.
+    #[inline(always)]
     pub fn token(&mut self, kind: TokenKind, spelling: &str) -> Result<(), AllocError>
         requires { Spells kind spelling.now }
         ensures ok { OnOk result (self.new ≡ self.old
@@ -209,6 +228,24 @@ impl Sheet {
         self.last = make_room(&mut self.text, self.last, spelling)?;
         self.text.push_str(spelling)?;
         self.last = Last::Other(Ending::of(kind, spelling));
+        Ok(())
+    }
+
+    /// Writes a string: a quote, the content and a quote, after a blank where it may not touch the token before. The caller owes a
+    /// content in which no character has to be an escape (GraphQL October 2021, section 2.9.4). It fails only where memory runs
+    /// out, and what was on the sheet may be lost then.
+    pub fn quoted(&mut self, content: &str) -> Result<(), AllocError>
+        requires { Spells kinds.String (in_quotes content.now) }
+        ensures { OnOk result (self.new ≡ self.old
+            ++ word (record { kind = kinds.String; spelling = in_quotes content.now }) ∷ []) }
+    {
+        self.last = make_room(&mut self.text, self.last, "\"")?;
+        let empty = String::new(*self.text.allocator());
+        let mut text = mem::replace(&mut self.text, empty);
+        self.last = Last::Other(Ending::Open);
+        push_quoted(&mut text, content)?;
+        self.text = text;
+        self.last = Last::Other(Ending::of_content(content));
         Ok(())
     }
 

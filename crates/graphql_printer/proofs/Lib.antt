@@ -2,6 +2,7 @@ pub mod Accepted
 pub mod ArrangedRequests
 pub mod ArrangedSchemas
 pub mod Changes
+pub mod Lanes
 pub mod Meaning
 pub mod Parsed
 pub mod PrintedFiles
@@ -21,3 +22,5 @@ pub mod ShownRequests
 pub mod ShownStrings
 pub mod ShownValues
 pub mod SpelledTexts
+pub mod Spellings
+pub mod Writing

@@ -4,6 +4,7 @@ use Rattle.std.proofs.lemmas.Str.{IsUtf8-string_bytes}
 use Rattle.std.specs.List.{AllByRecursion, flat_map}
 use Rattle.std.specs.Str.{IsUtf8}
 use Rattle.graphql_tokens.specs.tokens.Edition.{Current}
+use Rattle.graphql_tokens.specs.tokens.Token.{Bare}
 use Rattle.graphql_request_trees.specs.declared.executable.ExecutableDocument.{ExecutableDocument}
 use Rattle.graphql_request_trees.specs.trees.RequestViews.{document_tree}
 use Rattle.graphql_reading.specs.grammar.Limits.{Limits}
@@ -17,7 +18,7 @@ use Rattle.graphql_requests.specs.reading.Request.{definitions_at}
 use Rattle.graphql_requests.proofs.RequestProductions.{requests-are-read}
 use Rattle.graphql_printer.specs.Printed.{IsDocumentOf, MakesTheSame, IsPrinted}
 use Rattle.graphql_printer.specs.Rewritten.{AreSound}
-use Rattle.graphql_printer.specs.inner.Shown.{spelled}
+use Rattle.graphql_printer.specs.inner.Shown.{by_values}
 use Rattle.graphql_printer.specs.inner.ShownRequests.{definitions_in, shown_definition, shown_request}
 use Rattle.graphql_printer.specs.inner.SpelledTexts.{KeepsTokens}
 use Rattle.graphql_printer.proofs.ArrangedRequests.{definitions-alike, each-printed, unbroken-alike, complete-alike, document-alike, placeless-alike}
@@ -57,13 +58,13 @@ module _ (document : ExecutableDocument) (limits : Limits) (text : List ℕ) (of
   shown-is : shown_request (document_tree document) ≡ flat_map shown_definition es
   shown-is = ap shown_request of.made
 
-  printed_request : (raw printed : List ℕ) → raw ≡ spelled (shown_request (document_tree document)) → KeepsTokens raw printed → IsUtf8 printed → MakesTheSame requests document_of limits ds printed
+  printed_request : (raw : List Bare) (printed : List ℕ) → raw ≡ by_values (shown_request (document_tree document)) → KeepsTokens raw printed → IsUtf8 printed → MakesTheSame requests document_of limits ds printed
   printed_request raw printed e keeps utf8 =
       let bs = flat_map shown_definition es in
       makes_the_same requests definitions_at requests-are-read document_of limits bs ds es again sound same printed utf8
-      (keeps bs (again_spellings (definitions Current limits) placeless_definitions bs es again) (e ∙ ap spelled shown-is))
+      (keeps bs (again_spellings (definitions Current limits) placeless_definitions bs es again) (e ∙ ap by_values shown-is))
 
-pub query_printed : {E : Type 0} (document : ExecutableDocument) (raw : List ℕ) (result : Result (String Global) E) → raw ≡ spelled (shown_request (document_tree document)) → IfOk result (λ s. KeepsTokens raw (string_bytes s))
+pub query_printed : {E : Type 0} (document : ExecutableDocument) (raw : List Bare) (result : Result (String Global) E) → raw ≡ by_values (shown_request (document_tree document)) → IfOk result (λ s. KeepsTokens raw (string_bytes s))
     → IfOk result (λ s. IsPrinted requests document_of document (string_bytes s))
 query_printed document raw (Ok s) e keeps = λ limits text of. printed_request document limits text of raw (string_bytes s) e keeps (IsUtf8-string_bytes s)
 query_printed document raw (Err error) e keeps = tt

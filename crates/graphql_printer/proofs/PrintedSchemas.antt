@@ -1,25 +1,19 @@
 -- What calls print of schema files.
-use Rattle.std.proofs.Common.{◌≡◌, ℕ, true, false, List, [], ◌∷◌, ◌++◌, map, Option, Some, None, Result, Ok, Err, codes, refl, sym, ap, ◌∙◌, append-nil}
-use Rattle.std.specs.List.{flat_map}
+use Rattle.std.proofs.Common.{◌≡◌, true, false, List, [], ◌∷◌, ◌++◌, map, Option, Some, None, Result, Ok, refl, sym, ap, append-nil}
 use Rattle.graphql_tokens.specs.declared.pos.Positioned.{Positioned}
 use Rattle.graphql_tokens.specs.tokens.Token.{Bare}
 use Rattle.graphql_syntax.specs.declared.types.OperationType.{OperationType}
 use Rattle.graphql_syntax.specs.trees.Parts.{Name, placed}
 use Rattle.graphql_printer.specs.inner.PrintedRoots.{and_then, are_none, shown_maybe_root}
 use Rattle.graphql_printer.specs.inner.Prints.{Prints}
-use Rattle.graphql_printer.specs.inner.Shown.{sign, spelled, shown_between}
+use Rattle.graphql_printer.specs.inner.Shown.{sign, shown_between}
 use Rattle.graphql_printer.specs.inner.ShownSchemas.{Root, shown_led, shown_root}
 use Rattle.graphql_printer.proofs.Printing.{as_tokens}
 
 -- ---- one call after another
 
-pub nothing : {E : Type 0} (a : List ℕ) → Prints {E = E} (Ok tt) a a []
+pub nothing : {E : Type 0} (a : List Bare) → Prints {E = E} (Ok tt) a a []
 nothing a = record { ok = sym (append-nil a) }
-
--- tokens with the same text
-pub as_spelled : {E : Type 0} {r : Result (Unit {0}) E} {a b : List ℕ} (bs cs : List Bare) → spelled bs ≡ spelled cs → Prints r a b bs → Prints r a b cs
-as_spelled {r = Ok v} {a = a} bs cs e printed = record { ok = printed.ok ∙ ap (λ (l : List ℕ). a ++ l) e }
-as_spelled {r = Err x} bs cs e printed = record { ok = tt }
 
 -- ---- lists of what is its own tree
 
@@ -29,13 +23,8 @@ same_placed (part ∷ parts) = ap (λ others. part ∷ others) (same_placed part
 
 -- ---- members after a token
 
--- of what kind the token is makes no difference to the text
-pub led_so : {A : Type 0} (lead other mark : Bare) (shown : A → List Bare) (list : List A) → lead.spelling ≡ other.spelling → spelled (shown_led lead mark shown list) ≡ spelled (shown_led other mark shown list)
-led_so lead other mark shown [] e = refl
-led_so lead other mark shown (a ∷ others) e = ap (λ (spelling : List ℕ). (spelling ++ codes " ") ++ spelled (shown a ++ flat_map (λ other. mark ∷ shown other) others)) e
-
 -- of members that are their own trees
-pub same_led : {A E : Type 0} {r : Result (Unit {0}) E} {a b : List ℕ} (lead mark : Bare) (shown : Positioned A → List Bare) (list : List (Positioned A)) → Prints r a b (shown_led lead mark shown (map (placed (λ part. part)) list)) → Prints r a b (shown_led lead mark shown list)
+pub same_led : {A E : Type 0} {r : Result (Unit {0}) E} {a b : List Bare} (lead mark : Bare) (shown : Positioned A → List Bare) (list : List (Positioned A)) → Prints r a b (shown_led lead mark shown (map (placed (λ part. part)) list)) → Prints r a b (shown_led lead mark shown list)
 same_led lead mark shown list printed = as_tokens (ap (shown_led lead mark shown) (same_placed list)) printed
 
 -- ---- roots

@@ -1,65 +1,87 @@
--- Tokens that are printed with blanks after them are the tokens of that text, and of one that is laid out anew from it.
-use Rattle.std.proofs.Common.{◌≡◌, ℕ, inl, List, [], ◌∷◌, ◌++◌, refl, sym, ap, ◌∙◌, subst, append_assoc, false, rules}
-use Rattle.std.proofs.lemmas.List.{append_cancel_right}
-use Rattle.std.proofs.lemmas.Str.{chars-append, chars-IsAscii, chars-nil, IsUtf8-from_ascii}
+-- Texts with the tokens that were written, and what is known of tokens by their values.
+use Rattle.std.proofs.Common.{◌≡◌, ℕ, true, false, Result, Ok, Err, IfOk, Global, string_bytes, inl, inr, List, [], ◌∷◌, ◌++◌, refl, sym, ap, ◌∙◌, subst, append-nil}
 use Rattle.std.specs.Str.{chars}
-use Rattle.graphql_tokens.specs.tokens.Alike.{AreAlike}
+use Rattle.std.proofs.Common.{String as Text}
+use Rattle.graphql_tokens.specs.declared.lexer.TokenKind.{TokenKind}
+use Rattle.graphql_tokens.specs.declared.lexer.TokenKind.TheVariants.{Punct, Name, Number, String, Block, Fault, End}
+use Rattle.graphql_tokens.specs.tokens.Alike.{IsAlike, AreAlike}
 use Rattle.graphql_tokens.specs.tokens.Cuts.{IsCutInto}
+use Rattle.graphql_tokens.specs.tokens.Proper.{Spells}
 use Rattle.graphql_tokens.specs.tokens.Token.{Bare, Token}
 use Rattle.graphql_tokens.proofs.Lists.{tokens_only}
-use Rattle.graphql_layout.specs.declared.ending.Ending.{Ending}
-use Rattle.graphql_layout.specs.declared.ending.Ending.TheVariants as endings
-use Rattle.graphql_layout.specs.inner.Endings.{ending_of, stops}
-use Rattle.graphql_layout.specs.inner.Written.{IsWritten}
-use Rattle.graphql_layout.specs.texts.LaidOut.{IsLaidOut}
-use Rattle.graphql_layout.specs.texts.SameTokens.{bares, bare_end, HasTokens}
-use Rattle.graphql_layout.proofs.Joined.{spelled as with_characters, Continues, one_more, chars_spelled}
-use Rattle.graphql_layout.proofs.WrittenTokens.{end_written, piece_written}
-use Rattle.graphql_reading.proofs.IgnoresPlaces.{alike-same}
-use Rattle.graphql_printer.specs.inner.Shown.{spelled}
+use Rattle.graphql_layout.specs.texts.SameTokens.{HasTokens}
+use Rattle.graphql_printer.specs.inner.Shown.{by_value, by_values}
 use Rattle.graphql_printer.specs.inner.SpelledTexts.{AreSpellings, KeepsTokens}
-
--- ---- with blanks after them
-
-blank_allowed : (ending : Ending) → stops ending 32 ≡ false
-blank_allowed endings.Open = refl
-blank_allowed endings.Name = refl
-blank_allowed endings.Number = refl
-blank_allowed endings.EmptyString = refl
-
-chars_blank : (bs : List ℕ) → chars (32 ∷ bs) ≡ 32 ∷ chars bs
-chars_blank bs = chars-append (32 ∷ []) bs (IsUtf8-from_ascii (32 ∷ []) (search rules)) ∙ ap (λ (l : List ℕ). l ++ chars bs) (chars-IsAscii (32 ∷ []) (search rules))
-
--- a blank may follow whatever ends so
-after_blank : (ending : Ending) (rest : List ℕ) (bs : List Bare) → IsWritten (chars rest) bs → Continues ending (chars (32 ∷ rest)) bs
-after_blank ending rest bs h =
-    subst (λ (x : List ℕ). Continues ending x bs) (sym (chars_blank rest))
-    (record { written = piece_written (32 ∷ []) (chars rest) bs (inl (32, refl, refl)) h; may = blank_allowed ending })
-
-spelled_written : (bs : List Bare) → AreSpellings bs → IsWritten (chars (spelled bs)) (bs ++ bare_end ∷ [])
-spelled_written [] h = subst (λ (x : List ℕ). IsWritten x (bare_end ∷ [])) (sym chars-nil) end_written
-spelled_written (b ∷ bs) h =
-    let w = with_characters b h.0 in
-    let rest = 32 ∷ spelled bs in
-    let is : chars (spelled (b ∷ bs)) ≡ w.0 ++ chars rest = ap chars (append_assoc b.spelling (32 ∷ []) (spelled bs)) ∙ chars_spelled b w.0 rest w.1 in
-    subst (λ (x : List ℕ). IsWritten x (b ∷ (bs ++ bare_end ∷ []))) (sym is)
-    (one_more b w.0 (chars rest) (bs ++ bare_end ∷ []) w.1 (after_blank (ending_of b) (spelled bs) (bs ++ bare_end ∷ []) (spelled_written bs h.1)))
-
-pub spelled_tokens : (bs : List Bare) → AreSpellings bs → HasTokens (spelled bs) bs
-spelled_tokens bs h = spelled_written bs h []
+use Rattle.graphql_printer.specs.inner.Words.{BeginsBadly, is_word}
+use Rattle.graphql_printer.proofs.Spellings.{name_is_word}
 
 pub one_cut : (text : List ℕ) (ts us : List Token) → IsCutInto text ts → IsCutInto text us → ts ≡ us
 one_cut text ts us c d = tokens_only [] (chars text) ts c ∙ sym (tokens_only [] (chars text) us d)
 
--- ---- laid out anew
+-- ---- tokens with the same values are alike
 
--- such a text itself
-pub same_keeps : (text : List ℕ) → KeepsTokens text text
-same_keeps text bs h e = (bs, subst (λ (x : List ℕ). HasTokens x bs) (sym e) (spelled_tokens bs h), alike-same bs bs refl)
+abbrev bare : TokenKind → List ℕ → Bare
+bare kind spelling = record { kind = kind; spelling = spelling }
 
-pub laid_out_keeps : (text other : List ℕ) → IsLaidOut text other → KeepsTokens text other
-laid_out_keeps text other laid bs h e =
-    let first = subst (λ (x : List ℕ). HasTokens x bs) (sym e) (spelled_tokens bs h) in
-    let tokens = laid.tokens.tokens in
-    let same : tokens ++ bare_end ∷ [] ≡ bs ++ bare_end ∷ [] = sym laid.tokens.of_text.2 ∙ ap bares (one_cut text laid.tokens.of_text.0 first.0 laid.tokens.of_text.1 first.1) ∙ first.2 in
-    (laid.tokens.others, laid.tokens.of_other, subst (λ (l : List Bare). AreAlike l laid.tokens.others) (append_cancel_right tokens bs (bare_end ∷ []) same) laid.tokens.alike)
+alike_by : (kind : TokenKind) (s t : List ℕ) → by_value (bare kind s) ≡ by_value (bare kind t) → IsAlike (bare kind s) (bare kind t)
+alike_by Punct s t e = inl e
+alike_by Name s t e = inl e
+alike_by Number s t e = inl e
+alike_by String s t e = inl e
+alike_by Fault s t e = inl e
+alike_by End s t e = inl e
+alike_by Block s t e = inr (record { block = refl; other_block = refl; value = ap (λ (b : Bare). b.spelling) e })
+
+alike_by_value : (a b : Bare) → by_value a ≡ by_value b → IsAlike a b
+alike_by_value a b e =
+    let same : a.kind ≡ b.kind = ap (λ (x : Bare). x.kind) e in
+    let moved : by_value (bare b.kind a.spelling) ≡ by_value b = ap (λ (k : TokenKind). by_value (bare k a.spelling)) (sym same) ∙ e in
+    subst (λ (k : TokenKind). IsAlike (bare k a.spelling) b) (sym same) (alike_by b.kind a.spelling b.spelling moved)
+
+abbrev first_of : Bare → List Bare → Bare
+first_of b [] = b
+first_of b (c ∷ cs) = c
+
+abbrev others_of : List Bare → List Bare
+others_of [] = []
+others_of (c ∷ cs) = cs
+
+first : (b c : Bare) (bs cs : List Bare) → by_values (b ∷ bs) ≡ by_values (c ∷ cs) → by_value b ≡ by_value c
+first b c bs cs e = ap (first_of b) e
+
+others : (b c : Bare) (bs cs : List Bare) → by_values (b ∷ bs) ≡ by_values (c ∷ cs) → by_values bs ≡ by_values cs
+others b c bs cs e = ap others_of e
+
+pub alike_by_values : (bs cs : List Bare) → by_values bs ≡ by_values cs → AreAlike bs cs
+alike_by_values [] [] e = tt
+alike_by_values [] (c ∷ cs) e = absurd cc
+alike_by_values (b ∷ bs) [] e = absurd cc
+alike_by_values (b ∷ bs) (c ∷ cs) e = (alike_by_value b c (first b c bs cs e), alike_by_values bs cs (others b c bs cs e))
+
+-- ---- a text that is laid out has the tokens that were written
+
+pub laid_out_keeps : (tokens : List Bare) (text : List ℕ) → HasTokens text tokens → KeepsTokens (by_values (tokens ++ [])) text
+laid_out_keeps tokens text has bs spelled e = (tokens, has, alike_by_values bs tokens (sym e ∙ ap by_values (append-nil tokens)))
+
+-- ---- no spellings are tokens of which one is none
+
+no_name : (r b : Bare) → r.kind ≡ Name → is_word r.spelling ≡ false → Spells b.kind b.spelling → IsAlike r b → ⊥
+no_name r b kind bad spelled (inl e) =
+    let name : Spells Name r.spelling = subst (λ (k : TokenKind). Spells k r.spelling) kind (subst (λ (x : Bare). Spells x.kind x.spelling) (sym e) spelled) in
+    let no : false ≡ true = sym bad ∙ name_is_word r.spelling name in
+    cc
+no_name r b kind bad spelled (inr block) = let no : Name ≡ Block = sym kind ∙ block.block in cc
+
+never : (front : List Bare) (r : Bare) (rest bs : List Bare) → r.kind ≡ Name → is_word r.spelling ≡ false → AreSpellings bs → by_values (front ++ r ∷ rest) ≡ by_values bs → ⊥
+never [] r rest [] kind bad h e = cc
+never (f ∷ front) r rest [] kind bad h e = cc
+never [] r rest (b ∷ bs) kind bad h e = no_name r b kind bad h.0 (alike_by_value r b (first r b rest bs e))
+never (f ∷ front) r rest (b ∷ bs) kind bad h e = never front r rest bs kind bad h.1 (others f b (front ++ r ∷ rest) bs e)
+
+never_kept : (front rest view : List Bare) (text : List ℕ) → by_values (front ++ rest) ≡ view → BeginsBadly rest → ((rest ≡ []) → ⊥) → KeepsTokens view text
+never_kept front [] view text is bad some bs h e = absurd (some refl)
+never_kept front (r ∷ rest) view text is bad some bs h e = absurd (never front r rest bs bad.0 bad.1 h (is ∙ e))
+
+pub badly_keeps : {E : Type 0} (result : Result (Text Global) E) (front rest view : List Bare) → by_values (front ++ rest) ≡ view → BeginsBadly rest → ((rest ≡ []) → ⊥) → IfOk result (λ s. KeepsTokens view (string_bytes s))
+badly_keeps (Ok s) front rest view is bad some = never_kept front rest view (string_bytes s) is bad some
+badly_keeps (Err x) front rest view is bad some = tt

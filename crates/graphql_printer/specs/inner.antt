@@ -6,3 +6,4 @@ pub mod Shown
 pub mod ShownRequests
 pub mod ShownSchemas
 pub mod SpelledTexts
+pub mod Words

@@ -30,11 +30,13 @@ mod nodes;
 mod parts;
 mod places;
 mod requests;
+mod scans;
 #[cfg(test)]
 mod schema_tests;
 mod schemas;
 #[cfg(test)]
 mod tests;
+mod widths;
 mod writer;
 
 pub use formatting::{format_query, format_schema};

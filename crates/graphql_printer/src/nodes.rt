@@ -1,8 +1,10 @@
-//! Nodes that are printed as tokens, each with a blank after it.
-ghost use Rattle.std.specs.Prelude.{◌∷◌, [], List, map, option_map, flat_map};
+//! Nodes that are printed as tokens.
+ghost use Rattle.std.specs.Prelude.{◌≡◌, ◌∷◌, [], true, List, map, option_map, flat_map};
 ghost use Rattle.graphql_tokens.specs.declared.lexer.TokenKind.TheVariants.{Punct};
 ghost use Rattle.graphql_syntax.specs.trees.Parts.{placed};
+ghost use Rattle.graphql_tokens.specs.tokens.Proper.{Spells};
 ghost use Rattle.graphql_printer.specs.inner.Prints.{Prints};
+ghost use Rattle.graphql_printer.specs.inner.Words.{is_sign};
 ghost use Rattle.graphql_printer.specs.inner.Shown.{word as word_token, shown_between, shown_node, shown_part};
 ghost use Rattle.graphql_printer.specs.inner.ShownSchemas.{shown_led};
 
@@ -28,27 +30,80 @@ pub trait Print {
 }
 
 /// A name or a keyword.
+#[inline(always)]
 pub fn word(out: &mut Writer, name: &str) -> Outcome
     ensures { Prints result out.old out.new (word_token name.now ∷ []) }
 {
-    out.token(TokenKind::Name, name)
+    out.word(name)
 }
 
 /// A punctuator.
+#[inline(always)]
+#[tactic(auto, using(crate::proofs::Spellings::sign_spells))]
 pub fn sign(out: &mut Writer, sign: &str) -> Outcome
+    requires { is_sign sign.now ≡ true }
     ensures { Prints result out.old out.new (record { kind = Punct; spelling = sign.now } ∷ []) }
 {
     out.token(TokenKind::Punct, sign)
 }
 
-// A keyword or a punctuator.
-fn lead(out: &mut Writer, spelling: &str) -> Outcome
-    ensures { Prints result out.old out.new (word_token spelling.now ∷ []) }
+/// A punctuator that stands apart from what is before it and after it.
+pub fn apart(out: &mut Writer, mark: &str) -> Outcome
+    requires { is_sign mark.now ≡ true }
+    ensures { Prints result out.old out.new (record { kind = Punct; spelling = mark.now } ∷ []) }
 {
-    if spelling == "=" {
-        out.token(TokenKind::Punct, spelling)
+    out.blank()?;
+    sign(out, mark)?;
+    out.blank()
+}
+
+/// What opens a bracket. If the bracket is broken over lines, those are a level deeper.
+#[inline(always)]
+pub fn open(out: &mut Writer, bracket: &str, is_broken: bool) -> Outcome
+    requires { is_sign bracket.now ≡ true }
+    ensures { Prints result out.old out.new (record { kind = Punct; spelling = bracket.now } ∷ []) }
+{
+    sign(out, bracket)?;
+    if is_broken {
+        out.deepen();
+    }
+    Ok(())
+}
+
+/// What closes a bracket: on a line of its own if the bracket is broken over lines.
+#[inline(always)]
+pub fn close(out: &mut Writer, bracket: &str, is_broken: bool) -> Outcome
+    requires { is_sign bracket.now ≡ true }
+    ensures { Prints result out.old out.new (record { kind = Punct; spelling = bracket.now } ∷ []) }
+{
+    end_members(out, is_broken)?;
+    sign(out, bracket)
+}
+
+// Ends the last line of a bracket that is broken over lines.
+#[inline(always)]
+fn end_members(out: &mut Writer, is_broken: bool) -> Outcome
+    ensures { out.new ≡ out.old }
+{
+    if !is_broken {
+        return Ok(());
+    }
+    out.rise();
+    out.begin_line()
+}
+
+/// Begins a member of a bracket: on a line of its own if the bracket is broken over lines, and else after a comma if there is
+/// one before it.
+#[inline(always)]
+pub fn begin_member(out: &mut Writer, is_first: bool, is_broken: bool) -> Outcome
+    ensures { out.new ≡ out.old }
+{
+    if is_broken {
+        out.begin_line()
+    } else if is_first {
+        Ok(())
     } else {
-        out.token(TokenKind::Name, spelling)
+        out.comma()
     }
 }
 
@@ -74,8 +129,26 @@ pub fn each<N: Print>(out: &mut Writer, nodes: &Vec<Positioned<N>>) -> Outcome
     Ok(())
 }
 
-/// Nodes in parentheses; nothing for none.
-pub fn in_parentheses<N: Print>(out: &mut Writer, nodes: &Vec<Positioned<N>>) -> Outcome
+// Nodes that are the members of a bracket.
+fn members<N: Print>(out: &mut Writer, nodes: &Vec<Positioned<N>>, is_broken: bool) -> Outcome
+    ensures { Prints result out.old out.new
+        (flat_map (shown_node N.form.shown) (map (placed N.form.tree) nodes.now.items)) }
+{
+    let mut is_first = true;
+    for node in nodes {
+        begin_member(out, is_first, is_broken)?;
+        node.node.print(out)?;
+        is_first = false;
+    }
+    Ok(())
+}
+
+/// Nodes in parentheses, a line each if these are broken over lines; nothing for none.
+pub fn in_parentheses<N: Print>(
+    out: &mut Writer,
+    nodes: &Vec<Positioned<N>>,
+    is_broken: bool,
+) -> Outcome
     ensures { Prints result out.old out.new
         (shown_between "(" ")" (shown_node N.form.shown)
         (map (placed N.form.tree) nodes.now.items)) }
@@ -83,12 +156,12 @@ pub fn in_parentheses<N: Print>(out: &mut Writer, nodes: &Vec<Positioned<N>>) ->
     if nodes.is_empty() {
         return Ok(());
     }
-    sign(out, "(")?;
-    each(out, nodes)?;
-    sign(out, ")")
+    open(out, "(", is_broken)?;
+    members(out, nodes, is_broken)?;
+    close(out, ")", is_broken)
 }
 
-/// Nodes in braces; nothing for none.
+/// Nodes in braces, a line each; nothing for none.
 pub fn in_braces<N: Print>(out: &mut Writer, nodes: &Vec<Positioned<N>>) -> Outcome
     ensures { Prints result out.old out.new
         (shown_between "{" "}" (shown_node N.form.shown)
@@ -97,29 +170,34 @@ pub fn in_braces<N: Print>(out: &mut Writer, nodes: &Vec<Positioned<N>>) -> Outc
     if nodes.is_empty() {
         return Ok(());
     }
-    sign(out, "{")?;
-    each(out, nodes)?;
-    sign(out, "}")
+    out.blank()?;
+    open(out, "{", true)?;
+    members(out, nodes, true)?;
+    close(out, "}", true)
 }
 
-/// Nodes after a token, with a sign between each two; nothing for none.
+/// Nodes after a keyword or a punctuator, with a sign between each two; nothing for none.
 pub fn separated<N: Print>(
     out: &mut Writer,
-    first_token: &str,
+    lead: (TokenKind, &str),
     mark: &str,
     nodes: &Vec<Positioned<N>>,
 ) -> Outcome
+    requires lead { Spells lead.0 lead.1.now }
+    requires mark { is_sign mark.now ≡ true }
     ensures { Prints result out.old out.new
-        (shown_led (word_token first_token.now) (record { kind = Punct; spelling = mark.now })
+        (shown_led (record { kind = lead.entry.0; spelling = lead.entry.1.now }) (record { kind = Punct; spelling = mark.now })
         (shown_node N.form.shown) (map (placed N.form.tree) nodes.now.items)) }
 {
     let Some((first, others)) = nodes.split_first() else {
         return Ok(());
     };
-    lead(out, first_token)?;
+    out.blank()?;
+    out.token(lead.0, lead.1)?;
+    out.blank()?;
     first.node.print(out)?;
     for node in others {
-        sign(out, mark)?;
+        apart(out, mark)?;
         node.node.print(out)?;
     }
     Ok(())

@@ -11,10 +11,10 @@ ghost use Rattle.graphql_syntax.specs.trees.ValueViews.{value_tree, const_tree};
 ghost use Rattle.graphql_printer.specs.inner.Prints.{Prints, form};
 ghost use Rattle.graphql_printer.specs.inner.Shown.{sign as sign_token, word as word_token, literal, quoted, shown_value, shown_items, shown_fields, shown_mark, shown_type, argument_by, shown_argument_by, shown_arguments_by, shown_default, shown_directive, shown_part};
 
-use crate::nodes::{Outcome, Print, sign, word};
+use crate::nodes::{Outcome, Print, apart, begin_member, close, open, sign, word};
 use crate::writer::Writer;
 use graphql_syntax::types::{BaseType, ConstDirective, Directive, OperationType, Type};
-use graphql_syntax::value::{ConstValue, ListView, Name, ObjectView, Value, ValueView};
+use graphql_syntax::value::{ConstValue, ListView, Name, Number, ObjectView, Value, ValueView};
 use graphql_tokens::lexer::TokenKind;
 use graphql_tokens::pos::Positioned;
 
@@ -46,11 +46,12 @@ pub fn operation_word(kind: OperationType) -> &'static str
 }
 
 // A number, by its literal.
-fn print_number(out: &mut Writer, digits: &str) -> Outcome
+#[tactic(auto, using(crate::proofs::Spellings::number_spells))]
+fn print_number(out: &mut Writer, number: &Number) -> Outcome
     ensures { Prints result out.old out.new
-        (literal digits.now ∷ []) }
+        (literal number.now ∷ []) }
 {
-    out.token(TokenKind::Number, digits)
+    out.token(TokenKind::Number, number.as_str())
 }
 
 /// The string that stands for a text.
@@ -86,7 +87,7 @@ fn print_value(out: &mut Writer, value: &ValueView<'_>) -> Outcome
     match value {
         ValueView::Variable(name) => print_variable(out, name),
         ValueView::Null => word(out, "null"),
-        ValueView::Number(number) => print_number(out, number.as_str()),
+        ValueView::Number(number) => print_number(out, number),
         ValueView::String(text) => print_string(out, text),
         ValueView::Boolean(value) => print_boolean(out, *value),
         ValueView::Enum(name) => word(out, name.as_str()),
@@ -107,8 +108,11 @@ fn print_items(out: &mut Writer, items: &ListView<'_>) -> Outcome
     ensures { Prints result out.old out.new
         (shown_items (trees_of (list_items items.now)) ++ sign_token "]" ∷ []) }
 {
+    let mut is_first = true;
     for item in items.iter() {
+        begin_member(out, is_first, false)?;
         print_value(out, &item)?;
+        is_first = false;
     }
     sign(out, "]")
 }
@@ -119,8 +123,11 @@ fn print_fields(out: &mut Writer, fields: &ObjectView<'_>) -> Outcome
     ensures { Prints result out.old out.new
         (shown_fields (fields_of (object_fields fields.now)) ++ sign_token "}" ∷ []) }
 {
+    let mut is_first = true;
     for (name, value) in fields.iter() {
+        begin_member(out, is_first, false)?;
         print_field(out, name, &value)?;
+        is_first = false;
     }
     sign(out, "}")
 }
@@ -132,6 +139,7 @@ fn print_field(out: &mut Writer, name: &Name, value: &ValueView<'_>) -> Outcome
 {
     word(out, name.as_str())?;
     sign(out, ":")?;
+    out.blank()?;
     print_value(out, value)
 }
 
@@ -176,10 +184,11 @@ fn print_mark(out: &mut Writer, nullable: bool) -> Outcome
     sign(out, "!")
 }
 
-/// Arguments in their parentheses; nothing for none.
+/// Arguments in their parentheses, a line each if these are broken over lines; nothing for none.
 pub fn print_arguments<V: Print>(
     out: &mut Writer,
     arguments: &Vec<(Positioned<Name>, Positioned<V>)>,
+    is_broken: bool,
 ) -> Outcome
     ensures { Prints result out.old out.new
         (shown_arguments_by V.form.shown (map (argument_by V.form.tree) arguments.now.items)) }
@@ -187,21 +196,25 @@ pub fn print_arguments<V: Print>(
     if arguments.is_empty() {
         return Ok(());
     }
-    sign(out, "(")?;
-    each_argument(out, arguments)?;
-    sign(out, ")")
+    open(out, "(", is_broken)?;
+    each_argument(out, arguments, is_broken)?;
+    close(out, ")", is_broken)
 }
 
 fn each_argument<V: Print>(
     out: &mut Writer,
     arguments: &Vec<(Positioned<Name>, Positioned<V>)>,
+    is_broken: bool,
 ) -> Outcome
     ensures { Prints result out.old out.new
         (flat_map (shown_argument_by V.form.shown)
         (map (argument_by V.form.tree) arguments.now.items)) }
 {
+    let mut is_first = true;
     for argument in arguments {
+        begin_member(out, is_first, is_broken)?;
         print_argument(out, &argument.0, &argument.1)?;
+        is_first = false;
     }
     Ok(())
 }
@@ -216,6 +229,7 @@ fn print_argument<V: Print>(
 {
     word(out, name.node.as_str())?;
     sign(out, ":")?;
+    out.blank()?;
     value.node.print(out)
 }
 
@@ -244,9 +258,10 @@ fn print_directive<V: Print>(
         (sign_token "@" ∷ word_token name.now.node ∷ shown_arguments_by V.form.shown
         (map (argument_by V.form.tree) arguments.now.items)) }
 {
+    out.blank()?;
     sign(out, "@")?;
     word(out, name.node.as_str())?;
-    print_arguments(out, arguments)
+    print_arguments(out, arguments, false)
 }
 
 /// A default value, where there is one.
@@ -257,6 +272,6 @@ pub fn print_default(out: &mut Writer, value: &Option<Positioned<ConstValue>>) -
     let Some(value) = value else {
         return Ok(());
     };
-    sign(out, "=")?;
+    apart(out, "=")?;
     value.node.print(out)
 }

@@ -8,12 +8,13 @@ ghost use Rattle.graphql_requests.specs.grammar.Request.{Definition};
 ghost use Rattle.graphql_requests.specs.grammar.Requests.{requests};
 ghost use Rattle.graphql_printer.specs.Printed.{IsPrinted};
 ghost use Rattle.graphql_printer.specs.inner.Prints.{Prints, form};
-ghost use Rattle.graphql_printer.specs.inner.Shown.{spelled, shown_node, shown_part};
+ghost use Rattle.graphql_printer.specs.inner.Shown.{by_values, sign as sign_token, shown_node, shown_part};
 ghost use Rattle.graphql_printer.specs.inner.ShownRequests.{Fragment as FragmentTree, a_fragment, after_fragments, is_short as is_short_tree, lent_name, shown_alias, shown_condition, shown_definition, shown_fragment, shown_full, shown_name, shown_operation, shown_request, shown_selection, shown_selections, shown_set, shown_spread, shown_variable};
 
-use crate::nodes::{Outcome, Print, each, in_parentheses, maybe, sign, word};
+use crate::nodes::{Outcome, Print, close, each, in_parentheses, maybe, open, sign, word};
 use crate::parts::{operation_word, print_arguments, print_default};
 use crate::places::stands_before;
+use crate::widths::is_long;
 use crate::writer::Writer;
 use graphql_request_trees::{
     ExecutableDocument, Field, FragmentDefinition, FragmentSpread, InlineFragment, NameMap,
@@ -29,7 +30,7 @@ use std::alloc::{AllocError, Global};
 /// printed between single quotes, and a query without a name, variables and directives as its selection set alone.
 ///
 /// Where the tree is that of a text, it is that of what is printed too, within the same limits and but for places. A tree made
-/// by hand may be that of none; where a name or a number of it is none, its tokens are not laid out: each has a blank after it.
+/// by hand may be that of none; where a name of it is none, its tokens are not laid out: each has a blank after it.
 ///
 /// It fails only where memory runs out.
 pub fn print_query(alloc: Global, document: &ExecutableDocument) -> Result<String, AllocError>
@@ -37,7 +38,7 @@ pub fn print_query(alloc: Global, document: &ExecutableDocument) -> Result<Strin
 {
     let mut tokens = Writer::new(alloc);
     print_request(&mut tokens, document)?;
-    tokens.lay_out(alloc)
+    tokens.finish()
 }
 
 // Prints a request: its operations in their order and its fragments in theirs, each operation after the fragments whose
@@ -64,9 +65,9 @@ fn print_fragments_before(
     pos: Pos,
 ) -> Result<usize, AllocError>
     ensures { IfOk result (λ next. (definition : Definition) → (others : List FragmentTree → List Definition) →
-        out.new ++ spelled (flat_map shown_definition
+        out.new ++ by_values (flat_map shown_definition
         (definition ∷ others (map (entry_tree fragment_tree) (drop next fragments.now.entries))))
-        ≡ out.old ++ spelled (flat_map shown_definition
+        ≡ out.old ++ by_values (flat_map shown_definition
         (after_fragments pos definition others (map (entry_tree fragment_tree) (drop from fragments.now.entries))))) }
 {
     for index in from..fragments.len() {
@@ -87,7 +88,7 @@ fn print_fragments(
     fragments: &NameMap<Positioned<FragmentDefinition>>,
     from: usize,
 ) -> Outcome
-    ensures { OnOk result (out.new ++ spelled [] ≡ out.old ++ spelled
+    ensures { OnOk result (out.new ++ by_values [] ≡ out.old ++ by_values
         (flat_map shown_definition
         (map a_fragment (map (entry_tree fragment_tree) (drop from fragments.now.entries))))) }
 {
@@ -109,7 +110,7 @@ fn print_operation(
         (shown_operation (lent_name name.entry) (operation_tree operation.now)) }
 {
     if is_short(name, operation) {
-        return print_set(out, &operation.selection_set.node);
+        return print_short(out, &operation.selection_set.node);
     }
     print_in_full(out, name, operation)
 }
@@ -128,9 +129,11 @@ fn print_in_full(out: &mut Writer, name: Option<&Name>, operation: &OperationDef
     ensures { Prints result out.old out.new
         (shown_full (lent_name name.entry) (operation_tree operation.now)) }
 {
+    out.begin_definition()?;
     word(out, operation_word(operation.ty))?;
     print_optional_name(out, name)?;
-    in_parentheses(out, &operation.variable_definitions)?;
+    part_variables(out, name, operation)?;
+    in_parentheses(out, &operation.variable_definitions, false)?;
     each(out, &operation.directives)?;
     print_set(out, &operation.selection_set.node)
 }
@@ -139,17 +142,30 @@ fn print_optional_name(out: &mut Writer, name: Option<&Name>) -> Outcome
     ensures { Prints result out.old out.new
         (shown_part shown_name (lent_name name.entry)) }
 {
-    match name {
-        Some(name) => word(out, name.as_str()),
-        None => Ok(()),
+    let Some(name) = name else {
+        return Ok(());
+    };
+    out.blank()?;
+    word(out, name.as_str())
+}
+
+// Variables stand apart from a keyword, and touch a name.
+fn part_variables(out: &mut Writer, name: Option<&Name>, operation: &OperationDefinition) -> Outcome
+    ensures { out.new ≡ out.old }
+{
+    if name.is_some() || operation.variable_definitions.is_empty() {
+        return Ok(());
     }
+    out.blank()
 }
 
 fn print_fragment(out: &mut Writer, name: &Name, fragment: &FragmentDefinition) -> Outcome
     ensures { Prints result out.old out.new
         (shown_fragment name.now (fragment_tree fragment.now)) }
 {
+    out.begin_definition()?;
     word(out, "fragment")?;
+    out.blank()?;
     word(out, name.as_str())?;
     fragment.type_condition.node.print(out)?;
     each(out, &fragment.directives)?;
@@ -163,6 +179,7 @@ impl Print for VariableDefinition {
         sign(out, "$")?;
         word(out, self.name.node.as_str())?;
         sign(out, ":")?;
+        out.blank()?;
         self.var_type.node.print(out)?;
         print_default(out, &self.default_value)?;
         each(out, &self.directives)
@@ -173,7 +190,9 @@ impl Print for TypeCondition {
     ghost form = { form type_condition_tree shown_condition };
 
     fn print(&self, out: &mut Writer) -> Outcome {
+        out.blank()?;
         word(out, "on")?;
+        out.blank()?;
         word(out, self.on.node.as_str())
     }
 }
@@ -188,7 +207,19 @@ impl Print for FragmentSpread {
     }
 }
 
-// A set in its braces; nothing for an empty one.
+// A set that is a definition; nothing for an empty one.
+fn print_short(out: &mut Writer, set: &SelectionSet) -> Outcome
+    ensures { Prints result out.old out.new
+        (shown_set (selection_set_tree set.now)) }
+{
+    if set.items.is_empty() {
+        return Ok(());
+    }
+    out.begin_definition()?;
+    print_braced(out, set)
+}
+
+// A set in its braces after what it belongs to; nothing for an empty one.
 #[cycle(set)]
 fn print_set(out: &mut Writer, set: &SelectionSet) -> Outcome
     ensures { Prints result out.old out.new
@@ -197,9 +228,19 @@ fn print_set(out: &mut Writer, set: &SelectionSet) -> Outcome
     if set.items.is_empty() {
         return Ok(());
     }
-    sign(out, "{")?;
+    out.blank()?;
+    print_braced(out, set)
+}
+
+// A set in its braces, even if it is empty.
+#[cycle(set)]
+fn print_braced(out: &mut Writer, set: &SelectionSet) -> Outcome
+    ensures { Prints result out.old out.new
+        (sign_token "{" ∷ (shown_selections (selection_set_tree set.now) ++ sign_token "}" ∷ [])) }
+{
+    open(out, "{", true)?;
     print_selections(out, set)?;
-    sign(out, "}")
+    close(out, "}", true)
 }
 
 #[cycle(set)]
@@ -208,6 +249,7 @@ fn print_selections(out: &mut Writer, set: &SelectionSet) -> Outcome
         (shown_selections (selection_set_tree set.now)) }
 {
     for item in &set.items {
+        out.begin_line()?;
         print_selection(out, &item.node)?;
     }
     Ok(())
@@ -232,7 +274,7 @@ fn print_field(out: &mut Writer, field: &Positioned<Field>) -> Outcome
 {
     print_alias(out, &field.node.alias)?;
     word(out, field.node.name.node.as_str())?;
-    print_arguments(out, &field.node.arguments)?;
+    print_arguments(out, &field.node.arguments, is_long(&field.node))?;
     each(out, &field.node.directives)?;
     print_set(out, &field.node.selection_set.node)
 }
@@ -245,7 +287,8 @@ fn print_alias(out: &mut Writer, alias: &Option<Positioned<Name>>) -> Outcome
         return Ok(());
     };
     word(out, alias.node.as_str())?;
-    sign(out, ":")
+    sign(out, ":")?;
+    out.blank()
 }
 
 #[cycle(set)]

@@ -1,6 +1,8 @@
 //! Schema files, printed: as graphql-core's `print_ast` prints them, and as GraphQL.js does where descriptions are block strings.
 use crate::print_schema;
 use graphql_parser::parse_schema;
+use graphql_parser::types::TypeSystemDefinition;
+use graphql_parser::value::Name;
 use std::alloc::Global;
 use std::test::Fail;
 
@@ -96,5 +98,21 @@ fn files_are_printed(rt: HostRuntime) -> Result<(), Fail> {
         let text_printed = printed(rt.alloc(), text)?;
         assert_eq!(rt; text_printed.as_str(), expected, "of {text}");
     }
+    Ok(())
+}
+
+// No text has a tree with a name that is none: its tokens are printed as they are.
+#[test]
+fn tokens_are_not_laid_out_with_a_bad_name(rt: HostRuntime) -> Result<(), Fail> {
+    let text = "\"x\\ny\"type T@d{a(x:[Int!]=[1,\"\\t\"]):S}\"z\"scalar S";
+    let mut document = parse_schema(rt.alloc(), text)?;
+    if let Some(TypeSystemDefinition::TypeDef(ty)) = document.definitions.get_mut(0) {
+        ty.node.name.node = Name::new(rt.alloc(), "T 0")?;
+    }
+    let text = print_schema(rt.alloc(), &document)?;
+    assert_eq!(rt;
+        text.as_str(),
+        "\"\"\"\nx\ny\n\"\"\" type T 0 @ d { a ( x : [ Int ! ] = [ 1 \"\\t\" ] ) : S } \"\"\"z\"\"\" scalar S "
+    );
     Ok(())
 }

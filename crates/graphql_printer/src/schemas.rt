@@ -10,9 +10,11 @@ ghost use Rattle.graphql_printer.specs.Printed.{IsPrinted};
 ghost use Rattle.graphql_printer.specs.inner.PrintedRoots.{and_then, are_none as are_none_of, goes_before as goes_before_of, shown_maybe_root};
 ghost use Rattle.graphql_printer.specs.inner.Prints.{Prints, form};
 ghost use Rattle.graphql_printer.specs.inner.Shown.{shown_between};
-ghost use Rattle.graphql_printer.specs.inner.ShownSchemas.{Root, shown_text, shown_description, shown_name, shown_input_value, shown_field, shown_enum_value, kind_word as kind_word_of, shown_interfaces, shown_contents, shown_extend, shown_type_definition, with_root, roots_of, shown_root, shown_schema, shown_repeatable, shown_location, shown_directive_definition, shown_definition, shown_file};
+ghost use Rattle.graphql_printer.specs.inner.ShownSchemas.{Root, shown_text, shown_description, shown_name, shown_input_value, shown_field, shown_enum_value, kind_word as kind_word_of, shown_implements, shown_interfaces, shown_contents, shown_extend, shown_type_definition, with_root, roots_of, shown_root, shown_schema, shown_repeatable, shown_location, shown_directive_definition, shown_definition, shown_file};
 
-use crate::nodes::{Outcome, Print, each, in_braces, in_parentheses, separated, sign, word};
+use crate::nodes::{
+    Outcome, Print, close, each, in_braces, in_parentheses, open, separated, sign, word,
+};
 use crate::parts::{operation_word, print_default, print_string};
 use crate::places::stands_before;
 use crate::writer::Writer;
@@ -24,6 +26,7 @@ use graphql_parser::types::{
     TypeKind, TypeSystemDefinition,
 };
 use graphql_parser::value::Name;
+use graphql_tokens::lexer::TokenKind;
 use std::alloc::{AllocError, Global};
 
 /// The schema file as a text, laid out as [`format_schema`](crate::format_schema) lays out others: its definitions and
@@ -38,7 +41,7 @@ pub fn print_schema(alloc: Global, document: &ServiceDocument) -> Result<String,
 {
     let mut tokens = Writer::new(alloc);
     print_file(&mut tokens, document)?;
-    tokens.lay_out(alloc)
+    tokens.finish()
 }
 
 // The definitions and extensions in their order.
@@ -47,6 +50,7 @@ fn print_file(out: &mut Writer, document: &ServiceDocument) -> Outcome
         (shown_file (schema_document_tree document.now)) }
 {
     for definition in &document.definitions {
+        out.begin_definition()?;
         print_definition(out, definition)?;
     }
     Ok(())
@@ -71,7 +75,8 @@ fn print_extend(out: &mut Writer, is_extension: bool) -> Outcome
     if !is_extension {
         return Ok(());
     }
-    word(out, "extend")
+    word(out, "extend")?;
+    out.blank()
 }
 
 fn print_schema_definition(out: &mut Writer, schema: &SchemaDefinition) -> Outcome
@@ -99,11 +104,12 @@ fn print_roots(out: &mut Writer, schema: &SchemaDefinition) -> Outcome
     if are_none(roots) {
         return Ok(());
     }
-    sign(out, "{")?;
+    out.blank()?;
+    open(out, "{", true)?;
     print_root(out, roots.0)?;
     print_root(out, roots.1)?;
     print_root(out, roots.2)?;
-    sign(out, "}")
+    close(out, "}", true)
 }
 
 fn are_none(roots: Roots<'_>) -> bool
@@ -161,8 +167,10 @@ fn print_root(out: &mut Writer, root: Root<'_>) -> Outcome
     let Some(name) = root.1 else {
         return Ok(());
     };
+    out.begin_line()?;
     word(out, operation_word(root.0))?;
     sign(out, ":")?;
+    out.blank()?;
     word(out, name.node.as_str())
 }
 
@@ -173,6 +181,7 @@ fn print_type_definition(out: &mut Writer, ty: &TypeDefinition) -> Outcome
     print_description(out, &ty.description)?;
     print_extend(out, ty.extend)?;
     word(out, kind_word(&ty.kind))?;
+    out.blank()?;
     word(out, ty.name.node.as_str())?;
     print_interfaces(out, &ty.kind)?;
     each(out, &ty.directives)?;
@@ -197,10 +206,17 @@ fn print_interfaces(out: &mut Writer, kind: &TypeKind) -> Outcome
         (shown_interfaces (kind_tree kind.now)) }
 {
     match kind {
-        TypeKind::Object(object) => separated(out, "implements", "&", &object.implements),
-        TypeKind::Interface(interface) => separated(out, "implements", "&", &interface.implements),
+        TypeKind::Object(object) => print_implements(out, &object.implements),
+        TypeKind::Interface(interface) => print_implements(out, &interface.implements),
         _ => Ok(()),
     }
+}
+
+fn print_implements(out: &mut Writer, names: &Vec<Positioned<Name>>) -> Outcome
+    ensures { Prints result out.old out.new
+        (shown_implements names.now.items) }
+{
+    separated(out, (TokenKind::Name, "implements"), "&", names)
 }
 
 // What stands after the directives of a type.
@@ -212,7 +228,7 @@ fn print_contents(out: &mut Writer, kind: &TypeKind) -> Outcome
         TypeKind::Scalar => Ok(()),
         TypeKind::Object(object) => in_braces(out, &object.fields),
         TypeKind::Interface(interface) => in_braces(out, &interface.fields),
-        TypeKind::Union(union) => separated(out, "=", "|", &union.members),
+        TypeKind::Union(union) => separated(out, (TokenKind::Punct, "="), "|", &union.members),
         TypeKind::Enum(values) => in_braces(out, &values.values),
         TypeKind::InputObject(input) => in_braces(out, &input.fields),
     }
@@ -222,10 +238,11 @@ fn print_description(out: &mut Writer, description: &Option<Positioned<String>>)
     ensures { Prints result out.old out.new
         (shown_description (option_map (placed string_bytes) description.now)) }
 {
-    match description {
-        Some(text) => print_text(out, text.node.as_str()),
-        None => Ok(()),
-    }
+    let Some(text) = description else {
+        return Ok(());
+    };
+    print_text(out, text.node.as_str())?;
+    out.begin_line()
 }
 
 // A text as a block string where that keeps it, and else in quotes.
@@ -244,6 +261,13 @@ fn is_in_block(text: &str) -> bool
     !text.is_empty() && may_be_block(text)
 }
 
+// Whether one of the arguments has a description.
+fn are_described(arguments: &Vec<Positioned<InputValueDefinition>>) -> bool {
+    arguments
+        .iter()
+        .any(|argument| argument.node.description.is_some())
+}
+
 impl Print for Name {
     ghost form = { form (λ name. name) shown_name };
 
@@ -258,8 +282,9 @@ impl Print for FieldDefinition {
     fn print(&self, out: &mut Writer) -> Outcome {
         print_description(out, &self.description)?;
         word(out, self.name.node.as_str())?;
-        in_parentheses(out, &self.arguments)?;
+        in_parentheses(out, &self.arguments, are_described(&self.arguments))?;
         sign(out, ":")?;
+        out.blank()?;
         self.ty.node.print(out)?;
         each(out, &self.directives)
     }
@@ -272,6 +297,7 @@ impl Print for InputValueDefinition {
         print_description(out, &self.description)?;
         word(out, self.name.node.as_str())?;
         sign(out, ":")?;
+        out.blank()?;
         self.ty.node.print(out)?;
         print_default(out, &self.default_value)?;
         each(out, &self.directives)
@@ -294,11 +320,16 @@ fn print_directive(out: &mut Writer, directive: &DirectiveDefinition) -> Outcome
 {
     print_description(out, &directive.description)?;
     word(out, "directive")?;
+    out.blank()?;
     sign(out, "@")?;
     word(out, directive.name.node.as_str())?;
-    in_parentheses(out, &directive.arguments)?;
+    in_parentheses(
+        out,
+        &directive.arguments,
+        are_described(&directive.arguments),
+    )?;
     print_repeatable(out, directive.is_repeatable)?;
-    separated(out, "on", "|", &directive.locations)
+    separated(out, (TokenKind::Name, "on"), "|", &directive.locations)
 }
 
 fn print_repeatable(out: &mut Writer, is_repeatable: bool) -> Outcome
@@ -308,6 +339,7 @@ fn print_repeatable(out: &mut Writer, is_repeatable: bool) -> Outcome
     if !is_repeatable {
         return Ok(());
     }
+    out.blank()?;
     word(out, "repeatable")
 }
 

@@ -1,6 +1,7 @@
 //! Requests, printed as graphql-core 3.2.8 prints their trees with `print_ast`.
 use crate::print_query;
-use graphql_parser::parse_query;
+use graphql_parser::types::DocumentOperations;
+use graphql_parser::{Pos, parse_query};
 use std::alloc::Global;
 use std::io;
 
@@ -52,5 +53,39 @@ fn other_spellings_are_printed_alike(rt: HostRuntime) -> Result<(), io::Error> {
         text.as_str(),
         "{\n  a(b: \"one\\n  two\", c: {d: 3, e: 2})\n}"
     );
+    Ok(())
+}
+
+// An operation that has the place of a fragment comes before it. No text has such a tree.
+#[test]
+fn an_operation_comes_before_a_fragment_at_its_place(rt: HostRuntime) -> Result<(), io::Error> {
+    let text = "fragment F on T{a}{...F}";
+    let mut document = parse_query(rt.alloc(), text).ok().expect(&rt, "a request");
+    if let DocumentOperations::Single(operation) = &mut document.operations {
+        operation.pos = Pos { line: 1, column: 1 };
+    }
+    let text = print_query(rt.alloc(), &document)?;
+    assert_eq!(rt; text.as_str(), "{\n  ...F\n}\n\nfragment F on T {\n  a\n}");
+    Ok(())
+}
+
+// Fields of 80 and of 81 columns: a character past U+FFFF counts twice, an escape as it is printed.
+const WIDE: [(&str, &str); 2] = [
+    (
+        "{a(b:\"00000000000000000000000000000000000000000000000000000000000000000000\u{1f600}\\n\")}",
+        "{\n  a(b: \"00000000000000000000000000000000000000000000000000000000000000000000\u{1f600}\\n\")\n}",
+    ),
+    (
+        "{a(b:\"000000000000000000000000000000000000000000000000000000000000000000000\u{1f600}\\n\")@e(f:[{}]){d}}",
+        "{\n  a(\n    b: \"000000000000000000000000000000000000000000000000000000000000000000000\u{1f600}\\n\"\n  ) @e(f: [{}]) {\n    d\n  }\n}",
+    ),
+];
+
+#[test]
+fn long_fields_are_broken(rt: HostRuntime) -> Result<(), io::Error> {
+    for (text, expected) in WIDE {
+        let text = printed(rt.alloc(), text).ok().expect(&rt, "a request");
+        assert_eq!(rt; text.as_str(), expected);
+    }
     Ok(())
 }

@@ -1,10 +1,12 @@
 -- What is printed of values, types, arguments and directives, as bare tokens.
 -- Source: GraphQL October 2021, sections 2.6 (Arguments) and 2.9 to 2.12 (Input Values to Directives). That strings are printed
 -- between single quotes is this project's choice.
-use Rattle.std.specs.Prelude.{ℕ, Bool, true, false, Option, Some, None, List, [], ◌∷◌, ◌++◌, codes, flat_map}
+use Rattle.std.specs.Prelude.{ℕ, Bool, true, false, Option, Some, None, List, [], ◌∷◌, ◌++◌, codes, flat_map, map}
 use Prim.Native.String.{String as Word}
-use Rattle.graphql_tokens.specs.declared.lexer.TokenKind.TheVariants.{Punct, Name, Number, String}
+use Rattle.graphql_tokens.specs.declared.lexer.TokenKind.{TokenKind}
+use Rattle.graphql_tokens.specs.declared.lexer.TokenKind.TheVariants.{Punct, Name, Number, String, Block}
 use Rattle.graphql_tokens.specs.declared.pos.Positioned.{Positioned}
+use Rattle.graphql_tokens.specs.tokens.Alike.{value_of_block}
 use Rattle.graphql_tokens.specs.tokens.Token.{Bare}
 use Rattle.graphql_syntax.specs.trees.Parts.{Argument, Arguments, Directive, Directives, placed}
 use Rattle.graphql_syntax.specs.trees.TypeTree.{TypeTree, named, list as list_type}
@@ -25,9 +27,16 @@ literal digits = record { kind = Number; spelling = digits }
 abbrev pub quoted : List ℕ → Bare
 quoted text = record { kind = String; spelling = string_text text }
 
--- each token, and a blank after it
-abbrev pub spelled : List Bare → List ℕ
-spelled bs = flat_map (λ b. b.spelling ++ codes " ") bs
+-- the token, or of a block string its value in place of its spelling, so that the same is made of those that have one value
+abbrev pub by_value_of : TokenKind → List ℕ → List ℕ
+by_value_of Block spelling = value_of_block spelling
+by_value_of other spelling = spelling
+
+abbrev pub by_value : Bare → Bare
+by_value b = record { kind = b.kind; spelling = by_value_of b.kind b.spelling }
+
+abbrev pub by_values : List Bare → List Bare
+by_values bs = map by_value bs
 
 -- ---- parts
 

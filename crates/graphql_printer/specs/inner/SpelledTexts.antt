@@ -5,12 +5,12 @@ use Rattle.graphql_tokens.specs.tokens.Alike.{AreAlike}
 use Rattle.graphql_tokens.specs.tokens.Proper.{Spells}
 use Rattle.graphql_tokens.specs.tokens.Token.{Bare}
 use Rattle.graphql_layout.specs.texts.SameTokens.{HasTokens}
-use Rattle.graphql_printer.specs.inner.Shown.{spelled}
+use Rattle.graphql_printer.specs.inner.Shown.{by_values}
 
 -- each is spelled as its kind is
 abbrev pub AreSpellings : List Bare → Type 0
 AreSpellings bs = AllByRecursion (λ b. Spells b.kind b.spelling) bs
 
--- where the first text is such tokens with blanks, the other has these tokens, but that block strings may be written otherwise
-abbrev pub KeepsTokens : List ℕ → List ℕ → Type 0
-KeepsTokens text other = (bs : List Bare) → AreSpellings bs → text ≡ spelled bs → (others : List Bare) × HasTokens other others × AreAlike bs others
+-- where the written ones are such tokens, the text has these tokens, but that block strings may be written otherwise
+abbrev pub KeepsTokens : List Bare → List ℕ → Type 0
+KeepsTokens written text = (bs : List Bare) → AreSpellings bs → written ≡ by_values bs → (others : List Bare) × HasTokens text others × AreAlike bs others

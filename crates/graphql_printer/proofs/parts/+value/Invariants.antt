@@ -1,4 +1,4 @@
-use Rattle.std.proofs.Common.{◌+◌, ◌*◌, string_bytes}
+use Rattle.std.proofs.Common.{◌+◌, ◌*◌}
 use Rattle.graphql_syntax.specs.calls.Views.{view_tree, list_items, object_fields, items_left, fields_left}
 use Rattle.graphql_syntax.specs.trees.ValueTree.{trees_of, fields_of}
 use Rattle.graphql_syntax.proofs.ValueTexts.{size, size_of_items, size_of_fields}

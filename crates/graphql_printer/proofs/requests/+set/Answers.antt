@@ -1,11 +1,11 @@
 use Rattle.std.proofs.Common.{sym, ◌∙◌}
 use Rattle.graphql_request_trees.specs.trees.RequestViews.{selection_set_tree}
 use Rattle.graphql_printer.proofs.PrintedRequests.{some_braced}
-use Rattle.graphql_printer.proofs.Printing.{next, as_tokens}
+use Rattle.graphql_printer.proofs.Printing.{kept, as_tokens}
 use Rattle.graphql_printer.specs.inner.ShownRequests.{shown_selections}
 use Rattle.graphql_printer.proofs.requests.+set.Goals as goal
 
 pub print_set-returns : goal.print_set-returns
 print_set-returns t c =
     as_tokens (some_braced c.args.set.now (shown_selections (selection_set_tree c.args.set.now)) (sym c.is_empty.ensures ∙ c.if-is_empty.false))
-    (next c.in_ok-sign.ensures (next c.in_ok-print_selections.ensures c.sign-2.ensures))
+    (kept c.in_ok-blank.ensures c.print_braced.ensures)

@@ -1,13 +1,11 @@
 use Rattle.std.proofs.Common.{sym, ap}
 use Rattle.graphql_schema_trees.specs.trees.SchemaViews.{kind_tree}
-use Rattle.graphql_printer.proofs.PrintedSchemas.{same_led}
 use Rattle.graphql_printer.proofs.Printing.{as_tokens}
-use Rattle.graphql_printer.specs.inner.Shown.{shown_node}
-use Rattle.graphql_printer.specs.inner.ShownSchemas.{shown_name, shown_interfaces}
+use Rattle.graphql_printer.specs.inner.ShownSchemas.{shown_interfaces}
 use Rattle.graphql_printer.proofs.schemas.print_interfaces.Goals as goal
 
 pub returns-in-Object : goal.returns-in-Object
-returns-in-Object c = as_tokens (ap (λ kind. shown_interfaces (kind_tree kind)) (sym c.in-Object.is)) (same_led _ _ (shown_node shown_name) c.in-Object.object.implements.items c.separated.ensures)
+returns-in-Object c = as_tokens (ap (λ kind. shown_interfaces (kind_tree kind)) (sym c.in-Object.is)) c.print_implements.ensures
 
 pub returns-in-Interface : goal.returns-in-Interface
-returns-in-Interface c = as_tokens (ap (λ kind. shown_interfaces (kind_tree kind)) (sym c.in-Interface.is)) (same_led _ _ (shown_node shown_name) c.in-Interface.interface.implements.items c.separated-in-Interface.ensures)
+returns-in-Interface c = as_tokens (ap (λ kind. shown_interfaces (kind_tree kind)) (sym c.in-Interface.is)) c.print_implements-in-Interface.ensures
