@@ -7,6 +7,7 @@ use graphql_tokens::lexer::{TokenKind, Tokens};
 use graphql_tokens::text::block_string_value;
 use memchr::{memchr, memchr2, memrchr};
 use std::alloc::{AllocError, Global};
+use std::simd::prelude::*;
 
 // The arguments of a field are broken where it would be longer than this with them.
 const LONGEST_CALL: usize = 80;
@@ -280,33 +281,39 @@ fn gap_in_call(last: u8, mark: u8) -> usize {
     }
 }
 
+// How many bytes are looked at at once.
+const LANES: usize = 16;
+
+// How many columns a character of a text without strings takes at most, with what may be put beside it.
+const MOST_COLUMNS: usize = 3;
+
 // Whether this bracket closes within so many columns, however what it holds is written on one line, and without strings, comments
 // and brackets of its kind in it.
 fn closes_soon(bracket: Bracket, after: &str, room: usize) -> bool {
     let (opening, closing) = bracket.marks();
-    let mut width = 1usize;
-    for next in after.bytes() {
-        if next == closing {
-            return width <= room;
+    let mut rest = after.as_bytes();
+    let mut left = room / MOST_COLUMNS;
+    for _ in 0..=left / LANES {
+        let Some((bytes, others)) = rest.split_first_chunk::<LANES>() else {
+            return false;
+        };
+        let bytes = u8x16::from_array(*bytes);
+        let closes = bytes.simd_eq(u8x16::splat(closing));
+        let stops = bytes.simd_eq(u8x16::splat(b'"'))
+            | bytes.simd_eq(u8x16::splat(b'#'))
+            | bytes.simd_eq(u8x16::splat(opening));
+        let end = closes.to_bitmask().trailing_zeros();
+        let stop = stops.to_bitmask().trailing_zeros();
+        if end < stop {
+            return (end as usize) < left;
         }
-        if next == opening || next == b'"' || next == b'#' {
+        if stop < end || left < LANES {
             return false;
         }
-        width = width.saturating_add(most_columns(next));
-        if width > room {
-            return false;
-        }
+        left -= LANES;
+        rest = others;
     }
     false
-}
-
-// How many columns a character of a text without strings takes at most, with what may be put beside it.
-fn most_columns(c: u8) -> usize {
-    match c {
-        b':' | b' ' | b',' | b'\t' | b'\n' | b'\r' => 2,
-        b'[' | b']' | b'{' | b'}' | b'$' => 3,
-        _ => 1,
-    }
 }
 
 // Whether one of the arguments that are defined here has a description. No parser accepts parentheses in parentheses in theirs, so

@@ -117,6 +117,7 @@ impl Walk {
     }
 
     /// Passes the next token. It fails only where memory runs out.
+    #[inline(always)]
     pub fn step(&mut self, kind: TokenKind, spelling: &str) -> Result<Step, AllocError> {
         match kind {
             TokenKind::Name => Ok(self.pass_name(spelling)),
@@ -132,6 +133,7 @@ impl Walk {
     }
 
     // A token that is this, and opens nothing.
+    #[inline(always)]
     fn at(&self, role: Role) -> Step {
         Step {
             role,
@@ -142,6 +144,7 @@ impl Walk {
     }
 
     // What a token is that begins something.
+    #[inline(always)]
     fn beginning(&self) -> Role {
         if self.innermost.is_none() {
             Role::Definition
@@ -150,12 +153,14 @@ impl Walk {
         }
     }
 
+    #[inline(always)]
     fn is_in(&self, bracket: Bracket) -> bool {
         self.innermost == Some(bracket)
     }
 
     // ---- names
 
+    #[inline(always)]
     fn pass_name(&mut self, name: &str) -> Step {
         let step = self.at(self.role_of_name(name));
         if step.role == Role::Definition {
@@ -207,6 +212,7 @@ impl Walk {
     // ---- punctuators
 
     // The first character of a punctuator tells which one it is.
+    #[inline(always)]
     fn pass_punct(&mut self, spelling: &str) -> Result<Step, AllocError> {
         let mark = spelling.as_bytes().first().copied().unwrap_or(b' ');
         if matches!(mark, b')' | b']' | b'}') {
@@ -228,6 +234,7 @@ impl Walk {
         Ok(step)
     }
 
+    #[inline(always)]
     fn pass_closing(&mut self, mark: u8) -> Step {
         let step = self.at(Role::Closing);
         self.open.pop();
@@ -293,6 +300,7 @@ impl Walk {
 
     // ---- strings and numbers
 
+    #[inline(always)]
     fn pass_literal(&mut self, kind: TokenKind) -> Step {
         let role = self.role_of_literal();
         let describes = (kind.is_string() || kind.is_block())
