@@ -10,8 +10,9 @@ use super::runs::patient;
 use crate::reports::read_as;
 use graphql_commands::check::error_of;
 use graphql_commands::command::Format;
+use graphql_commands::errors::{MOST_FINDINGS, Refused, Source};
 use graphql_commands::recovery::{next_definition, probable_opening, rest_at, unclosed_string};
-use graphql_commands::telling::{MOST_FINDINGS, Names, Refused, Source, Teller};
+use graphql_commands::telling::{Names, Teller};
 use graphql_parser::lexer::{Token, Tokens};
 use graphql_parser::pos::PositionCalculator;
 use graphql_parser::{Error, Limits, Memory, Pos, check_query_from, check_schema_from};
@@ -260,7 +261,7 @@ fn told(
     let mut err = patient(alloc);
     if is_before {
         tell_all_before(&mut teller, source, &refused.error, &mut err)?;
-    } else {
+    } else if let Some(refused) = error_of(&mut Memory::new(alloc), source, true)? {
         teller.tell_all(source, refused, &mut err)?;
     }
     let mut told = String::from_str(alloc, str::from_utf8(err.held.as_slice())?)?;
