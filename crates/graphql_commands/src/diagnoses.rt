@@ -1,6 +1,5 @@
 //! What is wrong with a text, as data: for an editor, which shows it in the text and can mend it there.
-ghost use Rattle.std.specs.Prelude.{◌≡◌, [], true, IfOk, IfSome};
-ghost use Rattle.std.specs.List.{All};
+ghost use Rattle.std.specs.Prelude.{◌≡◌, [], true, All, IfOk, IfSome};
 ghost use Rattle.graphql_commands.specs.checked.Diagnosed.{IsWithin, IsDiagnosisOf};
 ghost use Rattle.graphql_commands.specs.checked.Good.{IsGoodText};
 ghost use Rattle.graphql_report.specs.reports.Rests.{BeginsAt};

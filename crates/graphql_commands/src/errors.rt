@@ -55,12 +55,13 @@ pub struct Mistake<'a> {
 #[derive(Drop)]
 pub struct LaterErrors<'a> {
     alloc: Global,
-    source: Source<'a>,
-    // Where the reading began that ended in the last error.
-    from: ReadFrom,
+    /// The text.
+    pub source: Source<'a>,
+    /// Where the reading began that ended in the last error.
+    pub from: ReadFrom,
     // No definition begins before this offset that was not read; None where no later one is read.
     passed: Option<usize>,
-    ghost begins: { BeginsAt source.text.now from },
+    pub ghost begins: { BeginsAt source.text.now from },
 }
 
 /// The first error of a text, which is what is wrong with it, and the errors after that.
@@ -69,7 +70,8 @@ pub fn first_error<'a>(
     source: &Source<'a>,
     refused: Refused<'a>,
 ) -> (Mistake<'a>, LaterErrors<'a>)
-    ensures { BeginsAt source.now.text.now result.0.known.from }
+    ensures begins { BeginsAt source.now.text.now result.0.known.from }
+    ensures text { result.1.source.text ≡ source.now.text }
 {
     let Refused { error, token } = refused;
     let from = ReadFrom::top(source.text);
