@@ -30,14 +30,16 @@ pub fn closing_of(
     from: usize,
     token: &Token<'_>,
 ) -> Result<Option<Closing>, AllocError> {
-    let gaps = gaps_of(alloc, source, from, token)?;
-    if let Some(gap) = gaps.suspected
+    let Gaps {
+        suspected,
+        refused: gap,
+    } = gaps_of(alloc, source, from, token)?;
+    if let Some(gap) = suspected
         && begins_another(alloc, source, &gap)?
         && let Some(closing) = closing_all(alloc, source, &gap)?
     {
         return Ok(Some(closing));
     }
-    let gap = gaps.refused;
     if gap.open.is_empty() {
         return Ok(None);
     }
@@ -53,7 +55,7 @@ pub fn closing_of(
 #[derive(Clone, Copy)]
 struct Open {
     start: usize,
-    // Its line and its column in what was read.
+    // Its line in what was read.
     line: usize,
     // What closes it.
     closes: char,
@@ -328,7 +330,7 @@ fn end_of_line(text: &str, gap: &Gap) -> usize {
 
 // How many bytes stand before the first end of a line.
 fn length_of_line(text: &str) -> usize {
-    match text.find(|c| c == '\n' || c == '\r') {
+    match text.find(|c: char| c == '\n' || c == '\r') {
         Some(length) => length,
         None => text.len(),
     }
