@@ -170,9 +170,21 @@ impl Walk<'_> {
         let start = self.from.saturating_add(token.start);
         let line = token.pos.line;
         match token.text {
-            "{" => self.gap.open.push(Open { start, line, closes: '}' })?,
-            "(" => self.gap.open.push(Open { start, line, closes: ')' })?,
-            "[" => self.gap.open.push(Open { start, line, closes: ']' })?,
+            "{" => self.gap.open.push(Open {
+                start,
+                line,
+                closes: '}',
+            })?,
+            "(" => self.gap.open.push(Open {
+                start,
+                line,
+                closes: ')',
+            })?,
+            "[" => self.gap.open.push(Open {
+                start,
+                line,
+                closes: ']',
+            })?,
             "}" | ")" | "]" => {
                 self.gap.open.pop();
                 if self.gap.open.is_empty() {
@@ -284,12 +296,7 @@ fn mended(
 
 // What closes so many of the brackets that are open at a place, the inmost first. A bracket is closed in its line if that is where
 // the last token stands, and else in a line of its own, which begins as the one does in which the bracket stands.
-fn closing_at(
-    alloc: Global,
-    text: &str,
-    gap: &Gap,
-    count: usize,
-) -> Result<Closing, AllocError> {
+fn closing_at(alloc: Global, text: &str, gap: &Gap, count: usize) -> Result<Closing, AllocError> {
     let mut closing = Closing {
         offset: gap.last,
         new: String::new(alloc),

@@ -251,7 +251,10 @@ fn length_of_fault(fault: &str) -> usize {
         return 3;
     }
     if fault.starts_with('"') {
-        return length_before(fault, fault.trim_start_matches(|c: char| c != '\n' && c != '\r'));
+        return length_before(
+            fault,
+            fault.trim_start_matches(|c: char| c != '\n' && c != '\r'),
+        );
     }
     if let Some(digits) = fault.strip_prefix("\\u") {
         return length_of_escape(digits).saturating_add(2);
@@ -269,7 +272,11 @@ fn length_of_escape(digits: &str) -> usize {
         let rest = digits.trim_start_matches(|c: char| c == '{' || c.is_ascii_hexdigit());
         return length_before(digits, rest).saturating_add(usize::from(rest.starts_with('}')));
     }
-    length_before(digits, digits.trim_start_matches(|c: char| c.is_ascii_hexdigit())).min(4)
+    length_before(
+        digits,
+        digits.trim_start_matches(|c: char| c.is_ascii_hexdigit()),
+    )
+    .min(4)
 }
 
 // How many bytes of a text stand before this rest of it.
