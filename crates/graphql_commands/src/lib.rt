@@ -13,6 +13,7 @@
 
 pub mod check;
 pub mod command;
+pub mod diagnoses;
 pub mod language;
 pub mod listed;
 mod output;
@@ -23,5 +24,6 @@ pub mod rewriting;
 pub mod telling;
 pub mod texts;
 
+pub use diagnoses::{Diagnosis, Fix, Other, diagnoses_of};
 pub use graphql_report::Style;
 pub use program::run;
