@@ -9,7 +9,7 @@
 #![tactic(auto)]
 
 use graphql_commands::texts::Disk;
-use graphql_commands::{Style, run};
+use graphql_commands::{Style, is_server, run};
 use graphql_server::Server;
 use std::env::VarError;
 use std::io::{ErrorKind, IsTerminal, Read, Write};
@@ -35,13 +35,6 @@ fn main(rt: HostRuntime) -> ExitCode {
         &mut rt.stderr(),
     );
     ExitCode::from(status)
-}
-
-fn is_server(words: &[String]) -> bool {
-    match words {
-        [word] => word.as_str() == "lsp",
-        _ => false,
-    }
 }
 
 // How many bytes are read at once.

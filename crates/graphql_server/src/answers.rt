@@ -1,6 +1,6 @@
 //! Messages put into the bytes that are sent.
 
-use crate::messages::{Answer, Id, LogParams, Notice, Refusal, ResponseError};
+use crate::messages::{Answer, Id, LogParams, Notice, Object, Refusal, ResponseError, WithParams};
 use serde::{Deserialize, Serialize};
 use serde_json::Category;
 use std::alloc::{AllocError, AllocFailed, Global};
@@ -47,11 +47,6 @@ impl Failure {
             message: CowStr::Borrowed(message),
         }
     }
-
-    /// Whether memory ran out.
-    pub fn is_of_memory(&self) -> bool {
-        self.code == Code::InternalError
-    }
 }
 
 impl From<AllocError> for Failure {
@@ -68,9 +63,10 @@ impl<T: Drop> From<AllocFailed<T>> for Failure {
 
 /// What the parameters of a message say.
 pub fn params_of<'a, P: Deserialize<'a>>(alloc: Global, message: &'a str) -> Result<P, Failure> {
-    match serde_json::from_str::<crate::messages::WithParams<P>>(alloc, message) {
+    match serde_json::from_str::<WithParams<P>>(alloc, message) {
         Ok(with) => {
-            let crate::messages::WithParams { params } = with;
+            let WithParams { params } = with;
+            let Object(params) = params;
             Ok(params)
         }
         Err(error) if error.classify() == Category::Memory => Err(AllocError.into()),

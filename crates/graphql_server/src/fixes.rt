@@ -40,7 +40,7 @@ pub fn fixes_in<'a>(
     let end = document.offset_of(encoding, asked.end);
     let mut fixes = Vec::new(alloc);
     for diagnosis in found_in(alloc, language, document)? {
-        if diagnosis.start > end || diagnosis.end < start {
+        if diagnosis.span.start > end || diagnosis.span.end < start {
             continue;
         }
         let mut diagnosis = diagnosis;
@@ -59,12 +59,7 @@ fn action_of<'a>(
     diagnosis: Diagnosis,
     fix: Fix,
 ) -> Result<CodeAction<'a>, AllocError> {
-    let Fix {
-        title,
-        start,
-        end,
-        new,
-    } = fix;
+    let Fix { title, span, new } = fix;
     Ok(CodeAction {
         title,
         kind: QUICK_FIX,
@@ -73,7 +68,7 @@ fn action_of<'a>(
         edit: WorkspaceEdit {
             uri,
             edit: TextEdit {
-                range: range_of(encoding, document, start, end),
+                range: range_of(encoding, document, span.start, span.end),
                 new_text: new,
             },
         },

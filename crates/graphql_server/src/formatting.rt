@@ -4,8 +4,9 @@
 use crate::diagnostics::range_of;
 use crate::messages::TextEdit;
 use graphql_commands::check::error_of;
+use graphql_commands::errors::Source;
 use graphql_commands::rewriting::laid_out;
-use graphql_commands::telling::{Names, Source};
+use graphql_commands::telling::Names;
 use graphql_editor::{Span, Structure};
 use graphql_parser::{Limits, Memory};
 use graphql_report::Language;
@@ -66,11 +67,7 @@ pub fn edits_in(
 }
 
 // The text laid out anew, if it is good.
-fn formatted(
-    alloc: Global,
-    language: Language,
-    text: &str,
-) -> Result<Option<String>, AllocError> {
+fn formatted(alloc: Global, language: Language, text: &str) -> Result<Option<String>, AllocError> {
     let source = Source {
         names: Names {
             shown: "",
@@ -143,7 +140,11 @@ fn same_back(old: &[u8], new: &[u8]) -> usize {
         }
     }
     // One text is the end of the other.
-    let (short, long) = if old.len() < new.len() { (old, new) } else { (new, old) };
+    let (short, long) = if old.len() < new.len() {
+        (old, new)
+    } else {
+        (new, old)
+    };
     let more = long.len().saturating_sub(short.len());
     match more.checked_sub(1).and_then(|before| long.get(before)) {
         Some(b'\n') => short.len(),

@@ -100,7 +100,8 @@ impl Frames {
             }
             self.pending.clear();
         } else if self.passed > 0 {
-            let _ = self.pending.drain(..self.passed);
+            let passed = self.passed.min(self.pending.len());
+            let _ = self.pending.drain(..passed);
         }
         self.passed = 0;
     }
@@ -111,10 +112,7 @@ impl Frames {
     }
 
     fn pass(&mut self, bytes: usize) {
-        self.passed = self
-            .passed
-            .saturating_add(bytes)
-            .min(self.pending.len());
+        self.passed = self.passed.saturating_add(bytes).min(self.pending.len());
     }
 
     // Passes what stands before the next header part, if there is one; else all that can be no part of one.

@@ -21,6 +21,7 @@ pub mod framing;
 pub mod messages;
 pub mod navigation;
 pub mod outline;
+pub mod places;
 pub mod selection;
 mod server;
 mod session;

@@ -40,6 +40,23 @@ impl<'de> Deserialize<'de> for Member<'de> {
     }
 }
 
+/// A value that is an object in JSON. (A derived type is read from a list of its members too, which the protocol doesn't have.)
+#[derive(Debug, Drop)]
+pub struct Object<T>(pub T);
+
+impl<'de, T: Deserialize<'de>> Deserialize<'de> for Object<T> {
+    fn deserialize<F: Format>(
+        alloc: Global,
+        from: &mut Deserializer<'de, '_, F>,
+    ) -> Result<Object<T>, F::Error> {
+        if from.peek()? == Kind::Map {
+            return Ok(Object(T::deserialize(alloc, from)?));
+        }
+        from.skip()?;
+        Err(from.custom("expected an object"))
+    }
+}
+
 /// What each message has but its parameters ("Abstract Message", "Request Message", "Notification Message").
 #[derive(Debug, Drop, Deserialize)]
 pub struct Envelope<'a> {
@@ -54,7 +71,7 @@ pub struct Envelope<'a> {
 /// The parameters of a message.
 #[derive(Debug, Drop, Deserialize)]
 pub struct WithParams<P> {
-    pub params: P,
+    pub params: Object<P>,
 }
 
 /// The name of a request, which its answer has too ("Request Message"); null where a message is none.

@@ -3,6 +3,7 @@
 
 use crate::diagnostics::range_of;
 use crate::messages::{HoverAnswer, Location, Markdown};
+use crate::places::Places;
 use graphql_editor::{Hover, Role, Structure};
 use std::alloc::{AllocError, Global};
 use text_edits::{Document, Encoding, Position};
@@ -44,6 +45,7 @@ pub fn references_at<'a>(
 ) -> Result<Vec<Location<'a>>, AllocError> {
     let text = document.text();
     let structure = Structure::new(alloc, text)?;
+    let places = Places::new(alloc, encoding, text)?;
     let mut locations = Vec::new(alloc);
     if let Some(name) = structure.name_at(document.offset_of(encoding, position)) {
         for occurrence in structure.occurrences_of(alloc, text, name)? {
@@ -51,7 +53,7 @@ pub fn references_at<'a>(
                 let span = occurrence.span;
                 locations.push(Location {
                     uri,
-                    range: range_of(encoding, document, span.start, span.end),
+                    range: places.range_of(span.start, span.end),
                 })?;
             }
         }

@@ -1,10 +1,10 @@
 //! The outline of a text (Language Server Protocol 3.17, "Document Symbols Request").
 
-use crate::diagnostics::range_of;
 use crate::messages::DocumentSymbol;
+use crate::places::Places;
 use graphql_editor::{Span, Structure, Symbol, SymbolKind};
 use std::alloc::{AllocError, Global};
-use text_edits::{Document, Encoding};
+use text_edits::Encoding;
 
 /// The symbols of a text, each with those inside of it.
 ///
@@ -12,15 +12,16 @@ use text_edits::{Document, Encoding};
 pub fn outline_of<'a>(
     alloc: Global,
     encoding: Encoding,
-    document: &'a Document,
+    text: &'a str,
 ) -> Result<Vec<DocumentSymbol<'a>>, AllocError> {
-    let structure = Structure::new(alloc, document.text())?;
+    let structure = Structure::new(alloc, text)?;
+    let places = Places::new(alloc, encoding, text)?;
     let mut roots = Vec::new(alloc);
     // The symbol that was met last, and those around it, the outermost first.
     let mut open: Vec<DocumentSymbol<'a>> = Vec::new(alloc);
     for symbol in structure.symbols() {
         close_to(symbol.depth, &mut open, &mut roots)?;
-        open.push(symbol_of(alloc, encoding, document, symbol))?;
+        open.push(symbol_of(alloc, text, &places, symbol))?;
     }
     close_to(0, &mut open, &mut roots)?;
     Ok(roots)
@@ -46,19 +47,18 @@ fn close_to<'a>(
 
 fn symbol_of<'a>(
     alloc: Global,
-    encoding: Encoding,
-    document: &'a Document,
+    text: &'a str,
+    places: &Places<'a>,
     symbol: &Symbol,
 ) -> DocumentSymbol<'a> {
-    let text = document.text();
     let Span { start, end } = symbol.whole;
     let name = symbol.name;
     DocumentSymbol {
         name: slice_of(text, name),
         detail: symbol.detail.map(|span| slice_of(text, span)),
         kind: kind_of(symbol.kind),
-        range: range_of(encoding, document, start, end),
-        selection_range: range_of(encoding, document, name.start, name.end),
+        range: places.range_of(start, end),
+        selection_range: places.range_of(name.start, name.end),
         children: Vec::new(alloc),
     }
 }
@@ -87,21 +87,31 @@ fn kind_of(kind: SymbolKind) -> u8 {
         SymbolKind::Input => STRUCT,
         SymbolKind::InputField | SymbolKind::Field => FIELD,
         SymbolKind::Directive => EVENT,
-        SymbolKind::Unknown => NULL,
     }
 }
 
 const MODULE: u8 = 2;
+
 const CLASS: u8 = 5;
+
 const PROPERTY: u8 = 7;
+
 const FIELD: u8 = 8;
+
 const ENUM: u8 = 10;
+
 const INTERFACE: u8 = 11;
+
 const FUNCTION: u8 = 12;
+
 const VARIABLE: u8 = 13;
+
 const OBJECT: u8 = 19;
-const NULL: u8 = 21;
+
 const ENUM_MEMBER: u8 = 22;
+
 const STRUCT: u8 = 23;
+
 const EVENT: u8 = 24;
+
 const TYPE_PARAMETER: u8 = 26;

@@ -1,5 +1,7 @@
 //! The server: bytes in and out.
 
+ghost use Rattle.std.specs.Prelude.{◌≤◌, IfSome};
+
 use crate::answers::{Code, Failure, Weight, log, refuse};
 use crate::framing::{Frames, Piece};
 use crate::messages::Id;
@@ -31,12 +33,16 @@ impl Server {
     /// reading goes on at the next `Content-Length:`. A content that is no JSON is answered by an error without id.
     ///
     /// It fails only where there is no memory for the bytes, or even for an error in the place of an answer. The server goes on then:
-    /// the next bytes may be given to it.
+    /// the next bytes may be given to it. Where a message is lost that may have changed a text, no text is open from then on.
     pub fn receive(&mut self, bytes: &[u8], out: &mut Vec<u8>) -> Result<(), AllocError> {
         if self.has_ended().is_some() {
             return Ok(());
         }
-        self.frames.add(bytes)?;
+        let added = self.frames.add(bytes);
+        if added.is_err() {
+            self.session.forget();
+        }
+        added?;
         let taken = self.take_pieces(out);
         self.frames.settle();
         taken
@@ -49,7 +55,9 @@ impl Server {
 
     /// The exit status, once the client said `exit` or the input ended: 0 where the client asked for `shutdown` before it said `exit`,
     /// and else 1 (Language Server Protocol 3.17, "Exit Notification").
-    pub fn has_ended(&self) -> Option<u8> {
+    pub fn has_ended(&self) -> Option<u8>
+        ensures { IfSome result (λ status. status ≤ 1) }
+    {
         self.session.status()
     }
 

@@ -1,5 +1,7 @@
 //! A session with one client: what it said, and what it is answered (Language Server Protocol 3.17, "Server lifecycle").
 
+ghost use Rattle.std.specs.Prelude.{◌≤◌, IfSome};
+
 use crate::answers::{Code, Failure, Weight, answer, log, notify, params_of, refuse};
 use crate::capabilities::{asks_for_diagnostics, encoding_of, initialize_answer};
 use crate::diagnostics::diagnostics_of;
@@ -8,12 +10,13 @@ use crate::folding::folds_of;
 use crate::formatting::{edits_in, edits_of};
 use crate::messages::{
     ActionParams, ChangeParams, ChangedText, Diagnostic, DiagnosticReport, Envelope, Id,
-    InitializeParams, Member, OpenParams, OpenedText, PositionParams, PublishParams, RangeParams,
-    ReferenceParams, SelectionParams, TextParams,
+    InitializeParams, Member, Object, OpenParams, OpenedText, PositionParams, PublishParams,
+    RangeParams, ReferenceParams, SelectionParams, TextParams,
 };
 use crate::navigation::{definitions_at, hover_at, references_at};
 use crate::outline::outline_of;
-use crate::selection::selection_of;
+use crate::places::Places;
+use crate::selection::{are_too_many, selection_of};
 use crate::texts::{Change, OpenText, Texts, change_all, is_position, is_range, said_by};
 use serde_json::Category;
 use std::alloc::{AllocError, Global};
@@ -28,8 +31,10 @@ enum Phase {
     Running,
     // After `shutdown`.
     ShutDown,
-    // After `exit`, or the end of the input, with this exit status.
-    Ended(u8),
+    // After `exit` that came after `shutdown`.
+    Ended,
+    // After another `exit`, or the end of the input.
+    CutShort,
 }
 
 /// A session with one client.
@@ -61,15 +66,18 @@ impl Session {
     /// The input has ended.
     pub fn end(&mut self) {
         if self.status().is_none() {
-            self.phase = Phase::Ended(1);
+            self.phase = Phase::CutShort;
         }
     }
 
     /// The exit status, if the session has ended.
-    pub fn status(&self) -> Option<u8> {
+    pub fn status(&self) -> Option<u8>
+        ensures { IfSome result (λ status. status ≤ 1) }
+    {
         match self.phase {
-            Phase::Ended(status) => Some(status),
-            _ => None,
+            Phase::Ended => Some(0),
+            Phase::CutShort => Some(1),
+            Phase::Fresh | Phase::Running | Phase::ShutDown => None,
         }
     }
 
@@ -85,15 +93,22 @@ impl Session {
         taken
     }
 
+    /// A message is lost for want of memory, which may have changed a text: no text is open from then on, until the client opens it
+    /// again.
+    pub fn forget(&mut self) {
+        self.texts = Texts::new(self.alloc);
+    }
+
     fn take_content(&mut self, content: &[u8], out: &mut Vec<u8>) -> Result<(), AllocError> {
         let Ok(message) = std::str::from_utf8(content) else {
             return self.refuse_message(Code::ParseError, "a message is no UTF-8", out);
         };
-        let envelope = match serde_json::from_str::<Envelope<'_>>(self.alloc, message) {
-            Ok(envelope) => envelope,
+        let envelope = match serde_json::from_str::<Object<Envelope<'_>>>(self.alloc, message) {
+            Ok(Object(envelope)) => envelope,
             Err(error) => {
                 return match error.classify() {
                     Category::Memory => {
+                        self.forget();
                         self.refuse_message(Code::InternalError, "out of memory", out)
                     }
                     Category::Data => {
@@ -171,7 +186,7 @@ impl Session {
                 "the first request is initialize",
             )),
             (Phase::Running, _) => self.answer_running(message, method, id, out),
-            (Phase::ShutDown | Phase::Ended(_), _) => Err(Failure::of(
+            (Phase::ShutDown | Phase::Ended | Phase::CutShort, _) => Err(Failure::of(
                 Code::InvalidRequest,
                 "no request comes after shutdown",
             )),
@@ -208,7 +223,7 @@ impl Session {
             "shutdown" => {
                 answer(self.alloc, id, (), out)?;
                 self.phase = Phase::ShutDown;
-                self.texts = Texts::new(self.alloc);
+                self.forget();
                 Ok(())
             }
             "textDocument/diagnostic" => self.diagnostic(message, id, out),
@@ -221,14 +236,8 @@ impl Session {
             "textDocument/definition" => self.definition(message, id, out),
             "textDocument/references" => self.references(message, id, out),
             "textDocument/hover" => self.hover(message, id, out),
-            "initialize" => Err(Failure::of(
-                Code::InvalidRequest,
-                "initialize comes once",
-            )),
-            _ => Err(Failure::of(
-                Code::MethodNotFound,
-                "there is no such request",
-            )),
+            "initialize" => Err(Failure::of(Code::InvalidRequest, "initialize comes once")),
+            _ => Err(Failure::of(Code::MethodNotFound, "there is no such request")),
         }
     }
 
@@ -260,8 +269,9 @@ impl Session {
             return Ok(());
         }
         let alloc = self.alloc;
-        let message =
-            format!(in alloc; "a position is outside of the text, or inside of a character: {uri}")?;
+        let message = format!(in alloc;
+            "a position is outside of the text, or inside of a character: {uri}"
+        )?;
         log(alloc, Weight::Warning, message.as_str(), out)
     }
 
@@ -276,9 +286,15 @@ impl Session {
         if is_range(document, self.encoding, range) {
             return Ok(());
         }
+        self.log_clipped(uri, out)
+    }
+
+    // Logs that a range is clipped.
+    fn log_clipped(&self, uri: &str, out: &mut Vec<u8>) -> Result<(), AllocError> {
         let alloc = self.alloc;
-        let message =
-            format!(in alloc; "a range is outside of the text, or ends inside of a character: {uri}")?;
+        let message = format!(in alloc;
+            "a range is outside of the text, or ends inside of a character: {uri}"
+        )?;
         log(alloc, Weight::Warning, message.as_str(), out)
     }
 
@@ -313,27 +329,33 @@ impl Session {
     fn document_symbol(&self, message: &str, id: &Id<'_>, out: &mut Vec<u8>) -> Outcome {
         let params: TextParams<'_> = params_of(self.alloc, message)?;
         let text = self.text(params.text_document.uri.as_str(), out)?;
-        let outline = outline_of(self.alloc, self.encoding, &text.document)?;
+        let outline = outline_of(self.alloc, self.encoding, text.document.text())?;
         Ok(answer(self.alloc, id, outline, out)?)
     }
 
     fn folding_range(&self, message: &str, id: &Id<'_>, out: &mut Vec<u8>) -> Outcome {
         let params: TextParams<'_> = params_of(self.alloc, message)?;
         let text = self.text(params.text_document.uri.as_str(), out)?;
-        let folds = folds_of(self.alloc, &text.document)?;
+        let folds = folds_of(self.alloc, text.document.text())?;
         Ok(answer(self.alloc, id, folds, out)?)
     }
 
     fn selection_range(&self, message: &str, id: &Id<'_>, out: &mut Vec<u8>) -> Outcome {
         let params: SelectionParams<'_> = params_of(self.alloc, message)?;
         let uri = params.text_document.uri.as_str();
-        let text = self.text(uri, out)?;
+        let document = &self.text(uri, out)?.document;
+        let text = document.text();
+        if are_too_many(params.positions.len(), text) {
+            let message = "so many positions are not answered at once";
+            return Err(Failure::of(Code::InvalidParams, message));
+        }
+        let places = Places::new(self.alloc, self.encoding, text)?;
         let mut ranges = Vec::new(self.alloc);
         for position in &params.positions {
             let position = Position::from(*position);
-            self.log_position(uri, &text.document, position, out)?;
-            let range = selection_of(self.alloc, self.encoding, &text.document, position)?;
-            ranges.push(range)?;
+            self.log_position(uri, document, position, out)?;
+            let offset = document.offset_of(self.encoding, position);
+            ranges.push(selection_of(self.alloc, text, &places, offset)?)?;
         }
         Ok(answer(self.alloc, id, ranges, out)?)
     }
@@ -377,8 +399,7 @@ impl Session {
         self.log_position(uri, document, position, out)?;
         let takes_definitions = params.context.include_declaration;
         let (alloc, encoding) = (self.alloc, self.encoding);
-        let locations =
-            references_at(alloc, uri, encoding, document, position, takes_definitions)?;
+        let locations = references_at(alloc, uri, encoding, document, position, takes_definitions)?;
         Ok(answer(alloc, id, locations, out)?)
     }
 
@@ -403,8 +424,11 @@ impl Session {
         out: &mut Vec<u8>,
     ) -> Result<(), AllocError> {
         if method == "exit" {
-            let status = if self.phase == Phase::ShutDown { 0 } else { 1 };
-            self.phase = Phase::Ended(status);
+            self.phase = if self.phase == Phase::ShutDown {
+                Phase::Ended
+            } else {
+                Phase::CutShort
+            };
             return Ok(());
         }
         if self.phase != Phase::Running {
@@ -458,11 +482,16 @@ impl Session {
 
     fn did_change(&mut self, message: &str, out: &mut Vec<u8>) -> Outcome {
         let (alloc, encoding) = (self.alloc, self.encoding);
-        let params: ChangeParams<'_> = params_of(alloc, message)?;
+        let params = params_of::<ChangeParams<'_>>(alloc, message);
+        if let Err(failure) = &params
+            && failure.code == Code::InternalError
+        {
+            self.forget();
+        }
         let ChangeParams {
             text_document,
             content_changes,
-        } = params;
+        } = params?;
         let ChangedText { uri, version } = text_document;
         let uri = uri.as_str();
         let _ = self.text(uri, out)?;
@@ -479,7 +508,9 @@ impl Session {
             // The text is no longer the client's.
             let _ = self.texts.close(uri);
         }
-        changed?;
+        for _ in 0..changed? {
+            self.log_clipped(uri, out)?;
+        }
         self.publish(uri, out)
     }
 
@@ -531,11 +562,6 @@ impl Session {
             version,
             diagnostics,
         };
-        notify(
-            self.alloc,
-            "textDocument/publishDiagnostics",
-            params,
-            out,
-        )
+        notify(self.alloc, "textDocument/publishDiagnostics", params, out)
     }
 }

@@ -1,5 +1,10 @@
 //! The texts that are open, and how changes change them (Language Server Protocol 3.17, "Text Document Synchronization").
 
+ghost use Rattle.std.specs.Prelude.{◌≡◌, ◌↔◌, IfSome, IsTrue, OnOk, string_bytes};
+ghost use Rattle.text_edits.specs.Positions.{IsPosition};
+ghost use Rattle.graphql_server.specs.Changes.{AreChanged, IsChanged};
+ghost use Rattle.graphql_server.specs.Ranges.{IsRange};
+
 use crate::messages::ContentChange;
 use graphql_commands::language::read_as;
 use graphql_report::Language;
@@ -95,7 +100,8 @@ impl From<ContentChange> for Change {
 }
 
 /// Changes a text by one change after another, each of which speaks of the text as the one before it left it ("DidChangeTextDocument
-/// Notification"). A position outside of the text, or inside of a character, is taken as `text_edits` says.
+/// Notification"). A position outside of the text, or inside of a character, is taken as `text_edits` says; the answer is how many
+/// changes have one.
 ///
 /// It fails only where memory runs out, and then only some of the changes may be made.
 pub fn change_all(
@@ -103,11 +109,19 @@ pub fn change_all(
     encoding: Encoding,
     document: &mut Document,
     changes: Vec<Change>,
-) -> Result<(), AllocError> {
+) -> Result<usize, AllocError>
+    ensures { OnOk result (AreChanged encoding document.old changes.items document.new) }
+{
+    let mut clipped = 0usize;
     for change in changes {
+        if let Some(range) = change.range
+            && !is_range(document, encoding, range)
+        {
+            clipped = clipped.saturating_add(1);
+        }
         change_by(alloc, encoding, document, change)?;
     }
-    Ok(())
+    Ok(clipped)
 }
 
 // Changes a text by one change.
@@ -116,7 +130,9 @@ fn change_by(
     encoding: Encoding,
     document: &mut Document,
     change: Change,
-) -> Result<(), AllocError> {
+) -> Result<(), AllocError>
+    ensures { OnOk result (IsChanged encoding document.old change document.new) }
+{
     let Change { range, text } = change;
     match range {
         Some(range) => document.apply(alloc, encoding, range, text.as_str()),
@@ -128,11 +144,15 @@ fn change_by(
 }
 
 /// Whether a position is one of the text: on a line that it has, and not behind its end, nor inside of a character.
-pub fn is_position(document: &Document, encoding: Encoding, position: Position) -> bool {
+pub fn is_position(document: &Document, encoding: Encoding, position: Position) -> bool
+    ensures { IsTrue result ↔ IsPosition encoding document.now position }
+{
     document.position_of(encoding, document.offset_of(encoding, position)) == position
 }
 
 /// Whether both ends of a range are positions of the text.
-pub fn is_range(document: &Document, encoding: Encoding, range: Range) -> bool {
+pub fn is_range(document: &Document, encoding: Encoding, range: Range) -> bool
+    ensures { IsTrue result ↔ IsRange encoding document.now range }
+{
     is_position(document, encoding, range.start) && is_position(document, encoding, range.end)
 }
