@@ -142,7 +142,10 @@ impl Session {
             jsonrpc,
             id,
             method,
+            result: given,
+            error,
         } = envelope;
+        let is_answer = !matches!((&given, &error), (Member::Absent, Member::Absent));
         let is_version = matches!(&jsonrpc, Member::Text(version) if version.as_str() == "2.0");
         let id = match id {
             Member::Absent => None,
@@ -160,7 +163,7 @@ impl Session {
                 self.take_notification(message, method.as_str(), out)
             }
             // The server asks for nothing, so an answer is for no request of its.
-            (Member::Absent, Some(_)) if is_version => Ok(()),
+            (Member::Absent, Some(_)) if is_version && is_answer => Ok(()),
             (_, id) => {
                 let failure = Failure::of(Code::InvalidRequest, "a message is no request");
                 log(self.alloc, Weight::Error, failure.message.as_str(), out)?;
