@@ -1,4 +1,6 @@
 //! The words of a text, one after another: its tokens, and what is left of those that are broken.
+ghost use Rattle.std.specs.Prelude.{◌≡◌};
+
 use crate::gaps::first_line;
 use crate::roles::Word;
 use crate::walk::Walk;
@@ -13,7 +15,10 @@ fn read_tokens(
     text: &str,
     part: &str,
     start: usize,
-) -> Result<usize, AllocError> {
+) -> Result<usize, AllocError>
+    ensures structure { walk.new.structure ≡ walk.old.structure }
+    ensures chain { walk.new.chain ≡ walk.old.chain }
+{
     for token in Tokens::new(part) {
         match token.kind {
             TokenKind::Fault => return Ok(token.start),
@@ -76,7 +81,10 @@ fn read_broken(
     text: &str,
     rest: &str,
     start: usize,
-) -> Result<usize, AllocError> {
+) -> Result<usize, AllocError>
+    ensures structure { walk.new.structure ≡ walk.old.structure }
+    ensures chain { walk.new.chain ≡ walk.old.chain }
+{
     let (kind, length) = broken(rest);
     walk.note_fault();
     if let Some(kind) = kind
@@ -91,7 +99,10 @@ fn read_broken(
 ///
 /// Behind a block string that has no end the tokens of each line are read for themselves: such a string is looked for up to the
 /// end of the text, and so it is done once.
-pub(crate) fn read(walk: &mut Walk, text: &str) -> Result<(), AllocError> {
+pub(crate) fn read(walk: &mut Walk, text: &str) -> Result<(), AllocError>
+    ensures structure { walk.new.structure ≡ walk.old.structure }
+    ensures chain { walk.new.chain ≡ walk.old.chain }
+{
     let mut at = 0;
     let mut is_by_line = false;
     while at < text.len() {

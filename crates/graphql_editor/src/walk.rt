@@ -1,4 +1,6 @@
 //! The walk over the words of a text.
+ghost use Rattle.std.specs.Prelude.{◌≡◌};
+
 mod brackets;
 mod steps;
 mod words;
@@ -13,7 +15,7 @@ use std::alloc::{AllocError, Global};
 const DEPTH: usize = 32;
 
 // A part of a member: a type, a value, a directive, or a clause of a head.
-#[derive(Clone, Copy, Debug)]
+#[derive(Clone, Copy)]
 struct Part {
     start: usize,
     // Whether it is the detail of the member's symbol.
@@ -21,7 +23,7 @@ struct Part {
 }
 
 // A member of a bracket: a definition, a field, an argument, an item of a list, and so on.
-#[derive(Clone, Copy, Debug)]
+#[derive(Clone, Copy)]
 struct Member {
     start: usize,
     // Its symbol in the outline.
@@ -34,7 +36,7 @@ struct Member {
 }
 
 // An open bracket, or the text.
-#[derive(Clone, Copy, Debug)]
+#[derive(Clone, Copy)]
 struct Level {
     bracket: Bracket,
     // What closes it, and a blank for the text.
@@ -49,7 +51,7 @@ struct Level {
 }
 
 /// What is known of a text up to one of its words.
-#[derive(Debug, Drop)]
+#[derive(Drop)]
 pub(crate) struct Walk {
     structure: Structure,
     chain: Chain,
@@ -78,11 +80,14 @@ pub(crate) struct Walk {
 }
 
 impl Walk {
-    /// Before the first word of a text of this length. The chain is that around the offset.
-    pub fn new(alloc: Global, length: usize, offset: Option<usize>, recovers: bool) -> Walk {
+    /// Before the first word of a text of this size. The chain is that around the offset.
+    pub fn new(alloc: Global, size: usize, offset: Option<usize>, recovers: bool) -> Walk
+        ensures structure { result.structure ≡ size }
+        ensures chain { result.chain ≡ size }
+    {
         Walk {
-            structure: Structure::unread(alloc, length),
-            chain: Chain::new(alloc, length, offset),
+            structure: Structure::unread(alloc, size),
+            chain: Chain::new(alloc, size, offset),
             level: Level {
                 bracket: Bracket::Definitions,
                 closer: b' ',
@@ -107,7 +112,10 @@ impl Walk {
     }
 
     /// Tells that no token begins where one should.
-    pub fn note_fault(&mut self) {
+    pub fn note_fault(&mut self)
+        ensures structure { self.new.structure ≡ self.old.structure }
+        ensures chain { self.new.chain ≡ self.old.chain }
+    {
         self.is_whole = false;
     }
 
@@ -117,17 +125,24 @@ impl Walk {
     }
 
     /// What was found.
-    pub fn into_structure(self) -> Structure {
+    pub fn into_structure(self) -> Structure
+        ensures { result ≡ self.structure }
+    {
         self.structure
     }
 
     /// The parts of the text around the offset.
-    pub fn into_chain(self) -> Chain {
+    pub fn into_chain(self) -> Chain
+        ensures { result ≡ self.chain }
+    {
         self.chain
     }
 
     /// Ends what is open, at the end of the text.
-    pub fn finish(&mut self, text: &str) -> Result<(), AllocError> {
+    pub fn finish(&mut self, text: &str) -> Result<(), AllocError>
+        ensures structure { self.new.structure ≡ self.old.structure }
+        ensures chain { self.new.chain ≡ self.old.chain }
+    {
         self.pass_gap(text, text.len())?;
         if !self.outer.is_empty() {
             self.is_whole = false;
