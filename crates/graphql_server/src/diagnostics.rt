@@ -10,7 +10,7 @@ ghost use Rattle.graphql_server.specs.Ranges.{IsRange, IsDiagnosticOf};
 use crate::messages::{Diagnostic, Location, Related};
 use graphql_commands::{Diagnosis, diagnoses_of};
 use graphql_parser::Limits;
-use graphql_report::Language;
+use graphql_commands::Language;
 use std::alloc::{AllocError, Global};
 use text_edits::{Document, Encoding, Range};
 

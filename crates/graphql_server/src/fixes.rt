@@ -3,7 +3,7 @@
 use crate::diagnostics::{diagnostic_of, found_in, range_of};
 use crate::messages::{CodeAction, TextEdit, WorkspaceEdit};
 use graphql_commands::{Diagnosis, Fix};
-use graphql_report::Language;
+use graphql_commands::Language;
 use std::alloc::{AllocError, Global};
 use std::borrow::CowStr;
 use text_edits::{Document, Encoding, Range};

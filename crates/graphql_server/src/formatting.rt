@@ -9,7 +9,7 @@ use graphql_commands::rewriting::laid_out;
 use graphql_commands::telling::Names;
 use graphql_editor::{Span, Structure};
 use graphql_parser::{Limits, Memory};
-use graphql_report::Language;
+use graphql_commands::Language;
 use std::alloc::{AllocError, Global};
 use text_edits::{Document, Encoding, Range};
 
