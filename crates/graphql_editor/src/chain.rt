@@ -1,6 +1,6 @@
 //! The parts of a text around a place, innermost first.
-ghost use Rattle.std.specs.Prelude.{◌≡◌, ◌≤◌, ◌<◌, ◌+◌, ℕ, All, IfOk, OnOk, length};
-ghost use Rattle.graphql_editor.specs.Spans.{IsSpanWithin, AreGrowing};
+ghost use Rattle.std.specs.Prelude.{◌≡◌, ◌≤◌, ◌<◌, ◌+◌, ℕ, true, false, [], ◌∷◌, ◌++◌, All, IfOk, OnOk, length};
+ghost use Rattle.graphql_editor.specs.Spans.{IsSpanWithin, IsInsideLonger, AreGrowing};
 
 use crate::Span;
 use crate::structure::span_within;
@@ -34,10 +34,24 @@ impl Model for Chain {
 }
 
 // Whether a span is around another one, and longer.
-fn is_around(outer: Span, inner: Span) -> bool {
+fn is_around(outer: Span, inner: Span) -> bool
+    ensures { result ≡ true → IsInsideLonger inner outer }
+{
     outer.start <= inner.start
         && inner.end <= outer.end
         && inner.end.saturating_sub(inner.start) < outer.end.saturating_sub(outer.start)
+}
+
+// Whether a span may come after these.
+fn may_follow(spans: &[Span], span: Span) -> bool
+    ensures growing { result ≡ true → AreGrowing spans.now → AreGrowing (spans.now ++ span ∷ []) }
+    // Any may come first.
+    ensures first { result ≡ false → 0 < length spans.now }
+{
+    match spans.last() {
+        None => true,
+        Some(last) => is_around(span, *last),
+    }
 }
 
 // Adds a span if it is around the last one, and longer, or the first.
@@ -49,9 +63,7 @@ fn push_around(spans: &mut Vec<Span>, span: Span) -> Result<(), AllocError>
     ensures few { length spans.new.items ≤ length spans.old.items + 1 }
     ensures some { OnOk result (0 < length spans.new.items) }
 {
-    if let Some(last) = spans.last().copied()
-        && !is_around(span, last)
-    {
+    if !may_follow(spans, span) {
         return Ok(());
     }
     spans.push(span)?;

@@ -86,7 +86,6 @@ fn read_broken(
     ensures chain { walk.new.chain ≡ walk.old.chain }
 {
     let (kind, length) = broken(rest);
-    walk.note_fault();
     if let Some(kind) = kind
         && let Some(spelling) = rest.get(..length)
     {

@@ -135,7 +135,7 @@ impl Structure {
         if walk.is_whole() {
             return Ok(walk.into_structure());
         }
-        // A bracket is missing or one too much, or a token is broken: once more, with an eye on where definitions begin.
+        // A bracket is missing or one too much: once more, with an eye on where definitions begin.
         let mut again = Walk::new(alloc, text.len(), None, true);
         read(&mut again, text)?;
         Ok(again.into_structure())

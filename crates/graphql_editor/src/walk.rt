@@ -14,6 +14,9 @@ use std::alloc::{AllocError, Global};
 // The outline has symbols less deep than this.
 const DEPTH: usize = 32;
 
+// Of brackets in brackets, so many are told apart. What is in others counts as a part of these.
+const LEVELS: usize = 10_000;
+
 // A part of a member: a type, a value, a directive, or a clause of a head.
 #[derive(Clone, Copy)]
 struct Part {
@@ -58,6 +61,8 @@ pub(crate) struct Walk {
     // The innermost open bracket, and those around it, the text first.
     level: Level,
     outer: Vec<Level>,
+    // How many brackets are open in the innermost one that aren't told apart.
+    deeper: usize,
     // How many braces are open.
     braces: usize,
     // What the definition defines.
@@ -73,7 +78,7 @@ pub(crate) struct Walk {
     // Where the last word ended, and where the last one ended that counts.
     passed: usize,
     end: usize,
-    // Whether no bracket is missing or one too much, and no token is broken.
+    // Whether no bracket is missing or one too much.
     is_whole: bool,
     // Whether a word that begins a definition, at the beginning of a line, ends all brackets.
     recovers: bool,
@@ -97,6 +102,7 @@ impl Walk {
                 member: None,
             },
             outer: Vec::new(alloc),
+            deeper: 0,
             braces: 0,
             defined: None,
             is_extension: false,
@@ -111,15 +117,7 @@ impl Walk {
         }
     }
 
-    /// Tells that no token begins where one should.
-    pub fn note_fault(&mut self)
-        ensures structure { self.new.structure ≡ self.old.structure }
-        ensures chain { self.new.chain ≡ self.old.chain }
-    {
-        self.is_whole = false;
-    }
-
-    /// Whether no bracket was missing or one too much, and no token broken.
+    /// Whether no bracket was missing or one too much.
     pub fn is_whole(&self) -> bool {
         self.is_whole
     }

@@ -6,7 +6,7 @@ use std::io;
 use std::process::Abort;
 
 // A text, its outline, and its definitions.
-const BROKEN: [(&str, &str, &str); 20] = [
+const BROKEN: [(&str, &str, &str); 21] = [
     // A brace is missing: a definition begins where its word begins a line.
     (
         "type A { a: Int\ntype B { b: Int }",
@@ -84,6 +84,12 @@ const BROKEN: [(&str, &str, &str); 20] = [
         "{ a ? b \u{e9}; c .. d }\n",
     ),
     ("?", "", ""),
+    // No bracket is missing, so a line may begin with any name.
+    (
+        "{\nquery\n? type\n}",
+        "0 Query {\n1 SelectedField query\n1 SelectedField type\n",
+        "{\nquery\n? type\n}\n",
+    ),
     // Definitions of another kind.
     ("foo { a }", "", "foo { a }\n"),
     (

@@ -1,7 +1,7 @@
 //! How members and brackets begin and end.
 ghost use Rattle.std.specs.Prelude.{◌≡◌};
 
-use super::{DEPTH, Level, Member, Part, Walk};
+use super::{DEPTH, LEVELS, Level, Member, Part, Walk};
 use crate::FoldKind;
 use crate::SymbolKind;
 use crate::roles::{Bracket, Last, Word, closer_of};
@@ -121,6 +121,10 @@ impl Walk {
         ensures structure { self.new.structure ≡ self.old.structure }
         ensures chain { self.new.chain ≡ self.old.chain }
     {
+        if self.outer.len() >= LEVELS {
+            self.deeper = self.deeper.saturating_add(1);
+            return Ok(());
+        }
         let closer = closer_of(word.mark);
         if closer == b'}' {
             self.braces = self.braces.saturating_add(1);
@@ -145,6 +149,12 @@ impl Walk {
         ensures structure { self.new.structure ≡ self.old.structure }
         ensures chain { self.new.chain ≡ self.old.chain }
     {
+        if self.deeper > 0 {
+            self.deeper -= 1;
+            self.end = word.end;
+            self.last = Last::Whole;
+            return Ok(());
+        }
         if !self.reach(word.mark)? {
             return Ok(());
         }
@@ -223,6 +233,7 @@ impl Walk {
         ensures structure { self.new.structure ≡ self.old.structure }
         ensures chain { self.new.chain ≡ self.old.chain }
     {
+        self.deeper = 0;
         for _ in 0..self.outer.len() {
             self.leave(self.end)?;
         }
