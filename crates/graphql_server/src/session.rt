@@ -248,16 +248,19 @@ impl Session {
     fn text(&self, uri: &str, out: &mut Vec<u8>) -> Result<&OpenText, Failure> {
         match self.texts.get(uri) {
             Some(text) => Ok(text),
-            None => {
-                let alloc = self.alloc;
-                let message = format!(in alloc; "the text isn't open: {uri}")?;
-                log(alloc, Weight::Warning, message.as_str(), out)?;
-                Err(Failure {
-                    code: Code::InvalidParams,
-                    message: CowStr::Owned(message),
-                })
-            }
+            None => Err(Failure {
+                code: Code::InvalidParams,
+                message: CowStr::Owned(self.log_not_open(uri, out)?),
+            }),
         }
+    }
+
+    // Logs that a text isn't open, and gives what is logged.
+    fn log_not_open(&self, uri: &str, out: &mut Vec<u8>) -> Result<String, AllocError> {
+        let alloc = self.alloc;
+        let message = format!(in alloc; "the text isn't open: {uri}")?;
+        log(alloc, Weight::Warning, message.as_str(), out)?;
+        Ok(message)
     }
 
     // Logs a position that is none of the text, and is clipped.
@@ -497,8 +500,8 @@ impl Session {
         } = params?;
         let ChangedText { uri, version } = text_document;
         let uri = uri.as_str();
-        let _ = self.text(uri, out)?;
         let Some(text) = self.texts.get_mut(uri) else {
+            let _ = self.log_not_open(uri, out)?;
             return Ok(());
         };
         let mut changes = Vec::new(alloc);
@@ -521,8 +524,10 @@ impl Session {
         let alloc = self.alloc;
         let params: TextParams<'_> = params_of(alloc, message)?;
         let uri = params.text_document.uri.as_str();
-        let _ = self.text(uri, out)?;
-        let _ = self.texts.close(uri);
+        if !self.texts.close(uri) {
+            let _ = self.log_not_open(uri, out)?;
+            return Ok(());
+        }
         if self.publishes {
             let none: [Diagnostic<'_>; 0] = [];
             self.publish_list(uri, None, none.as_slice(), out)?;
