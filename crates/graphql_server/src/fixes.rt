@@ -59,10 +59,12 @@ fn action_of<'a>(
     fix: Fix,
 ) -> Result<CodeAction<'a>, AllocError> {
     let Fix { title, span, new } = fix;
+    let mut diagnostics = Vec::new(alloc);
+    diagnostics.push(diagnostic_of(alloc, uri, encoding, document, diagnosis)?)?;
     Ok(CodeAction {
         title,
         kind: QUICK_FIX,
-        diagnostics: [diagnostic_of(alloc, uri, encoding, document, diagnosis)?],
+        diagnostics,
         is_preferred: true,
         edit: WorkspaceEdit {
             uri,

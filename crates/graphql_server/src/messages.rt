@@ -414,7 +414,7 @@ pub struct TextEdit {
 pub struct CodeAction<'a> {
     pub title: String,
     pub kind: &'static str,
-    pub diagnostics: [Diagnostic<'a>; 1],
+    pub diagnostics: Vec<Diagnostic<'a>>,
     pub is_preferred: bool,
     pub edit: WorkspaceEdit<'a>,
 }
