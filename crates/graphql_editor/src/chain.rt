@@ -92,12 +92,7 @@ impl Chain {
     }
 
     /// Adds a token, if it touches the offset. A name, a number or a string goes before a punctuator that it touches.
-    pub fn add_token(
-        &mut self,
-        is_punct: bool,
-        start: usize,
-        end: usize,
-    ) -> Result<(), AllocError>
+    pub fn add_token(&mut self, is_punct: bool, start: usize, end: usize) -> Result<(), AllocError>
         ensures { self.new ≡ self.old }
     {
         if !self.touches(start, end) {

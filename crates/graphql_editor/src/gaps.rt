@@ -1,8 +1,8 @@
 //! What stands between tokens: line ends, and comments.
 ghost use Rattle.std.specs.Prelude.{◌≡◌, ◌≤◌, ◌<◌, length};
 
-use crate::structure::Structure;
 use crate::FoldKind;
+use crate::structure::Structure;
 use std::alloc::AllocError;
 
 // The bytes of a text between two offsets, or none if there are no such.
@@ -90,9 +90,7 @@ fn add_run(structure: &mut Structure, run: Option<Run>) -> Result<(), AllocError
     ensures { structure.new ≡ structure.old }
 {
     match run {
-        Some(run) if run.lines > 1 => {
-            structure.add_fold(FoldKind::Comments, run.start, run.end)
-        }
+        Some(run) if run.lines > 1 => { structure.add_fold(FoldKind::Comments, run.start, run.end) }
         _ => Ok(()),
     }
 }

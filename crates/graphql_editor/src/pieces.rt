@@ -10,12 +10,7 @@ use std::alloc::AllocError;
 const QUOTES: &str = "\"\"\"";
 
 // Hands the tokens of a part of the text to the walk, and tells where in the part they end: where no token begins, or at its end.
-fn read_tokens(
-    walk: &mut Walk,
-    text: &str,
-    part: &str,
-    start: usize,
-) -> Result<usize, AllocError>
+fn read_tokens(walk: &mut Walk, text: &str, part: &str, start: usize) -> Result<usize, AllocError>
     ensures structure { walk.new.structure ≡ walk.old.structure }
     ensures chain { walk.new.chain ≡ walk.old.chain }
 {
@@ -76,12 +71,7 @@ fn broken(rest: &str) -> (Option<TokenKind>, usize) {
 }
 
 // Hands what is broken to the walk, and tells how long it is.
-fn read_broken(
-    walk: &mut Walk,
-    text: &str,
-    rest: &str,
-    start: usize,
-) -> Result<usize, AllocError>
+fn read_broken(walk: &mut Walk, text: &str, rest: &str, start: usize) -> Result<usize, AllocError>
     ensures structure { walk.new.structure ≡ walk.old.structure }
     ensures chain { walk.new.chain ≡ walk.old.chain }
 {

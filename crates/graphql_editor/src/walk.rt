@@ -5,10 +5,10 @@ mod brackets;
 mod steps;
 mod words;
 
+use crate::SymbolKind;
 use crate::chain::Chain;
 use crate::roles::{Bracket, Last, Place};
 use crate::structure::Structure;
-use crate::SymbolKind;
 use std::alloc::{AllocError, Global};
 
 // The outline has symbols less deep than this.

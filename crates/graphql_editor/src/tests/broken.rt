@@ -154,7 +154,8 @@ fn check(rt: &impl Abort, alloc: Global, text: &str) -> Result<(), AllocError> {
     Ok(())
 }
 
-const MIXED: &str = "\u{feff}\"\u{e9}\" type A @d(e: \"\\u{1F600}\u{1f600}\") {\r\n # \u{20ac}\n  f(g: [G!] = [1.5e-3, \"\u{e9}\"]): H! }\n\"\"\"\n\\\"\"\" \u{1f600}\n\"\"\"\nenum I { J } query K($l: M) { ...N ... on O { p: q(r: $l) } }";
+const MIXED: &str =
+    "\u{feff}\"\u{e9}\" type A @d(e: \"\\u{1F600}\u{1f600}\") {\r\n # \u{20ac}\n  f(g: [G!] = [1.5e-3, \"\u{e9}\"]): H! }\n\"\"\"\n\\\"\"\" \u{1f600}\n\"\"\"\nenum I { J } query K($l: M) { ...N ... on O { p: q(r: $l) } }";
 
 #[test]
 fn each_beginning_of_a_text_is_read(rt: HostRuntime) -> Result<(), io::Error> {

@@ -3,20 +3,47 @@ use crate::Structure;
 use std::io;
 
 const TYPE: &str = "\"\"\"\n  Desc\n\n    two\n  \"\"\"\ntype A {\n  a: A\n}\n\nscalar B";
+
 const FRAGMENT: &str = "{ ...F }\n\n# c\nfragment F on T { # \u{e9}\r\n  a\r\n}";
+
 const LONG: &str = "enum E {\n A\n B\n C\n D\n E\n F\n G\n H\n I\n J\n}";
+
 const TEN: &str = "enum E {\n A\n B\n C\n D\n E\n F\n G\n H\n}";
 
 // A text, a byte offset, and what is shown there.
 const SHOWN: [(&str, usize, &str); 9] = [
     // Of its name, and of a use.
-    (TYPE, 31, "```graphql\ntype A {\n  a: A\n}\n```\n\nDesc\n\n  two"),
-    (TYPE, 40, "```graphql\ntype A {\n  a: A\n}\n```\n\nDesc\n\n  two"),
+    (
+        TYPE,
+        31,
+        "```graphql\ntype A {\n  a: A\n}\n```\n\nDesc\n\n  two",
+    ),
+    (
+        TYPE,
+        40,
+        "```graphql\ntype A {\n  a: A\n}\n```\n\nDesc\n\n  two",
+    ),
     (TYPE, 52, "```graphql\nscalar B\n```"),
-    (FRAGMENT, 6, "```graphql\nfragment F on T { # \u{e9}\n  a\n}\n```"),
-    (LONG, 5, "```graphql\nenum E {\n A\n B\n C\n D\n E\n F\n G\n H\n I\n\u{2026}\n```"),
-    (TEN, 5, "```graphql\nenum E {\n A\n B\n C\n D\n E\n F\n G\n H\n}\n```"),
-    ("\"a\\n\\u00e9\" scalar S", 19, "```graphql\nscalar S\n```\n\na\n\u{e9}"),
+    (
+        FRAGMENT,
+        6,
+        "```graphql\nfragment F on T { # \u{e9}\n  a\n}\n```",
+    ),
+    (
+        LONG,
+        5,
+        "```graphql\nenum E {\n A\n B\n C\n D\n E\n F\n G\n H\n I\n\u{2026}\n```",
+    ),
+    (
+        TEN,
+        5,
+        "```graphql\nenum E {\n A\n B\n C\n D\n E\n F\n G\n H\n}\n```",
+    ),
+    (
+        "\"a\\n\\u00e9\" scalar S",
+        19,
+        "```graphql\nscalar S\n```\n\na\n\u{e9}",
+    ),
     ("\"\" scalar S", 10, "```graphql\nscalar S\n```"),
     // Backticks in the code.
     (

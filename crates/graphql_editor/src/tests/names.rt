@@ -46,8 +46,11 @@ fn names_are_those_of_the_texts(rt: HostRuntime) -> Result<(), io::Error> {
     Ok(())
 }
 
-const REQUEST: &str = "query ($a: T) { f(c: $a) ...F } query ($a: T) { g(c: $a) } fragment F on T { ...F i(j: $a) }";
-const TYPES: &str = "type A { a: A b: [B] } \"\u{e9}\" type A extend type A { c: String } scalar C @d(A: A)";
+const REQUEST: &str =
+    "query ($a: T) { f(c: $a) ...F } query ($a: T) { g(c: $a) } fragment F on T { ...F i(j: $a) }";
+
+const TYPES: &str =
+    "type A { a: A b: [B] } \"\u{e9}\" type A extend type A { c: String } scalar C @d(A: A)";
 
 // A text, a byte offset in it, where the name there is defined, if it is, and how many names there are of what it names.
 const DEFINED: [(&str, usize, Option<usize>, usize); 17] = [
@@ -85,7 +88,11 @@ fn names_have_definitions(rt: HostRuntime) -> Result<(), io::Error> {
         assert!(rt; name.is_some(), "at {offset} of {text}");
         if let Some(name) = name {
             let definition = structure.definition_of(text, name);
-            assert_eq!(rt; definition.map(|span| span.start), start, "at {offset} of {text}");
+            assert_eq!(rt;
+                definition.map(|span| span.start),
+                start,
+                "at {offset} of {text}"
+            );
             let found = structure.occurrences_of(rt.alloc(), text, name)?;
             assert_eq!(rt; found.len(), count, "at {offset} of {text}");
         }

@@ -122,7 +122,10 @@ const WHOLES: [(&str, &str); 4] = [
         "extend schema { query: Q , } , union U = A | B # c\n\"\"\"d\"\"\"\ndirective @d on A | B",
         "extend schema { query: Q , }\nquery: Q\nunion U = A | B\n\"\"\"d\"\"\"\ndirective @d on A | B\n",
     ),
-    ("enum \u{20} E { A \"b\" B @c }", "enum \u{20} E { A \"b\" B @c }\nA\n\"b\" B @c\n"),
+    (
+        "enum \u{20} E { A \"b\" B @c }",
+        "enum \u{20} E { A \"b\" B @c }\nA\n\"b\" B @c\n",
+    ),
 ];
 
 #[test]

@@ -23,9 +23,18 @@ const FOLDS: [(&str, &str); 14] = [
     ),
     ("# a\r# b\r\r# c", "Comments # a\u{a6}# b\n"),
     ("# a\n\n# b\n \n# c\n,\n# d\n", ""),
-    ("{ a # b\n# c\n# d\n\n }", "Comments # c|# d\nBrackets { a # b|# c|# d|| }\n"),
-    ("\"\"\"a\"\"\" scalar A \"\"\"\u{e9}\r\"\"\" scalar B", "BlockString \"\"\"\u{e9}\u{a6}\"\"\"\n"),
-    ("{ a(b: \"\"\"\n#\n#\n\"\"\") }", "BlockString \"\"\"|#|#|\"\"\"\nBrackets (b: \"\"\"|#|#|\"\"\")\nBrackets { a(b: \"\"\"|#|#|\"\"\") }\n"),
+    (
+        "{ a # b\n# c\n# d\n\n }",
+        "Comments # c|# d\nBrackets { a # b|# c|# d|| }\n",
+    ),
+    (
+        "\"\"\"a\"\"\" scalar A \"\"\"\u{e9}\r\"\"\" scalar B",
+        "BlockString \"\"\"\u{e9}\u{a6}\"\"\"\n",
+    ),
+    (
+        "{ a(b: \"\"\"\n#\n#\n\"\"\") }",
+        "BlockString \"\"\"|#|#|\"\"\"\nBrackets (b: \"\"\"|#|#|\"\"\")\nBrackets { a(b: \"\"\"|#|#|\"\"\") }\n",
+    ),
     ("# a\n# b", "Comments # a|# b\n"),
     // Brackets that nothing closes.
     ("{\n a(\n b: [\n", ""),
@@ -42,7 +51,9 @@ fn folds_are_those_of_the_texts(rt: HostRuntime) -> Result<(), io::Error> {
 }
 
 const NESTED: &str = "{ a(b: 1) }";
+
 const DIRECTIVE: &str = "type A @d(e: [1, 2]) { f: [B!]! }";
+
 const SPREAD: &str = "{ x: \u{e9} a ...F ... on A { b } }";
 
 // A text, a byte offset, and the ranges around it.
@@ -73,8 +84,16 @@ const SELECTIONS: [(&str, usize, &str); 22] = [
     ),
     (DIRECTIVE, 5, "A\ntype A @d(e: [1, 2]) { f: [B!]! }\n"),
     // The directive's sign and its name.
-    (DIRECTIVE, 7, "@\n@d(e: [1, 2])\ntype A @d(e: [1, 2]) { f: [B!]! }\n"),
-    (DIRECTIVE, 8, "d\n@d(e: [1, 2])\ntype A @d(e: [1, 2]) { f: [B!]! }\n"),
+    (
+        DIRECTIVE,
+        7,
+        "@\n@d(e: [1, 2])\ntype A @d(e: [1, 2]) { f: [B!]! }\n",
+    ),
+    (
+        DIRECTIVE,
+        8,
+        "d\n@d(e: [1, 2])\ntype A @d(e: [1, 2]) { f: [B!]! }\n",
+    ),
     ("{  a  b }", 2, "{  a  b }\n"),
     ("{  a  b }", 5, "a  b\n{  a  b }\n"),
     ("{ a } # b\n{ c }", 8, "{ a } # b\n{ c }\n"),
@@ -118,6 +137,12 @@ fn at_most_so_many_are_selected(rt: HostRuntime) -> Result<(), io::Error> {
     }
     let selection = selection_at(rt.alloc(), &text, 10000)?;
     assert_eq!(rt; selection.len(), 200);
-    assert_eq!(rt; selection.last().copied(), Some(crate::Span { start: 0, end: 15000 }));
+    assert_eq!(rt;
+        selection.last().copied(),
+        Some(crate::Span {
+            start: 0,
+            end: 15000
+        })
+    );
     Ok(())
 }

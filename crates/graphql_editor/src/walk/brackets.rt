@@ -2,10 +2,9 @@
 ghost use Rattle.std.specs.Prelude.{◌≡◌};
 
 use super::{DEPTH, LEVELS, Level, Member, Part, Walk};
-use crate::FoldKind;
-use crate::SymbolKind;
 use crate::roles::{Bracket, Last, Word, closer_of};
 use crate::structure::Found;
+use crate::{FoldKind, SymbolKind};
 use std::alloc::AllocError;
 
 impl Walk {
@@ -88,11 +87,7 @@ impl Walk {
     }
 
     // Lists the member in the outline, with this name.
-    pub(super) fn add_symbol(
-        &mut self,
-        kind: SymbolKind,
-        word: &Word<'_>,
-    ) -> Result<(), AllocError>
+    pub(super) fn add_symbol(&mut self, kind: SymbolKind, word: &Word<'_>) -> Result<(), AllocError>
         ensures structure { self.new.structure ≡ self.old.structure }
         ensures chain { self.new.chain ≡ self.old.chain }
     {

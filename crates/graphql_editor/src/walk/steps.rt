@@ -4,7 +4,9 @@ ghost use Rattle.std.specs.Prelude.{◌≡◌};
 use super::Walk;
 use crate::FoldKind;
 use crate::gaps::{add_comments, last_line};
-use crate::roles::{Bracket, Last, Place, Word, after_punct, body_of, defined_by, is_clause, round_of};
+use crate::roles::{
+    Bracket, Last, Place, Word, after_punct, body_of, defined_by, is_clause, round_of,
+};
 use graphql_tokens::lexer::TokenKind;
 use std::alloc::AllocError;
 
@@ -172,11 +174,8 @@ impl Walk {
     // What this word is to the next one.
     fn after(&self, word: &Word<'_>, begins: bool, leads: bool) -> Last {
         match word.kind {
-            TokenKind::String | TokenKind::Block
-                if begins && self.level.bracket != Bracket::List =>
-            {
-                Last::Description
-            }
+            TokenKind::String | TokenKind::Block if begins && self.level.bracket != Bracket::List =>
+                { Last::Description }
             TokenKind::Punct => after_punct(word.mark),
             TokenKind::Name => self.after_name(word.text, leads),
             _ => Last::Whole,

@@ -100,12 +100,7 @@ impl Walk {
         }
     }
 
-    fn add_name(
-        &mut self,
-        kind: NameKind,
-        role: Role,
-        word: &Word<'_>,
-    ) -> Result<(), AllocError>
+    fn add_name(&mut self, kind: NameKind, role: Role, word: &Word<'_>) -> Result<(), AllocError>
         ensures structure { self.new.structure ≡ self.old.structure }
         ensures chain { self.new.chain ≡ self.old.chain }
     {
