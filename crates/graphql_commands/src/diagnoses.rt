@@ -11,7 +11,7 @@ use crate::recovery::end_of;
 use crate::telling::Names;
 use graphql_parser::lexer::{Token, TokenKind, Tokens};
 use graphql_parser::{Error, Limits, Memory, Pos};
-use graphql_report::{Finding, Language, finding_from, spots_of};
+use graphql_report::{Finding, Language, error_offsets, finding_from};
 use std::alloc::{AllocError, Global};
 
 /// The byte offsets of a text between which something stands: the end is not before the start, and both are where a character
@@ -171,9 +171,9 @@ fn marks_of_definitions(
     ensures { IfOk result (λ marks. IsWithin source.now.text.now marks.span
         × IfSome marks.other (λ other. IsWithin source.now.text.now other.span)) }
 {
-    let spots = spots_of(alloc, told.text, &mistake.error)?;
-    let first = span_of_words(source.text, mistake.offset_in_text(spots.first));
-    let Some((offset, message)) = spots.second else {
+    let offsets = error_offsets(alloc, told.text, &mistake.error)?;
+    let first = span_of_words(source.text, mistake.offset_in_text(offsets.first));
+    let Some((offset, message)) = offsets.second else {
         return Ok(Marks {
             span: first,
             other: None,
