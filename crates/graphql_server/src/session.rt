@@ -23,7 +23,7 @@ use std::alloc::{AllocError, Global};
 use text_edits::{Document, Encoding, Position, Range};
 
 // How far a session is.
-#[derive(Clone, Copy, Debug, PartialEq, Eq)]
+#[derive(Clone, Copy, PartialEq, Eq)]
 enum Phase {
     // Before `initialize`.
     Fresh,
