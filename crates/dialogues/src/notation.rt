@@ -99,18 +99,15 @@ fn take_line(alloc: Global, dialogue: &mut Dialogue, line: &str) -> Result<(), F
     }
 }
 
-fn give(
-    alloc: Global,
-    dialogue: &mut Dialogue,
-    given: Vec<u8>,
-    is_last: bool,
-) -> Result<(), Fail> {
+fn give(alloc: Global, dialogue: &mut Dialogue, given: Vec<u8>, is_last: bool) -> Result<(), Fail> {
     let wanted = Vec::new(alloc);
-    Ok(dialogue.turns.push(Turn {
-        given,
-        is_last,
-        wanted,
-    })?)
+    Ok(
+        dialogue.turns.push(Turn {
+            given,
+            is_last,
+            wanted,
+        })?,
+    )
 }
 
 // A message with the member that each has.

@@ -50,12 +50,7 @@ fn counted(alloc: Global, dialogue: &Dialogue) -> Result<String, Fail> {
 }
 
 // Adds what is not as it has to be where the bytes arrive so.
-fn push_as(
-    told: &mut String,
-    how: &str,
-    dialogue: &Dialogue,
-    pieces: Pieces,
-) -> Result<(), Fail> {
+fn push_as(told: &mut String, how: &str, dialogue: &Dialogue, pieces: Pieces) -> Result<(), Fail> {
     let failures = failures(*told.allocator(), dialogue, pieces)?;
     if !failures.is_empty() {
         write!(told, "\n  {how}:{failures}")?;
