@@ -1,6 +1,6 @@
 -- What tests/picture.py lets Neovim do: it opens the file, and prints its screen once the server has told of two mistakes.
 local function settings()
-  vim.o.columns, vim.o.lines = 104, 15
+  vim.o.columns, vim.o.lines = 84, 15
   vim.o.number, vim.o.laststatus, vim.o.showmode, vim.o.ruler = true, 0, false, false
   vim.o.signcolumn = "yes"
   vim.o.shortmess = vim.o.shortmess .. "F"

@@ -8,7 +8,7 @@ from pathlib import Path
 HERE = Path(__file__).resolve().parent
 TEXT = """# The hero of an episode.
 query Hero($episode: Episode = JEDI) {
-  hero(episode: $episode, note: "é 日本 😀") {
+  hero(episode: $episode, note: "déjà vu") {
     name()
     friends(first: 3) { name ...Ages }
   }
@@ -81,7 +81,7 @@ def main():
         before, token = (lines[row].encode()[a:b].decode() for a, b in ((0, start), (start, end)))
         x, y = EDGE + (6 + width(before)) * WIDE, EDGE + row * HIGH + 17
         body.append(f'<path d="M{x:.1f} {y}h{width(token) * WIDE:.1f}" stroke="{COLOURS["told"]}" stroke-width="1.5"/>')
-    wide, high = EDGE * 2 + WIDE * 104, EDGE * 2 + HIGH * rows
+    wide, high = EDGE * 2 + WIDE * 84, EDGE * 2 + HIGH * rows
     print(f'<svg xmlns="http://www.w3.org/2000/svg" viewBox="0 0 {wide:.0f} {high}" font-family="ui-monospace, Menlo, Consolas, monospace" font-size="14">')
     print(f'<rect width="100%" height="100%" rx="6" fill="#1e1e1e"/>')
     print("\n".join(body))

@@ -322,7 +322,7 @@ fragment F{number} on Character {{ id, name, appearsIn }}
         parts.append(part)
         length += len(part.encode())
         number += 1
-    if mistakes:
+    if mistakes and parts:
         half = len(parts) // 2
         parts[half] = parts[half].replace("appearsIn }", "appearsIn( ) }")
     return "".join(parts)
