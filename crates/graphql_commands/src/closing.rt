@@ -30,14 +30,16 @@ pub fn closing_of(
     from: usize,
     token: &Token<'_>,
 ) -> Result<Option<Closing>, AllocError> {
-    let gaps = gaps_of(alloc, source, from, token)?;
-    if let Some(gap) = gaps.suspected
+    let Gaps {
+        suspected,
+        refused: gap,
+    } = gaps_of(alloc, source, from, token)?;
+    if let Some(gap) = suspected
         && begins_another(alloc, source, &gap)?
         && let Some(closing) = closing_all(alloc, source, &gap)?
     {
         return Ok(Some(closing));
     }
-    let gap = gaps.refused;
     if gap.open.is_empty() {
         return Ok(None);
     }
@@ -53,7 +55,7 @@ pub fn closing_of(
 #[derive(Clone, Copy)]
 struct Open {
     start: usize,
-    // Its line and its column in what was read.
+    // Its line in what was read.
     line: usize,
     // What closes it.
     closes: char,
@@ -168,9 +170,21 @@ impl Walk<'_> {
         let start = self.from.saturating_add(token.start);
         let line = token.pos.line;
         match token.text {
-            "{" => self.gap.open.push(Open { start, line, closes: '}' })?,
-            "(" => self.gap.open.push(Open { start, line, closes: ')' })?,
-            "[" => self.gap.open.push(Open { start, line, closes: ']' })?,
+            "{" => self.gap.open.push(Open {
+                start,
+                line,
+                closes: '}',
+            })?,
+            "(" => self.gap.open.push(Open {
+                start,
+                line,
+                closes: ')',
+            })?,
+            "[" => self.gap.open.push(Open {
+                start,
+                line,
+                closes: ']',
+            })?,
             "}" | ")" | "]" => {
                 self.gap.open.pop();
                 if self.gap.open.is_empty() {
@@ -282,12 +296,7 @@ fn mended(
 
 // What closes so many of the brackets that are open at a place, the inmost first. A bracket is closed in its line if that is where
 // the last token stands, and else in a line of its own, which begins as the one does in which the bracket stands.
-fn closing_at(
-    alloc: Global,
-    text: &str,
-    gap: &Gap,
-    count: usize,
-) -> Result<Closing, AllocError> {
+fn closing_at(alloc: Global, text: &str, gap: &Gap, count: usize) -> Result<Closing, AllocError> {
     let mut closing = Closing {
         offset: gap.last,
         new: String::new(alloc),
@@ -328,7 +337,7 @@ fn end_of_line(text: &str, gap: &Gap) -> usize {
 
 // How many bytes stand before the first end of a line.
 fn length_of_line(text: &str) -> usize {
-    match text.find(|c| c == '\n' || c == '\r') {
+    match text.find(|c: char| c == '\n' || c == '\r') {
         Some(length) => length,
         None => text.len(),
     }

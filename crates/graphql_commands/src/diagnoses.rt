@@ -11,7 +11,7 @@ use crate::recovery::end_of;
 use crate::telling::Names;
 use graphql_parser::lexer::{Token, TokenKind, Tokens};
 use graphql_parser::{Error, Limits, Memory, Pos};
-use graphql_report::{Finding, Language, finding_from, spots_of};
+use graphql_report::{Finding, Language, error_offsets, finding_from};
 use std::alloc::{AllocError, Global};
 
 /// The byte offsets of a text between which something stands: the end is not before the start, and both are where a character
@@ -108,17 +108,8 @@ fn diagnosis_of(
     let (told, read) = mistake.told_in(source);
     let error = &mistake.error;
     let finding = finding_from(alloc, told.language, told.text, &read, told.limits, error)?;
-    let marks = match mistake.known.token {
-        Some(token) => Marks {
-            span: span_of_token(source.text, &token, finding.place),
-            other: None,
-        },
-        None => marks_of_definitions(alloc, source, &told, mistake)?,
-    };
-    let fix = match mistake.known.token {
-        Some(token) => fix_of(alloc, source, mistake, &token, &finding)?,
-        None => None,
-    };
+    let marks = marks_of(alloc, source, &told, mistake, finding.place)?;
+    let fix = fix_of(alloc, source, mistake, &finding)?;
     Ok(Diagnosis {
         span: marks.span,
         status: finding.status,
@@ -133,6 +124,26 @@ fn diagnosis_of(
 struct Marks {
     span: Span,
     other: Option<Other>,
+}
+
+// Where an error of a text is shown that a report tells at this place.
+fn marks_of(
+    alloc: Global,
+    source: &Source<'_>,
+    told: &Source<'_>,
+    mistake: &Mistake<'_>,
+    place: Option<Pos>,
+) -> Result<Marks, AllocError>
+    ensures { IfOk result (λ marks. IsWithin source.now.text.now marks.span
+        × IfSome marks.other (λ other. IsWithin source.now.text.now other.span)) }
+{
+    match mistake.known.token {
+        Some(token) => Ok(Marks {
+            span: span_of_token(source.text, &token, place),
+            other: None,
+        }),
+        None => marks_of_definitions(alloc, source, told, mistake),
+    }
 }
 
 /// What stands between these offsets of a text; its end where they are none.
@@ -160,16 +171,22 @@ fn marks_of_definitions(
     ensures { IfOk result (λ marks. IsWithin source.now.text.now marks.span
         × IfSome marks.other (λ other. IsWithin source.now.text.now other.span)) }
 {
-    let spots = spots_of(alloc, told.text, &mistake.error)?;
-    let first = span_of_words(source.text, mistake.offset_in_text(spots.first));
-    let other = match spots.second {
-        Some((offset, message)) => Some(Other {
-            span: span_of_words(source.text, mistake.offset_in_text(offset)),
+    let offsets = error_offsets(alloc, told.text, &mistake.error)?;
+    let first = span_of_words(source.text, mistake.offset_in_text(offsets.first));
+    let Some((offset, message)) = offsets.second else {
+        return Ok(Marks {
+            span: first,
+            other: None,
+        });
+    };
+    let second = span_of_words(source.text, mistake.offset_in_text(offset));
+    Ok(Marks {
+        span: first,
+        other: Some(Other {
+            span: second,
             message,
         }),
-        None => None,
-    };
-    Ok(Marks { span: first, other })
+    })
 }
 
 // The token at this offset, and the name after it, if both are names: as `query A`.
@@ -234,39 +251,37 @@ fn length_of_fault(fault: &str) -> usize {
         return 3;
     }
     if fault.starts_with('"') {
-        return length_while(fault, |c| c != '\n' && c != '\r');
+        return length_before(
+            fault,
+            fault.trim_start_matches(|c: char| c != '\n' && c != '\r'),
+        );
     }
-    if fault.starts_with("\\u{") {
-        return length_while(fault, |c| c != '}' && c != '"' && c != '\n' && c != '\r')
-            .saturating_add(1);
-    }
-    if fault.starts_with("\\u") {
-        let digits = fault.strip_prefix("\\u").unwrap_or("");
-        return 2usize.saturating_add(length_while(digits, |c| c.is_ascii_hexdigit()).min(4));
+    if let Some(digits) = fault.strip_prefix("\\u") {
+        return length_of_escape(digits).saturating_add(2);
     }
     if fault.starts_with('\\') {
         return length_of_first(fault, 2);
     }
-    let word = length_while(
-        fault,
-        |c| c.is_ascii_alphanumeric() || matches!(c, '-' | '+' | '.'),
-    );
-    if word > 0 { word } else { length_of_first(fault, 1) }
+    let is_in_number = |c: char| c.is_ascii_alphanumeric() || matches!(c, '-' | '+' | '.');
+    length_before(fault, fault.trim_start_matches(is_in_number)).max(length_of_first(fault, 1))
 }
 
-// How many bytes the first characters of a text take that are so.
-fn length_while<F: Fn(char) -> bool>(text: &str, is_so: F) -> usize
-    requires { F.IsAlwaysCallable is_so }
-{
-    let mut rest = text.chars();
-    let mut length = 0usize;
-    while let Some(c) = rest.next() {
-        if !is_so(c) {
-            break;
-        }
-        length = text.len().saturating_sub(rest.as_str().len());
+// How many bytes are shown of an escape after its `u`: up to the brace that closes another one, or four digits.
+fn length_of_escape(digits: &str) -> usize {
+    if digits.starts_with('{') {
+        let rest = digits.trim_start_matches(|c: char| c == '{' || c.is_ascii_hexdigit());
+        return length_before(digits, rest).saturating_add(usize::from(rest.starts_with('}')));
     }
-    length
+    length_before(
+        digits,
+        digits.trim_start_matches(|c: char| c.is_ascii_hexdigit()),
+    )
+    .min(4)
+}
+
+// How many bytes of a text stand before this rest of it.
+fn length_before(text: &str, rest: &str) -> usize {
+    text.len().saturating_sub(rest.len())
 }
 
 // ---- fixes
@@ -276,11 +291,13 @@ fn fix_of(
     alloc: Global,
     source: &Source<'_>,
     mistake: &Mistake<'_>,
-    token: &Token<'_>,
     finding: &Finding,
 ) -> Result<Option<Fix>, AllocError>
     ensures { IfOk result (λ fix. IfSome fix (λ fix. IsWithin source.now.text.now fix.span)) }
 {
+    let Some(token) = &mistake.known.token else {
+        return Ok(None);
+    };
     if let Some(word) = finding.meant {
         return Ok(Some(Fix {
             title: format!(in alloc; "Change to \"{word}\"")?,

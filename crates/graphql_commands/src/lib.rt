@@ -15,12 +15,12 @@
 #![tactic(auto)]
 
 pub mod check;
+mod closing;
 pub mod command;
 pub mod diagnoses;
 pub mod errors;
 pub mod language;
 pub mod listed;
-mod closing;
 mod output;
 mod program;
 pub mod recovery;

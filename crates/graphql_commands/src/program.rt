@@ -238,22 +238,36 @@ fn each<T: Texts, E: Write>(
     let mut files: Vec<String> = Vec::new(teller.alloc);
     let unlisted = push_files(call, texts, &mut files, &mut teller, err)?;
     let names = texts_of(teller.alloc, &files)?;
-    let status = if call.command == Command::Format {
-        let mut outcome = format_files(call, &names, texts, &mut teller, err)?;
+    let status = status_of(call, &names, unlisted, texts, &mut teller, err)?;
+    let status = if unlisted > 0 { 2 } else { status };
+    Ok(told(status, teller))
+}
+
+// The same of the files of these names, beside so many folders that can't be read.
+fn status_of<T: Texts, E: Write>(
+    call: &Call<'_>,
+    names: &Vec<&str>,
+    unlisted: usize,
+    texts: &mut T,
+    teller: &mut Teller,
+    err: &mut E,
+) -> Result<u8, AllocError>
+    ensures { IfOk result (λ status. status ≤ 2) }
+{
+    if call.command == Command::Format {
+        let mut outcome = format_files(call, names, texts, teller, err)?;
         outcome.tally.unread = outcome.tally.unread.saturating_add(unlisted);
         if !call.only_checks {
-            tell_format_tally(&mut teller, outcome.tally)?;
+            tell_format_tally(teller, outcome.tally)?;
         }
-        outcome.status
-    } else {
-        let mut outcome = check_files(call, &names, texts, &mut teller, err)?;
-        outcome.tally.unread = outcome.tally.unread.saturating_add(unlisted);
-        if call.format == Format::Text {
-            tell_tally(&mut teller, outcome.tally)?;
-        }
-        outcome.status
-    };
-    Ok(told(if unlisted > 0 { 2 } else { status }, teller))
+        return Ok(outcome.status);
+    }
+    let mut outcome = check_files(call, names, texts, teller, err)?;
+    outcome.tally.unread = outcome.tally.unread.saturating_add(unlisted);
+    if call.format == Format::Text {
+        tell_tally(teller, outcome.tally)?;
+    }
+    Ok(outcome.status)
 }
 
 // What was told for standard output, and nothing of it where only the status is asked for.

@@ -1,6 +1,8 @@
 //! What stands between tokens: line ends, and comments.
-use crate::structure::Structure;
+ghost use Rattle.std.specs.Prelude.{◌≡◌, ◌≤◌, ◌<◌, length};
+
 use crate::FoldKind;
+use crate::structure::Structure;
 use std::alloc::AllocError;
 
 // The bytes of a text between two offsets, or none if there are no such.
@@ -21,7 +23,9 @@ pub(crate) fn last_line(text: &str, from: usize, to: usize) -> Option<usize> {
 }
 
 // How long the line is that these bytes begin with, without its end.
-fn line_length(bytes: &[u8]) -> usize {
+fn line_length(bytes: &[u8]) -> usize
+    ensures { result ≤ length bytes.now }
+{
     bytes
         .iter()
         .position(|b| is_line_end(*b))
@@ -29,7 +33,10 @@ fn line_length(bytes: &[u8]) -> usize {
 }
 
 // How long the line end is that these bytes begin with.
-fn line_end_length(bytes: &[u8]) -> usize {
+fn line_end_length(bytes: &[u8]) -> usize
+    ensures some { 0 < result }
+    ensures few { result ≤ 2 }
+{
     if bytes.first() == Some(&b'\r') && bytes.get(1) == Some(&b'\n') {
         2
     } else {
@@ -54,7 +61,7 @@ fn comment_of(line: &[u8]) -> Option<usize> {
 }
 
 // Lines of comments that follow one another.
-#[derive(Clone, Copy, Debug)]
+#[derive(Clone, Copy)]
 struct Run {
     start: usize,
     end: usize,
@@ -79,11 +86,11 @@ impl Run {
     }
 }
 
-fn add_run(structure: &mut Structure, run: Option<Run>) -> Result<(), AllocError> {
+fn add_run(structure: &mut Structure, run: Option<Run>) -> Result<(), AllocError>
+    ensures { structure.new ≡ structure.old }
+{
     match run {
-        Some(run) if run.lines > 1 => {
-            structure.add_fold(FoldKind::Comments, run.start, run.end)
-        }
+        Some(run) if run.lines > 1 => { structure.add_fold(FoldKind::Comments, run.start, run.end) }
         _ => Ok(()),
     }
 }
@@ -95,7 +102,9 @@ pub(crate) fn add_comments(
     text: &str,
     from: usize,
     to: usize,
-) -> Result<(), AllocError> {
+) -> Result<(), AllocError>
+    ensures { structure.new ≡ structure.old }
+{
     let gap = bytes_between(text, from, to);
     if !gap.contains(&b'#') {
         return Ok(());

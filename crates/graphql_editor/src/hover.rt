@@ -6,6 +6,7 @@ use std::alloc::{AllocError, Global};
 
 // How many lines of a definition are shown, and how many characters of each.
 const LINES: usize = 10;
+
 const WIDTH: usize = 120;
 
 /// What is shown of a name.
@@ -38,7 +39,11 @@ fn backticks(text: &str) -> usize {
     let mut most: usize = 0;
     let mut here: usize = 0;
     for b in text.as_bytes() {
-        here = if *b == b'`' { here.saturating_add(1) } else { 0 };
+        here = if *b == b'`' {
+            here.saturating_add(1)
+        } else {
+            0
+        };
         most = most.max(here);
     }
     most

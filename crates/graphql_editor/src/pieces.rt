@@ -1,4 +1,6 @@
 //! The words of a text, one after another: its tokens, and what is left of those that are broken.
+ghost use Rattle.std.specs.Prelude.{◌≡◌};
+
 use crate::gaps::first_line;
 use crate::roles::Word;
 use crate::walk::Walk;
@@ -8,12 +10,10 @@ use std::alloc::AllocError;
 const QUOTES: &str = "\"\"\"";
 
 // Hands the tokens of a part of the text to the walk, and tells where in the part they end: where no token begins, or at its end.
-fn read_tokens(
-    walk: &mut Walk,
-    text: &str,
-    part: &str,
-    start: usize,
-) -> Result<usize, AllocError> {
+fn read_tokens(walk: &mut Walk, text: &str, part: &str, start: usize) -> Result<usize, AllocError>
+    ensures structure { walk.new.structure ≡ walk.old.structure }
+    ensures chain { walk.new.chain ≡ walk.old.chain }
+{
     for token in Tokens::new(part) {
         match token.kind {
             TokenKind::Fault => return Ok(token.start),
@@ -71,14 +71,11 @@ fn broken(rest: &str) -> (Option<TokenKind>, usize) {
 }
 
 // Hands what is broken to the walk, and tells how long it is.
-fn read_broken(
-    walk: &mut Walk,
-    text: &str,
-    rest: &str,
-    start: usize,
-) -> Result<usize, AllocError> {
+fn read_broken(walk: &mut Walk, text: &str, rest: &str, start: usize) -> Result<usize, AllocError>
+    ensures structure { walk.new.structure ≡ walk.old.structure }
+    ensures chain { walk.new.chain ≡ walk.old.chain }
+{
     let (kind, length) = broken(rest);
-    walk.note_fault();
     if let Some(kind) = kind
         && let Some(spelling) = rest.get(..length)
     {
@@ -91,7 +88,10 @@ fn read_broken(
 ///
 /// Behind a block string that has no end the tokens of each line are read for themselves: such a string is looked for up to the
 /// end of the text, and so it is done once.
-pub(crate) fn read(walk: &mut Walk, text: &str) -> Result<(), AllocError> {
+pub(crate) fn read(walk: &mut Walk, text: &str) -> Result<(), AllocError>
+    ensures structure { walk.new.structure ≡ walk.old.structure }
+    ensures chain { walk.new.chain ≡ walk.old.chain }
+{
     let mut at = 0;
     let mut is_by_line = false;
     while at < text.len() {

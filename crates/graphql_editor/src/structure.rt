@@ -1,33 +1,52 @@
 //! What a walk over a text finds.
+ghost use Rattle.std.specs.Prelude.{◌≡◌, ℕ, All, IfOk, length};
+ghost use Rattle.graphql_editor.specs.Spans.{IsSpanWithin, IsSymbolWithin, IsFoldWithin, IsNameWithin};
+
 use crate::pieces::read;
 use crate::walk::Walk;
 use crate::{Fold, FoldKind, NameKind, Occurrence, Role, Span, Symbol, SymbolKind};
 use std::alloc::{AllocError, Global};
+use std::marker::Model;
 
 /// What an editor asks of one text: its outline, what can be folded, its definitions and its names.
 ///
-/// It doesn't hold the text.
-#[derive(Debug, Drop)]
+/// It doesn't hold the text. A contract sees it as the number of the text's bytes.
+#[derive(Drop)]
 pub struct Structure {
-    length: usize,
+    size: usize,
     symbols: Vec<Symbol>,
     folds: Vec<Fold>,
     definitions: Vec<Span>,
     names: Vec<Occurrence>,
 }
 
-// The part of a text of this length between two offsets: what of it is in the text, and nothing where the end is before the
-// start.
-pub(crate) fn span_within(start: usize, end: usize, length: usize) -> Span {
-    let start = start.min(length);
+impl Model for Structure {
+    ghost use Rattle.std.specs.Prelude.{ℕ, All};
+    ghost use Rattle.graphql_editor.specs.Spans.{IsSpanWithin, IsSymbolWithin, IsFoldWithin, IsNameWithin};
+
+    ghost Value = { ℕ };
+
+    ghost view = { λ structure. structure.size };
+
+    ghost invariant = { λ structure. All (IsSymbolWithin structure.size) structure.symbols.items
+        × All (IsFoldWithin structure.size) structure.folds.items
+        × All (IsSpanWithin structure.size) structure.definitions.items
+        × All (IsNameWithin structure.size) structure.names.items };
+}
+
+/// The part of a text of this size between two offsets: what of it is in the text, and nothing where the end is before the start.
+pub(crate) fn span_within(start: usize, end: usize, size: usize) -> Span
+    ensures { IsSpanWithin size result }
+{
+    let start = start.min(size);
     Span {
         start,
-        end: end.max(start).min(length),
+        end: end.max(start).min(size),
     }
 }
 
 /// What is told of a symbol when its first name is passed.
-#[derive(Clone, Copy, Debug)]
+#[derive(Clone, Copy)]
 pub(crate) struct Found {
     /// What it is.
     pub kind: SymbolKind,
@@ -43,24 +62,91 @@ pub(crate) struct Found {
     pub is_extension: bool,
 }
 
+// The symbol of a text of this size, up to its name.
+fn begun(found: &Found, size: usize) -> Symbol
+    ensures { IsSymbolWithin size result }
+{
+    let name = span_within(found.name_start, found.name_end, size);
+    Symbol {
+        kind: found.kind,
+        name,
+        whole: Span {
+            start: found.start.min(name.start),
+            end: name.end,
+        },
+        detail: None,
+        depth: found.depth,
+        is_extension: found.is_extension,
+    }
+}
+
+// The symbol with this name.
+fn named(symbol: Symbol, start: usize, end: usize, size: usize) -> Symbol
+    requires { IsSymbolWithin size symbol }
+    ensures { IsSymbolWithin size result }
+{
+    let name = span_within(start, end, size);
+    let whole = Span {
+        start: symbol.whole.start.min(name.start),
+        end: symbol.whole.end.max(name.end),
+    };
+    Symbol {
+        name,
+        whole,
+        ..symbol
+    }
+}
+
+// The symbol as one of this kind.
+fn turned(symbol: Symbol, kind: SymbolKind) -> Symbol
+    ensures { (size : ℕ) → IsSymbolWithin size symbol → IsSymbolWithin size result }
+{
+    Symbol { kind, ..symbol }
+}
+
+// The symbol with this detail.
+fn detailed(symbol: Symbol, start: usize, end: usize, size: usize) -> Symbol
+    requires { IsSymbolWithin size symbol }
+    ensures { IsSymbolWithin size result }
+{
+    let detail = Some(span_within(start, end, size));
+    Symbol { detail, ..symbol }
+}
+
+// The symbol up to this end, or up to a later one that it has.
+fn ended(symbol: Symbol, end: usize, size: usize) -> Symbol
+    requires { IsSymbolWithin size symbol }
+    ensures { IsSymbolWithin size result }
+{
+    let whole = Span {
+        start: symbol.whole.start,
+        end: end.min(size).max(symbol.whole.end),
+    };
+    Symbol { whole, ..symbol }
+}
+
 impl Structure {
     /// The structure of a text. It fails only where memory runs out.
-    pub fn new(alloc: Global, text: &str) -> Result<Structure, AllocError> {
+    pub fn new(alloc: Global, text: &str) -> Result<Structure, AllocError>
+        ensures { IfOk result (λ structure. structure ≡ length text.now) }
+    {
         let mut walk = Walk::new(alloc, text.len(), None, false);
         read(&mut walk, text)?;
         if walk.is_whole() {
             return Ok(walk.into_structure());
         }
-        // A bracket is missing or one too much, or a token is broken: once more, with an eye on where definitions begin.
-        let mut walk = Walk::new(alloc, text.len(), None, true);
-        read(&mut walk, text)?;
-        Ok(walk.into_structure())
+        // A bracket is missing or one too much: once more, with an eye on where definitions begin.
+        let mut again = Walk::new(alloc, text.len(), None, true);
+        read(&mut again, text)?;
+        Ok(again.into_structure())
     }
 
-    /// The structure of a text of this length of which nothing was read.
-    pub(crate) fn unread(alloc: Global, length: usize) -> Structure {
+    /// The structure of a text of this size of which nothing was read.
+    pub(crate) fn unread(alloc: Global, size: usize) -> Structure
+        ensures { result ≡ size }
+    {
         Structure {
-            length,
+            size,
             symbols: Vec::new(alloc),
             folds: Vec::new(alloc),
             definitions: Vec::new(alloc),
@@ -70,99 +156,75 @@ impl Structure {
 
     /// The outline: definitions, and what they have, in the order of the text. A symbol that is 32 symbols deep, or deeper, is
     /// left out (this project's choice).
-    pub fn symbols(&self) -> &[Symbol] {
+    pub fn symbols(&self) -> &[Symbol]
+        ensures { All (IsSymbolWithin self.now) result.now }
+    {
         &self.symbols
     }
 
     /// What can be folded, in the order of the ends.
-    pub fn folds(&self) -> &[Fold] {
+    pub fn folds(&self) -> &[Fold]
+        ensures { All (IsFoldWithin self.now) result.now }
+    {
         &self.folds
     }
 
     /// The definitions, each from its description, if it has one, to its last token, in the order of the text.
-    pub fn definitions(&self) -> &[Span] {
+    pub fn definitions(&self) -> &[Span]
+        ensures { All (IsSpanWithin self.now) result.now }
+    {
         &self.definitions
     }
 
     /// The names of fragments, variables, types and directives, in the order of the text.
-    pub fn names(&self) -> &[Occurrence] {
+    pub fn names(&self) -> &[Occurrence]
+        ensures { All (IsNameWithin self.now) result.now }
+    {
         &self.names
     }
 
     /// Adds a symbol, and tells at which index.
-    pub(crate) fn add_symbol(&mut self, found: &Found) -> Result<usize, AllocError> {
-        let name = span_within(found.name_start, found.name_end, self.length);
+    pub(crate) fn add_symbol(&mut self, found: &Found) -> Result<usize, AllocError>
+        ensures { self.new ≡ self.old }
+    {
         let index = self.symbols.len();
-        self.symbols.push(Symbol {
-            kind: found.kind,
-            name,
-            whole: Span {
-                start: found.start.min(name.start),
-                end: name.end,
-            },
-            detail: None,
-            depth: found.depth,
-            is_extension: found.is_extension,
-        })?;
+        self.symbols.push(begun(found, self.size))?;
         Ok(index)
     }
 
-    // Puts a symbol in the place of one that is there.
-    fn put(&mut self, index: usize, symbol: Symbol) {
-        if index < self.symbols.len() {
-            self.symbols[index] = symbol;
-        }
-    }
-
     /// Names a symbol.
-    pub(crate) fn name_symbol(&mut self, index: usize, start: usize, end: usize) {
-        let name = span_within(start, end, self.length);
-        if let Some(symbol) = self.symbols.get(index).copied() {
-            let whole = Span {
-                start: symbol.whole.start.min(name.start),
-                end: symbol.whole.end.max(name.end),
-            };
-            self.put(
-                index,
-                Symbol {
-                    name,
-                    whole,
-                    ..symbol
-                },
-            );
+    pub(crate) fn name_symbol(&mut self, index: usize, start: usize, end: usize)
+        ensures { self.new ≡ self.old }
+    {
+        if index < self.symbols.len() {
+            self.symbols[index] = named(self.symbols[index], start, end, self.size);
         }
     }
 
-    /// Tells of an inline fragment that it is a spread of the fragment with this name.
-    pub(crate) fn spread(&mut self, index: usize, start: usize, end: usize) {
-        self.name_symbol(index, start, end);
-        if let Some(symbol) = self.symbols.get(index).copied() {
-            self.put(
-                index,
-                Symbol {
-                    kind: SymbolKind::Spread,
-                    ..symbol
-                },
-            );
+    /// Tells of an inline fragment that it is a spread.
+    pub(crate) fn turn_to_spread(&mut self, index: usize)
+        ensures { self.new ≡ self.old }
+    {
+        if index < self.symbols.len() {
+            self.symbols[index] = turned(self.symbols[index], SymbolKind::Spread);
         }
     }
 
     /// Tells the type of a symbol, or what it is an alias for.
-    pub(crate) fn detail_symbol(&mut self, index: usize, start: usize, end: usize) {
-        let detail = Some(span_within(start, end, self.length));
-        if let Some(symbol) = self.symbols.get(index).copied() {
-            self.put(index, Symbol { detail, ..symbol });
+    pub(crate) fn detail_symbol(&mut self, index: usize, start: usize, end: usize)
+        ensures { self.new ≡ self.old }
+    {
+        if index < self.symbols.len() {
+            self.symbols[index] = detailed(self.symbols[index], start, end, self.size);
         }
     }
 
     /// Ends a symbol.
-    pub(crate) fn end_symbol(&mut self, index: usize, end: usize) {
-        if let Some(symbol) = self.symbols.get(index).copied() {
-            let whole = Span {
-                start: symbol.whole.start,
-                end: end.min(self.length).max(symbol.whole.end),
-            };
-            self.put(index, Symbol { whole, ..symbol });
+    pub(crate) fn end_symbol(&mut self, index: usize, end: usize)
+        ensures { self.new ≡ self.old }
+    {
+        if index < self.symbols.len() {
+            self.symbols[index] = ended(self.symbols[index], end, self.size);
         }
     }
 
@@ -172,15 +234,20 @@ impl Structure {
         kind: FoldKind,
         start: usize,
         end: usize,
-    ) -> Result<(), AllocError> {
-        let span = span_within(start, end, self.length);
+    ) -> Result<(), AllocError>
+        ensures { self.new ≡ self.old }
+    {
+        let span = span_within(start, end, self.size);
         self.folds.push(Fold { kind, span })?;
         Ok(())
     }
 
     /// Adds a definition.
-    pub(crate) fn add_definition(&mut self, start: usize, end: usize) -> Result<(), AllocError> {
-        self.definitions.push(span_within(start, end, self.length))?;
+    pub(crate) fn add_definition(&mut self, start: usize, end: usize) -> Result<(), AllocError>
+        ensures { self.new ≡ self.old }
+    {
+        let span = span_within(start, end, self.size);
+        self.definitions.push(span)?;
         Ok(())
     }
 
@@ -191,12 +258,16 @@ impl Structure {
         role: Role,
         start: usize,
         end: usize,
-    ) -> Result<(), AllocError> {
+    ) -> Result<(), AllocError>
+        ensures { self.new ≡ self.old }
+    {
+        let span = span_within(start, end, self.size);
+        let definition = self.definitions.len();
         self.names.push(Occurrence {
             kind,
             role,
-            span: span_within(start, end, self.length),
-            definition: self.definitions.len(),
+            span,
+            definition,
         })?;
         Ok(())
     }

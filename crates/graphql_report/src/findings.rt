@@ -36,7 +36,7 @@ pub struct Finding {
 
 /// Where the tokens stand that an error about definitions is about, as byte offsets. (This project's own type.)
 #[derive(Clone, Copy)]
-pub struct Spots {
+pub struct ErrorOffsets {
     /// The token at the first place of the report; the length of the text where the error names none.
     pub first: usize,
     /// The token at the second place, and what the report says of it.
@@ -46,9 +46,9 @@ pub struct Spots {
 /// Where the tokens stand in `text` that `error` is about, an error about definitions that a parser gave for it. Of other errors
 /// it gives the length of the text. One walk over the tokens finds them. An error says that memory was refused. (This project's
 /// own call.)
-pub fn spots_of(alloc: Global, text: &str, error: &Error) -> Result<Spots, AllocError> {
+pub fn error_offsets(alloc: Global, text: &str, error: &Error) -> Result<ErrorOffsets, AllocError> {
     let offsets = offsets_of(alloc, text, error)?;
-    Ok(Spots {
+    Ok(ErrorOffsets {
         first: offsets.first,
         second: match second_remark_of(error) {
             Some(remark) => Some((offsets.second, remark)),

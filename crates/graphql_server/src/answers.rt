@@ -4,60 +4,77 @@ use crate::messages::{Answer, Id, LogParams, Notice, Object, Refusal, ResponseEr
 use serde::{Deserialize, Serialize};
 use serde_json::Category;
 use std::alloc::{AllocError, AllocFailed, Global};
-use std::borrow::CowStr;
 
 const JSONRPC: &str = "2.0";
 
-/// The errors that a request may have (JSON-RPC 2.0, "Error object"; Language Server Protocol 3.17, "ErrorCodes").
-#[derive(Clone, Copy, Debug, PartialEq, Eq)]
-pub enum Code {
-    ParseError,
-    InvalidRequest,
-    MethodNotFound,
-    InvalidParams,
-    InternalError,
-    ServerNotInitialized,
-}
-
-impl Code {
-    fn number(self) -> i64 {
-        match self {
-            Code::ParseError => -32700,
-            Code::InvalidRequest => -32600,
-            Code::MethodNotFound => -32601,
-            Code::InvalidParams => -32602,
-            Code::InternalError => -32603,
-            Code::ServerNotInitialized => -32002,
-        }
-    }
-}
-
-/// Why a request fails.
+/// Why a message is refused, or has no effect.
 #[derive(Debug, Drop)]
-pub struct Failure {
-    pub code: Code,
-    pub message: CowStr<'static>,
+pub enum Failure {
+    OutOfMemory,
+    /// Its content is coded otherwise than in UTF-8, as its header says.
+    OtherCharset,
+    NotUtf8,
+    NotJson,
+    NotMessage,
+    NoId,
+    NotInitialized,
+    InitializedTwice,
+    ShutDown,
+    NoSuchRequest,
+    TooManyPositions,
+    /// What the parameters lack, or have wrong.
+    WrongParams(String),
+    /// What is told of a text that isn't open.
+    NotOpen(String),
 }
 
 impl Failure {
-    /// The failure that has this message.
-    pub fn of(code: Code, message: &'static str) -> Failure {
-        Failure {
-            code,
-            message: CowStr::Borrowed(message),
+    // The error of a request (JSON-RPC 2.0, "Error object"; Language Server Protocol 3.17, "ErrorCodes").
+    fn code(&self) -> i64 {
+        match self {
+            Failure::OtherCharset | Failure::NotUtf8 | Failure::NotJson => -32700,
+            Failure::NotMessage | Failure::NoId | Failure::InitializedTwice | Failure::ShutDown =>
+                -32600,
+            Failure::NoSuchRequest => -32601,
+            Failure::TooManyPositions | Failure::WrongParams(_) | Failure::NotOpen(_) => -32602,
+            Failure::OutOfMemory => -32603,
+            Failure::NotInitialized => -32002,
         }
+    }
+
+    /// What is told of it.
+    pub fn message(&self) -> &str {
+        match self {
+            Failure::OutOfMemory => "out of memory",
+            Failure::OtherCharset => "a content is not coded in UTF-8",
+            Failure::NotUtf8 => "a content is no UTF-8",
+            Failure::NotJson => "a content is no JSON",
+            Failure::NotMessage => "a content is no message",
+            Failure::NoId => "an id is no text and no number",
+            Failure::NotInitialized => "the first request is initialize",
+            Failure::InitializedTwice => "initialize comes once",
+            Failure::ShutDown => "no request comes after shutdown",
+            Failure::NoSuchRequest => "there is no such request",
+            Failure::TooManyPositions => "so many positions are not answered at once",
+            Failure::WrongParams(message) | Failure::NotOpen(message) => message.as_str(),
+        }
+    }
+
+    /// Whether memory ran out.
+    pub fn is_of_memory(&self) -> bool {
+        matches!(self, Failure::OutOfMemory)
     }
 }
 
 impl From<AllocError> for Failure {
     fn from(_error: AllocError) -> Failure {
-        Failure::of(Code::InternalError, "out of memory")
+        Failure::OutOfMemory
     }
 }
 
 impl<T: Drop> From<AllocFailed<T>> for Failure {
     fn from(_failed: AllocFailed<T>) -> Failure {
-        Failure::of(Code::InternalError, "out of memory")
+        Failure::OutOfMemory
     }
 }
 
@@ -69,11 +86,8 @@ pub fn params_of<'a, P: Deserialize<'a>>(alloc: Global, message: &'a str) -> Res
             let Object(params) = params;
             Ok(params)
         }
-        Err(error) if error.classify() == Category::Memory => Err(AllocError.into()),
-        Err(error) => Err(Failure {
-            code: Code::InvalidParams,
-            message: CowStr::Owned(format!(in alloc; "{error}")?),
-        }),
+        Err(error) if error.classify() == Category::Memory => Err(Failure::OutOfMemory),
+        Err(error) => Err(Failure::WrongParams(format!(in alloc; "{error}")?)),
     }
 }
 
@@ -118,8 +132,8 @@ pub fn refuse(
         jsonrpc: JSONRPC,
         id,
         error: ResponseError {
-            code: failure.code.number(),
-            message: failure.message.as_str(),
+            code: failure.code(),
+            message: failure.message(),
         },
     };
     push(alloc, &refusal, out)

@@ -2,8 +2,7 @@
 
 use crate::diagnostics::{diagnostic_of, found_in, range_of};
 use crate::messages::{CodeAction, TextEdit, WorkspaceEdit};
-use graphql_commands::{Diagnosis, Fix};
-use graphql_report::Language;
+use graphql_commands::{Diagnosis, Fix, Language};
 use std::alloc::{AllocError, Global};
 use std::borrow::CowStr;
 use text_edits::{Document, Encoding, Range};
@@ -60,10 +59,12 @@ fn action_of<'a>(
     fix: Fix,
 ) -> Result<CodeAction<'a>, AllocError> {
     let Fix { title, span, new } = fix;
+    let mut diagnostics = Vec::new(alloc);
+    diagnostics.push(diagnostic_of(alloc, uri, encoding, document, diagnosis)?)?;
     Ok(CodeAction {
         title,
         kind: QUICK_FIX,
-        diagnostics: [diagnostic_of(alloc, uri, encoding, document, diagnosis)?],
+        diagnostics,
         is_preferred: true,
         edit: WorkspaceEdit {
             uri,

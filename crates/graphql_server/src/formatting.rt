@@ -3,13 +3,13 @@
 
 use crate::diagnostics::range_of;
 use crate::messages::TextEdit;
+use graphql_commands::Language;
 use graphql_commands::check::error_of;
 use graphql_commands::errors::Source;
 use graphql_commands::rewriting::laid_out;
 use graphql_commands::telling::Names;
 use graphql_editor::{Span, Structure};
 use graphql_parser::{Limits, Memory};
-use graphql_report::Language;
 use std::alloc::{AllocError, Global};
 use text_edits::{Document, Encoding, Range};
 

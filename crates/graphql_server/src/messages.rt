@@ -1,5 +1,6 @@
 //! The messages of the protocol, as they are read and written (Language Server Protocol 3.17).
 
+use serde::de::DeserializeOwned;
 use serde::{Described, Deserialize, Deserializer, Format, Kind, Serialize, Serializer};
 use std::alloc::Global;
 use std::borrow::CowStr;
@@ -57,7 +58,20 @@ impl<'de, T: Deserialize<'de>> Deserialize<'de> for Object<T> {
     }
 }
 
-/// What each message has but its parameters ("Abstract Message", "Request Message", "Notification Message").
+impl<T: DeserializeOwned> DeserializeOwned for Object<T> {
+    fn deserialize_owned<F: Format>(
+        alloc: Global,
+        from: &mut Deserializer<'_, '_, F>,
+    ) -> Result<Object<T>, F::Error> {
+        if from.peek()? == Kind::Map {
+            return Ok(Object(T::deserialize_owned(alloc, from)?));
+        }
+        from.skip()?;
+        Err(from.custom("expected an object"))
+    }
+}
+
+/// What each message has but its parameters ("Abstract Message", "Request Message", "Notification Message", "Response Message").
 #[derive(Debug, Drop, Deserialize)]
 pub struct Envelope<'a> {
     #[serde(default)]
@@ -66,6 +80,10 @@ pub struct Envelope<'a> {
     pub id: Member<'a>,
     #[serde(default)]
     pub method: Member<'a>,
+    #[serde(default)]
+    pub result: Member<'a>,
+    #[serde(default)]
+    pub error: Member<'a>,
 }
 
 /// The parameters of a message.
@@ -396,7 +414,7 @@ pub struct TextEdit {
 pub struct CodeAction<'a> {
     pub title: String,
     pub kind: &'static str,
-    pub diagnostics: [Diagnostic<'a>; 1],
+    pub diagnostics: Vec<Diagnostic<'a>>,
     pub is_preferred: bool,
     pub edit: WorkspaceEdit<'a>,
 }

@@ -33,7 +33,7 @@ fn close_to<'a>(
     open: &mut Vec<DocumentSymbol<'a>>,
     roots: &mut Vec<DocumentSymbol<'a>>,
 ) -> Result<(), AllocError> {
-    while open.len() > depth {
+    for _ in depth..open.len() {
         let Some(symbol) = open.pop() else {
             break;
         };

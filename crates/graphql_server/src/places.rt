@@ -50,7 +50,7 @@ impl<'a> Places<'a> {
     pub fn position_of(&self, offset: usize) -> Position {
         let text = self.text;
         let end = text.floor_char_boundary(offset);
-        let start = text.floor_char_boundary(end / STEP * STEP);
+        let start = text.floor_char_boundary(end - end % STEP);
         let Some(mark) = self.marks.as_slice().get(end / STEP) else {
             return Position {
                 line: 0,

@@ -2,7 +2,7 @@
 
 ghost use Rattle.std.specs.Prelude.{◌≤◌, IfSome};
 
-use crate::answers::{Code, Failure, Weight, log, refuse};
+use crate::answers::{Failure, Weight, log, refuse};
 use crate::framing::{Frames, Piece};
 use crate::messages::Id;
 use crate::session::Session;
@@ -86,8 +86,8 @@ impl Server {
                 self.session.take(content, out)
             }
             Piece::OtherCharset => {
-                let failure = Failure::of(Code::ParseError, "the content is not coded in UTF-8");
-                log(self.alloc, Weight::Error, failure.message.as_str(), out)?;
+                let failure = Failure::OtherCharset;
+                log(self.alloc, Weight::Error, failure.message(), out)?;
                 refuse(self.alloc, &Id::Null, &failure, out)
             }
             Piece::Fault(why) => log(self.alloc, Weight::Error, why, out),

@@ -2,7 +2,7 @@
 
 ghost use Rattle.std.specs.Prelude.{◌≤◌, IfSome};
 
-use crate::answers::{Code, Failure, Weight, answer, log, notify, params_of, refuse};
+use crate::answers::{Failure, Weight, answer, log, notify, params_of, refuse};
 use crate::capabilities::{asks_for_diagnostics, encoding_of, initialize_answer};
 use crate::diagnostics::diagnostics_of;
 use crate::fixes::{are_wanted, fixes_in};
@@ -20,7 +20,6 @@ use crate::selection::{are_too_many, selection_of};
 use crate::texts::{Change, OpenText, Texts, change_all, is_position, is_range, said_by};
 use serde_json::Category;
 use std::alloc::{AllocError, Global};
-use std::borrow::CowStr;
 use text_edits::{Document, Encoding, Position, Range};
 
 // How far a session is.
@@ -101,35 +100,29 @@ impl Session {
 
     fn take_content(&mut self, content: &[u8], out: &mut Vec<u8>) -> Result<(), AllocError> {
         let Ok(message) = std::str::from_utf8(content) else {
-            return self.refuse_message(Code::ParseError, "a message is no UTF-8", out);
+            return self.refuse_message(Failure::NotUtf8, out);
         };
         let envelope = match serde_json::from_str::<Object<Envelope<'_>>>(self.alloc, message) {
             Ok(Object(envelope)) => envelope,
             Err(error) => {
-                return match error.classify() {
-                    Category::Memory => {
-                        self.forget();
-                        self.refuse_message(Code::InternalError, "out of memory", out)
-                    }
-                    Category::Data => {
-                        self.refuse_message(Code::InvalidRequest, "a message is no request", out)
-                    }
-                    _ => self.refuse_message(Code::ParseError, "a message is no JSON", out),
+                let failure = match error.classify() {
+                    Category::Memory => Failure::OutOfMemory,
+                    Category::Data => Failure::NotMessage,
+                    _ => Failure::NotJson,
                 };
+                if failure.is_of_memory() {
+                    self.forget();
+                }
+                return self.refuse_message(failure, out);
             }
         };
         self.take_envelope(message, envelope, out)
     }
 
     // Answers a message that is none by an error without id, and logs it.
-    fn refuse_message(
-        &self,
-        code: Code,
-        message: &'static str,
-        out: &mut Vec<u8>,
-    ) -> Result<(), AllocError> {
-        log(self.alloc, Weight::Error, message, out)?;
-        refuse(self.alloc, &Id::Null, &Failure::of(code, message), out)
+    fn refuse_message(&self, failure: Failure, out: &mut Vec<u8>) -> Result<(), AllocError> {
+        log(self.alloc, Weight::Error, failure.message(), out)?;
+        refuse(self.alloc, &Id::Null, &failure, out)
     }
 
     fn take_envelope(
@@ -142,14 +135,17 @@ impl Session {
             jsonrpc,
             id,
             method,
+            result: given,
+            error,
         } = envelope;
+        let is_answer = !matches!((&given, &error), (Member::Absent, Member::Absent));
         let is_version = matches!(&jsonrpc, Member::Text(version) if version.as_str() == "2.0");
         let id = match id {
             Member::Absent => None,
             Member::Number(number) => Some(Id::Number(number)),
             Member::Text(text) => Some(Id::Text(text)),
             Member::Null | Member::Other => {
-                return self.refuse_message(Code::InvalidRequest, "an id is no text or number", out);
+                return self.refuse_message(Failure::NoId, out);
             }
         };
         match (method, id) {
@@ -160,10 +156,10 @@ impl Session {
                 self.take_notification(message, method.as_str(), out)
             }
             // The server asks for nothing, so an answer is for no request of its.
-            (Member::Absent, Some(_)) if is_version => Ok(()),
+            (Member::Absent, Some(_)) if is_version && is_answer => Ok(()),
             (_, id) => {
-                let failure = Failure::of(Code::InvalidRequest, "a message is no request");
-                log(self.alloc, Weight::Error, failure.message.as_str(), out)?;
+                let failure = Failure::NotMessage;
+                log(self.alloc, Weight::Error, failure.message(), out)?;
                 refuse(self.alloc, &id.unwrap_or(Id::Null), &failure, out)
             }
         }
@@ -181,20 +177,14 @@ impl Session {
         let before = out.len();
         let outcome = match (self.phase, method) {
             (Phase::Fresh, "initialize") => self.initialize(message, id, out),
-            (Phase::Fresh, _) => Err(Failure::of(
-                Code::ServerNotInitialized,
-                "the first request is initialize",
-            )),
+            (Phase::Fresh, _) => Err(Failure::NotInitialized),
             (Phase::Running, _) => self.answer_running(message, method, id, out),
-            (Phase::ShutDown | Phase::Ended | Phase::CutShort, _) => Err(Failure::of(
-                Code::InvalidRequest,
-                "no request comes after shutdown",
-            )),
+            (Phase::ShutDown | Phase::Ended | Phase::CutShort, _) => Err(Failure::ShutDown),
         };
         match outcome {
             Ok(()) => Ok(()),
             Err(failure) => {
-                if failure.code == Code::InternalError {
+                if failure.is_of_memory() {
                     out.truncate(before);
                 }
                 refuse(self.alloc, id, &failure, out)
@@ -236,8 +226,8 @@ impl Session {
             "textDocument/definition" => self.definition(message, id, out),
             "textDocument/references" => self.references(message, id, out),
             "textDocument/hover" => self.hover(message, id, out),
-            "initialize" => Err(Failure::of(Code::InvalidRequest, "initialize comes once")),
-            _ => Err(Failure::of(Code::MethodNotFound, "there is no such request")),
+            "initialize" => Err(Failure::InitializedTwice),
+            _ => Err(Failure::NoSuchRequest),
         }
     }
 
@@ -245,16 +235,16 @@ impl Session {
     fn text(&self, uri: &str, out: &mut Vec<u8>) -> Result<&OpenText, Failure> {
         match self.texts.get(uri) {
             Some(text) => Ok(text),
-            None => {
-                let alloc = self.alloc;
-                let message = format!(in alloc; "the text isn't open: {uri}")?;
-                log(alloc, Weight::Warning, message.as_str(), out)?;
-                Err(Failure {
-                    code: Code::InvalidParams,
-                    message: CowStr::Owned(message),
-                })
-            }
+            None => Err(Failure::NotOpen(self.log_not_open(uri, out)?)),
         }
+    }
+
+    // Logs that a text isn't open, and gives what is logged.
+    fn log_not_open(&self, uri: &str, out: &mut Vec<u8>) -> Result<String, AllocError> {
+        let alloc = self.alloc;
+        let message = format!(in alloc; "the text isn't open: {uri}")?;
+        log(alloc, Weight::Warning, message.as_str(), out)?;
+        Ok(message)
     }
 
     // Logs a position that is none of the text, and is clipped.
@@ -346,8 +336,7 @@ impl Session {
         let document = &self.text(uri, out)?.document;
         let text = document.text();
         if are_too_many(params.positions.len(), text) {
-            let message = "so many positions are not answered at once";
-            return Err(Failure::of(Code::InvalidParams, message));
+            return Err(Failure::TooManyPositions);
         }
         let places = Places::new(self.alloc, self.encoding, text)?;
         let mut ranges = Vec::new(self.alloc);
@@ -444,11 +433,11 @@ impl Session {
         match outcome {
             Ok(()) => Ok(()),
             Err(failure) => {
-                if failure.code == Code::InternalError {
+                if failure.is_of_memory() {
                     out.truncate(before);
                 }
                 let alloc = self.alloc;
-                let why = failure.message.as_str();
+                let why = failure.message();
                 let message = format!(in alloc; "{method}: {why}")?;
                 log(alloc, Weight::Error, message.as_str(), out)
             }
@@ -484,7 +473,7 @@ impl Session {
         let (alloc, encoding) = (self.alloc, self.encoding);
         let params = params_of::<ChangeParams<'_>>(alloc, message);
         if let Err(failure) = &params
-            && failure.code == Code::InternalError
+            && failure.is_of_memory()
         {
             self.forget();
         }
@@ -494,8 +483,8 @@ impl Session {
         } = params?;
         let ChangedText { uri, version } = text_document;
         let uri = uri.as_str();
-        let _ = self.text(uri, out)?;
         let Some(text) = self.texts.get_mut(uri) else {
+            let _ = self.log_not_open(uri, out)?;
             return Ok(());
         };
         let mut changes = Vec::new(alloc);
@@ -518,8 +507,10 @@ impl Session {
         let alloc = self.alloc;
         let params: TextParams<'_> = params_of(alloc, message)?;
         let uri = params.text_document.uri.as_str();
-        let _ = self.text(uri, out)?;
-        let _ = self.texts.close(uri);
+        if !self.texts.close(uri) {
+            let _ = self.log_not_open(uri, out)?;
+            return Ok(());
+        }
         if self.publishes {
             let none: [Diagnostic<'_>; 0] = [];
             self.publish_list(uri, None, none.as_slice(), out)?;

@@ -1,9 +1,11 @@
 //! What no clause says: each request once, what is told of bad input, and how bytes are cut.
 
 use crate::Server;
+use crate::places::Places;
 use std::alloc::{AllocError, Global};
 use std::process::Abort;
 use std::test::Fail;
+use text_edits::{Document, Encoding};
 
 // A server that was initialized, with these capabilities of the client.
 fn started(alloc: Global, capabilities: &str) -> Result<Server, Fail> {
@@ -160,5 +162,32 @@ fn a_text_is_opened_changed_and_closed(rt: HostRuntime) -> Result<(), Fail> {
         about(alloc, "", "didClose", "")?.as_str(),
     )?;
     assert!(rt; closed.contains("isn't open"), "{closed}");
+    Ok(())
+}
+
+#[test]
+fn places_are_those_of_the_document(rt: HostRuntime) -> Result<(), Fail> {
+    let alloc = rt.alloc();
+    let mut text = String::from_str(alloc, "a\r\n\rb\n\n")?;
+    for _ in 0..40 {
+        text.push_str("x é日😀 ")?;
+    }
+    text.push_str("\r\n\r\ré")?;
+    for encoding in [Encoding::Utf8, Encoding::Utf16, Encoding::Utf32] {
+        let document = Document::new(alloc, text.clone()?)?;
+        let places = Places::new(alloc, encoding, text.as_str())?;
+        for offset in 0..text.len() {
+            assert_eq!(rt;
+                places.position_of(offset),
+                document.position_of(encoding, offset),
+                "{offset}"
+            );
+        }
+        let past = text.len();
+        assert_eq!(rt;
+            places.position_of(past),
+            document.position_of(encoding, past)
+        );
+    }
     Ok(())
 }

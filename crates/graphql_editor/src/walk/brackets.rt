@@ -1,14 +1,18 @@
 //! How members and brackets begin and end.
-use super::{DEPTH, Level, Member, Part, Walk};
-use crate::FoldKind;
-use crate::SymbolKind;
+ghost use Rattle.std.specs.Prelude.{◌≡◌};
+
+use super::{DEPTH, LEVELS, Level, Member, Part, Walk};
 use crate::roles::{Bracket, Last, Word, closer_of};
 use crate::structure::Found;
+use crate::{FoldKind, SymbolKind};
 use std::alloc::AllocError;
 
 impl Walk {
     // Begins a member of the innermost bracket, or a definition.
-    pub(super) fn begin_member(&mut self, start: usize) -> Result<(), AllocError> {
+    pub(super) fn begin_member(&mut self, start: usize) -> Result<(), AllocError>
+        ensures structure { self.new.structure ≡ self.old.structure }
+        ensures chain { self.new.chain ≡ self.old.chain }
+    {
         self.end_member()?;
         if self.level.content.is_none() {
             self.level.content = Some(start);
@@ -28,7 +32,10 @@ impl Walk {
     }
 
     // Ends the member, where the last word ended.
-    pub(super) fn end_member(&mut self) -> Result<(), AllocError> {
+    pub(super) fn end_member(&mut self) -> Result<(), AllocError>
+        ensures structure { self.new.structure ≡ self.old.structure }
+        ensures chain { self.new.chain ≡ self.old.chain }
+    {
         self.end_part()?;
         let Some(member) = self.level.member else {
             return Ok(());
@@ -45,7 +52,10 @@ impl Walk {
     }
 
     // Begins a part of the member.
-    pub(super) fn begin_part(&mut self, start: usize, is_detail: bool) {
+    pub(super) fn begin_part(&mut self, start: usize, is_detail: bool)
+        ensures structure { self.new.structure ≡ self.old.structure }
+        ensures chain { self.new.chain ≡ self.old.chain }
+    {
         if let Some(member) = self.level.member {
             self.level.member = Some(Member {
                 part: Some(Part { start, is_detail }),
@@ -55,7 +65,10 @@ impl Walk {
     }
 
     // Ends the part of the member, where the last word ended.
-    pub(super) fn end_part(&mut self) -> Result<(), AllocError> {
+    pub(super) fn end_part(&mut self) -> Result<(), AllocError>
+        ensures structure { self.new.structure ≡ self.old.structure }
+        ensures chain { self.new.chain ≡ self.old.chain }
+    {
         if let Some(member) = self.level.member
             && let Some(part) = member.part
         {
@@ -74,11 +87,10 @@ impl Walk {
     }
 
     // Lists the member in the outline, with this name.
-    pub(super) fn add_symbol(
-        &mut self,
-        kind: SymbolKind,
-        word: &Word<'_>,
-    ) -> Result<(), AllocError> {
+    pub(super) fn add_symbol(&mut self, kind: SymbolKind, word: &Word<'_>) -> Result<(), AllocError>
+        ensures structure { self.new.structure ≡ self.old.structure }
+        ensures chain { self.new.chain ≡ self.old.chain }
+    {
         if self.level.depth >= DEPTH {
             return Ok(());
         }
@@ -100,7 +112,14 @@ impl Walk {
     }
 
     // Opens a bracket.
-    pub(super) fn open(&mut self, bracket: Bracket, word: &Word<'_>) -> Result<(), AllocError> {
+    pub(super) fn open(&mut self, bracket: Bracket, word: &Word<'_>) -> Result<(), AllocError>
+        ensures structure { self.new.structure ≡ self.old.structure }
+        ensures chain { self.new.chain ≡ self.old.chain }
+    {
+        if self.outer.len() >= LEVELS {
+            self.deeper = self.deeper.saturating_add(1);
+            return Ok(());
+        }
         let closer = closer_of(word.mark);
         if closer == b'}' {
             self.braces = self.braces.saturating_add(1);
@@ -121,7 +140,16 @@ impl Walk {
     }
 
     // Closes the innermost bracket by this word, or one around it if that is what it closes.
-    pub(super) fn close(&mut self, word: &Word<'_>) -> Result<(), AllocError> {
+    pub(super) fn close(&mut self, word: &Word<'_>) -> Result<(), AllocError>
+        ensures structure { self.new.structure ≡ self.old.structure }
+        ensures chain { self.new.chain ≡ self.old.chain }
+    {
+        if self.deeper > 0 {
+            self.deeper -= 1;
+            self.end = word.end;
+            self.last = Last::Whole;
+            return Ok(());
+        }
         if !self.reach(word.mark)? {
             return Ok(());
         }
@@ -140,7 +168,10 @@ impl Walk {
     }
 
     // Leaves the brackets inside of the one that this closes. Whether there is one.
-    fn reach(&mut self, closer: u8) -> Result<bool, AllocError> {
+    fn reach(&mut self, closer: u8) -> Result<bool, AllocError>
+        ensures structure { self.new.structure ≡ self.old.structure }
+        ensures chain { self.new.chain ≡ self.old.chain }
+    {
         if self.level.closer == closer {
             return Ok(true);
         }
@@ -157,7 +188,10 @@ impl Walk {
         }
     }
 
-    fn reach_brace(&mut self) -> Result<bool, AllocError> {
+    fn reach_brace(&mut self) -> Result<bool, AllocError>
+        ensures structure { self.new.structure ≡ self.old.structure }
+        ensures chain { self.new.chain ≡ self.old.chain }
+    {
         if self.braces == 0 {
             return Ok(false);
         }
@@ -171,7 +205,10 @@ impl Walk {
     }
 
     // Leaves the innermost bracket, which ends here.
-    fn leave(&mut self, end: usize) -> Result<(), AllocError> {
+    fn leave(&mut self, end: usize) -> Result<(), AllocError>
+        ensures structure { self.new.structure ≡ self.old.structure }
+        ensures chain { self.new.chain ≡ self.old.chain }
+    {
         self.end_member()?;
         if let Some(content) = self.level.content {
             self.chain.add(content, self.end)?;
@@ -187,7 +224,11 @@ impl Walk {
     }
 
     // Leaves all brackets, where the last word ended.
-    pub(super) fn unwind(&mut self) -> Result<(), AllocError> {
+    pub(super) fn unwind(&mut self) -> Result<(), AllocError>
+        ensures structure { self.new.structure ≡ self.old.structure }
+        ensures chain { self.new.chain ≡ self.old.chain }
+    {
+        self.deeper = 0;
         for _ in 0..self.outer.len() {
             self.leave(self.end)?;
         }

@@ -1,14 +1,21 @@
 //! What each word is among those before it.
+ghost use Rattle.std.specs.Prelude.{◌≡◌};
+
 use super::Walk;
 use crate::FoldKind;
 use crate::gaps::{add_comments, last_line};
-use crate::roles::{Bracket, Last, Place, Word, after_punct, body_of, defined_by, is_clause, round_of};
+use crate::roles::{
+    Bracket, Last, Place, Word, after_punct, body_of, defined_by, is_clause, round_of,
+};
 use graphql_tokens::lexer::TokenKind;
 use std::alloc::AllocError;
 
 impl Walk {
     /// Passes the next word of the text.
-    pub fn pass(&mut self, text: &str, word: &Word<'_>) -> Result<(), AllocError> {
+    pub fn pass(&mut self, text: &str, word: &Word<'_>) -> Result<(), AllocError>
+        ensures structure { self.new.structure ≡ self.old.structure }
+        ensures chain { self.new.chain ≡ self.old.chain }
+    {
         self.pass_gap(text, word.start)?;
         self.chain
             .add_token(word.kind.is_punct(), word.start, word.end)?;
@@ -27,7 +34,10 @@ impl Walk {
     }
 
     // Passes what stands before the next word.
-    pub(super) fn pass_gap(&mut self, text: &str, to: usize) -> Result<(), AllocError> {
+    pub(super) fn pass_gap(&mut self, text: &str, to: usize) -> Result<(), AllocError>
+        ensures structure { self.new.structure ≡ self.old.structure }
+        ensures chain { self.new.chain ≡ self.old.chain }
+    {
         add_comments(&mut self.structure, text, self.passed, to)?;
         if let Some(line) = last_line(text, self.passed, to) {
             self.line = line;
@@ -36,7 +46,10 @@ impl Walk {
     }
 
     // Passes the lines of a block string.
-    fn pass_lines(&mut self, text: &str, word: &Word<'_>) -> Result<(), AllocError> {
+    fn pass_lines(&mut self, text: &str, word: &Word<'_>) -> Result<(), AllocError>
+        ensures structure { self.new.structure ≡ self.old.structure }
+        ensures chain { self.new.chain ≡ self.old.chain }
+    {
         if word.kind.is_block()
             && let Some(line) = last_line(text, word.start, word.end)
         {
@@ -61,15 +74,21 @@ impl Walk {
     }
 
     // Passes a word that closes no bracket.
-    fn step(&mut self, word: &Word<'_>) -> Result<(), AllocError> {
+    fn step(&mut self, word: &Word<'_>) -> Result<(), AllocError>
+        ensures structure { self.new.structure ≡ self.old.structure }
+        ensures chain { self.new.chain ≡ self.old.chain }
+    {
         let begins = self.begins(word);
         if begins {
             self.begin_member(word.start)?;
         }
-        if matches!(self.last, Last::Colon | Last::Equals) {
-            self.begin_part(word.start, self.last == Last::Colon);
+        let last = self.last;
+        match last {
+            Last::Colon => self.begin_part(word.start, true),
+            Last::Equals => self.begin_part(word.start, false),
+            _ => (),
         }
-        let leads = begins || self.last == Last::Description;
+        let leads = begins || last == Last::Description;
         match word.kind {
             TokenKind::Name => self.pass_name(word, leads)?,
             TokenKind::Punct => self.pass_punct(word, leads)?,
@@ -88,7 +107,8 @@ impl Walk {
         match self.last {
             Last::Start | Last::Opening | Last::Closed => true,
             Last::Whole => self.begins_after_whole(word),
-            _ => false,
+            // Dots begin a selection, whatever is missing before them.
+            _ => word.mark == b'.' && self.level.bracket == Bracket::Selections,
         }
     }
 
@@ -154,11 +174,8 @@ impl Walk {
     // What this word is to the next one.
     fn after(&self, word: &Word<'_>, begins: bool, leads: bool) -> Last {
         match word.kind {
-            TokenKind::String | TokenKind::Block
-                if begins && self.level.bracket != Bracket::List =>
-            {
-                Last::Description
-            }
+            TokenKind::String | TokenKind::Block if begins && self.level.bracket != Bracket::List =>
+                { Last::Description }
             TokenKind::Punct => after_punct(word.mark),
             TokenKind::Name => self.after_name(word.text, leads),
             _ => Last::Whole,

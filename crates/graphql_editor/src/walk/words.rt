@@ -1,4 +1,6 @@
 //! What the names of a text are, and what its punctuators say of those that come next.
+ghost use Rattle.std.specs.Prelude.{◌≡◌};
+
 use super::{Member, Walk};
 use crate::roles::{Bracket, Last, Place, Word, defined_by};
 use crate::{NameKind, Role, SymbolKind};
@@ -6,7 +8,10 @@ use std::alloc::AllocError;
 
 impl Walk {
     /// Passes a name. It leads if it says what the definition or the member is.
-    pub(super) fn pass_name(&mut self, word: &Word<'_>, leads: bool) -> Result<(), AllocError> {
+    pub(super) fn pass_name(&mut self, word: &Word<'_>, leads: bool) -> Result<(), AllocError>
+        ensures structure { self.new.structure ≡ self.old.structure }
+        ensures chain { self.new.chain ≡ self.old.chain }
+    {
         self.is_directive = self.last == Last::At;
         match self.last {
             Last::At => self.pass_directive(word),
@@ -23,7 +28,10 @@ impl Walk {
     }
 
     // Passes a punctuator that closes no bracket.
-    pub(super) fn pass_punct(&mut self, word: &Word<'_>, leads: bool) -> Result<(), AllocError> {
+    pub(super) fn pass_punct(&mut self, word: &Word<'_>, leads: bool) -> Result<(), AllocError>
+        ensures structure { self.new.structure ≡ self.old.structure }
+        ensures chain { self.new.chain ≡ self.old.chain }
+    {
         let bracket = self.level.bracket;
         match word.mark {
             b'.' | b'$' | b'@' => self.sigil = word.start,
@@ -54,14 +62,20 @@ impl Walk {
         Ok(())
     }
 
-    fn set_place(&mut self, place: Place) {
+    fn set_place(&mut self, place: Place)
+        ensures structure { self.new.structure ≡ self.old.structure }
+        ensures chain { self.new.chain ≡ self.old.chain }
+    {
         if let Some(member) = self.level.member {
             self.level.member = Some(Member { place, ..member });
         }
     }
 
     // Notes that the member's own name was passed. Whether it was none before.
-    fn take_name(&mut self) -> bool {
+    fn take_name(&mut self) -> bool
+        ensures structure { self.new.structure ≡ self.old.structure }
+        ensures chain { self.new.chain ≡ self.old.chain }
+    {
         match self.level.member {
             Some(member) if !member.is_named => {
                 self.level.member = Some(Member {
@@ -75,7 +89,10 @@ impl Walk {
     }
 
     // Gives the member's symbol its name.
-    fn name_symbol(&mut self, start: usize, end: usize) {
+    fn name_symbol(&mut self, start: usize, end: usize)
+        ensures structure { self.new.structure ≡ self.old.structure }
+        ensures chain { self.new.chain ≡ self.old.chain }
+    {
         if let Some(member) = self.level.member
             && let Some(symbol) = member.symbol
         {
@@ -83,16 +100,17 @@ impl Walk {
         }
     }
 
-    fn add_name(
-        &mut self,
-        kind: NameKind,
-        role: Role,
-        word: &Word<'_>,
-    ) -> Result<(), AllocError> {
+    fn add_name(&mut self, kind: NameKind, role: Role, word: &Word<'_>) -> Result<(), AllocError>
+        ensures structure { self.new.structure ≡ self.old.structure }
+        ensures chain { self.new.chain ≡ self.old.chain }
+    {
         self.structure.add_name(kind, role, word.start, word.end)
     }
 
-    fn pass_directive(&mut self, word: &Word<'_>) -> Result<(), AllocError> {
+    fn pass_directive(&mut self, word: &Word<'_>) -> Result<(), AllocError>
+        ensures structure { self.new.structure ≡ self.old.structure }
+        ensures chain { self.new.chain ≡ self.old.chain }
+    {
         let is_defined = self.level.bracket == Bracket::Definitions
             && self.defined == Some(SymbolKind::Directive)
             && self.take_name();
@@ -103,7 +121,10 @@ impl Walk {
         self.add_name(NameKind::Directive, Role::Definition, word)
     }
 
-    fn pass_variable(&mut self, word: &Word<'_>) -> Result<(), AllocError> {
+    fn pass_variable(&mut self, word: &Word<'_>) -> Result<(), AllocError>
+        ensures structure { self.new.structure ≡ self.old.structure }
+        ensures chain { self.new.chain ≡ self.old.chain }
+    {
         let is_defined = self.level.bracket == Bracket::Variables && self.take_name();
         if !is_defined {
             return self.add_name(NameKind::Variable, Role::Use, word);
@@ -113,7 +134,10 @@ impl Walk {
     }
 
     // Passes a name after `...`.
-    fn pass_spread(&mut self, word: &Word<'_>) -> Result<(), AllocError> {
+    fn pass_spread(&mut self, word: &Word<'_>) -> Result<(), AllocError>
+        ensures structure { self.new.structure ≡ self.old.structure }
+        ensures chain { self.new.chain ≡ self.old.chain }
+    {
         if word.text == "on" {
             self.set_place(Place::Type);
             return Ok(());
@@ -121,13 +145,17 @@ impl Walk {
         if let Some(member) = self.level.member
             && let Some(symbol) = member.symbol
         {
-            self.structure.spread(symbol, word.start, word.end);
+            self.structure.name_symbol(symbol, word.start, word.end);
+            self.structure.turn_to_spread(symbol);
         }
         self.add_name(NameKind::Fragment, Role::Use, word)
     }
 
     // Passes the name of a type that is used.
-    fn pass_type(&mut self, word: &Word<'_>) -> Result<(), AllocError> {
+    fn pass_type(&mut self, word: &Word<'_>) -> Result<(), AllocError>
+        ensures structure { self.new.structure ≡ self.old.structure }
+        ensures chain { self.new.chain ≡ self.old.chain }
+    {
         if self.level.bracket == Bracket::Selections {
             self.name_symbol(self.sigil, word.end);
         }
@@ -135,7 +163,10 @@ impl Walk {
     }
 
     // Passes a name of a definition's head.
-    fn pass_head(&mut self, word: &Word<'_>, leads: bool) -> Result<(), AllocError> {
+    fn pass_head(&mut self, word: &Word<'_>, leads: bool) -> Result<(), AllocError>
+        ensures structure { self.new.structure ≡ self.old.structure }
+        ensures chain { self.new.chain ≡ self.old.chain }
+    {
         match self.last {
             _ if leads && word.text == "extend" => {
                 self.is_extension = true;
@@ -151,7 +182,10 @@ impl Walk {
     }
 
     // Passes the word that says what a definition defines.
-    fn pass_keyword(&mut self, word: &Word<'_>) -> Result<(), AllocError> {
+    fn pass_keyword(&mut self, word: &Word<'_>) -> Result<(), AllocError>
+        ensures structure { self.new.structure ≡ self.old.structure }
+        ensures chain { self.new.chain ≡ self.old.chain }
+    {
         self.defined = defined_by(word.text);
         match self.defined {
             Some(kind) => self.add_symbol(kind, word),
@@ -160,7 +194,10 @@ impl Walk {
     }
 
     // Passes a word that goes on with a definition's head after its name.
-    fn pass_clause(&mut self, word: &Word<'_>) -> Result<(), AllocError> {
+    fn pass_clause(&mut self, word: &Word<'_>) -> Result<(), AllocError>
+        ensures structure { self.new.structure ≡ self.old.structure }
+        ensures chain { self.new.chain ≡ self.old.chain }
+    {
         if word.text == "repeatable" {
             return Ok(());
         }
@@ -173,7 +210,10 @@ impl Walk {
     }
 
     // Passes the name of what is defined, and others after it that no text has that is right.
-    fn pass_defined(&mut self, word: &Word<'_>) -> Result<(), AllocError> {
+    fn pass_defined(&mut self, word: &Word<'_>) -> Result<(), AllocError>
+        ensures structure { self.new.structure ≡ self.old.structure }
+        ensures chain { self.new.chain ≡ self.old.chain }
+    {
         if !self.take_name() {
             return Ok(());
         }

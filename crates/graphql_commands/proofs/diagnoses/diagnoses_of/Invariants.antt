@@ -6,5 +6,5 @@ abbrev pub invariant-loop : goal.invariant-loop
 invariant-loop g l = record {
   text : l.later.source.text ≡ l.source.text;
   some : 0 < length l.found.items;
-  within : All (IsDiagnosisOf l.text.now) l.found.items;
+  within : All (IsDiagnosisOf l.text) l.found.items;
 }
