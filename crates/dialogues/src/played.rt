@@ -156,18 +156,16 @@ fn differing(alloc: Global, turn: &Turn, written: &[u8]) -> Result<String, Fail>
 
 // Whether a text of JSON is this one, in which `…` at the end of a string stands for any rest of it.
 fn is_like(found: &str, wanted: &str) -> bool {
-    let mut parts = wanted.split('…');
-    let Some(rest) = found.strip_prefix(parts.next().unwrap_or("")) else {
-        return false;
-    };
-    let mut rest = rest;
-    for part in parts {
-        match after_string(rest).strip_prefix(part) {
-            Some(after) => rest = after,
-            None => return false,
-        }
+    let mut passed = 0usize;
+    for (index, part) in wanted.split('…').enumerate() {
+        let rest = found.get(passed..).unwrap_or("");
+        let rest = if index == 0 { rest } else { after_string(rest) };
+        let Some(after) = rest.strip_prefix(part) else {
+            return false;
+        };
+        passed = found.len().saturating_sub(after.len());
     }
-    rest.is_empty()
+    passed == found.len()
 }
 
 // What stands after the rest of a string, from its closing quotes on.
