@@ -1,5 +1,5 @@
 -- Where the first `#` of a text stands.
-use Rattle.std.proofs.Common.{◌≡◌, ◌≢◌, ℕ, ◌+◌, ◌<◌, Bool, true, false, ◌==◌, Option, Some, None, List, [], ◌∷◌, ◌++◌, length, take, drop, get_or, refl, sym, ap, ◌∙◌, subst, arith, length-take, length-append}
+use Rattle.std.proofs.Common.{◌≡◌, ◌≢◌, ℕ, ◌+◌, ◌<◌, Bool, true, false, ◌==◌, Some, None, List, [], ◌∷◌, ◌++◌, length, take, drop, get_or, refl, sym, ap, ◌∙◌, subst, arith, length-take, length-append}
 use Rattle.std.proofs.lemmas.Bool.Decides.{nat_tests}
 use Rattle.std.proofs.lemmas.List.{drop_more, get_or-take, get_or-append-add}
 use Rattle.std.proofs.lemmas.Str.{IsUtf8-take, IsCharBoundary-before_ascii, IsCharBoundary-after_ascii}
@@ -7,7 +7,6 @@ use Rattle.std.specs.Char.{encode_utf8}
 use Rattle.std.specs.Str.{IsUtf8, IsCharBoundary, NonePass, NoCharPasses, encode_utf8_all}
 use Rattle.std.specs.Str.Pattern.{FindsChar}
 use Rattle.memchr.specs.Find.{IsFirstByte, is_byte}
-use Rattle.graphql_layout.specs.inner.FirstLine.{IsFirstHash}
 
 abbrev Lacks : List ℕ → Type 0
 Lacks bs = (i : ℕ) → i < length bs → get_or bs i 0 ≢ 35

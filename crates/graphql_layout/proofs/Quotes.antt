@@ -1,6 +1,5 @@
 -- A string whose content stands between its quotes as it is.
-use Rattle.std.proofs.Common.{◌≡◌, ℕ, ◌+◌, List, [], ◌∷◌, ◌++◌, length, refl, ap, arith, length-append}
-use Rattle.graphql_layout.specs.declared.ending.Ending.{Ending}
+use Rattle.std.proofs.Common.{◌≡◌, ℕ, ◌+◌, List, [], ◌∷◌, length, refl, ap, arith, length-append}
 use Rattle.graphql_layout.specs.declared.sheet.Last.{Last}
 use Rattle.graphql_layout.specs.declared.sheet.Last.TheVariants.{Comment, Other}
 use Rattle.graphql_layout.specs.inner.Endings.{string_ending}

@@ -105,11 +105,7 @@ impl Planner {
     }
 
     // The same of a bracket in which there is no comment, by as much of it as tells.
-    fn is_broken_without_comment(
-        &self,
-        bracket: Bracket,
-        after: &str,
-    ) -> Result<bool, AllocError> {
+    fn is_broken_without_comment(&self, bracket: Bracket, after: &str) -> Result<bool, AllocError> {
         match bracket {
             Bracket::Set => Ok(true),
             Bracket::List | Bracket::Object => Ok(begins_on_next_line(after)),

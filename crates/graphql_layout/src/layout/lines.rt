@@ -69,7 +69,11 @@ fn line_ends(text: &[u8], length: usize) -> usize {
             return others.saturating_add(ends as usize);
         };
         let bytes = u8x16::from_array(*bytes);
-        let inside = if left < LANES { !(u64::MAX << left) } else { u64::MAX };
+        let inside = if left < LANES {
+            !(u64::MAX << left)
+        } else {
+            u64::MAX
+        };
         let feeds = bytes.simd_eq(u8x16::splat(b'\n')).to_bitmask() & inside;
         let returns = bytes.simd_eq(u8x16::splat(b'\r')).to_bitmask() & inside;
         let alone = feeds & !((returns << 1) | after_return);

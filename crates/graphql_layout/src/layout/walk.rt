@@ -196,8 +196,8 @@ impl Walk {
     }
 
     fn after_outer_name(&self, role: Role, name: &str) -> Last {
-        let is_keyword =
-            matches!(role, Role::Definition | Role::Described) || self.last == Last::Extend;
+        let is_keyword = matches!(role, Role::Definition | Role::Described)
+            || self.last == Last::Extend;
         if is_keyword && name == "extend" {
             return Last::Extend;
         }

@@ -1,5 +1,4 @@
-use Rattle.std.proofs.Common.{◌+◌, subst, Some, None, List, ℕ}
-use Rattle.memchr.specs.Find.{IsFirstByte, is_byte}
+use Rattle.std.proofs.Common.{◌+◌}
 use Rattle.graphql_layout.proofs.FirstHashes.{no_hash_found, hash_found}
 use Rattle.graphql_layout.proofs.comments.split_hash.Goals as goal
 
