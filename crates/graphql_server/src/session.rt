@@ -454,7 +454,10 @@ impl Session {
             version,
             text,
         } = text_document;
-        let said = language_id.and_then(|name| said_by(name.as_str()));
+        let said = match &language_id {
+            Some(name) => said_by(name.as_str()),
+            None => None,
+        };
         let opened = OpenText {
             said,
             version,
