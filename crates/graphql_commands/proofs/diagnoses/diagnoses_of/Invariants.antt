@@ -1,4 +1,4 @@
-use Rattle.std.proofs.Common.{◌≡◌, ◌<◌, length, All}
+use Rattle.std.proofs.Common.{◌<◌, length, All}
 use Rattle.graphql_report.specs.reports.Rests.{BeginsAt}
 use Rattle.graphql_commands.specs.checked.Diagnosed.{IsDiagnosisOf}
 use Rattle.graphql_commands.proofs.diagnoses.diagnoses_of.Given as goal
