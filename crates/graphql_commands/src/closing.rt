@@ -6,9 +6,9 @@
 use crate::check::error_of;
 use crate::errors::Source;
 use crate::recovery::{begins_definition, end_of, stands_first};
-use graphql_parser::Memory;
 use graphql_parser::lexer::{Token, TokenKind, Tokens};
-use graphql_report::is_front;
+use graphql_parser::{Error, Memory};
+use graphql_report::Language;
 use std::alloc::{AllocError, Global};
 
 /// An insertion that closes brackets.
@@ -88,7 +88,8 @@ struct Gaps {
 // A walk over the tokens from an offset on.
 #[derive(Drop)]
 struct Walk<'a> {
-    source: Source<'a>,
+    language: Language,
+    text: &'a str,
     from: usize,
     // The place before the next token, whose own offsets stand there only once it is reached.
     gap: Gap,
@@ -103,7 +104,8 @@ fn gaps_of(
     token: &Token<'_>,
 ) -> Result<Gaps, AllocError> {
     let mut walk = Walk {
-        source: *source,
+        language: source.language,
+        text: source.text,
         from,
         gap: Gap {
             definition: from,
@@ -140,12 +142,10 @@ impl Walk<'_> {
         second: &Token<'_>,
     ) -> Result<(), AllocError> {
         let start = self.from.saturating_add(first.start);
-        let Some((front, rest)) = self.source.text.split_at_checked(start) else {
+        let Some((front, rest)) = self.text.split_at_checked(start) else {
             return Ok(());
         };
-        if !stands_first(front, rest, 0)
-            || !begins_definition(self.source.language, first, second)
-        {
+        if !stands_first(front, rest, 0) || !begins_definition(self.language, first, second) {
             return Ok(());
         }
         if self.gap.open.is_empty() {
@@ -229,7 +229,7 @@ fn begins_another(alloc: Global, source: &Source<'_>, gap: &Gap) -> Result<bool,
         None => text.len(),
     };
     match text.get(gap.next..end) {
-        Some(line) => is_front(alloc, source.language, line, source.limits),
+        Some(line) => is_front(alloc, source, line),
         None => Ok(false),
     }
 }
@@ -244,14 +244,7 @@ fn closing_all(
     let Some(mended) = mended(alloc, source.text, gap, &closing)? else {
         return Ok(None);
     };
-    let definition = Source {
-        text: mended.as_str(),
-        ..*source
-    };
-    let is_whole = match error_of(&mut Memory::new(alloc), &definition, true)? {
-        Some(refused) => refused.token.is_none(),
-        None => true,
-    };
+    let is_whole = is_whole(alloc, source, mended.as_str())?;
     Ok(if is_whole { Some(closing) } else { None })
 }
 
@@ -270,8 +263,32 @@ fn closing_one(
         return Ok(None);
     };
     mended.push_str(token.text)?;
-    let can_follow = is_front(alloc, source.language, mended.as_str(), source.limits)?;
+    let can_follow = is_front(alloc, source, mended.as_str())?;
     Ok(if can_follow { Some(closing) } else { None })
+}
+
+// Whether this text is a whole document, or one but for a rule, where it is read as the source is.
+fn is_whole(alloc: Global, source: &Source<'_>, text: &str) -> Result<bool, AllocError> {
+    let read = Source { text, ..*source };
+    Ok(match error_of(&mut Memory::new(alloc), &read, true)? {
+        Some(refused) => !matches!(
+            refused.error,
+            Error::Syntax { .. } | Error::RecursionLimitExceeded
+        ),
+        None => true,
+    })
+}
+
+// Whether a document may begin with this text, where it is read as the source is: whether no token before its end is refused.
+fn is_front(alloc: Global, source: &Source<'_>, text: &str) -> Result<bool, AllocError> {
+    let read = Source { text, ..*source };
+    match error_of(&mut Memory::new(alloc), &read, true)? {
+        Some(refused) => Ok(match refused.token {
+            Some(token) => token.kind.is_end(),
+            None => true,
+        }),
+        None => Ok(true),
+    }
 }
 
 // The text of a definition up to a place, with what is inserted there.

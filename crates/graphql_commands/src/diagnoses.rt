@@ -6,7 +6,7 @@ ghost use Rattle.graphql_report.specs.reports.Rests.{BeginsAt};
 
 use crate::check::error_of;
 use crate::closing::closing_of;
-use crate::errors::{MOST_FINDINGS, Mistake, Source, first_error};
+use crate::errors::{MOST_FINDINGS, Mistake, Source, first_error, next_error};
 use crate::recovery::end_of;
 use crate::telling::Names;
 use graphql_parser::lexer::{Token, TokenKind, Tokens};
@@ -85,13 +85,14 @@ pub fn diagnoses_of(
     let Some(refused) = error_of(&mut Memory::new(alloc), &source, true)? else {
         return Ok(found);
     };
-    let (first, mut later) = first_error(alloc, &source, refused);
-    found.push(diagnosis_of(alloc, &source, &first)?)?;
+    let mut mistake = first_error(&source, refused);
+    found.push(diagnosis_of(alloc, &source, &mistake)?)?;
     for _ in 1..MOST_FINDINGS {
-        let Some(mistake) = later.next_error()? else {
+        let Some(next) = next_error(alloc, &source, &mistake)? else {
             break;
         };
-        found.push(diagnosis_of(alloc, &source, &mistake)?)?;
+        found.push(diagnosis_of(alloc, &source, &next)?)?;
+        mistake = next;
     }
     Ok(found)
 }

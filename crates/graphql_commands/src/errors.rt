@@ -46,36 +46,19 @@ pub struct Mistake<'a> {
     pub error: Error,
     /// What is known of the reading of the text that ended in it.
     pub known: ReadUpTo<'a>,
+    /// No definition begins before this offset that was not read; None where no later one is read.
+    pub passed: Option<usize>,
     /// Where the report is one of a copy of the text: the text from where that reading began, after a line feed for each line
     /// before it.
     pub copy: Option<String>,
 }
 
-/// The errors of a text after the first.
-#[derive(Drop)]
-pub struct LaterErrors<'a> {
-    alloc: Global,
-    /// The text.
-    pub source: Source<'a>,
-    /// Where the reading began that ended in the last error.
-    pub from: ReadFrom,
-    // No definition begins before this offset that was not read; None where no later one is read.
-    passed: Option<usize>,
-    pub ghost begins: { BeginsAt source.text.now from },
-}
-
-/// The first error of a text, which is what is wrong with it, and the errors after that.
-pub fn first_error<'a>(
-    alloc: Global,
-    source: &Source<'a>,
-    refused: Refused<'a>,
-) -> (Mistake<'a>, LaterErrors<'a>)
-    ensures begins { BeginsAt source.now.text.now result.0.known.from }
-    ensures text { result.1.source.text ≡ source.now.text }
+/// The first error of a text, which is what is wrong with it.
+pub fn first_error<'a>(source: &Source<'a>, refused: Refused<'a>) -> Mistake<'a>
+    ensures { BeginsAt source.now.text.now result.known.from }
 {
     let Refused { error, token } = refused;
-    let from = ReadFrom::top(source.text);
-    let mut known = read_up_to(from, token);
+    let mut known = read_up_to(ReadFrom::top(source.text), token);
     let mut passed = token.map(|token| token.start);
     if let Some(token) = token
         && let Some(last) = unclosed_string(source.text, token.start)
@@ -83,38 +66,30 @@ pub fn first_error<'a>(
         known.unclosed = source.opening(&token, last);
         passed = Some(last);
     }
-    let first = Mistake {
+    Mistake {
         error,
         known,
-        copy: None,
-    };
-    let later = LaterErrors {
-        alloc,
-        source: *source,
-        from,
         passed,
-    };
-    (first, later)
+        copy: None,
+    }
 }
 
-impl<'a> LaterErrors<'a> {
-    /// The next error of the text, if there is one. An error in its place says that memory was refused.
-    pub fn next_error(&mut self) -> Result<Option<Mistake<'a>>, AllocError>
-        ensures text { self.new.source.text ≡ self.old.source.text }
-        ensures begins { IfOk result (λ found. IfSome found (λ mistake.
-            BeginsAt self.old.source.text.now mistake.known.from)) }
-    {
-        let source = self.source;
-        let Some(from) = source.next_after(self.from, self.passed) else {
-            return Ok(None);
-        };
-        let Some(refused) = source.refused_from(self.alloc, from)? else {
-            return Ok(None);
-        };
-        let Refused { error, token } = refused;
-        self.from = from;
-        self.passed = token.map(|token| token.start);
-        Ok(Some(source.mistake(self.alloc, read_up_to(from, token), error)?))
+/// The error of a text after this one of its errors, if there is one. An error in its place says that memory was refused.
+pub fn next_error<'a>(
+    alloc: Global,
+    source: &Source<'a>,
+    last: &Mistake<'_>,
+) -> Result<Option<Mistake<'a>>, AllocError>
+    requires { BeginsAt source.now.text.now last.now.known.from }
+    ensures { IfOk result (λ found. IfSome found (λ mistake.
+        BeginsAt source.now.text.now mistake.known.from)) }
+{
+    let Some(from) = source.next_after(last.known.from, last.passed) else {
+        return Ok(None);
+    };
+    match source.refused_from(alloc, from)? {
+        Some(refused) => Ok(Some(source.mistake(alloc, from, refused)?)),
+        None => Ok(None),
     }
 }
 
@@ -129,7 +104,13 @@ impl<'a> Mistake<'a> {
                 let text = copy.as_str();
                 (Source { text, ..*source }, in_copy(&self.known, text))
             }
-            None => (*source, self.known),
+            None => (
+                Source {
+                    text: source.text,
+                    ..*source
+                },
+                self.known,
+            ),
         }
     }
 
@@ -146,34 +127,43 @@ impl<'a> Mistake<'a> {
 }
 
 impl<'a> Source<'a> {
-    // The error of the text from there on in which this reading ended. Places are counted from the beginning of what a report is
-    // of, and no more is counted than that: so it is one of a copy, unless it can be one of the text.
+    // The error of the text from there on, in which this is wrong. Places are counted from the beginning of what a report is of, and
+    // no more is counted than that: so it is one of a copy, unless it can be one of the text.
     fn mistake(
         &self,
         alloc: Global,
-        known: ReadUpTo<'a>,
-        error: Error,
+        from: ReadFrom,
+        refused: Refused<'a>,
     ) -> Result<Mistake<'a>, AllocError>
-        ensures { IfOk result (λ mistake. mistake.known ≡ known) }
+        ensures { IfOk result (λ mistake. mistake.known.from ≡ from) }
     {
+        let Refused { error, token } = refused;
         let mut mistake = Mistake {
             error,
-            known,
+            known: read_up_to(from, token),
+            passed: token.map(|token| token.start),
             copy: None,
         };
-        if !self.is_told_in_place(&mistake.error, known.token)
-            && let Some(text) = rest_at(alloc, self.text, known.from.offset)?
+        if !self.is_told_in_place(&mistake.error, token)
+            && let Some(copy) = rest_at(alloc, self.text, from.offset)?
+            && let Some(error) = self.error_of_copy(alloc, copy.as_str())?
         {
-            let rest = Source {
-                text: text.as_str(),
-                ..*self
-            };
-            if let Some(refused) = rest.refused_from(alloc, ReadFrom::top(rest.text))? {
-                mistake.error = refused.error;
-                mistake.copy = Some(text);
-            }
+            mistake.error = error;
+            mistake.copy = Some(copy);
         }
         Ok(mistake)
+    }
+
+    // What is wrong with a copy of a part of the text, if it is to be told.
+    fn error_of_copy(&self, alloc: Global, copy: &str) -> Result<Option<Error>, AllocError> {
+        let source = Source {
+            text: copy,
+            ..*self
+        };
+        match source.refused_from(alloc, ReadFrom::top(copy))? {
+            Some(refused) => Ok(Some(refused.error)),
+            None => Ok(None),
+        }
     }
 
     // What is wrong with the text from there on, if it is to be told. The place of a refused token, and its offset, are those in

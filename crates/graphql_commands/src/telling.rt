@@ -2,7 +2,7 @@
 ghost use Rattle.graphql_report.specs.reports.Rests.{BeginsAt};
 
 use crate::command::Format;
-use crate::errors::{MOST_FINDINGS, Mistake, Refused, Source, first_error};
+use crate::errors::{MOST_FINDINGS, Mistake, Refused, Source, first_error, next_error};
 use crate::output::complain;
 use crate::texts::{Unread, Unwritten};
 use graphql_parser::{Error, Pos};
@@ -55,13 +55,14 @@ impl Teller {
         if self.is_quiet {
             return Ok(());
         }
-        let (first, mut later) = first_error(self.alloc, source, refused);
-        self.tell_mistake(source, &first, err)?;
+        let mut mistake = first_error(source, refused);
+        self.tell_mistake(source, &mistake, err)?;
         for _ in 1..MOST_FINDINGS {
-            let Some(mistake) = later.next_error()? else {
+            let Some(next) = next_error(self.alloc, source, &mistake)? else {
                 break;
             };
-            self.tell_mistake(source, &mistake, err)?;
+            self.tell_mistake(source, &next, err)?;
+            mistake = next;
         }
         Ok(())
     }

@@ -22,8 +22,8 @@ pub(crate) fn last_line(text: &str, from: usize, to: usize) -> Option<usize> {
     Some(from.saturating_add(last).saturating_add(1))
 }
 
-// How long the line is that these bytes begin with, without its end.
-fn line_length(bytes: &[u8]) -> usize
+/// How long the line is that these bytes begin with, without its end.
+pub(crate) fn line_length(bytes: &[u8]) -> usize
     ensures { result ≤ length bytes.now }
 {
     bytes

@@ -1,7 +1,7 @@
 //! The words of a text, one after another: its tokens, and what is left of those that are broken.
 ghost use Rattle.std.specs.Prelude.{◌≡◌};
 
-use crate::gaps::first_line;
+use crate::gaps::{first_line, line_length};
 use crate::roles::Word;
 use crate::walk::Walk;
 use graphql_tokens::lexer::{TokenKind, Tokens};
@@ -49,18 +49,10 @@ fn number_length(rest: &str) -> usize {
         .unwrap_or(rest.len())
 }
 
-// How long the line is that the text begins with, without its end.
-fn line_length(rest: &str) -> usize {
-    rest.as_bytes()
-        .iter()
-        .position(|b| *b == b'\n' || *b == b'\r')
-        .unwrap_or(rest.len())
-}
-
 // What is taken for a word where no token begins, and how long it is.
 fn broken(rest: &str) -> (Option<TokenKind>, usize) {
     if rest.starts_with(QUOTES) {
-        return (Some(TokenKind::Block), line_length(rest));
+        return (Some(TokenKind::Block), line_length(rest.as_bytes()));
     }
     match rest.chars().next() {
         Some('"') => (Some(TokenKind::String), string_length(rest)),

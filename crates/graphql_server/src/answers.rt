@@ -8,7 +8,7 @@ use std::alloc::{AllocError, AllocFailed, Global};
 const JSONRPC: &str = "2.0";
 
 /// Why a message is refused, or has no effect.
-#[derive(Debug, Drop)]
+#[derive(Drop)]
 pub enum Failure {
     OutOfMemory,
     /// Its content is coded otherwise than in UTF-8, as its header says.
@@ -155,7 +155,7 @@ pub fn notify<P: Serialize + Drop>(
 }
 
 /// How much a message of the log matters (Language Server Protocol 3.17, "MessageType").
-#[derive(Clone, Copy, Debug, PartialEq, Eq)]
+#[derive(Clone, Copy)]
 pub enum Weight {
     Error,
     Warning,

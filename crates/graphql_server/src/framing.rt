@@ -16,7 +16,7 @@ const LENGTH_FIELD: &[u8] = b"Content-Length:";
 const KEPT: usize = 1024 * 1024;
 
 /// What stands next in the bytes that arrived.
-#[derive(Clone, Copy, Debug, PartialEq, Eq)]
+#[derive(Clone, Copy)]
 pub enum Piece {
     /// The content of a message, from this byte of the pending ones up to that one.
     Content { start: usize, end: usize },

@@ -6,7 +6,7 @@ use std::alloc::Global;
 use std::borrow::CowStr;
 
 /// A member of a message that tells what the message is. A client may leave it out, or give it any value.
-#[derive(Debug, Default, Drop)]
+#[derive(Default, Drop)]
 pub enum Member<'a> {
     /// It is left out.
     #[default]
@@ -42,7 +42,7 @@ impl<'de> Deserialize<'de> for Member<'de> {
 }
 
 /// A value that is an object in JSON. (A derived type is read from a list of its members too, which the protocol doesn't have.)
-#[derive(Debug, Drop)]
+#[derive(Drop)]
 pub struct Object<T>(pub T);
 
 impl<'de, T: Deserialize<'de>> Deserialize<'de> for Object<T> {
@@ -72,7 +72,7 @@ impl<T: DeserializeOwned> DeserializeOwned for Object<T> {
 }
 
 /// What each message has but its parameters ("Abstract Message", "Request Message", "Notification Message", "Response Message").
-#[derive(Debug, Drop, Deserialize)]
+#[derive(Drop, Deserialize)]
 pub struct Envelope<'a> {
     #[serde(default)]
     pub jsonrpc: Member<'a>,
@@ -87,13 +87,13 @@ pub struct Envelope<'a> {
 }
 
 /// The parameters of a message.
-#[derive(Debug, Drop, Deserialize)]
+#[derive(Drop, Deserialize)]
 pub struct WithParams<P> {
     pub params: Object<P>,
 }
 
 /// The name of a request, which its answer has too ("Request Message"); null where a message is none.
-#[derive(Debug, Drop)]
+#[derive(Drop)]
 pub enum Id<'a> {
     Number(i64),
     Text(CowStr<'a>),
@@ -113,7 +113,7 @@ impl Serialize for Id<'_> {
 }
 
 /// A place in a text ("Position"), in the units of the session's encoding.
-#[derive(Clone, Copy, Debug, PartialEq, Eq, Serialize, Deserialize)]
+#[derive(Clone, Copy, Serialize, Deserialize)]
 pub struct Position {
     pub line: usize,
     pub character: usize,
@@ -138,7 +138,7 @@ impl From<text_edits::Position> for Position {
 }
 
 /// A part of a text ("Range").
-#[derive(Clone, Copy, Debug, PartialEq, Eq, Serialize, Deserialize)]
+#[derive(Clone, Copy, Serialize, Deserialize)]
 pub struct Range {
     pub start: Position,
     pub end: Position,
@@ -170,14 +170,14 @@ pub fn write_range<S: Serializer>(range: &text_edits::Range, out: &mut S) -> Res
 // ---- What a client sends
 
 /// "InitializeParams".
-#[derive(Debug, Drop, Deserialize)]
+#[derive(Drop, Deserialize)]
 pub struct InitializeParams<'a> {
     #[serde(default)]
     pub capabilities: ClientCapabilities<'a>,
 }
 
 /// "ClientCapabilities".
-#[derive(Debug, Default, Drop, Deserialize)]
+#[derive(Default, Drop, Deserialize)]
 #[serde(rename_all = "camelCase")]
 pub struct ClientCapabilities<'a> {
     pub general: Option<GeneralCapabilities<'a>>,
@@ -185,37 +185,37 @@ pub struct ClientCapabilities<'a> {
 }
 
 /// "general" of the client's capabilities.
-#[derive(Debug, Drop, Deserialize)]
+#[derive(Drop, Deserialize)]
 #[serde(rename_all = "camelCase")]
 pub struct GeneralCapabilities<'a> {
     pub position_encodings: Option<Vec<CowStr<'a>>>,
 }
 
 /// "textDocument" of the client's capabilities.
-#[derive(Debug, Drop, Deserialize)]
+#[derive(Drop, Deserialize)]
 pub struct TextDocumentCapabilities {
     pub diagnostic: Option<DiagnosticCapabilities>,
 }
 
 /// "DiagnosticClientCapabilities": where a client has them, it asks for diagnostics.
-#[derive(Debug, Drop, Deserialize)]
+#[derive(Drop, Deserialize)]
 pub struct DiagnosticCapabilities {}
 
 /// "TextDocumentIdentifier".
-#[derive(Debug, Drop, Deserialize)]
+#[derive(Drop, Deserialize)]
 pub struct TextDocument<'a> {
     pub uri: CowStr<'a>,
 }
 
 /// The parameters of a request, or of a notification, about a text and nothing else.
-#[derive(Debug, Drop, Deserialize)]
+#[derive(Drop, Deserialize)]
 #[serde(rename_all = "camelCase")]
 pub struct TextParams<'a> {
     pub text_document: TextDocument<'a>,
 }
 
 /// "TextDocumentPositionParams".
-#[derive(Debug, Drop, Deserialize)]
+#[derive(Drop, Deserialize)]
 #[serde(rename_all = "camelCase")]
 pub struct PositionParams<'a> {
     pub text_document: TextDocument<'a>,
@@ -223,14 +223,14 @@ pub struct PositionParams<'a> {
 }
 
 /// "DidOpenTextDocumentParams".
-#[derive(Debug, Drop, Deserialize)]
+#[derive(Drop, Deserialize)]
 #[serde(rename_all = "camelCase")]
 pub struct OpenParams<'a> {
     pub text_document: OpenedText<'a>,
 }
 
 /// "TextDocumentItem".
-#[derive(Debug, Drop, Deserialize)]
+#[derive(Drop, Deserialize)]
 #[serde(rename_all = "camelCase")]
 pub struct OpenedText<'a> {
     pub uri: String,
@@ -242,7 +242,7 @@ pub struct OpenedText<'a> {
 }
 
 /// "DidChangeTextDocumentParams".
-#[derive(Debug, Drop, Deserialize)]
+#[derive(Drop, Deserialize)]
 #[serde(rename_all = "camelCase")]
 pub struct ChangeParams<'a> {
     pub text_document: ChangedText<'a>,
@@ -250,7 +250,7 @@ pub struct ChangeParams<'a> {
 }
 
 /// "VersionedTextDocumentIdentifier".
-#[derive(Debug, Drop, Deserialize)]
+#[derive(Drop, Deserialize)]
 pub struct ChangedText<'a> {
     pub uri: CowStr<'a>,
     #[serde(default)]
@@ -258,7 +258,7 @@ pub struct ChangedText<'a> {
 }
 
 /// "TextDocumentContentChangeEvent": what is put in the place of a range, or of the whole text.
-#[derive(Debug, Drop, Deserialize)]
+#[derive(Drop, Deserialize)]
 pub struct ContentChange {
     #[serde(default)]
     pub range: Option<Range>,
@@ -266,7 +266,7 @@ pub struct ContentChange {
 }
 
 /// "CodeActionParams".
-#[derive(Debug, Drop, Deserialize)]
+#[derive(Drop, Deserialize)]
 #[serde(rename_all = "camelCase")]
 pub struct ActionParams<'a> {
     pub text_document: TextDocument<'a>,
@@ -275,14 +275,14 @@ pub struct ActionParams<'a> {
 }
 
 /// "CodeActionContext".
-#[derive(Debug, Drop, Deserialize)]
+#[derive(Drop, Deserialize)]
 pub struct ActionContext<'a> {
     #[serde(default)]
     pub only: Option<Vec<CowStr<'a>>>,
 }
 
 /// "SelectionRangeParams".
-#[derive(Debug, Drop, Deserialize)]
+#[derive(Drop, Deserialize)]
 #[serde(rename_all = "camelCase")]
 pub struct SelectionParams<'a> {
     pub text_document: TextDocument<'a>,
@@ -290,7 +290,7 @@ pub struct SelectionParams<'a> {
 }
 
 /// "DocumentRangeFormattingParams".
-#[derive(Debug, Drop, Deserialize)]
+#[derive(Drop, Deserialize)]
 #[serde(rename_all = "camelCase")]
 pub struct RangeParams<'a> {
     pub text_document: TextDocument<'a>,
@@ -298,7 +298,7 @@ pub struct RangeParams<'a> {
 }
 
 /// "ReferenceParams".
-#[derive(Debug, Drop, Deserialize)]
+#[derive(Drop, Deserialize)]
 #[serde(rename_all = "camelCase")]
 pub struct ReferenceParams<'a> {
     pub text_document: TextDocument<'a>,
@@ -307,7 +307,7 @@ pub struct ReferenceParams<'a> {
 }
 
 /// "ReferenceContext".
-#[derive(Debug, Drop, Deserialize)]
+#[derive(Drop, Deserialize)]
 #[serde(rename_all = "camelCase")]
 pub struct ReferenceContext {
     pub include_declaration: bool,
@@ -371,7 +371,7 @@ pub struct DiagnosticReport<'a> {
 }
 
 /// "Diagnostic".
-#[derive(Debug, Drop, Serialize)]
+#[derive(Drop, Serialize)]
 #[serde(rename_all = "camelCase")]
 pub struct Diagnostic<'a> {
     #[serde(serialize_with = "write_range")]
@@ -385,14 +385,14 @@ pub struct Diagnostic<'a> {
 }
 
 /// "DiagnosticRelatedInformation".
-#[derive(Clone, Copy, Debug, Serialize)]
+#[derive(Clone, Copy, Serialize)]
 pub struct Related<'a> {
     pub location: Location<'a>,
     pub message: &'static str,
 }
 
 /// "Location".
-#[derive(Clone, Copy, Debug, Serialize)]
+#[derive(Clone, Copy, Serialize)]
 pub struct Location<'a> {
     pub uri: &'a str,
     #[serde(serialize_with = "write_range")]
@@ -400,7 +400,7 @@ pub struct Location<'a> {
 }
 
 /// "TextEdit".
-#[derive(Debug, Drop, Serialize)]
+#[derive(Drop, Serialize)]
 #[serde(rename_all = "camelCase")]
 pub struct TextEdit {
     #[serde(serialize_with = "write_range")]
@@ -458,7 +458,7 @@ pub struct DocumentSymbol<'a> {
 }
 
 /// "FoldingRange".
-#[derive(Clone, Copy, Debug, Serialize)]
+#[derive(Clone, Copy, Serialize)]
 #[serde(rename_all = "camelCase")]
 pub struct FoldingRange {
     pub start_line: usize,

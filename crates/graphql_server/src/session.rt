@@ -23,7 +23,7 @@ use std::alloc::{AllocError, Global};
 use text_edits::{Document, Encoding, Position, Range};
 
 // How far a session is.
-#[derive(Clone, Copy, Debug, PartialEq, Eq)]
+#[derive(Clone, Copy, PartialEq, Eq)]
 enum Phase {
     // Before `initialize`.
     Fresh,
@@ -454,7 +454,10 @@ impl Session {
             version,
             text,
         } = text_document;
-        let said = language_id.and_then(|name| said_by(name.as_str()));
+        let said = match &language_id {
+            Some(name) => said_by(name.as_str()),
+            None => None,
+        };
         let opened = OpenText {
             said,
             version,

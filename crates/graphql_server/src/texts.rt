@@ -81,7 +81,7 @@ impl Texts {
 }
 
 /// What is put in the place of a range of a text, or of the whole text.
-#[derive(Debug, Drop)]
+#[derive(Drop)]
 pub struct Change {
     /// What is replaced, in units of the session's encoding; None for the whole text.
     pub range: Option<Range>,
