@@ -31,7 +31,7 @@ pub fn digest_of(alloc: Global, seed: u64, strokes: u32) -> Result<u64, AllocErr
     let mut digest = Mixer { state: 0 };
     let mut texts = Vec::new(alloc);
     for (language, size) in TEXTS {
-        texts.push(edited(alloc, language, size, &mut mixer)?)?;
+        texts.push(made_text(alloc, language, size, &mut mixer)?)?;
     }
     for _ in 0..strokes {
         for text in &mut texts {
@@ -51,7 +51,7 @@ struct Edited {
 }
 
 // A text of so many bytes, with a mistake in a definition in its middle.
-fn edited(
+fn made_text(
     alloc: Global,
     language: Language,
     size: usize,
