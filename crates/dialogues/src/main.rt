@@ -2,8 +2,9 @@
 //! worked out by hand from the Language Server Protocol 3.17 and from the texts, and never taken from what it writes.
 //!
 //! A dialogue is a file of `data/dialogues`, in the notation of the module `notation`. Each is played message by message, byte by
-//! byte, and in one piece; those whose file's name begins with `cut_` also in two pieces, cut at each byte. The program prints how
-//! many messages each dialogue has, and what is not as it has to be: the file `stdout` has the counts, and nothing else.
+//! byte, and in one piece; those whose file's name begins with `cut_` also in two pieces, cut at each byte after the
+//! first message. The program prints how many messages each dialogue has, and what is not as it has to be: the file `stdout` has
+//! the counts, and nothing else.
 #![tactic(auto)]
 
 mod frames;

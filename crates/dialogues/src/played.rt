@@ -16,8 +16,8 @@ enum Pieces {
     Cut(usize),
 }
 
-/// Plays a dialogue, also byte by byte and in one piece, and where `is_cut` says so in two pieces, cut at each byte. Gives how many
-/// messages it has, and what is not as it has to be.
+/// Plays a dialogue, also byte by byte and in one piece, and where `is_cut` says so in two pieces, cut at each byte after the first
+/// message. Gives how many messages it has, and what is not as it has to be.
 pub fn judged(alloc: Global, dialogue: &Dialogue, is_cut: bool) -> Result<String, Fail> {
     let mut told = counted(alloc, dialogue)?;
     let failures = failures(alloc, dialogue, Pieces::Whole)?;
@@ -28,12 +28,20 @@ pub fn judged(alloc: Global, dialogue: &Dialogue, is_cut: bool) -> Result<String
     push_as(&mut told, "byte by byte", dialogue, Pieces::Bytes)?;
     let joined = joined(alloc, dialogue)?;
     push_as(&mut told, "in one piece", &joined, Pieces::Whole)?;
-    if is_cut && let Some(first) = joined.turns.first() {
-        for place in 0..first.given.len() {
+    if is_cut && let Some(whole) = joined.turns.first() {
+        for place in length_of_first(dialogue)..whole.given.len() {
             push_as(&mut told, "in two pieces", &joined, Pieces::Cut(place))?;
         }
     }
     Ok(told)
+}
+
+// How many bytes the first message has.
+fn length_of_first(dialogue: &Dialogue) -> usize {
+    match dialogue.turns.first() {
+        Some(turn) => turn.given.len(),
+        None => 0,
+    }
 }
 
 // How many messages a dialogue has.
