@@ -3,8 +3,11 @@
 //! the tokens. `bench query` reads it as a request, and `bench schema` as a schema file; they drop the tree, and
 //! print `parse NANOSECONDS ANSWER` for each round, the answer being `accepted` or `refused`. `bench check` and
 //! `bench check-schema` make no tree, and print the same. With `memory` after one of these four it is read once, and
-//! `memory BYTES ANSWER` is printed, the bytes being those that it takes of a budget.
+//! `memory BYTES ANSWER` is printed, the bytes being those that it takes of a budget. `bench editing` presses keys in texts that
+//! it makes of a seed, and prints a digest of what is told after each.
 #![tactic(auto)]
+
+mod editing;
 
 use graphql_parser::lexer::{Token, Tokens};
 use graphql_parser::types::{ExecutableDocument, ServiceDocument};
@@ -25,7 +28,7 @@ const BYTES: usize = 10_000_000;
 
 const USAGE: &str =
     "usage: bench tokens < TEXT, or bench query|check|schema|check-schema [memory] < TEXT, or
-       bench format|format-schema|minify|minify-schema|print|print-schema < TEXT";
+       bench format|format-schema|minify|minify-schema|print|print-schema < TEXT, or bench editing SEED STROKES";
 
 fn main(rt: HostRuntime) -> io::Result<()> {
     let mut words = env::args(&rt)?;
@@ -44,6 +47,7 @@ fn main(rt: HostRuntime) -> io::Result<()> {
         Some("minify-schema") => return time_writer(&rt, Writer::MinifySchema),
         Some("print") => return time_printing(&rt, false),
         Some("print-schema") => return time_printing(&rt, true),
+        Some("editing") => return press_keys(&rt, measured, words.next()),
         _ => return println!(rt; "{USAGE}"),
     };
     match measured.as_ref().map(|word| word.as_str()) {
@@ -51,6 +55,17 @@ fn main(rt: HostRuntime) -> io::Result<()> {
         Some("memory") => count_memory(&rt, parser),
         Some(_) => println!(rt; "{USAGE}"),
     }
+}
+
+// Prints the digest of the seed and the number of key strokes that these words give.
+fn press_keys(rt: &HostRuntime, seed: Option<String>, strokes: Option<String>) -> io::Result<()> {
+    let seed = seed.and_then(|word| word.as_str().parse::<u32>().ok());
+    let strokes = strokes.and_then(|word| word.as_str().parse::<u32>().ok());
+    let (Some(seed), Some(strokes)) = (seed, strokes) else {
+        return println!(rt; "{USAGE}");
+    };
+    let digest = editing::digest_of(rt.alloc(), u64::from(seed), strokes)?;
+    println!(rt; "{digest:016x}")
 }
 
 fn rounds(text: &str) -> usize {

@@ -1,4 +1,5 @@
 //! The program `gql`: what its calls print, what a text is read as, and what is told of texts with many mistakes.
+mod diagnoses;
 mod fakes;
 mod findings;
 mod outputs;
@@ -21,6 +22,7 @@ use std::test::Fail;
 /// - `help`, `cut short`, `closed`, `unheard`, `unheard bytes`: of arguments, the status, and what is written besides
 /// - `unclosed string`, `unclosed string from`, `opening`: which block string isn't closed
 /// - `rest`, `later line`: what is told of a text that is read from a later line on
+/// - `diagnoses`, `mended`: what is wrong with a text as data, and what the first fix makes of it
 /// - `findings`, `made findings`, `many findings`, `spelling`, `made spellings`: whether it is as it was before
 pub fn answer(alloc: Global, part: &str, text: &str) -> Result<String, Fail> {
     match part {
@@ -41,6 +43,8 @@ pub fn answer(alloc: Global, part: &str, text: &str) -> Result<String, Fail> {
         part => match pair(part, " ")? {
             ("rest", reading) => rests::told(alloc, reading, text),
             ("findings", language) => findings::told_alike(alloc, language, text),
+            ("diagnoses", language) => diagnoses::told(alloc, language, text),
+            ("mended", language) => diagnoses::mended(alloc, language, text),
             _ => Err(Fail::new("no such part of the program")),
         },
     }

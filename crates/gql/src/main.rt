@@ -1,6 +1,7 @@
 //! The program for people: `gql check FILE..` reports what is wrong with requests and schema files, `gql format FILE..` lays
 //! them out anew in their places, `gql minify FILE` prints one minified, `gql print FILE` the tree of one as text,
-//! `gql tree FILE` the tree of one as JSON, and `gql tokens FILE` its tokens. `gql --help` prints how it is called.
+//! `gql tree FILE` the tree of one as JSON, and `gql tokens FILE` its tokens. `gql lsp` is a language server for editors, on standard
+//! input and output. `gql --help` prints how it is called.
 //!
 //! Proved of it: it is safe and ends on every input; the status is 0, 1 or 2; a text is found good only where its tokens
 //! have a tree, and the files that are checked end with status 0 only where each of them was found good; only a good text is
@@ -8,9 +9,10 @@
 #![tactic(auto)]
 
 use graphql_commands::texts::Disk;
-use graphql_commands::{Style, run};
+use graphql_commands::{Style, is_server, run};
+use graphql_server::Server;
 use std::env::VarError;
-use std::io::IsTerminal;
+use std::io::{ErrorKind, IsTerminal, Read, Write};
 use std::process::ExitCode;
 use std::{env, io};
 
@@ -18,6 +20,11 @@ fn main(rt: HostRuntime) -> ExitCode {
     let alloc = rt.alloc();
     // An argument that is no text is wrong, and so is one for which there is no memory.
     let words = words(&rt).ok();
+    if let Some(words) = &words
+        && is_server(words.as_slice())
+    {
+        return ExitCode::from(serve(&rt));
+    }
     let mut disk = Disk { rt: &rt };
     let status = run(
         alloc,
@@ -28,6 +35,44 @@ fn main(rt: HostRuntime) -> ExitCode {
         &mut rt.stderr(),
     );
     ExitCode::from(status)
+}
+
+// How many bytes are read at once.
+const PART: usize = 65536;
+
+// So much memory is kept for what is sent.
+const KEPT: usize = 1024 * 1024;
+
+// Is a language server for the client at standard input and output until it says `exit`, or one of them ends; gives the exit status.
+fn serve(rt: &HostRuntime) -> u8 {
+    let alloc = rt.alloc();
+    let mut input = rt.stdin();
+    let mut output = rt.stdout();
+    let mut server = Server::new(alloc);
+    let mut part = [0u8; PART];
+    let mut out = Vec::new(alloc);
+    for _ in 0..u64::MAX {
+        match input.read(&mut part) {
+            Ok(0) => server.end(),
+            Ok(length) => {
+                // Where memory runs out, what has an answer is sent, and the server goes on.
+                let _ = server.receive(part.get(..length).unwrap_or(&[]), &mut out);
+            }
+            Err(error) if error.kind() == ErrorKind::Interrupted => {}
+            Err(_) => server.end(),
+        }
+        if output.write_all(out.as_slice()).is_err() || output.flush().is_err() {
+            server.end();
+        }
+        if let Some(status) = server.has_ended() {
+            return status;
+        }
+        if out.capacity() > KEPT {
+            out = Vec::new(alloc);
+        }
+        out.clear();
+    }
+    1
 }
 
 // The arguments without the program's name.

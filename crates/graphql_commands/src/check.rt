@@ -6,9 +6,10 @@ ghost use Rattle.graphql_commands.specs.checked.Good.{IsGoodText, IsGood, GiveGo
 ghost use Rattle.graphql_commands.specs.declared.check.Found.TheVariants.{Good};
 
 use crate::command::{Call, Format};
+use crate::errors::{Refused, Source};
 use crate::language::read_as;
 use crate::output::shown_name;
-use crate::telling::{Names, Refused, Source, Teller};
+use crate::telling::{Names, Teller};
 use crate::texts::{Texts, Unread};
 use graphql_parser::{Error, Memory, check_query_to, check_schema_to};
 use graphql_report::Language;
@@ -191,7 +192,7 @@ pub fn check_source<E: Write>(
     match error_of(&mut memory, source, call.takes_fragments) {
         Ok(None) => Ok(Found::Good),
         Ok(Some(refused)) => {
-            teller.tell_all(source, &refused, err)?;
+            teller.tell_all(source, refused, err)?;
             Ok(Found::Refused)
         }
         Err(_) if call.memory.is_some() => {

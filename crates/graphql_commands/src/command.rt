@@ -1,5 +1,5 @@
 //! What the program is asked for.
-ghost use Rattle.std.specs.Prelude.{◌≡◌, ◌≢◌, ℕ, List, ◌∷◌, true, false, Ok, None, IfOk, is_some, map, drop, string_bytes, Option as Opt};
+ghost use Rattle.std.specs.Prelude.{◌≡◌, ◌≢◌, ◌↔◌, ℕ, List, [], ◌∷◌, true, false, Ok, None, IfOk, IsTrue, is_some, map, drop, codes, string_bytes, Option as Opt};
 ghost use Rattle.graphql_commands.specs.checked.Language.{takes_value, said_after, language_of_options};
 ghost use Rattle.graphql_report.specs.declared.fronts.Language.{Language as Lang};
 ghost use Rattle.graphql_commands.specs.inner.Words.{said_in_the_end};
@@ -23,6 +23,8 @@ pub enum Command {
     Tree,
     /// `tokens`: the tokens of one are printed.
     Tokens,
+    /// `lsp`: an editor is served.
+    Lsp,
 }
 
 /// How findings are told.
@@ -102,6 +104,8 @@ pub enum Wrong<'a> {
     WrongValue(Valued, &'a str),
     /// A second file for a command that takes one.
     SecondFile(&'a str),
+    /// A file for a command that takes none.
+    NoFile(&'a str),
     /// Standard input among the files of `format`.
     NotAlone,
     /// An argument is no text.
@@ -123,6 +127,7 @@ pub fn command_of<'a>(alloc: Global, words: &'a [String]) -> Result<Asked<'a>, A
         "print" => Command::Print,
         "tree" => Command::Tree,
         "tokens" => Command::Tokens,
+        "lsp" => Command::Lsp,
         "--help" | "-h" | "help" => return Ok(Asked::Help),
         "--version" | "-V" => return Ok(Asked::Version),
         other if is_option(other) => return Ok(Asked::Wrong(Wrong::UnknownOption(other))),
@@ -145,20 +150,34 @@ pub fn command_of<'a>(alloc: Global, words: &'a [String]) -> Result<Asked<'a>, A
     if let Some(other) = read_words(&mut call, words)? {
         return Ok(other);
     }
-    if call.files.is_empty() {
-        call.files.push("-")?;
-    }
     if let Some(wrong) = wrong_files(command, call.files.as_slice()) {
         return Ok(Asked::Wrong(wrong));
+    }
+    if call.files.is_empty() {
+        call.files.push("-")?;
     }
     Ok(Asked::Call(call))
 }
 
+/// Whether these arguments, those after the program's name, ask for the language server. [`run`](crate::run) answers all others.
+/// (This project's own call.)
+pub fn is_server(words: &[String]) -> bool
+    ensures { IsTrue result ↔ (map string_bytes words.now ≡ codes "lsp" ∷ []) }
+{
+    match words {
+        [word] => word.as_str() == "lsp",
+        _ => false,
+    }
+}
+
 // What is wrong with the number of files of this command, if something is.
 fn wrong_files<'a>(command: Command, files: &[&'a str]) -> Option<Wrong<'a>> {
+    if command == Command::Lsp {
+        return Some(Wrong::NoFile(files.first()?));
+    }
     let second = files.get(1)?;
     match command {
-        Command::Check => None,
+        Command::Check | Command::Lsp => None,
         Command::Format => files.contains(&"-").then_some(Wrong::NotAlone),
         Command::Minify | Command::Print | Command::Tree | Command::Tokens => {
             Some(Wrong::SecondFile(second))
@@ -241,6 +260,9 @@ fn read_word<'a>(
 
 // Whether the command takes this option, which some command takes. Those that came first pass over what isn't theirs.
 fn takes(command: Command, word: &str) -> bool {
+    if command == Command::Lsp {
+        return false;
+    }
     let option = match word.split_once('=') {
         Some((option, _)) => option,
         None => word,

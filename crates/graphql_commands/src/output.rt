@@ -41,6 +41,7 @@ pub fn complain_of_call<E: Write>(
             "this command takes one file, and there is a second",
             Some(word),
         ),
+        Wrong::NoFile(word) => ("this command takes no file, and there is one", Some(word)),
         Wrong::NotAlone => ("standard input is formatted alone", None),
         Wrong::NotText => ("an argument is not UTF-8", None),
     };

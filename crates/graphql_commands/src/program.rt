@@ -3,11 +3,12 @@ ghost use Rattle.std.specs.Prelude.{◌≡◌, ◌≤◌, IfOk};
 
 use crate::check::{check_files, names_of, tell_tally};
 use crate::command::{Asked, Call, Command, Format, Wrong, command_of};
+use crate::errors::Source;
 use crate::language::read_as;
 use crate::listed::token_lines;
 use crate::output::{complain, complain_of_call, put, shown_name};
 use crate::rewriting::{format_files, tell_format_tally, written_anew};
-use crate::telling::{Names, Source, Teller};
+use crate::telling::{Names, Teller};
 use crate::texts::Texts;
 use graphql_json::{Places, request_json, schema_json};
 use graphql_parser::{Error, parse_query_limited, parse_schema_limited};
@@ -18,7 +19,10 @@ use std::io::Write;
 const VERSION: &str = "gql 1.0.0\n";
 
 const USAGE: &str =
-    "usage: gql check|format|minify|print|tree|tokens [OPTION].. [FILE].. (gql --help tells more)\n";
+    "usage: gql check|format|minify|print|tree|tokens|lsp [OPTION].. [FILE].. (gql --help tells more)\n";
+
+// What `run` says of `lsp`, which the program itself answers.
+const NO_SERVER: &str = "gql: an editor is served by the program alone\n";
 
 const HELP: &str = "usage: gql COMMAND [OPTION].. [FILE]..
 
@@ -32,6 +36,7 @@ Commands:
            tree, and is refused
   tree     prints the tree of a file as JSON, as GraphQL.js has it
   tokens   prints the tokens of a file, a line for each
+  lsp      serves an editor on standard input and output, by the Language Server Protocol; takes no file
 
 Without a file, and for the file -, standard input is read.
 
@@ -157,9 +162,16 @@ fn answer_to_call<T: Texts, E: Write>(
 {
     let mut teller = Teller::new(alloc, call.format, style, call.is_quiet);
     match call.command {
-        Command::Check => check(call, texts, teller, err),
+        Command::Check => each(call, texts, teller, err),
         Command::Format if call.only_checks || !call.reads_input() => {
-            format(call, texts, teller, err)
+            each(call, texts, teller, err)
+        }
+        Command::Lsp => {
+            complain(err, NO_SERVER);
+            Ok(Answer {
+                status: 2,
+                printed: Printed::Nothing,
+            })
         }
         Command::Format => answer_to_text(call, texts, &mut teller, err),
         Command::Minify | Command::Print | Command::Tree | Command::Tokens => {
@@ -213,8 +225,8 @@ fn anew<E: Write>(
     Ok(Answer { status, printed })
 }
 
-// `check`: what is wrong with each file that is refused, and how many there were of each kind.
-fn check<T: Texts, E: Write>(
+// `check`, and `format` of files: what is done with each file, and how many there were of each kind.
+fn each<T: Texts, E: Write>(
     call: &Call<'_>,
     texts: &mut T,
     teller: Teller,
@@ -226,37 +238,36 @@ fn check<T: Texts, E: Write>(
     let mut files: Vec<String> = Vec::new(teller.alloc);
     let unlisted = push_files(call, texts, &mut files, &mut teller, err)?;
     let names = texts_of(teller.alloc, &files)?;
-    let outcome = check_files(call, &names, texts, &mut teller, err)?;
-    let mut tally = outcome.tally;
-    tally.unread = tally.unread.saturating_add(unlisted);
-    if call.format == Format::Text {
-        tell_tally(&mut teller, tally)?;
-    }
-    let status = if unlisted > 0 { 2 } else { outcome.status };
+    let status = status_of(call, &names, unlisted, texts, &mut teller, err)?;
+    let status = if unlisted > 0 { 2 } else { status };
     Ok(told(status, teller))
 }
 
-// `format`: each file is written anew, or listed, and how many there were of each kind.
-fn format<T: Texts, E: Write>(
+// The same of the files of these names, beside so many folders that can't be read.
+fn status_of<T: Texts, E: Write>(
     call: &Call<'_>,
+    names: &Vec<&str>,
+    unlisted: usize,
     texts: &mut T,
-    teller: Teller,
+    teller: &mut Teller,
     err: &mut E,
-) -> Result<Answer, AllocError>
-    ensures { IfOk result (λ answer. answer.status ≤ 2) }
+) -> Result<u8, AllocError>
+    ensures { IfOk result (λ status. status ≤ 2) }
 {
-    let mut teller = teller;
-    let mut files: Vec<String> = Vec::new(teller.alloc);
-    let unlisted = push_files(call, texts, &mut files, &mut teller, err)?;
-    let names = texts_of(teller.alloc, &files)?;
-    let outcome = format_files(call, &names, texts, &mut teller, err)?;
-    let mut tally = outcome.tally;
-    tally.unread = tally.unread.saturating_add(unlisted);
-    if !call.only_checks {
-        tell_format_tally(&mut teller, tally)?;
+    if call.command == Command::Format {
+        let mut outcome = format_files(call, names, texts, teller, err)?;
+        outcome.tally.unread = outcome.tally.unread.saturating_add(unlisted);
+        if !call.only_checks {
+            tell_format_tally(teller, outcome.tally)?;
+        }
+        return Ok(outcome.status);
     }
-    let status = if unlisted > 0 { 2 } else { outcome.status };
-    Ok(told(status, teller))
+    let mut outcome = check_files(call, names, texts, teller, err)?;
+    outcome.tally.unread = outcome.tally.unread.saturating_add(unlisted);
+    if call.format == Format::Text {
+        tell_tally(teller, outcome.tally)?;
+    }
+    Ok(outcome.status)
 }
 
 // What was told for standard output, and nothing of it where only the status is asked for.

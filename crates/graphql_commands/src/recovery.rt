@@ -73,8 +73,8 @@ fn look_from(language: Language, text: &str, from: usize) -> Search {
     Search::Ended
 }
 
-// Whether this offset of the second part is where a line begins.
-fn stands_first(front: &str, rest: &str, offset: usize) -> bool {
+/// Whether this offset of the second part of a text is where a line begins.
+pub fn stands_first(front: &str, rest: &str, offset: usize) -> bool {
     match rest.split_at_checked(offset) {
         Some(("", _)) => front.is_empty() || front.ends_with('\n'),
         Some((before, _)) => before.ends_with('\n'),
@@ -82,9 +82,9 @@ fn stands_first(front: &str, rest: &str, offset: usize) -> bool {
     }
 }
 
-// Whether a definition begins with these two tokens: a keyword, which is no field's name, as the one before a colon is; a
-// brace, in a request; a description and a keyword, in a schema file.
-fn begins_definition(language: Language, first: &Token<'_>, second: &Token<'_>) -> bool {
+/// Whether a definition begins with these two tokens: a keyword, which is no field's name, as the one before a colon is; a
+/// brace, in a request; a description and a keyword, in a schema file.
+pub fn begins_definition(language: Language, first: &Token<'_>, second: &Token<'_>) -> bool {
     let of_schemas = language == Language::Schemas;
     match first.kind {
         TokenKind::Name if of_schemas => {
@@ -95,6 +95,11 @@ fn begins_definition(language: Language, first: &Token<'_>, second: &Token<'_>) 
         TokenKind::Punct => !of_schemas && first.text == "{",
         _ => false,
     }
+}
+
+/// Where a token ends.
+pub fn end_of(token: &Token<'_>) -> usize {
+    token.start.saturating_add(token.text.len())
 }
 
 fn is_keyword(language: Language, token: &Token<'_>) -> bool {

@@ -12,9 +12,10 @@ ghost use Rattle.graphql_commands.specs.checked.Rewritten.{MeanTheSameAs, Prints
 
 use crate::check::{Found, check_source, names_of, push_refused};
 use crate::command::{Call, Command};
+use crate::errors::Source;
 use crate::language::read_as;
 use crate::output::shown_name;
-use crate::telling::{Names, Source, Teller};
+use crate::telling::{Names, Teller};
 use crate::texts::Texts;
 use graphql_layout::{format, minify};
 use graphql_parser::{Error, Limits, parse_query_limited, parse_schema_limited};

@@ -1,22 +1,15 @@
 //! Telling what is wrong with a file: in a report for people, or in a line for a program.
-ghost use Rattle.std.specs.Prelude.{◌≡◌, IfSome, IfOk};
 ghost use Rattle.graphql_report.specs.reports.Rests.{BeginsAt};
 
-use crate::check::error_of;
 use crate::command::Format;
+use crate::errors::{MOST_FINDINGS, Mistake, Refused, Source, first_error, next_error};
 use crate::output::complain;
-use crate::recovery::{next_definition, probable_opening, rest_at, unclosed_string};
 use crate::texts::{Unread, Unwritten};
-use graphql_parser::lexer::{Token, TokenKind};
-use graphql_parser::pos::PositionCalculator;
-use graphql_parser::{Error, Limits, Memory, Pos};
-use graphql_report::{Finding, Language, ReadFrom, ReadUpTo, Style, explain_from, finding_from};
+use graphql_parser::{Error, Pos};
+use graphql_report::{Finding, ReadUpTo, Style, explain_from, finding_from};
 use serde::Serialize;
 use std::alloc::{AllocError, Global};
 use std::io::Write;
-
-/// So many findings of a file are told at most.
-pub const MOST_FINDINGS: usize = 100;
 
 /// The names of a file: the one that people are told, and the one that programs are told.
 #[derive(Clone, Copy)]
@@ -39,22 +32,6 @@ pub struct Teller {
     pub findings: usize,
 }
 
-/// A text that is read: of which file, as what, and how deep it may nest.
-#[derive(Clone, Copy)]
-pub struct Source<'a> {
-    pub names: Names<'a>,
-    pub language: Language,
-    pub limits: Limits,
-    pub text: &'a str,
-}
-
-/// What is wrong with a text: the error, and the token at which the text is refused, if it is refused at one.
-#[derive(Drop)]
-pub struct Refused<'a> {
-    pub error: Error,
-    pub token: Option<Token<'a>>,
-}
-
 impl Teller {
     /// Has told nothing yet.
     pub fn new(alloc: Global, format: Format, style: Style, is_quiet: bool) -> Teller {
@@ -68,71 +45,39 @@ impl Teller {
         }
     }
 
-    /// Tells the error of a text, and then the first error of each definition after it.
-    ///
-    /// A refused text is read again from the next definition on, and so on. What the definitions before the refused one lack, or
-    /// have twice, is no matter then, and neither is that an operation without a name isn't alone: a brace at the beginning of a
-    /// line may belong to a definition that is refused before it.
-    ///
-    /// Where nothing closes a block string, an earlier one may be open that ends where that one was to begin, and what stands in
-    /// strings and between them may be taken for each other up to there. So it is told where the open one probably begins, and no
-    /// definition is looked for before the line after the one that nothing closes. What is read after a later error was searched
-    /// for such a string at the first.
-    pub fn tell_all<E: Write>(
+    /// Tells what is wrong with a text: its first error, and those after it, [`MOST_FINDINGS`] at most.
+    pub fn tell_all<'a, E: Write>(
         &mut self,
-        source: &Source<'_>,
-        refused: &Refused<'_>,
+        source: &Source<'a>,
+        refused: Refused<'a>,
         err: &mut E,
     ) -> Result<(), AllocError> {
         if self.is_quiet {
             return Ok(());
         }
-        let mut known = read_up_to(ReadFrom::top(source.text), refused);
-        let mut passed = known.token.map(|token| token.start);
-        if let Some(token) = known.token
-            && let Some(last) = unclosed_string(source.text, token.start)
-        {
-            known.unclosed = source.opening(&token, last);
-            passed = Some(last);
-        }
-        self.tell(source, &known, &refused.error, err)?;
+        let mut mistake = first_error(source, refused);
+        self.tell_mistake(source, &mistake, err)?;
         for _ in 1..MOST_FINDINGS {
-            let Some(from) = source.next_after(known.from, passed) else {
+            let Some(next) = next_error(self.alloc, source, &mistake)? else {
                 break;
             };
-            let Some(later) = source.refused_from(self.alloc, from)? else {
-                break;
-            };
-            known = read_up_to(from, &later);
-            passed = known.token.map(|token| token.start);
-            if source.is_told_in_place(&later.error, known.token) {
-                self.tell(source, &known, &later.error, err)?;
-            } else {
-                self.tell_copied(source, &known, err)?;
-            }
+            self.tell_mistake(source, &next, err)?;
+            mistake = next;
         }
         Ok(())
     }
 
-    // Tells the first error of a copy of the text from there on, before which as many lines stand: places that are counted
-    // from its beginning are those in the text, and no more is counted than that.
-    fn tell_copied<E: Write>(
+    // Tells an error of a text.
+    fn tell_mistake<E: Write>(
         &mut self,
         source: &Source<'_>,
-        known: &ReadUpTo<'_>,
+        mistake: &Mistake<'_>,
         err: &mut E,
-    ) -> Result<(), AllocError> {
-        let Some(text) = rest_at(self.alloc, source.text, known.from.offset)? else {
-            return Ok(());
-        };
-        let rest = Source {
-            text: text.as_str(),
-            ..*source
-        };
-        match rest.refused_from(self.alloc, ReadFrom::top(rest.text))? {
-            Some(later) => self.tell(&rest, &in_copy(known, rest.text), &later.error, err),
-            None => Ok(()),
-        }
+    ) -> Result<(), AllocError>
+        requires { BeginsAt source.now.text.now mistake.now.known.from }
+    {
+        let (told, read) = mistake.told_in(source);
+        self.tell(&told, &read, &mistake.error, err)
     }
 
     /// Tells the error of a text that was read from its beginning on.
@@ -193,6 +138,7 @@ impl Teller {
             end: None,
             status: why.status(),
             message: String::from_str(self.alloc, why_told)?,
+            meant: None,
         };
         self.push_finding(names, &finding)
     }
@@ -231,119 +177,6 @@ fn complain_of_file<E: Write>(
     let line = format!(in alloc; "gql: {shown} {why}\n")?;
     complain(err, line.as_str());
     Ok(())
-}
-
-impl<'a> Source<'a> {
-    // What is wrong with the text from there on, if it is to be told. The place of a refused token, and its offset, are those in
-    // the whole text.
-    fn refused_from(
-        &self,
-        alloc: Global,
-        from: ReadFrom,
-    ) -> Result<Option<Refused<'a>>, AllocError> {
-        let Some((_, rest)) = self.text.split_at_checked(from.offset) else {
-            return Ok(None);
-        };
-        let source = Source {
-            text: rest,
-            ..*self
-        };
-        let Some(refused) = error_of(&mut Memory::new(alloc), &source, true)? else {
-            return Ok(None);
-        };
-        let Refused { error, token } = refused;
-        let error = match error {
-            Error::MultipleOperations { .. } => return Ok(None),
-            Error::Syntax { start, .. } => Error::Syntax {
-                message: String::new(alloc),
-                start: from.place_in_text(start),
-                end: None,
-            },
-            other => other,
-        };
-        let token = token.map(|token| moved(token, from));
-        Ok(Some(Refused { error, token }))
-    }
-
-    // The reading of the text from its beginning on, up to the token that is refused.
-    fn refused_first(&self, alloc: Global, error: &Error) -> Result<ReadUpTo<'a>, AllocError>
-        ensures { IfOk result (λ read. BeginsAt self.now.text.now read.from) }
-    {
-        ReadUpTo::refused(alloc, self.language, self.text, self.limits, error)
-    }
-
-    // Whether the error can be told without a copy of the rest of the text, from whose beginning a report counts its places: so
-    // can a refused token, if it is no string in which a bad escape may stand.
-    fn is_told_in_place(&self, error: &Error, token: Option<Token<'_>>) -> bool {
-        let Some(token) = token else {
-            return false;
-        };
-        let is_string = match self.text.split_at_checked(token.start) {
-            Some((_, rest)) => rest.starts_with('"'),
-            None => false,
-        };
-        let may_have_escape = is_string && matches!(token.kind, TokenKind::Fault);
-        matches!(error, Error::Syntax { .. }) && !may_have_escape
-    }
-
-    // Where the block string probably begins that isn't closed, if that isn't the refused token; `last` is the one that nothing
-    // closes.
-    fn opening(&self, token: &Token<'_>, last: usize) -> Option<Pos> {
-        let start = probable_opening(self.language, self.text, token.start).unwrap_or(last);
-        let (front, _) = self.text.split_at_checked(start)?;
-        if start == token.start {
-            return None;
-        }
-        Some(PositionCalculator::new(front).step(front.len()))
-    }
-
-    // Where a text is read next that was read from there on and passed up to this offset, if a token was refused.
-    fn next_after(&self, from: ReadFrom, passed: Option<usize>) -> Option<ReadFrom>
-        requires { BeginsAt self.now.text.now from }
-        ensures { IfSome result (λ from. BeginsAt self.now.text.now from) }
-    {
-        let offset = next_definition(self.language, self.text, passed?)?;
-        from.later(self.text, offset)
-    }
-}
-
-// The reading of a text from there on, up to the token at which it is refused.
-fn read_up_to<'a>(from: ReadFrom, refused: &Refused<'a>) -> ReadUpTo<'a>
-    ensures { result.from ≡ from }
-{
-    ReadUpTo {
-        from,
-        token: refused.token,
-        unclosed: None,
-    }
-}
-
-// A token of the text from there on, with its offset and its place in the whole text.
-fn moved<'a>(token: Token<'a>, from: ReadFrom) -> Token<'a> {
-    Token {
-        start: token.start.saturating_add(from.offset),
-        pos: from.place_in_text(token.pos),
-        ..token
-    }
-}
-
-// The same of a copy of the text from there on, before which as many lines stand, each of a line feed alone.
-fn in_copy<'a>(known: &ReadUpTo<'a>, copy: &str) -> ReadUpTo<'a>
-    ensures { BeginsAt copy.now result.from }
-{
-    let from = known.from;
-    let lines = from.line.saturating_sub(1);
-    ReadUpTo {
-        from: ReadFrom::top(copy),
-        token: known.token.map(|token| Token {
-            start: token
-                .start
-                .saturating_sub(from.offset)
-                .saturating_add(lines),
-            ..token
-        }),
-        unclosed: known.unclosed,
-    }
 }
 
 // ---- JSON

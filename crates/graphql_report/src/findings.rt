@@ -9,9 +9,10 @@ ghost use Rattle.graphql_report.specs.reports.Refused.{IsKnown, IsRefusedFrom};
 ghost use Rattle.graphql_report.specs.reports.Reports.{IsPlaceIn};
 ghost use Rattle.graphql_report.specs.reports.Rests.{AreCounted, BeginsAt, top};
 
+use crate::definitions::offsets_of;
 use crate::fronts::{Language, end_of};
 use crate::refused::{before, reached_limit};
-use crate::report::{TOO_DEEP, details_of, limit_remark, place_told, remark_of};
+use crate::report::{TOO_DEEP, details_of, limit_remark, place_told, remark_of, second_remark_of};
 use crate::rests::ReadUpTo;
 use graphql_parser::lexer::Token;
 use graphql_parser::pos::PositionCalculator;
@@ -29,6 +30,31 @@ pub struct Finding {
     pub status: &'static str,
     /// What the first line of the report says after the place.
     pub message: String,
+    /// The word that may have been meant in place of the refused token, where the message asks for it.
+    pub meant: Option<&'static str>,
+}
+
+/// Where the tokens stand that an error about definitions is about, as byte offsets. (This project's own type.)
+#[derive(Clone, Copy)]
+pub struct ErrorOffsets {
+    /// The token at the first place of the report; the length of the text where the error names none.
+    pub first: usize,
+    /// The token at the second place, and what the report says of it.
+    pub second: Option<(usize, &'static str)>,
+}
+
+/// Where the tokens stand in `text` that `error` is about, an error about definitions that a parser gave for it. Of other errors
+/// it gives the length of the text. One walk over the tokens finds them. An error says that memory was refused. (This project's
+/// own call.)
+pub fn error_offsets(alloc: Global, text: &str, error: &Error) -> Result<ErrorOffsets, AllocError> {
+    let offsets = offsets_of(alloc, text, error)?;
+    Ok(ErrorOffsets {
+        first: offsets.first,
+        second: match second_remark_of(error) {
+            Some(remark) => Some((offsets.second, remark)),
+            None => None,
+        },
+    })
 }
 
 /// What [`explain`](crate::explain) tells of an error, in parts and without the line of the place. (This project's own call.)
@@ -106,6 +132,7 @@ fn syntax_finding(
         end,
         status: "SYNTAX",
         message,
+        meant: details.meant,
     })
 }
 
@@ -128,6 +155,7 @@ fn limit_finding(
             end: None,
             status,
             message: format!(in alloc; "{TOO_DEEP} at the end of the text")?,
+            meant: None,
         });
     };
     let depth = reached_limit(alloc, language, text, read.from, limits, &token)?;
@@ -138,6 +166,7 @@ fn limit_finding(
         end: end_of_token(&token),
         status,
         message,
+        meant: None,
     })
 }
 
@@ -153,6 +182,7 @@ fn breach_finding(alloc: Global, error: &Error) -> Result<Finding, AllocError>
         end: None,
         status: status_of(error),
         message,
+        meant: None,
     })
 }
 

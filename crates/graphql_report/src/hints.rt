@@ -60,7 +60,8 @@ fn begins_in_schemas(word: &str) -> bool {
     EXTENDED.contains(&word) || word == "extend" || word == "directive"
 }
 
-/// Adds what may have been meant in place of the refused token, or why it can't stand there; nothing where neither is known.
+/// Adds what may have been meant in place of the refused token, or why it can't stand there; nothing where neither is known. It
+/// gives the word that may have been meant, where it is one.
 pub fn push_hint(
     alloc: Global,
     out: &mut String,
@@ -68,24 +69,27 @@ pub fn push_hint(
     text: &str,
     token: &Token<'_>,
     expected: &[&'static str],
-) -> Result<(), AllocError>
+) -> Result<Option<&'static str>, AllocError>
     ensures { OnOk result (GoesOn (string_bytes out.old) (string_bytes out.new)) }
 {
     if is_of_other_language(language, token, expected) {
-        return push_other_language(out, language, token);
+        push_other_language(out, language, token)?;
+        return Ok(None);
     }
     if is_no_enum_value(language, token, expected) {
-        return out.push_str(" (\"true\", \"false\" and \"null\" can't be enum values)");
+        out.push_str(" (\"true\", \"false\" and \"null\" can't be enum values)")?;
+        return Ok(None);
     }
     if !token.kind.is_name() {
-        return Ok(());
+        return Ok(None);
     }
     // After a description any definition may stand, but no extension.
     if token.text == "extend" && expects(expected, "\"directive\"") {
-        return out.push_str(" (an extension has no description)");
+        out.push_str(" (an extension has no description)")?;
+        return Ok(None);
     }
     if means_implements(text, token) && expects(expected, "\"implements\"") {
-        return out.push_str(" (did you mean \"implements\"?)");
+        return push_meant(out, "implements");
     }
     push_guess(alloc, out, token, expected)
 }
@@ -172,11 +176,11 @@ fn push_guess(
     out: &mut String,
     token: &Token<'_>,
     expected: &[&'static str],
-) -> Result<(), AllocError>
+) -> Result<Option<&'static str>, AllocError>
     ensures { OnOk result (GoesOn (string_bytes out.old) (string_bytes out.new)) }
 {
     if token.text.len() > LONGEST_WORD {
-        return Ok(());
+        return Ok(None);
     }
     let mut best = Guess {
         word: "",
@@ -195,14 +199,15 @@ fn push_guess(
     push_meant(out, best.word)
 }
 
-// A guess, if there is one.
-fn push_meant(out: &mut String, word: &str) -> Result<(), AllocError>
+// Adds a guess, if there is one, and gives it.
+fn push_meant(out: &mut String, word: &'static str) -> Result<Option<&'static str>, AllocError>
     ensures { OnOk result (GoesOn (string_bytes out.old) (string_bytes out.new)) }
 {
     if word.is_empty() {
-        return Ok(());
+        return Ok(None);
     }
-    write!(out, " (did you mean \"{word}\"?)")
+    write!(out, " (did you mean \"{word}\"?)")?;
+    Ok(Some(word))
 }
 
 // The best guess so far, and by how many edits it differs from what was found.

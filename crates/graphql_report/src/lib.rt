@@ -45,7 +45,7 @@ mod steps;
 mod style;
 mod words;
 
-pub use findings::{Finding, finding_from, finding_of};
+pub use findings::{ErrorOffsets, Finding, error_offsets, finding_from, finding_of};
 pub use fronts::{Language, is_front};
 pub use refused::{refused_token, refused_token_from};
 pub use report::{explain, explain_from, explain_in};

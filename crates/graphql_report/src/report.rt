@@ -243,6 +243,8 @@ pub struct Details {
     pub offset: usize,
     /// Whether that is inside the token, where an escape begins.
     pub is_inside: bool,
+    /// The word that may have been meant in place of the token, as the message says in its end.
+    pub meant: Option<&'static str>,
 }
 
 /// The place where the caret stands: this one, that of the error, or inside the token the one at this offset.
@@ -275,6 +277,7 @@ pub fn details_of(
             message: String::from_str(alloc, "the text is refused")?,
             offset: text.len(),
             is_inside: false,
+            meant: None,
         });
     };
     let front = read_before(text, read.from, token.start);
@@ -283,11 +286,12 @@ pub fn details_of(
     let mut message = String::new(alloc);
     let offset = push_wrong(alloc, &mut message, text, &token, expected)?;
     push_expected(&mut message, language, &token, expected)?;
-    push_more(alloc, &mut message, language, text, read, &token, expected)?;
+    let meant = push_more(alloc, &mut message, language, text, read, &token, expected)?;
     Ok(Details {
         message,
         offset: token.start.saturating_add(offset),
         is_inside: offset > 0,
+        meant,
     })
 }
 
@@ -314,7 +318,7 @@ fn push_wrong(
     Ok(0)
 }
 
-// Adds what was meant, as far as that is known.
+// Adds what was meant, as far as that is known, and gives the word that may have been.
 fn push_more(
     alloc: Global,
     out: &mut String,
@@ -323,13 +327,14 @@ fn push_more(
     read: &ReadUpTo<'_>,
     token: &Token<'_>,
     expected: &[&'static str],
-) -> Result<(), AllocError>
+) -> Result<Option<&'static str>, AllocError>
     ensures { OnOk result (GoesOn (string_bytes out.old) (string_bytes out.new)) }
 {
-    match read.unclosed {
-        Some(place) => push_unclosed(out, place),
-        None => push_hint(alloc, out, language, text, token, expected),
+    if let Some(place) = read.unclosed {
+        push_unclosed(out, place)?;
+        return Ok(None);
     }
+    push_hint(alloc, out, language, text, token, expected)
 }
 
 // A text that nests too deep.
@@ -400,6 +405,22 @@ pub fn remark_of(error: &Error) -> &'static str {
     match error {
         Error::MultipleOperations { .. } => OF_OPERATIONS.first,
         _ => "",
+    }
+}
+
+/// What a report says of the second place of an error; None of an error that has one place at most.
+pub fn second_remark_of(error: &Error) -> Option<&'static str> {
+    match error {
+        Error::MultipleRoots { .. } => Some(OF_ROOTS.second),
+        Error::MultipleOperations { .. } => Some(OF_OPERATIONS.second),
+        Error::OperationDuplicated { .. } | Error::FragmentDuplicated { .. } => {
+            Some(OF_NAMESAKES.second)
+        }
+        Error::Syntax { .. }
+        | Error::RecursionLimitExceeded
+        | Error::MissingQueryRoot { .. }
+        | Error::MissingOperation
+        | Error::OutOfMemory => None,
     }
 }
 

@@ -10,13 +10,16 @@ use super::runs::patient;
 use crate::reports::read_as;
 use graphql_commands::check::error_of;
 use graphql_commands::command::Format;
+use graphql_commands::diagnoses_of;
+use graphql_commands::errors::{MOST_FINDINGS, Refused, Source};
 use graphql_commands::recovery::{next_definition, probable_opening, rest_at, unclosed_string};
-use graphql_commands::telling::{MOST_FINDINGS, Names, Refused, Source, Teller};
+use graphql_commands::telling::{Names, Teller};
 use graphql_parser::lexer::{Token, Tokens};
 use graphql_parser::pos::PositionCalculator;
 use graphql_parser::{Error, Limits, Memory, Pos, check_query_from, check_schema_from};
 use graphql_report::{Language, ReadFrom, ReadUpTo, Style, finding_of, refused_token};
 use rows::pair;
+use serde_json::to_string;
 use std::alloc::{AllocError, Global};
 use std::str;
 use std::test::Fail;
@@ -260,7 +263,7 @@ fn told(
     let mut err = patient(alloc);
     if is_before {
         tell_all_before(&mut teller, source, &refused.error, &mut err)?;
-    } else {
+    } else if let Some(refused) = error_of(&mut Memory::new(alloc), source, true)? {
         teller.tell_all(source, refused, &mut err)?;
     }
     let mut told = String::from_str(alloc, str::from_utf8(err.held.as_slice())?)?;
@@ -290,7 +293,7 @@ fn end_before(
     Ok(Some(PositionCalculator::new(front).step(front.len())))
 }
 
-// How many findings a text with this error has, if it is told alike in both forms.
+// How many findings a text with this error has, if it is told alike in both forms, and diagnosed so.
 fn counted(
     alloc: Global,
     source: &Source<'_>,
@@ -304,13 +307,44 @@ fn counted(
     if report != told(alloc, source, Format::Text, refused, true)?
         || lines != told(alloc, source, Format::Json, refused, true)?
         || finding.end != end_before(alloc, source, error)?
+        || !are_diagnosed(alloc, source, lines.as_str())?
     {
         return Ok(None);
     }
     Ok(Some(lines.as_str().lines().count()))
 }
 
-// How many findings a text has, if it is told alike in both forms.
+// Whether the diagnoses of a text are the findings of these lines of JSON, in order: the place is where a diagnosis begins.
+fn are_diagnosed(alloc: Global, source: &Source<'_>, lines: &str) -> Result<bool, Fail> {
+    let Source {
+        language,
+        limits,
+        text,
+        ..
+    } = *source;
+    let diagnoses = diagnoses_of(alloc, language, text, limits)?;
+    let mut left = lines.lines();
+    for diagnosis in &diagnoses {
+        let line = left.next().unwrap_or("");
+        let Some((front, _)) = text.split_at_checked(diagnosis.span.start) else {
+            return Ok(false);
+        };
+        let Pos { line: row, column } = PositionCalculator::new(front).step(front.len());
+        let place = format!(in alloc; "\"line\":{row},\"column\":{column},")?;
+        let status = diagnosis.status;
+        let status = format!(in alloc; "\"status\":\"{status}\",")?;
+        let message = to_string(alloc, &diagnosis.message.as_str())?;
+        if !(line.contains(place.as_str())
+            && line.contains(status.as_str())
+            && line.contains(message.as_str()))
+        {
+            return Ok(false);
+        }
+    }
+    Ok(left.next().is_none())
+}
+
+// How many findings a text has, if it is told alike in both forms, and diagnosed so.
 fn findings_of(
     alloc: Global,
     language: Language,

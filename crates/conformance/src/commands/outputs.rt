@@ -9,13 +9,14 @@ use std::str;
 use std::test::Fail;
 
 // What help speaks of.
-const TOLD: [&str; 16] = [
+const TOLD: [&str; 17] = [
     "check",
     "format",
     "minify",
     "print",
     "tree",
     "tokens",
+    "lsp",
     "--query",
     "--schema",
     "--limits S,V,T",

@@ -23,8 +23,8 @@ returns-clause-told c token known =
       names = texts c.as_slice-expected.result.now;
       are_expected = subst (λ (l : List ℕ). AreExpected c.args.language c.args.limits l (texts c.as_slice-expected.result.now)) front (subst (λ (names : List (Bor (List ℕ))). AreExpected c.args.language c.args.limits c.read_before-front.result.now (texts names)) (sym c.as_slice-expected.ensures.value) c.in_ok-expected.ensures.samples);
       wrong = c.in_ok-offset.ensures.told.0;
-      more = c.in_ok-push_more.ensures.0;
-      is = c.in_ok-push_more.ensures.1 ∙ ap (λ (l : List ℕ). l ++ c.in_ok-push_more.ensures.0) (c.in_ok-push_expected.ensures ∙ ap (λ (l : List ℕ). l ++ expected c.args.language (seen lent).bare (texts c.as_slice-expected.result.now)) (c.in_ok-offset.ensures.told.1 ∙ ap (λ (l : List ℕ). l ++ c.in_ok-offset.ensures.told.0) c.new-message.ensures.bytes));
+      more = c.in_ok-meant.ensures.0;
+      is = c.in_ok-meant.ensures.1 ∙ ap (λ (l : List ℕ). l ++ c.in_ok-meant.ensures.0) (c.in_ok-push_expected.ensures ∙ ap (λ (l : List ℕ). l ++ expected c.args.language (seen lent).bare (texts c.as_slice-expected.result.now)) (c.in_ok-offset.ensures.told.1 ∙ ap (λ (l : List ℕ). l ++ c.in_ok-offset.ensures.told.0) c.new-message.ensures.bytes));
       found = c.in_ok-offset.ensures.told.2;
     })
 

@@ -1,0 +1,104 @@
+//! What is wrong with a text, as diagnostics (Language Server Protocol 3.17, "Diagnostic").
+
+ghost use Rattle.std.specs.Prelude.{◌≡◌, [], true, All, IfOk};
+ghost use Rattle.graphql_commands.specs.checked.Diagnosed.{IsDiagnosisOf};
+ghost use Rattle.graphql_commands.specs.checked.Good.{IsGoodText};
+ghost use Rattle.graphql_parser.specs.notation.Limits.{default_limits};
+ghost use Rattle.text_edits.specs.Positions.{position_of};
+ghost use Rattle.graphql_server.specs.Ranges.{IsRange, IsDiagnosticOf};
+
+use crate::messages::{Diagnostic, Location, Related};
+use graphql_commands::{Diagnosis, Language, diagnoses_of};
+use graphql_parser::Limits;
+use std::alloc::{AllocError, Global};
+use text_edits::{Document, Encoding, Range};
+
+// An error ("DiagnosticSeverity").
+const ERROR: u8 = 1;
+
+/// What is told as the source of each diagnostic.
+pub const SOURCE: &str = "gql";
+
+/// The range of a text between two offsets in bytes, with columns in units of the encoding.
+pub fn range_of(encoding: Encoding, document: &Document, start: usize, end: usize) -> Range
+    ensures starts { result.start ≡ position_of encoding document.now start }
+    ensures ends { result.end ≡ position_of encoding document.now end }
+    ensures is { IsRange encoding document.now result }
+{
+    Range {
+        start: document.position_of(encoding, start),
+        end: document.position_of(encoding, end),
+    }
+}
+
+/// What is wrong with a text that is read as this language: all that `gql check` finds.
+///
+/// It fails only where memory runs out.
+pub fn found_in(
+    alloc: Global,
+    language: Language,
+    document: &Document,
+) -> Result<Vec<Diagnosis>, AllocError>
+    ensures { IfOk result (λ found. found.items ≡ [] → IsGoodText true language default_limits document.now) }
+{
+    diagnoses_of(alloc, language, document.text(), Limits::default())
+}
+
+/// The diagnostics of a text that is read as this language, each with the range of what is refused, and, for a name that is defined
+/// twice, with the place of the other definition. They are made from this text alone, and there is none only where the text is good.
+///
+/// It fails only where memory runs out.
+pub fn diagnostics_of<'a>(
+    alloc: Global,
+    uri: &'a str,
+    language: Language,
+    encoding: Encoding,
+    document: &Document,
+) -> Result<Vec<Diagnostic<'a>>, AllocError>
+    ensures good { IfOk result (λ told. told.items ≡ [] → IsGoodText true language default_limits document.now) }
+    ensures ranges { IfOk result (λ told. All (IsDiagnosticOf encoding document.now) told.items) }
+{
+    let found = found_in(alloc, language, document)?;
+    let mut diagnostics = Vec::new(alloc);
+    for diagnosis in found {
+        diagnostics.push(diagnostic_of(alloc, uri, encoding, document, diagnosis)?)?;
+    }
+    Ok(diagnostics)
+}
+
+/// A diagnosis as a diagnostic of the text.
+pub fn diagnostic_of<'a>(
+    alloc: Global,
+    uri: &'a str,
+    encoding: Encoding,
+    document: &Document,
+    diagnosis: Diagnosis,
+) -> Result<Diagnostic<'a>, AllocError>
+    ensures { IfOk result (IsDiagnosticOf encoding document.now) }
+{
+    let Diagnosis {
+        span,
+        status,
+        message,
+        other,
+        fix: _,
+    } = diagnosis;
+    let mut related = Vec::new(alloc);
+    if let Some(other) = other {
+        related.push(Related {
+            location: Location {
+                uri,
+                range: range_of(encoding, document, other.span.start, other.span.end),
+            },
+            message: other.message,
+        })?;
+    }
+    Ok(Diagnostic {
+        range: range_of(encoding, document, span.start, span.end),
+        severity: ERROR,
+        code: status,
+        source: SOURCE,
+        message,
+        related_information: related,
+    })
+}

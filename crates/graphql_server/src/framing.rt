@@ -1,0 +1,265 @@
+//! Messages cut from the bytes that arrive (Language Server Protocol 3.17, "Base Protocol").
+
+use memchr::memmem;
+use std::alloc::{AllocError, Global};
+
+/// More bytes than this of header fields are no header part (this project's choice).
+pub const LONGEST_HEADERS: usize = 1024;
+
+/// A content of more bytes than this, 64 MiB, is not taken (this project's choice).
+pub const LONGEST_CONTENT: usize = 64 * 1024 * 1024;
+
+// After a fault, reading goes on where this stands next.
+const LENGTH_FIELD: &[u8] = b"Content-Length:";
+
+// So much memory is kept for the bytes to come once a longer message is done with.
+const KEPT: usize = 1024 * 1024;
+
+/// What stands next in the bytes that arrived.
+#[derive(Clone, Copy)]
+pub enum Piece {
+    /// The content of a message, from this byte of the pending ones up to that one.
+    Content { start: usize, end: usize },
+    /// The same, of a message whose header says that its characters are not coded in UTF-8.
+    OtherCharset,
+    /// A header part that is none, or whose length is wrong or too great, and why. It is told once until a message is whole again.
+    Fault(&'static str),
+}
+
+/// The bytes that arrived and are not yet cut into messages.
+#[derive(Drop)]
+pub struct Frames {
+    alloc: Global,
+    pending: Vec<u8>,
+    // The bytes before this one are done with.
+    passed: usize,
+    // A fault was passed, and the next header part is looked for.
+    is_lost: bool,
+    // A fault was told, and no message came after it.
+    is_told: bool,
+}
+
+impl Frames {
+    /// No bytes yet. It takes no memory.
+    pub fn new(alloc: Global) -> Frames {
+        Frames {
+            alloc,
+            pending: Vec::new(alloc),
+            passed: 0,
+            is_lost: false,
+            is_told: false,
+        }
+    }
+
+    /// Adds the bytes that arrived.
+    ///
+    /// It fails only where memory runs out. Then all bytes that are pending are gone, and the next header part is looked for.
+    pub fn add(&mut self, bytes: &[u8]) -> Result<(), AllocError> {
+        let added = self.pending.extend_from_slice(bytes);
+        if added.is_err() {
+            self.pending = Vec::new(self.alloc);
+            self.passed = 0;
+            self.is_lost = true;
+        }
+        added
+    }
+
+    /// The bytes of a content.
+    pub fn content(&self, start: usize, end: usize) -> &[u8] {
+        self.pending.as_slice().get(start..end).unwrap_or(&[])
+    }
+
+    /// What stands next; None where more bytes have to come first.
+    pub fn next(&mut self) -> Option<Piece> {
+        for _ in 0..u64::MAX {
+            if self.is_lost && !self.finds_header() {
+                return None;
+            }
+            match headers_of(self.rest()) {
+                Headers::Partial => return None,
+                Headers::Wrong(why) => {
+                    self.pass(1);
+                    self.is_lost = true;
+                    if !self.is_told {
+                        self.is_told = true;
+                        return Some(Piece::Fault(why));
+                    }
+                }
+                Headers::Whole(header) => return self.cut(header),
+            }
+        }
+        None
+    }
+
+    /// Lets go of the bytes that are done with.
+    pub fn settle(&mut self) {
+        let left = self.rest().len();
+        if left == 0 {
+            if self.pending.capacity() > KEPT {
+                self.pending = Vec::new(self.alloc);
+            }
+            self.pending.clear();
+        } else if self.passed > 0 {
+            let passed = self.passed.min(self.pending.len());
+            let _ = self.pending.drain(..passed);
+        }
+        self.passed = 0;
+    }
+
+    // The bytes that are not yet done with.
+    fn rest(&self) -> &[u8] {
+        self.pending.as_slice().get(self.passed..).unwrap_or(&[])
+    }
+
+    fn pass(&mut self, bytes: usize) {
+        self.passed = self.passed.saturating_add(bytes).min(self.pending.len());
+    }
+
+    // Passes what stands before the next header part, if there is one; else all that can be no part of one.
+    fn finds_header(&mut self) -> bool {
+        let rest = self.rest();
+        match memmem::find(rest, LENGTH_FIELD) {
+            Some(at) => {
+                self.pass(at);
+                self.is_lost = false;
+                true
+            }
+            None => {
+                let kept = rest.len().min(LENGTH_FIELD.len() - 1);
+                let bytes = rest.len() - kept;
+                self.pass(bytes);
+                false
+            }
+        }
+    }
+
+    // The content that comes after this header part, if it has come.
+    fn cut(&mut self, header: Header) -> Option<Piece> {
+        let length = header.bytes.saturating_add(header.length);
+        if self.rest().len() < length {
+            return None;
+        }
+        let start = self.passed.saturating_add(header.bytes);
+        self.pass(length);
+        self.is_told = false;
+        if header.is_utf8 {
+            let end = self.passed;
+            Some(Piece::Content { start, end })
+        } else {
+            Some(Piece::OtherCharset)
+        }
+    }
+}
+
+// A header part: how many bytes it takes with the empty line at its end, and what it says.
+#[derive(Clone, Copy)]
+struct Header {
+    bytes: usize,
+    length: usize,
+    is_utf8: bool,
+}
+
+enum Headers {
+    // More bytes have to come.
+    Partial,
+    Wrong(&'static str),
+    Whole(Header),
+}
+
+// The header part with which these bytes begin.
+fn headers_of(bytes: &[u8]) -> Headers {
+    let front = match bytes.get(..LONGEST_HEADERS) {
+        Some(front) => front,
+        None => bytes,
+    };
+    let mut length = None;
+    let mut is_utf8 = true;
+    let mut passed = 0usize;
+    for _ in 0..LONGEST_HEADERS {
+        let Some(line) = line_at(front, passed) else {
+            break;
+        };
+        passed = passed.saturating_add(line.len()).saturating_add(2);
+        if line.is_empty() {
+            return match length {
+                Some(length) => Headers::Whole(Header {
+                    bytes: passed,
+                    length,
+                    is_utf8,
+                }),
+                None => Headers::Wrong("a header part has no Content-Length"),
+            };
+        }
+        match field_of(line) {
+            Field::Length(_) if length.is_some() => {
+                return Headers::Wrong("a header part has two fields Content-Length");
+            }
+            Field::Length(said) => length = Some(said),
+            Field::Charset(said) => is_utf8 = said,
+            Field::Other => {}
+            Field::Wrong(why) => return Headers::Wrong(why),
+        }
+    }
+    if front.len() < LONGEST_HEADERS {
+        Headers::Partial
+    } else {
+        Headers::Wrong("a header part is longer than 1024 bytes")
+    }
+}
+
+// The line that begins at this byte, without its end; None where it doesn't end in these bytes.
+fn line_at(bytes: &[u8], start: usize) -> Option<&[u8]> {
+    let rest = bytes.get(start..)?;
+    let end = memmem::find(rest, b"\r\n")?;
+    rest.get(..end)
+}
+
+// What a header field says.
+enum Field {
+    Length(usize),
+    // Whether the characters are coded in UTF-8.
+    Charset(bool),
+    // A field that says nothing here.
+    Other,
+    Wrong(&'static str),
+}
+
+fn field_of(line: &[u8]) -> Field {
+    let Ok(line) = std::str::from_utf8(line) else {
+        return Field::Wrong("a header field is not ASCII");
+    };
+    let Some((name, value)) = line.split_once(':') else {
+        return Field::Wrong("a header field has no colon");
+    };
+    if name.eq_ignore_ascii_case("Content-Length") {
+        length_of(value.trim())
+    } else if name.eq_ignore_ascii_case("Content-Type") {
+        Field::Charset(is_utf8(value))
+    } else {
+        Field::Other
+    }
+}
+
+fn length_of(value: &str) -> Field {
+    if value.is_empty() || !value.bytes().all(|byte| byte.is_ascii_digit()) {
+        return Field::Wrong("a Content-Length is no number");
+    }
+    match value.parse::<usize>() {
+        Ok(length) if length <= LONGEST_CONTENT => Field::Length(length),
+        _ => Field::Wrong("a Content-Length is greater than 64 MiB"),
+    }
+}
+
+// Whether a content type names no charset, or `utf-8`, or `utf8`, which is the same for old clients (Language Server Protocol 3.17,
+// "Header Part").
+fn is_utf8(value: &str) -> bool {
+    for part in value.split(';') {
+        if let Some((name, charset)) = part.split_once('=')
+            && name.trim().eq_ignore_ascii_case("charset")
+        {
+            let charset = charset.trim().trim_matches('"');
+            return charset.eq_ignore_ascii_case("utf-8") || charset.eq_ignore_ascii_case("utf8");
+        }
+    }
+    true
+}
