@@ -16,6 +16,7 @@ pub returns-in-len1 : goal.returns-in-len1
 returns-in-len1 c =
     let one = only c.args.words.now c.word-item.result c.in-len1.len_at_least c.in-len1.len_below c.word-item.is in
     let bytes : c.as_str.result.now ≡ string_bytes c.word-item.result = c.as_str.ensures.value in
-    let same = bytes_eq-Decides c.as_str.result.now (codes "lsp") in
-    (λ is. one ∙ ap (λ (word : List ℕ). word ∷ []) (sym bytes ∙ same.0 (sym c.eq.ensures ∙ is)),
-     λ is. c.eq.ensures ∙ same.1 (bytes ∙ ap (λ (words : List (List ℕ)). get_or words 0 []) (sym one ∙ is)))
+    let same = bytes_eq-Decides c.as_str.result.now (codes "lsp") in (
+      λ is. one ∙ ap (λ (word : List ℕ). word ∷ []) (sym bytes ∙ same.0 (sym c.eq.ensures ∙ is)),
+      λ is. c.eq.ensures ∙ same.1 (bytes ∙ ap (λ (words : List (List ℕ)). get_or words 0 []) (sym one ∙ is)),
+    )
