@@ -105,11 +105,11 @@ pub record Hash (rest from first after : List ℕ) : Type 0 where
   pub after_utf8 : IsUtf8 after
   pub shorter : length after < length rest
 
-not_empty : (first : List ℕ) → IsComment (chars first) → 1 ≤ length first
-not_empty [] h = absurd (subst IsComment chars-nil h)
-not_empty (c ∷ cs) h = omega arith
+pub some_comment : (first : List ℕ) → IsComment (chars first) → 1 ≤ length first
+some_comment [] h = absurd (subst IsComment chars-nil h)
+some_comment (c ∷ cs) h = omega arith
 
-begun : (c body more rest : List ℕ) → more ≡ 35 ∷ body → more ≡ c ++ rest → AllByRecursion (λ d. is_line_end d ≡ false) c → EndsLine rest → IsComment c
+pub begun : (c body more rest : List ℕ) → more ≡ 35 ∷ body → more ≡ c ++ rest → AllByRecursion (λ d. is_line_end d ≡ false) c → EndsLine rest → IsComment c
 begun [] body more [] e f l r = absurd cc
 begun [] body more (y ∷ rest) e f l r = absurd (let g : 35 ≡ y = cc in let t : is_line_end 35 ≡ true = ap is_line_end g ∙ r in cc)
 begun (x ∷ c) body more rest e f l r = let g : x ≡ 35 = cc in (g, l.1)
@@ -132,7 +132,7 @@ hash rest before from first after u h l =
       ends = l.ends;
       utf8 = l.utf8;
       after_utf8 = l.rest_utf8;
-      shorter = omega (arith, l.long, ap length is, length-drop i rest, not_empty first is_comment);
+      shorter = omega (arith, l.long, ap length is, length-drop i rest, some_comment first is_comment);
     }
 
 pub one_passed : (gap rest from first after : List ℕ) (old sheet longer : List Item) → Passes gap rest old sheet → Hash rest from first after → longer ≡ sheet ++ comment (trimmed (chars first)) ∷ [] → Passes gap after old longer

@@ -4,7 +4,7 @@ use Rattle.std.proofs.lemmas.List.{append_cancel_right}
 use Rattle.std.specs.List.{AllByRecursion, concat}
 use Rattle.std.specs.Str.{encode_utf8_all}
 use Rattle.graphql_tokens.specs.tokens.Classes.{is_ignored}
-use Rattle.graphql_tokens.specs.tokens.Cuts.{Cuts, HasNoFault}
+use Rattle.graphql_tokens.specs.tokens.Cuts.{Cuts, HasNoFault, GoesOn, HasNoToken}
 use Rattle.graphql_tokens.specs.tokens.Edition.{Current}
 use Rattle.graphql_tokens.specs.tokens.Ignored.{IsComment, EndsLine, IsPiece, AreIgnored}
 use Rattle.graphql_tokens.specs.tokens.Place.{is_line_end}
@@ -158,21 +158,73 @@ one_word a b v w r s h k e f same =
     let spelled : v ≡ w = append_cancel_right v w r (same ∙ ap (λ (l : List ℕ). w ++ l) (sym rest)) in
     (ap₂ (λ (x : TokenKind) (y : List ℕ). record { kind = x; spelling = y }) kind (e ∙ ap encode_utf8_all spelled ∙ sym f), rest)
 
-pub one_list : (text : List ℕ) (xs ys : List Item) → IsItems text xs → IsItems text ys → xs ≡ ys
-one_list text [] [] h k = refl
-one_list text [] (comment d ∷ ys) h k = absurd (not_empty d k.rest k.is (sym (of_blank text h) ∙ of_comment text d _ k))
-one_list text [] (word b ∷ ys) h k = absurd (no_word b k.spelling k.rest k.begins (sym (of_blank text h) ∙ of_word text b _ k))
-one_list text (comment c ∷ xs) [] h k = absurd (not_empty c h.rest h.is (sym (of_blank text k) ∙ of_comment text c _ h))
-one_list text (comment c ∷ xs) (comment d ∷ ys) h k =
-    let e = one_comment c d h.rest k.rest h.is k.is h.ends k.ends (sym (of_comment text c _ h) ∙ of_comment text d _ k) in
-    let more : xs ≡ ys = one_list k.rest xs ys (subst (λ (r : List ℕ). IsItems r xs) e.1 h.more) k.more in
-    ap₂ (λ (x : List ℕ) (l : List Item). comment x ∷ l) e.0 more
-one_list text (comment c ∷ xs) (word b ∷ ys) h k =
-    absurd (not_comment c h.rest h.is (subst IsRest (sym (of_word text b _ k) ∙ of_comment text c _ h) (begins_rest Current b.kind k.spelling k.rest k.begins)))
-one_list text (word a ∷ xs) [] h k = absurd (no_word a h.spelling h.rest h.begins (sym (of_blank text k) ∙ of_word text a _ h))
-one_list text (word a ∷ xs) (comment d ∷ ys) h k =
-    absurd (not_comment d k.rest k.is (subst IsRest (sym (of_word text a _ h) ∙ of_comment text d _ k) (begins_rest Current a.kind h.spelling h.rest h.begins)))
-one_list text (word a ∷ xs) (word b ∷ ys) h k =
-    let e = one_word a b h.spelling k.spelling h.rest k.rest h.begins k.begins h.bytes k.bytes (sym (of_word text a _ h) ∙ of_word text b _ k) in
-    let more : xs ≡ ys = one_list k.rest xs ys (subst (λ (r : List ℕ). IsItems r xs) e.1 h.more) k.more in
-    ap₂ (λ (x : Bare) (l : List Item). word x ∷ l) e.0 more
+-- ---- what is left after an item
+
+hash_stands : (c : ℕ) → is_ignored c ≡ true → c ≡ 35 → ⊥
+hash_stands c h e = let k : is_ignored 35 ≡ true = ap is_ignored (sym e) ∙ h in cc
+
+-- a comment comes after an ignored character
+comment_later : (c : ℕ) (rest d after : List ℕ) → is_ignored c ≡ true → IsComment d → c ∷ rest ≡ d ++ after → ⊥
+comment_later c rest [] after h k e = k
+comment_later c rest (x ∷ d) after h k e = hash_stands c h (let f : c ≡ x = cc in f ∙ k.0)
+
+-- and a token too
+word_later : (c : ℕ) (rest w after : List ℕ) → is_ignored c ≡ true → IsRest (w ++ after) → c ∷ rest ≡ w ++ after → ⊥
+word_later c rest w after h k e = let r : IsRest (c ∷ rest) = subst IsRest (sym e) k in let n = r.0 in cc
+
+-- after an ignored character
+pub past_ignored : (c : ℕ) (rest : List ℕ) (items : List Item) → is_ignored c ≡ true → IsItems (c ∷ rest) items → IsItems rest items
+past_ignored c rest [] h k = k.1
+past_ignored c rest (comment d ∷ items) h k = by k.gap k.blank k.whole
+  where
+    by : (g : List ℕ) → IsBlankText g → c ∷ rest ≡ g ++ (d ++ k.rest) → IsItems rest (comment d ∷ items)
+    by [] b w = absurd (comment_later c rest d k.rest h k.is w)
+    by (x ∷ g) b w = record { gap = g; rest = k.rest; whole = cc; blank = b.1; is = k.is; ends = k.ends; more = k.more }
+past_ignored c rest (word b ∷ items) h k = by k.gap k.blank k.whole
+  where
+    by : (g : List ℕ) → IsBlankText g → c ∷ rest ≡ g ++ (k.spelling ++ k.rest) → IsItems rest (word b ∷ items)
+    by [] e w = absurd (word_later c rest k.spelling k.rest h (begins_rest Current b.kind k.spelling k.rest k.begins) w)
+    by (x ∷ g) e w = record { gap = g; spelling = k.spelling; rest = k.rest; whole = cc; blank = e.1; begins = k.begins; bytes = k.bytes; more = k.more }
+
+-- after the first of these items, the others are left
+pub record Leaves (rest : List ℕ) (first : Item) (items : List Item) : Type 0 where
+  pub others : List Item
+  pub are : IsItems rest others
+  pub is : items ≡ first ∷ others
+
+pub past_comment_item : (c rest : List ℕ) (items : List Item) → IsComment c → EndsLine rest → IsItems (c ++ rest) items → Leaves rest (comment c) items
+past_comment_item c rest [] h e k = absurd (not_empty c rest h (sym (of_blank (c ++ rest) k) ∙ past_comment c rest h))
+past_comment_item c rest (comment d ∷ items) h e k =
+    let both = one_comment d c k.rest rest k.is h k.ends e (sym (of_comment (c ++ rest) d _ k) ∙ past_comment c rest h) in
+    record { others = items; are = subst (λ (r : List ℕ). IsItems r items) both.1 k.more; is = ap (λ (x : List ℕ). comment x ∷ items) both.0 }
+past_comment_item c rest (word b ∷ items) h e k =
+    absurd (not_comment c rest h (subst IsRest (sym (of_word (c ++ rest) b _ k) ∙ past_comment c rest h) (begins_rest Current b.kind k.spelling k.rest k.begins)))
+
+pub past_word_item : (b : Bare) (w rest : List ℕ) (items : List Item) → Begins Current b.kind w rest → b.spelling ≡ encode_utf8_all w → IsItems (w ++ rest) items → Leaves rest (word b) items
+past_word_item b w rest items h e k = by items k
+  where
+    stands : IsRest (w ++ rest)
+    stands = begins_rest Current b.kind w rest h
+
+    here : past_blank (w ++ rest) ≡ w ++ rest
+    here = past_rest (w ++ rest) stands
+
+    by : (items : List Item) → IsItems (w ++ rest) items → Leaves rest (word b) items
+    by [] k = absurd (no_word b w rest h (sym (of_blank (w ++ rest) k) ∙ here))
+    by (comment d ∷ items) k = absurd (not_comment d k.rest k.is (subst IsRest (sym here ∙ of_comment (w ++ rest) d _ k) stands))
+    by (word a ∷ items) k =
+        let both = one_word a b k.spelling w k.rest rest k.begins h k.bytes e (sym (of_word (w ++ rest) a _ k) ∙ here) in
+        record { others = items; are = subst (λ (r : List ℕ). IsItems r items) both.1 k.more; is = ap (λ (x : Bare). word x ∷ items) both.0 }
+
+-- where the text goes on and no token stands, it has no items
+pub no_items : (text : List ℕ) (items : List Item) → GoesOn text → HasNoToken Current text → IsItems text items → ⊥
+no_items [] items g n k = g
+no_items (c ∷ cs) [] g n k = let h = k.0 in let i = g.0 in cc
+no_items (c ∷ cs) (comment d ∷ items) g n k = not_comment d k.rest k.is (subst IsRest (sym (past_rest (c ∷ cs) g) ∙ of_comment (c ∷ cs) d _ k) g)
+no_items (c ∷ cs) (word b ∷ items) g n k = n b.kind k.spelling k.rest (sym (past_rest (c ∷ cs) g) ∙ of_word (c ∷ cs) b _ k) k.begins
+
+-- an empty text has none
+pub none_left : (items : List Item) → IsItems [] items → [] ≡ items
+none_left [] h = refl
+none_left (comment c ∷ items) h = absurd (not_empty c h.rest h.is (of_comment [] c _ h))
+none_left (word b ∷ items) h = absurd (no_word b h.spelling h.rest h.begins (of_word [] b _ h))

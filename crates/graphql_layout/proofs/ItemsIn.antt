@@ -14,27 +14,9 @@ use Rattle.graphql_tokens.proofs.Nexts.{next_only, begins_rest, begins_some}
 use Rattle.graphql_tokens.proofs.Skips.{IsRest, before_is}
 use Rattle.graphql_layout.specs.inner.ItemsIn.{line, after_line, first_word, items_from, items_in}
 use Rattle.graphql_layout.specs.texts.Items.{Item, comment, word, IsItems}
-use Rattle.graphql_layout.proofs.Items.{one_list}
+use Rattle.graphql_layout.proofs.Items.{past_ignored, none_left}
 
 -- ---- one step, by the first character
-
--- past an ignored character
-past_ignored : (c : ℕ) (cs : List ℕ) (items : List Item) → is_ignored c ≡ true → IsItems (c ∷ cs) items → IsItems cs items
-past_ignored c cs [] i h = h.1
-past_ignored c cs (comment d ∷ items) i h = go h.gap h.whole h.blank
-  where
-    go : (g : List ℕ) → c ∷ cs ≡ g ++ (d ++ h.rest) → AllByRecursion (λ x. is_ignored x ≡ true) g → IsItems cs (comment d ∷ items)
-    go [] e b = absurd (none d h.is e)
-      where
-        none : (w : List ℕ) → IsComment w → c ∷ cs ≡ w ++ h.rest → ⊥
-        none [] k e = k
-        none (x ∷ w) k e = let same : c ≡ x = cc in let t : is_ignored 35 ≡ true = ap is_ignored (sym (same ∙ k.0)) ∙ i in cc
-    go (x ∷ g) e b = record { gap = g; rest = h.rest; whole = cc; blank = b.1; is = h.is; ends = h.ends; more = h.more }
-past_ignored c cs (word b ∷ items) i h = go h.gap h.whole h.blank
-  where
-    go : (g : List ℕ) → c ∷ cs ≡ g ++ (h.spelling ++ h.rest) → AllByRecursion (λ x. is_ignored x ≡ true) g → IsItems cs (word b ∷ items)
-    go [] e k = absurd (let r : IsRest (c ∷ cs) = subst IsRest (sym e) (begins_rest Current b.kind h.spelling h.rest h.begins) in let t : is_ignored c ≡ false = r.0 in cc)
-    go (x ∷ g) e k = record { gap = g; spelling = h.spelling; rest = h.rest; whole = cc; blank = k.1; begins = h.begins; bytes = h.bytes; more = h.more }
 
 -- the gap before an item is empty, where the text begins with no ignored character
 no_gap : (c : ℕ) (cs g after : List ℕ) → is_ignored c ≡ false → c ∷ cs ≡ g ++ after → AllByRecursion (λ x. is_ignored x ≡ true) g → c ∷ cs ≡ after
@@ -97,7 +79,7 @@ one_step n c cs items ih l h false i false e = by_word n c cs items ih l i e h
 
 from_here : (n : ℕ) → FromHere n
 from_here zero text items l h = absurd (omega arith)
-from_here (suc n) [] items l h = one_list [] [] items tt h
+from_here (suc n) [] items l h = none_left items h
 from_here (suc n) (c ∷ cs) items l h = one_step n c cs items (from_here n) (omega arith) h (is_ignored c) refl (c == 35) refl
 
 pub items_are : (text : List ℕ) (items : List Item) → IsItems (chars text) items → items_in text ≡ items

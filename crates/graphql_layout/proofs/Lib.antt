@@ -1,3 +1,4 @@
+pub mod Aheads
 pub mod BlockBodies
 pub mod BlockChoices
 pub mod BlockFlags

@@ -18,7 +18,7 @@ use Rattle.graphql_tokens.specs.tokens.Alike.{AreAlike}
 use Rattle.graphql_layout.specs.inner.Tidied.{tidied}
 use Rattle.graphql_layout.specs.texts.LaidOut.{AreLaid}
 use Rattle.graphql_layout.specs.texts.SameTokens.{bares, bare_end}
-use Rattle.graphql_layout.proofs.Items.{ignored_item, comment_item, items_written}
+use Rattle.graphql_layout.proofs.Items.{ignored_item, comment_item, past_ignored, past_comment_item}
 
 -- ---- a text in two
 
@@ -66,17 +66,21 @@ pub record Comments (pieces : List (List ℕ)) (after : List ℕ) : Type 0 where
   pub alone : IsItems (concat pieces) items
   pub none : words items ≡ []
   pub before : (others : List Item) → IsItems after others → IsItems (concat pieces ++ after) (items ++ others)
+  pub past : (all : List Item) → IsItems (concat pieces ++ after) all → (others : List Item) × IsItems after others × (all ≡ items ++ others)
 
 ends_alone : (rest after : List ℕ) → EndsLine (rest ++ after) → EndsLine rest
 ends_alone [] after h = tt
 ends_alone (c ∷ rest) after h = h
 
 pub comments_of : (pieces : List (List ℕ)) (after : List ℕ) → AreIgnored pieces after → Comments pieces after
-comments_of [] after h = record { items = []; alone = tt; none = refl; before = λ others k. k }
+comments_of [] after h = record { items = []; alone = tt; none = refl; before = λ others k. k; past = λ all k. (all, k, refl) }
 comments_of (p ∷ ps) after h = by h.0 (comments_of ps after h.1)
   where
     seamed : (items : List Item) → IsItems (p ++ (concat ps ++ after)) items → IsItems (concat (p ∷ ps) ++ after) items
     seamed items i = subst (λ (x : List ℕ). IsItems x items) (sym (append_assoc p (concat ps) after)) i
+
+    parted : (items : List Item) → IsItems (concat (p ∷ ps) ++ after) items → IsItems (p ++ (concat ps ++ after)) items
+    parted items i = subst (λ (x : List ℕ). IsItems x items) (append_assoc p (concat ps) after) i
 
     by : IsPiece p (concat ps ++ after) → Comments ps after → Comments (p ∷ ps) after
     by (inl i) k = record {
@@ -85,12 +89,17 @@ comments_of (p ∷ ps) after h = by h.0 (comments_of ps after h.1)
       none = k.none;
       before = λ others o.
           seamed (k.items ++ others) (subst (λ (l : List ℕ). IsItems (l ++ (concat ps ++ after)) (k.items ++ others)) (sym i.1) (ignored_item i.0 (concat ps ++ after) (k.items ++ others) i.2 (k.before others o)));
+      past = λ all o. k.past all (past_ignored i.0 (concat ps ++ after) all i.2 (subst (λ (l : List ℕ). IsItems (l ++ (concat ps ++ after)) all) i.1 (parted all o)));
     }
     by (inr i) k = record {
       items = comment p ∷ k.items;
       alone = comment_item p (concat ps) k.items i.0 (ends_alone (concat ps) after i.1) k.alone;
       none = k.none;
       before = λ others o. seamed (comment p ∷ (k.items ++ others)) (comment_item p (concat ps ++ after) (k.items ++ others) i.0 i.1 (k.before others o));
+      past = λ all o.
+          let l = past_comment_item p (concat ps ++ after) all i.0 i.1 (parted all o) in
+          let m = k.past l.others l.are in
+          (m.0, m.1, l.is ∙ ap (λ (x : List Item). comment p ∷ x) m.2);
     }
 
 -- ---- what is laid out
@@ -114,31 +123,3 @@ alike_words (comment c ∷ xs) (comment d ∷ vs) h = alike_words xs vs h.1
 alike_words (comment c ∷ xs) (word b ∷ vs) h = absurd h.0
 alike_words (word a ∷ xs) (comment d ∷ vs) h = absurd h.0
 alike_words (word a ∷ xs) (word b ∷ vs) h = (h.0, alike_words xs vs h.1)
-
--- ---- a text with items has no fault
-
-word_kind : (b : Bare) (w rest : List ℕ) → Begins Current b.kind w rest → b.kind ≢ Fault
-word_kind b w rest h e = (subst (λ (k : TokenKind). Begins Current k w rest) e h).spelled
-
-words_whole : (text : List ℕ) (items : List Item) (ts : List Token) → IsItems text items → bares ts ≡ words items ++ bare_end ∷ [] → HasNoFault ts
-words_whole text [] [] h e = absurd cc
-words_whole text [] (t ∷ ts) h e =
-    let same : t.bare ≡ bare_end = cc in
-    let none : bares ts ≡ [] = cc in
-    (λ f. absurd (let k : End ≡ Fault = ap (λ (x : Bare). x.kind) (sym same) ∙ f in cc), nothing ts none)
-  where
-    nothing : (us : List Token) → bares us ≡ [] → HasNoFault us
-    nothing [] n = tt
-    nothing (u ∷ us) n = absurd cc
-words_whole text (comment c ∷ items) ts h e = words_whole h.rest items ts h.more e
-words_whole text (word b ∷ items) [] h e = absurd cc
-words_whole text (word b ∷ items) (t ∷ ts) h e =
-    let same : t.bare ≡ b = cc in
-    let more : bares ts ≡ words items ++ bare_end ∷ [] = cc in
-    (λ f. word_kind b h.spelling h.rest h.begins (ap (λ (x : Bare). x.kind) (sym same) ∙ f), words_whole h.rest items ts h.more more)
-
-pub whole_items : (text : List ℕ) (items : List Item) (all : List Token) → IsCutInto text all → IsItems (chars text) items → HasNoFault all
-whole_items text items all cut h =
-    let w = items_written (chars text) items h [] in
-    let same : w.0 ≡ all = tokens_only [] (chars text) w.0 w.1 ∙ sym (tokens_only [] (chars text) all cut) in
-    words_whole (chars text) items all h (ap bares (sym same) ∙ w.2)

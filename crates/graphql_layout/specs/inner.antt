@@ -6,3 +6,4 @@ pub mod ItemsIn
 pub mod Sheets
 pub mod FirstLine
 pub mod Tidied
+pub mod Standing

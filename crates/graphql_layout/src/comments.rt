@@ -1,14 +1,16 @@
 //! The comments between two tokens.
-ghost use Rattle.std.specs.Prelude.{◌≡◌, [], ◌++◌, List, None, true, OnOk, MatchOption};
+ghost use Rattle.std.specs.Prelude.{◌≡◌, ◌<◌, [], ◌++◌, List, None, true, IfSome, OnOk, MatchOption, length};
 ghost use Rattle.std.specs.Str.{byte, chars};
 ghost use Rattle.std.specs.Str.Pattern.{FindsChar};
 ghost use Rattle.graphql_layout.specs.inner.FirstLine.{IsFirstLine, IsFirstHash};
 ghost use Rattle.graphql_layout.specs.texts.Items.{Item, IsItems, words};
+ghost use Rattle.graphql_layout.specs.inner.Standing.{begins_with_hash, IsAfterIgnored};
 ghost use Rattle.graphql_layout.specs.inner.Tidied.{tidied};
 ghost use Rattle.graphql_layout.specs.texts.LaidOut.{trimmed};
 
 use crate::layout::gaps::Place;
 use crate::layout::lines::{Before, begin_comment};
+use crate::scans::blanks_of;
 use crate::sheet::Sheet;
 use memchr::{memchr, memchr2};
 use std::alloc::AllocError;
@@ -44,6 +46,38 @@ fn without_blanks(comment: &str) -> &str
     ensures { chars result.now ≡ trimmed (chars comment.now) }
 {
     comment.trim_end_matches(['\t', ' '])
+}
+
+fn begins_with_hash(text: &str) -> bool
+    ensures { result ≡ begins_with_hash text.now }
+{
+    match text.as_bytes().first() {
+        Some(first) => *first == b'#',
+        None => false,
+    }
+}
+
+// The text after the first comment, where nothing but blanks stands before it.
+fn past_comment(text: &str) -> Option<&str>
+    ensures { IfSome result (λ after. IsAfterIgnored text.now after.now × (length after.now < length text.now)) }
+{
+    let (_, from) = text.split_at(blanks_of(text.as_bytes()));
+    if !begins_with_hash(from) {
+        return None;
+    }
+    let (_, after) = split_line(from);
+    Some(after)
+}
+
+/// The text after the comments that come before all else but blanks.
+pub fn past_comments(text: &str) -> &str
+    ensures { IsAfterIgnored text.now result.now }
+{
+    let mut rest = text;
+    while let Some(after) = past_comment(rest) {
+        rest = after;
+    }
+    rest
 }
 
 // The text from the rest of the gap on, of the text that begins with the gap.

@@ -1,7 +1,6 @@
-use Rattle.std.proofs.Common.{◌≡◌, ◌≢◌, List, ap, ◌∙◌, sym, subst, refl, true, false, string_bytes, rules}
+use Rattle.std.proofs.Common.{◌≡◌, ◌≢◌, List, ap, ◌∙◌, sym, subst, refl, true, false, string_bytes}
 use denote.Enum.Bare.{sameb}
 use Rattle.graphql_tokens.specs.contracts.lexer.TokenKind.{the_type}
-use Rattle.graphql_tokens.specs.tokens.Cuts.{IsCutInto}
 use Rattle.graphql_tokens.specs.tokens.Kinds.{is_end}
 use Rattle.graphql_tokens.specs.tokens.Seen.{seen}
 use Rattle.graphql_tokens.specs.tokens.Token.{left}
@@ -9,8 +8,17 @@ use Rattle.graphql_tokens.specs.declared.lexer.TokenKind.{TokenKind}
 use Rattle.graphql_tokens.specs.declared.lexer.TokenKind.TheVariants.{Punct, Name, Number, String, Block, Fault, End}
 use Rattle.graphql_layout.specs.inner.Tidied.{IsAdded}
 use Rattle.graphql_layout.specs.texts.Items.{Item}
-use Rattle.graphql_layout.proofs.Takings.{next, boundary, all_laid_out, next_spells, boundary_after, one_read}
+use Rattle.graphql_layout.proofs.Takings.{Next, next, boundary, From, from_token, gap_boundary, all_laid_out, next_spells, boundary_after, Read, one_read, fault_read}
 use Rattle.graphql_layout.proofs.layout.format.Goals as goal
+
+is_fault : (kind : TokenKind) → sameb the_type kind Fault ≡ true → kind ≡ Fault
+is_fault Fault h = refl
+is_fault Punct h = absurd cc
+is_fault Name h = absurd cc
+is_fault Number h = absurd cc
+is_fault String h = absurd cc
+is_fault Block h = absurd cc
+is_fault End h = absurd cc
 
 not_fault : (kind : TokenKind) → sameb the_type kind Fault ≡ false → kind ≢ Fault
 not_fault kind h e = let same : sameb the_type kind Fault ≡ true = ap (λ k. sameb the_type k Fault) e in cc
@@ -29,44 +37,85 @@ the_end Fault h = absurd cc
 
 pub overflow_sub-end : goal.overflow_sub-end
 overflow_sub-end c =
-    (next c.args.text.now c.loop-token.rest.now (left c.into_iter-token-iterator.result) (left c.loop-token.token-iterator) (left c.next.new.self) c.loop-token.sheet (seen c.in-Some.token) c.utf8.text c.loop-token.invariant.0 c.loop-token.invariant.1
-    c.in-Some.ensures.steps.0).shorter
+    let n =
+    next c.tokens.rest.now c.go_on-next_near.result.0.now c.text.result.now c.go_on-next_near.new.tokens (seen c.next_token-token.result) (left c.next_token-token.new.self) (c.text.ensures ∙ c.next_token-token.ensures.text) c.text.utf8 c.tokens.invariant.0
+    c.go_on-next_near.ensures.ignored c.go_on-next_near.ensures.stands c.next_token-token.ensures.token in
+    n.shorter
+
+pub returns-then-eq : goal.returns-then-eq
+returns-then-eq c =
+    let n =
+    next c.tokens.rest.now c.go_on-next_near.result.0.now c.text.result.now c.go_on-next_near.new.tokens (seen c.next_token-token.result) (left c.next_token-token.new.self) (c.text.ensures ∙ c.next_token-token.ensures.text) c.text.utf8 c.tokens.invariant.0
+    c.go_on-next_near.ensures.ignored c.go_on-next_near.ensures.stands c.next_token-token.ensures.token in
+    fault_read c.args.text.now c.tokens.rest.now c.go_on-next_near.result.0.now c.text.result.now (seen c.next_token-token.result) (left c.next_token-token.new.self) c.tokens.sheet c.tokens.invariant.1 n (is_fault c.next_token-token.result.kind (sym c.eq.ensures ∙ c.if-eq.true))
 
 pub overflow_sub-token : goal.overflow_sub-token
 overflow_sub-token c =
-    (next c.args.text.now c.loop-token.rest.now (left c.into_iter-token-iterator.result) (left c.loop-token.token-iterator) (left c.next.new.self) c.loop-token.sheet (seen c.in-Some.token) c.utf8.text c.loop-token.invariant.0 c.loop-token.invariant.1
-    c.in-Some.ensures.steps.0).reached
+    let n =
+    next c.tokens.rest.now c.go_on-next_near.result.0.now c.text.result.now c.go_on-next_near.new.tokens (seen c.next_token-token.result) (left c.next_token-token.new.self) (c.text.ensures ∙ c.next_token-token.ensures.text) c.text.utf8 c.tokens.invariant.0
+    c.go_on-next_near.ensures.ignored c.go_on-next_near.ensures.stands c.next_token-token.ensures.token in
+    n.reached
 
 pub split_at-requires : goal.split_at-requires
 split_at-requires c =
-    let r = c.loop-token.invariant.1 in
-    boundary c.args.text.now c.loop-token.rest.now r.front (seen c.in-Some.token) (left c.next.new.self)
-    (next c.args.text.now c.loop-token.rest.now (left c.into_iter-token-iterator.result) (left c.loop-token.token-iterator) (left c.next.new.self) c.loop-token.sheet (seen c.in-Some.token) c.utf8.text c.loop-token.invariant.0 r c.in-Some.ensures.steps.0)
+    let n =
+    next c.tokens.rest.now c.go_on-next_near.result.0.now c.text.result.now c.go_on-next_near.new.tokens (seen c.next_token-token.result) (left c.next_token-token.new.self) (c.text.ensures ∙ c.next_token-token.ensures.text) c.text.utf8 c.tokens.invariant.0
+    c.go_on-next_near.ensures.ignored c.go_on-next_near.ensures.stands c.next_token-token.ensures.token in
+    boundary c.tokens.rest.now c.go_on-next_near.result.0.now c.text.result.now (seen c.next_token-token.result) (left c.next_token-token.new.self) n
+
+pub split_at-requires-in-tokens : goal.split_at-requires-in-tokens
+split_at-requires-in-tokens c =
+    let n =
+    next c.tokens.rest.now c.go_on-next_near.result.0.now c.text.result.now c.go_on-next_near.new.tokens (seen c.next_token-token.result) (left c.next_token-token.new.self) (c.text.ensures ∙ c.next_token-token.ensures.text) c.text.utf8 c.tokens.invariant.0
+    c.go_on-next_near.ensures.ignored c.go_on-next_near.ensures.stands c.next_token-token.ensures.token in
+    let from = from_token c.tokens.rest.now c.go_on-next_near.result.0.now c.split_at.result.1.now c.text.result.now (seen c.next_token-token.result) (left c.next_token-token.new.self) n c.split_at.ensures.back in
+    gap_boundary c.tokens.rest.now c.go_on-next_near.result.0.now c.split_at.result.1.now c.text.result.now (seen c.next_token-token.result) (left c.next_token-token.new.self) n from
 
 pub returns-then-is_end : goal.returns-then-is_end
 returns-then-is_end c =
-    let all = left c.into_iter-token-iterator.result in
-    let cut : IsCutInto c.args.text.now all = search rules in
-    all_laid_out c.args.text.now (string_bytes c.finish.result) c.loop-token.rest.now c.split_at.result.0.now all (left c.loop-token.token-iterator) (left c.next.new.self) c.loop-token.sheet c.push_comments.new.sheet (seen c.in-Some.token) c.utf8.text
-    c.loop-token.invariant.0 cut c.loop-token.invariant.1 c.in-Some.ensures.steps.0 (the_end c.in-Some.token.kind (sym c.is_end.ensures ∙ c.if-is_end.true)) c.split_at.ensures.front c.in_ok-before.ensures c.finish.ensures.items
+    let n =
+    next c.tokens.rest.now c.go_on-next_near.result.0.now c.text.result.now c.go_on-next_near.new.tokens (seen c.next_token-token.result) (left c.next_token-token.new.self) (c.text.ensures ∙ c.next_token-token.ensures.text) c.text.utf8 c.tokens.invariant.0
+    c.go_on-next_near.ensures.ignored c.go_on-next_near.ensures.stands c.next_token-token.ensures.token in
+    let from = from_token c.tokens.rest.now c.go_on-next_near.result.0.now c.split_at.result.1.now c.text.result.now (seen c.next_token-token.result) (left c.next_token-token.new.self) n c.split_at.ensures.back in
+    all_laid_out c.args.text.now (string_bytes c.finish.result) c.tokens.rest.now c.go_on-next_near.result.0.now c.split_at.result.1.now c.split_at-in-tokens.result.0.now c.text.result.now (seen c.next_token-token.result) (left c.next_token-token.new.self)
+    c.tokens.sheet c.push_comments.new.sheet c.tokens.invariant.1 n from (the_end c.next_token-token.result.kind (sym c.is_end.ensures ∙ c.if-is_end.true)) c.split_at-in-tokens.ensures.front c.in_ok-before.ensures c.finish.ensures.items
 
 pub push_token-requires : goal.push_token-requires
 push_token-requires c =
-    next_spells c.args.text.now c.loop-token.rest.now (left c.into_iter-token-iterator.result) (left c.loop-token.token-iterator) (left c.next.new.self) c.loop-token.sheet (seen c.in-Some.token) c.loop-token.invariant.1 c.in-Some.ensures.steps.0
-    (not_fault c.in-Some.token.kind (sym c.eq.ensures ∙ c.if-eq.false)) (not_end c.in-Some.token.kind (sym c.is_end.ensures ∙ c.if-is_end.false))
+    next_spells c.go_on-next_near.result.0.now c.go_on-next_near.new.tokens (seen c.next_token-token.result) (left c.next_token-token.new.self) c.go_on-next_near.ensures.stands c.next_token-token.ensures.token
+    (not_fault c.next_token-token.result.kind (sym c.eq.ensures ∙ c.if-eq.false)) (not_end c.next_token-token.result.kind (sym c.is_end.ensures ∙ c.if-is_end.false))
 
-pub split_at-requires-in-loop-token : goal.split_at-requires-in-loop-token
-split_at-requires-in-loop-token c =
-    boundary_after c.args.text.now c.loop-token.rest.now c.split_at.result.1.now (left c.into_iter-token-iterator.result) (left c.loop-token.token-iterator) (left c.next.new.self) c.loop-token.sheet (seen c.in-Some.token) c.utf8.text c.loop-token.invariant.0
-    c.loop-token.invariant.1 c.in-Some.ensures.steps.0 (not_fault c.in-Some.token.kind (sym c.eq.ensures ∙ c.if-eq.false)) (not_end c.in-Some.token.kind (sym c.is_end.ensures ∙ c.if-is_end.false)) c.split_at.ensures.back
+pub split_at-requires-in-tokens-2 : goal.split_at-requires-in-tokens-2
+split_at-requires-in-tokens-2 c =
+    let n =
+    next c.tokens.rest.now c.go_on-next_near.result.0.now c.text.result.now c.go_on-next_near.new.tokens (seen c.next_token-token.result) (left c.next_token-token.new.self) (c.text.ensures ∙ c.next_token-token.ensures.text) c.text.utf8 c.tokens.invariant.0
+    c.go_on-next_near.ensures.ignored c.go_on-next_near.ensures.stands c.next_token-token.ensures.token in
+    let from = from_token c.tokens.rest.now c.go_on-next_near.result.0.now c.split_at.result.1.now c.text.result.now (seen c.next_token-token.result) (left c.next_token-token.new.self) n c.split_at.ensures.back in
+    boundary_after c.tokens.rest.now c.go_on-next_near.result.0.now c.split_at.result.1.now c.text.result.now (seen c.next_token-token.result) (left c.next_token-token.new.self) n from
+    (not_fault c.next_token-token.result.kind (sym c.eq.ensures ∙ c.if-eq.false)) (not_end c.next_token-token.result.kind (sym c.is_end.ensures ∙ c.if-is_end.false))
 
-pub loop-token-preserved : goal.loop-token-preserved
-loop-token-preserved c =
-    let all = left c.into_iter-token-iterator.result in
-    let cut : IsCutInto c.args.text.now all = search rules in
+pub tokens-smaller : goal.tokens-smaller
+tokens-smaller c =
+    let n =
+    next c.tokens.rest.now c.go_on-next_near.result.0.now c.text.result.now c.go_on-next_near.new.tokens (seen c.next_token-token.result) (left c.next_token-token.new.self) (c.text.ensures ∙ c.next_token-token.ensures.text) c.text.utf8 c.tokens.invariant.0
+    c.go_on-next_near.ensures.ignored c.go_on-next_near.ensures.stands c.next_token-token.ensures.token in
+    let from = from_token c.tokens.rest.now c.go_on-next_near.result.0.now c.split_at.result.1.now c.text.result.now (seen c.next_token-token.result) (left c.next_token-token.new.self) n c.split_at.ensures.back in
     let r =
-    one_read c.args.text.now c.loop-token.rest.now c.split_at.result.0.now c.split_at.result.1.now c.split_at-in-loop-token.result.1.now all (left c.loop-token.token-iterator) (left c.next.new.self) c.loop-token.sheet c.push_comments.new.sheet c.push_token.new.sheet
-    (seen c.in-Some.token) c.utf8.text c.loop-token.invariant.0 cut c.loop-token.invariant.1 c.in-Some.ensures.steps.0 (not_fault c.in-Some.token.kind (sym c.eq.ensures ∙ c.if-eq.false))
-    (not_end c.in-Some.token.kind (sym c.is_end.ensures ∙ c.if-is_end.false)) c.split_at.ensures.front c.split_at.ensures.back c.split_at-in-loop-token.ensures.back c.in_ok-before.ensures
-    (subst (λ (l : List Item). IsAdded (seen c.in-Some.token).bare l c.push_token.new.sheet) c.begin_token.ensures c.in_ok-push_token.ensures) in
-    (r.utf8, r.reads)
+    one_read c.args.text.now c.tokens.rest.now c.go_on-next_near.result.0.now c.split_at.result.1.now c.split_at-in-tokens.result.0.now c.split_at-in-tokens-2.result.1.now c.text.result.now c.go_on-next_near.new.tokens c.next_token-token.new.self
+    (seen c.next_token-token.result) c.tokens.sheet c.push_comments.new.sheet c.push_token.new.sheet c.tokens.invariant.1 c.go_on-next_near.ensures.stands c.text.ensures c.next_token-token.ensures.token n from
+    (not_fault c.next_token-token.result.kind (sym c.eq.ensures ∙ c.if-eq.false)) (not_end c.next_token-token.result.kind (sym c.is_end.ensures ∙ c.if-is_end.false)) c.split_at-in-tokens.ensures.front c.split_at-in-tokens-2.ensures.back
+    c.in_ok-before.ensures (subst (λ (l : List Item). IsAdded (seen c.next_token-token.result).bare l c.push_token.new.sheet) c.begin_token.ensures c.in_ok-push_token.ensures) in
+    r.shorter
+
+pub tokens-preserved : goal.tokens-preserved
+tokens-preserved c =
+    let n =
+    next c.tokens.rest.now c.go_on-next_near.result.0.now c.text.result.now c.go_on-next_near.new.tokens (seen c.next_token-token.result) (left c.next_token-token.new.self) (c.text.ensures ∙ c.next_token-token.ensures.text) c.text.utf8 c.tokens.invariant.0
+    c.go_on-next_near.ensures.ignored c.go_on-next_near.ensures.stands c.next_token-token.ensures.token in
+    let from = from_token c.tokens.rest.now c.go_on-next_near.result.0.now c.split_at.result.1.now c.text.result.now (seen c.next_token-token.result) (left c.next_token-token.new.self) n c.split_at.ensures.back in
+    let r =
+    one_read c.args.text.now c.tokens.rest.now c.go_on-next_near.result.0.now c.split_at.result.1.now c.split_at-in-tokens.result.0.now c.split_at-in-tokens-2.result.1.now c.text.result.now c.go_on-next_near.new.tokens c.next_token-token.new.self
+    (seen c.next_token-token.result) c.tokens.sheet c.push_comments.new.sheet c.push_token.new.sheet c.tokens.invariant.1 c.go_on-next_near.ensures.stands c.text.ensures c.next_token-token.ensures.token n from
+    (not_fault c.next_token-token.result.kind (sym c.eq.ensures ∙ c.if-eq.false)) (not_end c.next_token-token.result.kind (sym c.is_end.ensures ∙ c.if-is_end.false)) c.split_at-in-tokens.ensures.front c.split_at-in-tokens-2.ensures.back
+    c.in_ok-before.ensures (subst (λ (l : List Item). IsAdded (seen c.next_token-token.result).bare l c.push_token.new.sheet) c.begin_token.ensures c.in_ok-push_token.ensures) in
+    (r.utf8, r.reads, r.stands)

@@ -1,0 +1,50 @@
+//! How many blanks a text begins with. Sixteen bytes are looked at at once.
+ghost use Rattle.std.specs.Prelude.{◌≡◌, ◌≤◌, length, map};
+ghost use Rattle.std.specs.List.{prefix_len};
+ghost use Rattle.std.specs.Simd.Lanes.{mask_l};
+ghost use Rattle.graphql_tokens.specs.inner.ByteClasses.{is_outside};
+ghost use Rattle.graphql_layout.specs.inner.Standing.{is_blank_byte};
+
+use std::simd::prelude::*;
+
+// How many bytes are looked at at once.
+const LANES: usize = 16;
+
+// Whether it is a tab, a space, a comma or ends a line.
+fn is_blank(b: u8) -> bool
+    ensures { result ≡ is_blank_byte b }
+{
+    b == b'\t' || b == b' ' || b == b',' || b == b'\n' || b == b'\r'
+}
+
+// A bit for each of sixteen bytes, the first one's the lowest, which is set where the byte is none of these.
+#[inline(always)]
+fn others(bytes: u8x16) -> u64
+    ensures { result ≡ mask_l (map (is_outside is_blank_byte) bytes) }
+{
+    let others = bytes.simd_ne(u8x16::splat(b'\t'))
+        & bytes.simd_ne(u8x16::splat(b' '))
+        & bytes.simd_ne(u8x16::splat(b','))
+        & bytes.simd_ne(u8x16::splat(b'\n'))
+        & bytes.simd_ne(u8x16::splat(b'\r'));
+    others.to_bitmask()
+}
+
+/// How many tabs, spaces, commas and line ends a text begins with.
+pub fn blanks_of(bytes: &[u8]) -> usize
+    ensures value { result ≡ prefix_len is_blank_byte bytes.now }
+    ensures within { result ≤ length bytes.now }
+{
+    let mut at = 0;
+    'chunks: while bytes.len() - at >= LANES {
+        let others = others(u8x16::from_slice(&bytes[at..]));
+        if others != 0 {
+            return at + others.trailing_zeros() as usize;
+        }
+        at += LANES;
+    }
+    'last: while at < bytes.len() && is_blank(bytes[at]) {
+        at += 1;
+    }
+    at
+}
