@@ -5,9 +5,9 @@ use Rattle.std.proofs.lemmas.Bool.Decides.{nat_tests}
 use Rattle.std.proofs.lemmas.List.{take-append-drop}
 use Rattle.std.proofs.lemmas.List.Folds.{concat-append}
 use Rattle.std.proofs.lemmas.List.Sums.{prefix_len_passes, prefix_len-le-length}
-use Rattle.std.proofs.lemmas.Str.{IsUtf8-drop, IsCharBoundary-start, IsCharBoundary-after_ascii, chars_past_char, encode_ascii}
+use Rattle.std.proofs.lemmas.Str.{encodes-chars, IsUtf8-drop, IsCharBoundary-start, IsCharBoundary-after_ascii, chars_past_char, encode_ascii}
 use Rattle.std.specs.List.{AllByRecursion, concat, prefix_len}
-use Rattle.std.specs.Str.{chars, IsUtf8, IsCharBoundary}
+use Rattle.std.specs.Str.{chars, encode_utf8_all, IsUtf8, IsCharBoundary}
 use Rattle.graphql_tokens.specs.tokens.Classes.{is_ignored}
 use Rattle.graphql_tokens.specs.tokens.Ignored.{IsComment, IsPiece, AreIgnored}
 use Rattle.graphql_tokens.proofs.Scan.{IsAlike, span_chars}
@@ -15,6 +15,7 @@ use Rattle.graphql_layout.specs.inner.FirstLine.{IsFirstLine}
 use Rattle.graphql_layout.specs.inner.Standing.{is_blank_byte, begins_with_hash, IsAfterIgnored}
 use Rattle.graphql_layout.specs.texts.Items.{IsBlankText}
 use Rattle.graphql_layout.proofs.Hashes.{begun, some_comment}
+use Rattle.graphql_layout.proofs.Readings.{seam}
 
 -- ---- one after another
 
@@ -24,7 +25,7 @@ both_ignored (p ∷ ps) qs after h k =
     let same : concat ps ++ (concat qs ++ after) ≡ concat (ps ++ qs) ++ after = sym (append_assoc (concat ps) (concat qs) after) ∙ ap (λ (x : List ℕ). x ++ after) (sym (concat-append ps qs)) in
     (subst (IsPiece p) same h.0, both_ignored ps qs after h.1 k)
 
-pub none_ignored : (text : List ℕ) → IsUtf8 text → IsAfterIgnored text text
+abbrev pub none_ignored : (text : List ℕ) → IsUtf8 text → IsAfterIgnored text text
 none_ignored text u = record { pieces = []; whole = refl; ignored = tt; utf8 = u; no_longer = omega arith }
 
 pub then_ignored : (text mid rest : List ℕ) → IsAfterIgnored text mid → IsAfterIgnored mid rest → IsAfterIgnored text rest
@@ -36,6 +37,32 @@ then_ignored text mid rest h k = record {
   ignored = both_ignored h.pieces k.pieces (chars rest) (subst (AreIgnored h.pieces) k.whole h.ignored) k.ignored;
   utf8 = k.utf8;
   no_longer = omega (arith, h.no_longer, k.no_longer);
+}
+
+-- the text, cut before the rest
+pub record Parted (text rest : List ℕ) (pieces : List (List ℕ)) : Type 0 where
+  pub boundary : IsCharBoundary text (length text - length rest)
+  pub front : chars (take (length text - length rest) text) ≡ concat pieces
+  pub back : drop (length text - length rest) text ≡ rest
+
+pub parted : (text rest : List ℕ) → IsUtf8 text → (a : IsAfterIgnored text rest) → Parted text rest a.pieces
+parted text rest u a =
+    let s = seam text (concat a.pieces) (chars rest) u a.whole in
+    let same : encode_utf8_all (chars rest) ≡ rest = encodes-chars rest a.utf8 in
+    let way : length text - length rest ≡ length (encode_utf8_all (concat a.pieces)) = omega (arith, s.long, ap length same) in
+    record {
+      boundary = subst (IsCharBoundary text) (sym way) s.boundary;
+      front = ap chars (ap (λ (n : ℕ). take n text) way ∙ s.front) ∙ s.front_chars;
+      back = ap (λ (n : ℕ). drop n text) way ∙ s.back ∙ same;
+    }
+
+abbrev pub same_ignored : (text after rest : List ℕ) → IsAfterIgnored text after → rest ≡ after → IsAfterIgnored text rest
+same_ignored text after rest a e = record {
+  pieces = a.pieces;
+  whole = a.whole ∙ ap (λ (x : List ℕ). concat a.pieces ++ chars x) (sym e);
+  ignored = subst (λ (x : List ℕ). AreIgnored a.pieces (chars x)) (sym e) a.ignored;
+  utf8 = subst IsUtf8 (sym e) a.utf8;
+  no_longer = omega (arith, ap length e, a.no_longer);
 }
 
 -- ---- blanks

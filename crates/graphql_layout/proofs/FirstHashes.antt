@@ -1,12 +1,15 @@
 -- Where the first `#` of a text stands.
-use Rattle.std.proofs.Common.{◌≡◌, ◌≢◌, ℕ, ◌+◌, ◌<◌, Bool, true, false, ◌==◌, Some, None, List, [], ◌∷◌, ◌++◌, length, take, drop, get_or, refl, sym, ap, ◌∙◌, subst, arith, length-take, length-append}
+use Rattle.std.proofs.Common.{◌≡◌, ◌≢◌, ℕ, ◌+◌, ◌<◌, Bool, true, false, ◌==◌, Some, None, List, [], ◌∷◌, ◌++◌, length, take, drop, get_or, refl, sym, ap, ◌∙◌, subst, arith, length-take, length-drop, length-append, ◌-◌, ◌≤◌}
 use Rattle.std.proofs.lemmas.Bool.Decides.{nat_tests}
-use Rattle.std.proofs.lemmas.List.{drop_more, get_or-take, get_or-append-add}
+use Rattle.std.proofs.lemmas.List.{drop_more, get_or-take, get_or-drop, get_or-append-add}
+use Rattle.std.proofs.lemmas.List.Sums.{prefix_len_passes}
 use Rattle.std.proofs.lemmas.Str.{IsUtf8-take, IsCharBoundary-before_ascii, IsCharBoundary-after_ascii}
 use Rattle.std.specs.Char.{encode_utf8}
 use Rattle.std.specs.Str.{IsUtf8, IsCharBoundary, NonePass, NoCharPasses, encode_utf8_all}
 use Rattle.std.specs.Str.Pattern.{FindsChar}
+use Rattle.std.specs.List.{prefix_len}
 use Rattle.memchr.specs.Find.{IsFirstByte, is_byte}
+use Rattle.graphql_layout.specs.inner.Standing.{is_blank_byte, IsClear}
 
 abbrev Lacks : List ℕ → Type 0
 Lacks bs = (i : ℕ) → i < length bs → get_or bs i 0 ≢ 35
@@ -64,3 +67,33 @@ hash_found text bytes i u same f =
       );
       boundary = boundary;
     }
+
+-- ---- what stands before it
+
+pub blanks_first : (bytes : List ℕ) (n : ℕ) → n ≡ prefix_len is_blank_byte bytes → n < length bytes → get_or bytes n 0 ≡ 35 → IsFirstByte (is_byte 35) bytes (Some n)
+blanks_first bytes n e l h = (record { low = omega arith; high = l; before = λ k a b p. let blank = prefix_len_passes is_blank_byte bytes k 0 (omega (arith, e)) in absurd (hash_apart (get_or bytes k 0) blank (is_hash (get_or bytes k 0) p)) }, passes (get_or bytes n 0) h)
+  where
+    hash_apart : (c : ℕ) → is_blank_byte c ≡ true → c ≡ 35 → ⊥
+    hash_apart c b e = let k : is_blank_byte 35 ≡ true = ap is_blank_byte (sym e) ∙ b in cc
+
+-- nothing before the last so many bytes
+pub clear_text : (text bytes : List ℕ) (near : ℕ) → bytes ≡ text → IsFirstByte (is_byte 35) bytes None → IsClear near text
+clear_text text bytes near same f = subst (IsClear near) same (λ i l n. f i (omega arith) l)
+
+pub clear_before : (text bytes : List ℕ) (start near : ℕ) → bytes ≡ text → IsFirstByte (is_byte 35) bytes (Some start) → length text < start + near → IsClear near text
+clear_before text bytes start near same f e = λ i l n. let g = subst (λ (x : List ℕ). IsFirstByte (is_byte 35) x (Some start)) same f in g.0.before i (omega arith) (omega arith)
+
+pub clear_after : (near n : ℕ) (text after : List ℕ) → IsClear near text → after ≡ drop n text → IsClear near after
+clear_after near n text after h e =
+    subst (IsClear near) (sym e) (λ i l m.
+        let long = length-drop n text in
+        let is : get_or (drop n text) i 0 ≡ get_or text (n + i) 0 = get_or-drop n text i 0 in
+        λ p. h (n + i) (omega (arith, long, l)) (omega (arith, long, l, m)) (ap (is_byte 35) (sym is) ∙ p))
+
+pub clear_gap : (near left : ℕ) (text gap : List ℕ) → IsClear near text → near ≤ left → left ≤ length text → gap ≡ take (length text - left) text → IsUtf8 gap → FindsChar 35 gap None
+clear_gap near left text gap h far w e u =
+    none_passes gap u (λ i l is.
+        let n = length text - left in
+        let inside : i < n = omega (arith, l, ap length e, length-take n text) in
+        let same : get_or gap i 0 ≡ get_or text i 0 = ap (λ (x : List ℕ). get_or x i 0) e ∙ get_or-take n text i 0 inside in
+        h i (omega (arith, inside)) (omega (arith, inside, far, w)) (passes (get_or text i 0) (sym same ∙ is)))

@@ -2,7 +2,7 @@
 use Rattle.std.proofs.Common.{◌≡◌, ℕ, ◌<◌, ◌≤◌, Bool, true, false, not, Option, Some, None, List, [], ◌∷◌, ◌++◌, length, take, drop, get_or, refl, sym, ap, ◌∙◌, subst, arith, length-drop, length-take, one-add}
 use Rattle.std.proofs.lemmas.Bool.Decides.{nat_tests}
 use Rattle.std.proofs.lemmas.List.{append_cancel_right, take-append-drop}
-use Rattle.std.proofs.lemmas.List.Sums.{prefix_len_is}
+use Rattle.std.proofs.lemmas.List.Sums.{prefix_len_is, prefix_len-le-length}
 use Rattle.std.proofs.lemmas.Str.{IsUtf8-take, IsUtf8-drop, IsCharBoundary-before_ascii, IsCharBoundary-end}
 use Rattle.std.specs.List.{AllByRecursion, prefix_len}
 use Rattle.std.specs.Option.{unwrap_or}
@@ -10,6 +10,7 @@ use Rattle.std.specs.Str.{chars, IsUtf8, IsCharBoundary}
 use Rattle.memchr.specs.Find.{IsFirstByte, is_byte2}
 use Rattle.graphql_tokens.specs.tokens.Ignored.{EndsLine}
 use Rattle.graphql_tokens.specs.tokens.Place.{is_line_end, is_in_line}
+use Rattle.graphql_tokens.proofs.BlockLines.{line_boundary}
 use Rattle.graphql_tokens.proofs.Chars.{chars_split}
 use Rattle.graphql_tokens.proofs.Scan.{IsAlike, span_chars}
 use Rattle.graphql_layout.specs.inner.FirstLine.{IsFirstLine}
@@ -36,21 +37,16 @@ pub record IsEnd (text : List ℕ) (n : ℕ) : Type 0 where
   pub passed : prefix_len is_in_line text ≡ n
   pub boundary : IsCharBoundary text n
 
-line_end : (text : List ℕ) (found : Option ℕ) (n : ℕ) → IsUtf8 text → IsFirstByte (is_byte2 10 13) text found → n ≡ unwrap_or found (length text) → IsEnd text n
-line_end text None n u f e = record {
-  within = omega (arith, e);
-  passed = prefix_len_is is_in_line text n 0 (omega (arith, e)) (λ k l. goes_on (get_or text k 0) (f k (omega arith) (omega (arith, e)))) (λ l. absurd (omega (arith, e)));
-  boundary = rw e (IsCharBoundary-end text);
-}
-line_end text (Some i) n u f e = rw e record {
-  within = omega (arith, f.0.high);
-  passed = prefix_len_is is_in_line text i 0 (omega (arith, f.0.high)) (λ k l. goes_on (get_or text k 0) (f.0.before k (omega arith) l)) (λ l. stops_here (get_or text i 0) f.1);
-  boundary = IsCharBoundary-before_ascii text i f.0.high (is_ascii (get_or text i 0) f.1);
-}
+-- where a search for a line's end stops
+pub found_end : (text : List ℕ) (found : Option ℕ) → IsFirstByte (is_byte2 10 13) text found → prefix_len is_in_line text ≡ unwrap_or found (length text)
+found_end text None f = prefix_len_is is_in_line text (length text) 0 (omega arith) (λ k l. goes_on (get_or text k 0) (f k (omega arith) l)) (λ l. absurd (omega arith))
+found_end text (Some i) f = prefix_len_is is_in_line text i 0 (omega (arith, f.0.high)) (λ k l. goes_on (get_or text k 0) (f.0.before k (omega arith) l)) (λ l. stops_here (get_or text i 0) f.1)
 
-pub ended : (text bytes : List ℕ) (found : Option ℕ) (n : ℕ) → IsUtf8 text → bytes ≡ text → IsFirstByte (is_byte2 10 13) bytes found → n ≡ unwrap_or found (length bytes) → IsEnd text n
-ended text bytes found n u same f e =
-    line_end text found n u (subst (λ (l : List ℕ). IsFirstByte (is_byte2 10 13) l found) same f) (e ∙ ap (λ (l : List ℕ). unwrap_or found (length l)) same)
+pub ended : (text bytes : List ℕ) (n : ℕ) → bytes ≡ text → n ≡ prefix_len is_in_line bytes → IsEnd text n
+ended text bytes n same e =
+    let is : n ≡ prefix_len is_in_line text = e ∙ ap (prefix_len is_in_line) same in
+    let within : n ≤ length text = omega (arith, is, prefix_len-le-length is_in_line text) in
+    record { within = within; passed = sym is; boundary = line_boundary text 0 n (omega (arith, is)) within }
 
 passing : (cs : List ℕ) → AllByRecursion (λ c. is_line_end c ≡ false) (take (prefix_len is_in_line cs) cs)
 passing [] = tt

@@ -12,7 +12,7 @@ use Rattle.graphql_layout.specs.inner.FirstLine.{IsFirstLine, IsFirstHash}
 use Rattle.graphql_layout.specs.texts.Items.{Item, comment, word, IsBlankText, IsItems, words}
 use Rattle.graphql_layout.specs.inner.Tidied.{tidied}
 use Rattle.graphql_layout.specs.texts.LaidOut.{trimmed}
-use Rattle.graphql_layout.proofs.Items.{one_comment}
+use Rattle.graphql_layout.proofs.Items.{one_comment, none_left}
 
 abbrev HasNoHash : List ℕ → Type 0
 HasNoHash cs = NonePass (λ d. d == 35) cs
@@ -153,3 +153,22 @@ all_passed gap rest old sheet p f items i z =
     let o = p.goes items i z in
     let nothing = no_more (chars rest) o.0 (no_hash rest p.utf8 f) o.1 o.2 in
     sym (append-nil sheet) ∙ ap (λ (x : List Item). sheet ++ tidied x) (sym nothing) ∙ o.3
+
+pub tidied_both : (xs ys : List Item) → tidied (xs ++ ys) ≡ tidied xs ++ tidied ys
+tidied_both [] ys = refl
+tidied_both (comment c ∷ xs) ys = ap (λ (l : List Item). comment (trimmed c) ∷ l) (tidied_both xs ys)
+tidied_both (word b ∷ xs) ys = ap (λ (l : List Item). word b ∷ l) (tidied_both xs ys)
+
+pub no_bytes : (bs : List ℕ) → length bs ≡ 0 → bs ≡ []
+no_bytes [] e = refl
+no_bytes (b ∷ bs) e = absurd (omega (arith, e))
+
+-- two texts without tokens, and without comments
+pub none_pushed : (comments gap : List ℕ) (sheet : List Item) → IsUtf8 gap → comments ≡ [] → FindsChar 35 gap None → (items others : List Item) → IsItems (chars comments) items → IsItems (chars gap) others → words others ≡ []
+    → sheet ≡ sheet ++ (tidied items ++ tidied others)
+none_pushed comments gap sheet u e f items others h k z =
+    let none : [] ≡ items = none_left items (subst (λ (l : List ℕ). IsItems l items) (ap chars e ∙ chars-nil) h) in
+    all_passed gap gap sheet sheet (none_passed gap sheet u) f others k z ∙ ap (λ (l : List Item). sheet ++ (tidied l ++ tidied others)) none
+
+pub both_pushed : (old mid new items others : List Item) → mid ≡ old ++ tidied items → new ≡ mid ++ tidied others → new ≡ old ++ (tidied items ++ tidied others)
+both_pushed old mid new items others e f = f ∙ ap (λ (l : List Item). l ++ tidied others) e ∙ append_assoc old (tidied items) (tidied others)

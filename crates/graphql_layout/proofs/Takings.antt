@@ -1,12 +1,10 @@
 -- The tokens of a text are taken one after another, and each is written after the comments before it.
 use Rattle.std.proofs.Common.{◌≡◌, ◌≢◌, ℕ, ◌+◌, ◌-◌, ◌≤◌, ◌<◌, false, inl, inr, List, [], ◌∷◌, ◌++◌, length, take, drop, refl, sym, ap, ◌∙◌, subst, append_assoc, append-nil, arith, length-append}
-use Rattle.std.proofs.lemmas.List.Folds.{concat-append}
 use Rattle.std.proofs.lemmas.Str.{encodes-chars, encodes-append, length-le-encodes}
 use Rattle.std.specs.List.{concat}
 use Rattle.std.specs.Str.{chars, IsUtf8, IsCharBoundary, encode_utf8_all}
 use Rattle.graphql_tokens.specs.tokens.Cuts.{is_last, Cuts, TokenStands, FaultStands, IsCutInto, EndsOnce, HasNoFault}
 use Rattle.graphql_tokens.specs.tokens.Edition.{Current}
-use Rattle.graphql_tokens.specs.tokens.Ignored.{AreIgnored}
 use Rattle.graphql_tokens.specs.tokens.Proper.{Spells, AreProperButFaults}
 use Rattle.graphql_tokens.specs.tokens.Spelling.{Begins}
 use Rattle.graphql_tokens.specs.tokens.Token.{Bare, Token, Lexing, left}
@@ -16,14 +14,15 @@ use Rattle.graphql_tokens.specs.declared.lexer.TokenKind.TheVariants.{Punct, Nam
 use Rattle.graphql_tokens.proofs.Lists.{Stands, tokens_cuts}
 use Rattle.graphql_tokens.proofs.Nexts.{begins_some}
 use Rattle.graphql_layout.specs.texts.Items.{Item, word, IsItems, words}
-use Rattle.graphql_layout.specs.inner.Standing.{IsAfterIgnored, StandsAt}
+use Rattle.graphql_layout.specs.declared.layout.ahead.Ahead.{Ahead}
+use Rattle.graphql_layout.specs.inner.Standing.{IsAhead, StandsAt}
 use Rattle.graphql_layout.specs.inner.Tidied.{tidied, IsAdded}
 use Rattle.graphql_layout.specs.texts.LaidOut.{AreLaid, IsLaidOut}
 use Rattle.graphql_layout.specs.texts.SameTokens.{HasFault}
-use Rattle.graphql_layout.proofs.Aheads.{both_ignored}
+use Rattle.graphql_layout.proofs.Hashes.{tidied_both}
 use Rattle.graphql_layout.proofs.Items.{word_item, past_word_item, no_items, itemized, items_written}
 use Rattle.graphql_layout.proofs.Joined.{proper_of, spells_of}
-use Rattle.graphql_layout.proofs.Readings.{Seam, seam, Comments, comments_of, are_tidied, both_laid, alike_words}
+use Rattle.graphql_layout.proofs.Readings.{Seam, seam, comments_of, are_tidied, both_laid, alike_words}
 
 -- ---- the loop
 
@@ -45,92 +44,96 @@ some_left l rest s e = subst EndsOnce e s.ends
 
 -- ---- the next token
 
--- The token stands after ignored text: all of it, and what the lexer passes of it.
-pub record Next (rest start base : List ℕ) (t : Token) (more : List Token) : Type 0 where
-  pub pieces : List (List ℕ)
+-- The token stands after the comments that were passed and what the lexer passes.
+pub record Next (rest comments start base : List ℕ) (t : Token) (more : List Token) : Type 0 where
   pub passed : List (List ℕ)
   pub after : List ℕ
   pub here : List ℕ
-  pub ignored : AreIgnored pieces after
   pub stands : Stands Current here after t more
-  pub whole : chars rest ≡ concat pieces ++ after
-  pub gap : Seam rest (concat pieces) after
   pub cut : Seam start (concat passed) after
   pub text_is : chars base ≡ here ++ after
   pub shorter : length start ≤ length base
   pub reached : length base - length start ≤ t.start
   pub way : t.start - (length base - length start) ≡ length (encode_utf8_all (concat passed))
+  pub no_longer : length start ≤ length rest
+  pub items : List Item
+  pub others : List Item
+  pub are : IsItems (chars comments) items
+  pub others_are : IsItems (concat passed) others
+  pub none : words items ≡ []
+  pub others_none : words others ≡ []
+  pub on : (tail : List Item) → IsItems after tail → IsItems (chars rest) ((items ++ others) ++ tail)
+  pub off : (all : List Item) → IsItems (chars rest) all → (tail : List Item) × IsItems after tail × (all ≡ (items ++ others) ++ tail)
 
 start_of : (here after : List ℕ) (t : Token) (more : List Token) → Stands Current here after t more → t.start ≡ length (encode_utf8_all here)
 start_of here after t more (inl m) = ap (λ (u : Token). u.start) m.0.is
 start_of here after t more (inr (inl m)) = ap (λ (u : Token). u.start) m.0.is
 start_of here after t more (inr (inr m)) = ap (λ (u : Token). u.start) m.0.is
 
-pub next : (rest start base : List ℕ) (l : Lexing) (t : Token) (more : List Token) → base ≡ l.text → IsUtf8 base → IsUtf8 rest → IsAfterIgnored rest start → StandsAt l start → left l ≡ t ∷ more → Next rest start base t more
-next rest start base l t more e u v a s is =
+pub next : (rest base : List ℕ) (ahead : Ahead) (l : Lexing) (t : Token) (more : List Token) → base ≡ l.text → IsUtf8 base → IsAhead rest ahead → StandsAt l ahead.rest.now → left l ≡ t ∷ more → Next rest ahead.comments.now ahead.rest.now base t more
+next rest base ahead l t more e u h s is =
+    let a = h.ignored in
+    let start = ahead.rest.now in
     let text : chars base ≡ s.front ++ chars start = ap chars e ∙ s.whole in
     let c : Cuts Current s.front (chars start) (t ∷ more) = subst (λ (ts : List Token). Cuts Current s.front (chars start) ts) is s.cut in
-    let pieces = a.pieces ++ c.0.pieces in
-    let whole : chars rest ≡ concat pieces ++ c.0.after =
-    a.whole ∙ ap (λ (x : List ℕ). concat a.pieces ++ x) c.0.whole ∙ sym (append_assoc (concat a.pieces) (concat c.0.pieces) c.0.after) ∙ ap (λ (x : List ℕ). x ++ c.0.after) (sym (concat-append a.pieces c.0.pieces)) in
     let gap = concat c.0.pieces in
     let long : length base ≡ length (encode_utf8_all s.front) + length (encode_utf8_all (chars start)) = (seam base s.front (chars start) u text).long in
     let same : length (encode_utf8_all (chars start)) ≡ length start = ap length (encodes-chars start a.utf8) in
     let at : t.start ≡ length (encode_utf8_all s.front ++ encode_utf8_all gap) = start_of (s.front ++ gap) c.0.after t more c.1 ∙ ap length (encodes-append s.front gap) in
     let sum : length (encode_utf8_all s.front ++ encode_utf8_all gap) ≡ length (encode_utf8_all s.front) + length (encode_utf8_all gap) = length-append (encode_utf8_all s.front) (encode_utf8_all gap) in
+    let first = comments_of a.pieces (chars start) a.ignored in
+    let second = comments_of c.0.pieces c.0.after c.0.ignored in
     record {
-      pieces = pieces;
       passed = c.0.pieces;
       after = c.0.after;
       here = s.front ++ gap;
-      ignored = both_ignored a.pieces c.0.pieces c.0.after (subst (AreIgnored a.pieces) c.0.whole a.ignored) c.0.ignored;
       stands = c.1;
-      whole = whole;
-      gap = seam rest (concat pieces) c.0.after v whole;
       cut = seam start gap c.0.after a.utf8 c.0.whole;
       text_is = text ∙ ap (λ (x : List ℕ). s.front ++ x) c.0.whole ∙ sym (append_assoc s.front gap c.0.after);
       shorter = omega (arith, long, same);
       reached = omega (arith, long, same, at, sum);
       way = omega (arith, long, same, at, sum);
+      no_longer = a.no_longer;
+      items = first.items;
+      others = second.items;
+      are = subst (λ (x : List ℕ). IsItems x first.items) (sym h.comments) first.alone;
+      others_are = second.alone;
+      none = first.none;
+      others_none = second.none;
+      on = λ tail k.
+          let there = subst (λ (x : List ℕ). IsItems x (second.items ++ tail)) (sym c.0.whole) (second.before tail k) in
+          subst (IsItems (chars rest)) (sym (append_assoc first.items second.items tail)) (subst (λ (x : List ℕ). IsItems x (first.items ++ (second.items ++ tail))) (sym a.whole) (first.before (second.items ++ tail) there));
+      off = λ all k.
+          let o = first.past all (subst (λ (x : List ℕ). IsItems x all) a.whole k) in
+          let p = second.past o.0 (subst (λ (x : List ℕ). IsItems x o.0) c.0.whole o.1) in
+          (p.0, p.1, o.2 ∙ ap (λ (x : List Item). first.items ++ x) p.2 ∙ sym (append_assoc first.items second.items p.0));
     }
 
-pub boundary : (rest start base : List ℕ) (t : Token) (more : List Token) → Next rest start base t more → IsCharBoundary start (t.start - (length base - length start))
-boundary rest start base t more n = subst (IsCharBoundary start) (sym n.way) n.cut.boundary
+pub boundary : (rest comments start base : List ℕ) (t : Token) (more : List Token) → Next rest comments start base t more → IsCharBoundary start (t.start - (length base - length start))
+boundary rest comments start base t more n = subst (IsCharBoundary start) (sym n.way) n.cut.boundary
 
 -- what begins with the token
-pub record From (rest from : List ℕ) (pieces : List (List ℕ)) (after : List ℕ) : Type 0 where
-  pub is : from ≡ encode_utf8_all after
-  pub no_longer : length from ≤ length rest
-  pub way : length rest - length from ≡ length (encode_utf8_all (concat pieces))
+pub from_token : (rest comments start from base : List ℕ) (t : Token) (more : List Token) (n : Next rest comments start base t more) → from ≡ drop (t.start - (length base - length start)) start → from ≡ encode_utf8_all n.after
+from_token rest comments start from base t more n e = e ∙ ap (λ (k : ℕ). drop k start) n.way ∙ n.cut.back
 
-pub from_token : (rest start from base : List ℕ) (t : Token) (more : List Token) (n : Next rest start base t more) → from ≡ drop (t.start - (length base - length start)) start → From rest from n.pieces n.after
-from_token rest start from base t more n e =
-    let is : from ≡ encode_utf8_all n.after = e ∙ ap (λ (k : ℕ). drop k start) n.way ∙ n.cut.back in
-    record { is = is; no_longer = omega (arith, ap length is, n.gap.long); way = omega (arith, ap length is, n.gap.long) }
-
-pub gap_boundary : (rest start from base : List ℕ) (t : Token) (more : List Token) (n : Next rest start base t more) → From rest from n.pieces n.after → IsCharBoundary rest (length rest - length from)
-gap_boundary rest start from base t more n f = subst (IsCharBoundary rest) (sym f.way) n.gap.boundary
+-- and what stands before it
+pub gap_is : (rest comments start gap from base : List ℕ) (t : Token) (more : List Token) (n : Next rest comments start base t more) → gap ≡ take (t.start - (length base - length start)) start → from ≡ drop (t.start - (length base - length start)) start → gap ≡ take (length start - length from) start
+gap_is rest comments start gap from base t more n e f =
+    let way : t.start - (length base - length start) ≡ length start - length from = omega (arith, n.way, n.cut.long, ap length (from_token rest comments start from base t more n f)) in
+    e ∙ ap (λ (k : ℕ). take k start) way
 
 -- ---- the comments before it
 
--- what `push_comments` promises
-abbrev Pushed : List ℕ → List Item → List Item → Type 0
-Pushed gap sheet new = (items : List Item) → IsItems (chars gap) items → words items ≡ [] → new ≡ sheet ++ tidied items
+-- what `push_ignored` promises
+abbrev Pushed : List ℕ → List ℕ → List Item → List Item → Type 0
+Pushed comments gap sheet new =
+    (items others : List Item) → IsItems (chars comments) items → words items ≡ [] → IsItems (chars gap) others → words others ≡ [] → new ≡ sheet ++ (tidied items ++ tidied others)
 
-comments : (rest start base : List ℕ) (t : Token) (more : List Token) (n : Next rest start base t more) → Comments n.pieces n.after
-comments rest start base t more n = comments_of n.pieces n.after n.ignored
-
-pushed : (rest start from gap base : List ℕ) (t : Token) (more : List Token) (n : Next rest start base t more) (sheet new : List Item) → From rest from n.pieces n.after → gap ≡ take (length rest - length from) rest → Pushed gap sheet new
-    → new ≡ sheet ++ tidied (comments rest start base t more n).items
-pushed rest start from gap base t more n sheet new f e p =
-    let k = comments rest start base t more n in
-    let is : chars gap ≡ concat n.pieces = ap chars (e ∙ ap (λ (k : ℕ). take k rest) f.way ∙ n.gap.front) ∙ n.gap.front_chars in
-    p k.items (subst (λ (x : List ℕ). IsItems x k.items) (sym is) k.alone) k.none
-
--- what is left of a text's items at the token
-at_token : (rest start base : List ℕ) (t : Token) (more : List Token) (n : Next rest start base t more) (tail : List Item) → IsItems (chars rest) tail
-    → (others : List Item) × IsItems n.after others × (tail ≡ (comments rest start base t more n).items ++ others)
-at_token rest start base t more n tail h = (comments rest start base t more n).past tail (subst (λ (x : List ℕ). IsItems x tail) n.whole h)
+pushed : (rest comments start gap base : List ℕ) (t : Token) (more : List Token) (n : Next rest comments start base t more) (sheet new : List Item) → gap ≡ take (t.start - (length base - length start)) start → Pushed comments gap sheet new
+    → new ≡ sheet ++ tidied (n.items ++ n.others)
+pushed rest comments start gap base t more n sheet new e p =
+    let is : chars gap ≡ concat n.passed = ap chars (e ∙ ap (λ (k : ℕ). take k start) n.way ∙ n.cut.front) ∙ n.cut.front_chars in
+    p n.items n.others n.are n.none (subst (λ (x : List ℕ). IsItems x n.others) (sym is) n.others_are) n.others_none ∙ ap (λ (x : List Item). sheet ++ x) (sym (tidied_both n.items n.others))
 
 -- ---- the end
 
@@ -142,17 +145,15 @@ ended here after t more (inl m) k = absurd (no_word m.0.kind m.0.word m.0.rest m
 ended here after t more (inr (inl m)) k = m.0.ends
 ended here after t more (inr (inr m)) k = absurd (let f : Fault ≡ End = ap (λ (u : Token). u.bare.kind) (sym m.0.is) ∙ k in cc)
 
-pub all_laid_out : (text other rest start from gap base : List ℕ) (t : Token) (more : List Token) (sheet new : List Item) → Reads text rest sheet → (n : Next rest start base t more) → From rest from n.pieces n.after → t.bare.kind ≡ End
-    → gap ≡ take (length rest - length from) rest → Pushed gap sheet new → IsItems (chars other) new → IsLaidOut text other
-all_laid_out text other rest start from gap base t more sheet new r n f kind e p others =
-    let k = comments rest start base t more n in
+pub all_laid_out : (text other rest comments start gap base : List ℕ) (t : Token) (more : List Token) (sheet new : List Item) → Reads text rest sheet → (n : Next rest comments start base t more) → t.bare.kind ≡ End
+    → gap ≡ take (t.start - (length base - length start)) start → Pushed comments gap sheet new → IsItems (chars other) new → IsLaidOut text other
+all_laid_out text other rest comments start gap base t more sheet new r n kind e p others =
+    let k = n.items ++ n.others in
     let last : n.after ≡ [] = ended n.here n.after t more n.stands kind in
-    let alone : IsItems (chars rest) k.items =
-    subst (λ (x : List ℕ). IsItems x k.items) (sym n.whole) (subst (IsItems (concat n.pieces ++ n.after)) (append-nil k.items) (k.before [] (subst (λ (x : List ℕ). IsItems x []) (sym last) tt))) in
-    let items = r.passed ++ k.items in
-    let are : IsItems (chars text) items = r.on k.items alone in
-    let alike : AreLaid items new =
-    subst (AreLaid items) (sym (pushed rest start from gap base t more n sheet new f e p)) (both_laid r.passed sheet k.items (tidied k.items) r.laid (are_tidied k.items)) in
+    let alone : IsItems (chars rest) k = subst (IsItems (chars rest)) (append-nil k) (n.on [] (subst (λ (x : List ℕ). IsItems x []) (sym last) tt)) in
+    let items = r.passed ++ k in
+    let are : IsItems (chars text) items = r.on k alone in
+    let alike : AreLaid items new = subst (AreLaid items) (sym (pushed rest comments start gap base t more n sheet new e p)) (both_laid r.passed sheet k (tidied k) r.laid (are_tidied k)) in
     record {
       tokens = record {
         tokens = words items;
@@ -205,10 +206,11 @@ passed from here after t u c is m = record {
   cut = seam from m.word m.rest (subst IsUtf8 (sym is) u) (ap chars is ∙ c ∙ m.whole);
 }
 
-pub boundary_after : (rest start from base : List ℕ) (t : Token) (more : List Token) (n : Next rest start base t more) → From rest from n.pieces n.after → t.bare.kind ≢ Fault → t.bare.kind ≢ End → IsCharBoundary from (length t.bare.spelling)
-boundary_after rest start from base t more n f k e =
+pub boundary_after : (rest comments start from base : List ℕ) (t : Token) (more : List Token) (n : Next rest comments start base t more) → from ≡ drop (t.start - (length base - length start)) start → t.bare.kind ≢ Fault → t.bare.kind ≢ End → IsCharBoundary from (length t.bare.spelling)
+boundary_after rest comments start from base t more n f k e =
+    let is = from_token rest comments start from base t more n f in
     let m = (standing n.here n.after t more n.stands k e).0 in
-    let p = passed from n.here n.after t n.cut.back_utf8 n.cut.back_chars f.is m in
+    let p = passed from n.here n.after t n.cut.back_utf8 n.cut.back_chars is m in
     subst (λ (s : List ℕ). IsCharBoundary from (length s)) (sym p.spelled) p.cut.boundary
 
 -- the rest after it is a text, and shorter
@@ -218,40 +220,40 @@ pub record Read (text rest after : List ℕ) (next : Lexing) (longer : List Item
   pub stands : StandsAt next after
   pub shorter : length after < length rest
 
-pub one_read : (text rest start from gap after base : List ℕ) (l next : Lexing) (t : Token) (sheet new longer : List Item) → Reads text rest sheet → StandsAt l start → base ≡ next.text → left l ≡ t ∷ left next → (n : Next rest start base t (left next)) → From rest from n.pieces n.after
-    → t.bare.kind ≢ Fault → t.bare.kind ≢ End → gap ≡ take (length rest - length from) rest → after ≡ drop (length t.bare.spelling) from → Pushed gap sheet new → IsAdded t.bare new longer → Read text rest after next longer
-one_read text rest start from gap after base l next t sheet new longer r s same is n f k e g a p d =
+pub one_read : (text rest comments start gap from after base : List ℕ) (l next : Lexing) (t : Token) (sheet new longer : List Item) → Reads text rest sheet → StandsAt l start → base ≡ next.text → left l ≡ t ∷ left next
+    → (n : Next rest comments start base t (left next)) → t.bare.kind ≢ Fault → t.bare.kind ≢ End → gap ≡ take (t.start - (length base - length start)) start → from ≡ drop (t.start - (length base - length start)) start → after ≡ drop (length t.bare.spelling) from
+    → Pushed comments gap sheet new → IsAdded t.bare new longer → Read text rest after next longer
+one_read text rest comments start gap from after base l next t sheet new longer r s same is n k e g f a p d =
     let q = standing n.here n.after t (left next) n.stands k e in
     let m = q.0 in
-    let w = passed from n.here n.after t n.cut.back_utf8 n.cut.back_chars f.is m in
+    let from_is = from_token rest comments start from base t (left next) n f in
+    let w = passed from n.here n.after t n.cut.back_utf8 n.cut.back_chars from_is m in
     let after_is : after ≡ encode_utf8_all m.rest = a ∙ ap (λ (s : List ℕ). drop (length s) from) w.spelled ∙ w.cut.back in
     let chars_is : chars after ≡ m.rest = ap chars after_is ∙ w.cut.back_chars in
     let b : Bare = record { kind = m.kind; spelling = encode_utf8_all m.word } in
     let bare_is : b ≡ t.bare = ap (λ (x : Token). x.bare) (sym m.is) in
-    let c = comments rest start base t (left next) n in
+    let c = n.items ++ n.others in
     let some : 1 ≤ length t.bare.spelling = omega (arith, ap length w.spelled, length-le-encodes m.word, begins_some Current m.kind m.word m.rest m.begins) in
-    let before : AreLaid (r.passed ++ c.items) (sheet ++ tidied c.items) = both_laid r.passed sheet c.items (tidied c.items) r.laid (are_tidied c.items) in
-    let laid : AreLaid ((r.passed ++ c.items) ++ word t.bare ∷ []) ((sheet ++ tidied c.items) ++ word d.other ∷ []) = both_laid (r.passed ++ c.items) (sheet ++ tidied c.items) (word t.bare ∷ []) (word d.other ∷ []) before (d.alike, tt) in
-    let seamed : (tail : List Item) → (r.passed ++ (c.items ++ (word t.bare ∷ tail)) ≡ ((r.passed ++ c.items) ++ word t.bare ∷ []) ++ tail) =
-    λ tail. sym (append_assoc r.passed c.items (word t.bare ∷ tail)) ∙ sym (append_assoc (r.passed ++ c.items) (word t.bare ∷ []) tail) in
+    let before : AreLaid (r.passed ++ c) (sheet ++ tidied c) = both_laid r.passed sheet c (tidied c) r.laid (are_tidied c) in
+    let laid : AreLaid ((r.passed ++ c) ++ word t.bare ∷ []) ((sheet ++ tidied c) ++ word d.other ∷ []) = both_laid (r.passed ++ c) (sheet ++ tidied c) (word t.bare ∷ []) (word d.other ∷ []) before (d.alike, tt) in
+    let seamed : (tail : List Item) → (r.passed ++ (c ++ (word t.bare ∷ tail)) ≡ ((r.passed ++ c) ++ word t.bare ∷ []) ++ tail) =
+    λ tail. sym (append_assoc r.passed c (word t.bare ∷ tail)) ∙ sym (append_assoc (r.passed ++ c) (word t.bare ∷ []) tail) in
     record {
       utf8 = subst IsUtf8 (sym after_is) w.cut.back_utf8;
       reads = record {
-        passed = (r.passed ++ c.items) ++ word t.bare ∷ [];
-        laid =
-            subst (AreLaid ((r.passed ++ c.items) ++ word t.bare ∷ [])) (sym (d.is ∙ ap (λ (x : List Item). x ++ word d.other ∷ []) (pushed rest start from gap base t (left next) n sheet new f g p))) laid;
+        passed = (r.passed ++ c) ++ word t.bare ∷ [];
+        laid = subst (AreLaid ((r.passed ++ c) ++ word t.bare ∷ [])) (sym (d.is ∙ ap (λ (x : List Item). x ++ word d.other ∷ []) (pushed rest comments start gap base t (left next) n sheet new g p))) laid;
         on = λ tail h.
             let here : IsItems (m.word ++ m.rest) (word b ∷ tail) = word_item m.kind m.word m.rest tail m.begins (subst (λ (x : List ℕ). IsItems x tail) chars_is h) in
             let there : IsItems n.after (word t.bare ∷ tail) = subst (λ (x : Bare). IsItems n.after (word x ∷ tail)) bare_is (subst (λ (x : List ℕ). IsItems x (word b ∷ tail)) (sym m.whole) here) in
-            let all_of : IsItems (chars rest) (c.items ++ (word t.bare ∷ tail)) = subst (λ (x : List ℕ). IsItems x (c.items ++ (word t.bare ∷ tail))) (sym n.whole) (c.before (word t.bare ∷ tail) there) in
-            subst (IsItems (chars text)) (seamed tail) (r.on (c.items ++ (word t.bare ∷ tail)) all_of);
+            subst (IsItems (chars text)) (seamed tail) (r.on (c ++ (word t.bare ∷ tail)) (n.on (word t.bare ∷ tail) there));
         off = λ items h.
             let o = r.off items h in
-            let o2 = at_token rest start base t (left next) n o.0 o.1 in
+            let o2 = n.off o.0 o.1 in
             let o3 = past_word_item b m.word m.rest o2.0 m.begins refl (subst (λ (x : List ℕ). IsItems x o2.0) m.whole o2.1) in (
               o3.others,
               subst (λ (x : List ℕ). IsItems x o3.others) (sym chars_is) o3.are,
-              o.2 ∙ ap (λ (x : List Item). r.passed ++ x) (o2.2 ∙ ap (λ (x : List Item). c.items ++ x) (o3.is ∙ ap (λ (x : Bare). word x ∷ o3.others) bare_is)) ∙ seamed o3.others,
+              o.2 ∙ ap (λ (x : List Item). r.passed ++ x) (o2.2 ∙ ap (λ (x : List Item). c ++ x) (o3.is ∙ ap (λ (x : Bare). word x ∷ o3.others) bare_is)) ∙ seamed o3.others,
             );
       };
       stands = record {
@@ -261,7 +263,7 @@ one_read text rest start from gap after base l next t sheet new longer r s same 
         ends = ends_more t (left next) (not_last t.bare.kind k e) (subst EndsOnce is s.ends);
         proper = (subst AreProperButFaults is s.proper).1;
       };
-      shorter = omega (arith, ap length after_is, w.cut.long, f.no_longer, some, ap length w.spelled);
+      shorter = omega (arith, ap length after_is, w.cut.long, ap length from_is, n.cut.long, n.no_longer, some, ap length w.spelled);
     }
 
 -- ---- a fault
@@ -271,8 +273,8 @@ fault here after t more (inl m) k = absurd ((subst (λ (x : TokenKind). Begins C
 fault here after t more (inr (inl m)) k = absurd (let f : End ≡ Fault = ap (λ (u : Token). u.bare.kind) (sym m.0.is) ∙ k in cc)
 fault here after t more (inr (inr m)) k = m.0
 
-pub fault_read : (text rest start base : List ℕ) (t : Token) (more : List Token) (sheet : List Item) → Reads text rest sheet → Next rest start base t more → t.bare.kind ≡ Fault → HasFault text
-fault_read text rest start base t more sheet r n k =
+pub fault_read : (text rest comments start base : List ℕ) (t : Token) (more : List Token) (sheet : List Item) → Reads text rest sheet → Next rest comments start base t more → t.bare.kind ≡ Fault → HasFault text
+fault_read text rest comments start base t more sheet r n k =
     let all = tokens [] (chars text) in
     let cut : IsCutInto text all = tokens_cuts [] (chars text) in
     let here = fault n.here n.after t more n.stands k in (
@@ -281,6 +283,6 @@ fault_read text rest start base t more sheet r n k =
       λ whole.
           let i = itemized [] (chars text) all cut whole in
           let o = r.off i.items i.are in
-          let p = at_token rest start base t more n o.0 o.1 in
+          let p = n.off o.0 o.1 in
           no_items n.after p.0 here.goes_on here.none p.1,
     )

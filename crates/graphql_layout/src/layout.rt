@@ -1,23 +1,23 @@
 //! How a text is laid out: which tokens begin lines, how deep, what stands before the others, and how block strings are written.
 ghost use Rattle.std.specs.Prelude.{IfOk, OnOk, MatchOption, string_bytes};
 ghost use Rattle.graphql_tokens.specs.tokens.Proper.{Spells};
-ghost use Rattle.graphql_layout.specs.inner.Standing.{IsAfterIgnored, StandsAt};
 ghost use Rattle.graphql_layout.specs.inner.Tidied.{IsAdded};
 ghost use Rattle.graphql_layout.specs.texts.LaidOut.{IsLaidOut};
 ghost use Rattle.graphql_layout.specs.texts.SameTokens.{HasFault};
 
+pub mod ahead;
 pub mod breaks;
 pub mod gaps;
 pub mod lines;
 pub mod walk;
 
 use crate::blocks::value_of;
-use crate::comments::{past_comments, push_comments};
+use crate::comments::push_ignored;
 use crate::sheet::Sheet;
+use ahead::{go_on, near_hash};
 use gaps::{Layout, Place};
 use graphql_tokens::lexer::{TokenKind, Tokens};
 use lines::begin_token;
-use memchr::memchr;
 use std::alloc::{AllocError, Global};
 
 // How many blanks stand before a line, for each broken bracket around it.
@@ -41,46 +41,6 @@ fn push_token(
     sheet.block(&value, place.inside.saturating_mul(INDENT))
 }
 
-// Within so many bytes before a `#`, comments are looked for before the next token is read.
-const NEAR: usize = 64;
-
-// How much of a text is left, at most, where its next `#` is near: less where there is none. Before it so much was left.
-fn next_near(text: &str, near: usize) -> usize {
-    if text.len() >= near.saturating_sub(NEAR) {
-        return near;
-    }
-    match memchr(b'#', text.as_bytes()) {
-        None => 0,
-        Some(start) => text.len().saturating_sub(start).saturating_add(NEAR),
-    }
-}
-
-// The text after the comments that it begins with, and how much is left of it where the next one is near. Never inlined: most
-// tokens are far from comments.
-#[inline(never)]
-fn look_ahead(rest: &str, near: usize) -> (&str, usize)
-    ensures { IsAfterIgnored rest.now result.0.now }
-{
-    let start = past_comments(rest);
-    (start, next_near(start, near))
-}
-
-// Where the next token is looked for, and how much is left of the text where the next comment is near: there the lexer begins anew,
-// after the comments, which it would pass a line at a time.
-#[inline(always)]
-fn go_on<'a>(tokens: &mut Tokens<'a>, rest: &'a str, near: usize) -> (&'a str, usize)
-    requires { StandsAt tokens.old rest.now }
-    ensures stands { StandsAt tokens.new result.0.now }
-    ensures ignored { IsAfterIgnored rest.now result.0.now }
-{
-    if rest.len() >= near {
-        return (rest, near);
-    }
-    let (start, near) = look_ahead(rest, near);
-    *tokens = Tokens::new(start);
-    (start, near)
-}
-
 /// The text laid out anew, with its comments, less the blanks at their ends. Block strings are laid out too, with the values that
 /// they have, as GraphQL.js 16 prints them: each line after the first is two blanks deeper for each broken bracket around it. Other
 /// tokens are kept as they are spelled. `None` where the text has a fault.
@@ -94,18 +54,17 @@ pub fn format(alloc: Global, text: &str) -> Result<Option<String>, AllocError>
     let mut sheet = Sheet::with_room(alloc, text.len())?;
     let mut tokens = Tokens::new(text);
     let mut rest = text;
-    let mut near = usize::MAX;
+    let mut near = near_hash(text);
     'tokens: loop {
-        let (start, next_near) = go_on(&mut tokens, rest, near);
+        let ahead = go_on(&mut tokens, rest, near);
         let token = tokens.next_token();
-        let end = tokens.text().len() - start.len();
+        let end = tokens.text().len() - ahead.rest.len();
         if token.kind == TokenKind::Fault {
             return Ok(None);
         }
-        let (_, from) = start.split_at(token.start - end);
-        let (gap, _) = rest.split_at(rest.len() - from.len());
+        let (gap, from) = ahead.rest.split_at(token.start - end);
         let place = layout.pass(token.kind, token.text, from)?;
-        let before = push_comments(&mut sheet, &place, gap, rest)?;
+        let before = push_ignored(&mut sheet, &place, &ahead, gap, from.len())?;
         if token.kind.is_end() {
             return Ok(Some(sheet.finish()));
         }
@@ -113,6 +72,6 @@ pub fn format(alloc: Global, text: &str) -> Result<Option<String>, AllocError>
         push_token(alloc, &mut sheet, &place, token.kind, token.text)?;
         let (_, after) = from.split_at(token.text.len());
         rest = after;
-        near = next_near;
+        near = ahead.near;
     }
 }

@@ -55,7 +55,7 @@ impl Before {
 }
 
 // How many bytes are looked at at once.
-const LANES: usize = 16;
+const LANES: usize = 64;
 
 // How many lines end in so many bytes of the text: at each carriage return, and at each line feed that isn't right after one.
 fn line_ends(text: &[u8], length: usize) -> usize {
@@ -68,17 +68,17 @@ fn line_ends(text: &[u8], length: usize) -> usize {
             let others = line_ends_by_one(rest, left, after_return != 0);
             return others.saturating_add(ends as usize);
         };
-        let bytes = u8x16::from_array(*bytes);
+        let bytes = u8x64::from_array(*bytes);
         let inside = if left < LANES {
             !(u64::MAX << left)
         } else {
             u64::MAX
         };
-        let feeds = bytes.simd_eq(u8x16::splat(b'\n')).to_bitmask() & inside;
-        let returns = bytes.simd_eq(u8x16::splat(b'\r')).to_bitmask() & inside;
+        let feeds = bytes.simd_eq(u8x64::splat(b'\n')).to_bitmask() & inside;
+        let returns = bytes.simd_eq(u8x64::splat(b'\r')).to_bitmask() & inside;
         let alone = feeds & !((returns << 1) | after_return);
         ends = ends.saturating_add((returns | alone).count_ones());
-        after_return = (returns >> 15) & 1;
+        after_return = (returns >> 63) & 1;
         left = left.saturating_sub(LANES);
         rest = after;
     }

@@ -2,9 +2,9 @@ use Rattle.std.proofs.Common.{subst, sym, ap, ◌∙◌, ℕ, List, ◌++◌, []
 use Rattle.std.specs.Str.{chars}
 use Rattle.graphql_tokens.specs.tokens.Ignored.{IsComment}
 use Rattle.graphql_layout.specs.texts.Items.{Item, comment}
-use Rattle.graphql_layout.proofs.Hashes.{Hash, hash, none_passed, one_passed, all_passed}
+use Rattle.graphql_layout.proofs.Hashes.{Hash, hash, one_passed, all_passed}
 use Rattle.graphql_layout.proofs.Trimmed.{trimmed_comment}
-use Rattle.graphql_layout.proofs.comments.push_comments.Goals as goal
+use Rattle.graphql_layout.proofs.comments.push_more.Goals as goal
 
 hashed : (c : goal.After-without_blanks) → Hash c.loop-blanks.rest.now c.in-Some.from.now c.split_line.result.0.now c.split_line.result.1.now
 hashed c = hash c.loop-blanks.rest.now c.in-Some.blanks.now c.in-Some.from.now c.split_line.result.0.now c.split_line.result.1.now c.loop-blanks.invariant.0 c.in-Some.ensures c.split_line.ensures
@@ -29,6 +29,3 @@ loop-blanks-preserved c =
 
 pub returns : goal.returns
 returns c = all_passed c.args.gap.now c.loop-blanks.rest.now c.args.sheet.now c.loop-blanks.sheet c.loop-blanks.invariant.1 c.in_default.ensures
-
-pub returns-then-is_short : goal.returns-then-is_short
-returns-then-is_short c = all_passed c.args.gap.now c.args.gap.now c.args.sheet.now c.args.sheet.now (none_passed c.args.gap.now c.args.sheet.now c.utf8.gap) (c.is_short.ensures (c.if-is_short.true))
