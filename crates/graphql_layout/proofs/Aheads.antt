@@ -1,69 +1,50 @@
--- Ignored text at the front of a text.
-use Rattle.std.proofs.Common.{◌≡◌, ℕ, zero, suc, ◌+◌, ◌-◌, ◌<◌, ◌≤◌, Bool, true, false, ◌&&◌, cond, inl, inr, ◌⊎◌, List, [], ◌∷◌, ◌++◌, length, take, drop, map, get_or, refl, sym, ap, ◌∙◌, subst, append_assoc, append-nil, arith, length-drop, one-add}
+-- Comments at the front of a text.
+use Rattle.std.proofs.Common.{◌≡◌, ℕ, ◌+◌, ◌-◌, ◌<◌, ◌≤◌, Bool, true, false, ◌&&◌, cond, ◌⊎◌, inl, inr, List, [], ◌∷◌, ◌++◌, length, take, drop, get_or, refl, sym, ap, ap₂, ◌∙◌, subst, append_assoc, arith, length-append, one-add}
 use Rattle.std.proofs.lemmas.Bool.{cases_lt}
 use Rattle.std.proofs.lemmas.Bool.Decides.{nat_tests}
 use Rattle.std.proofs.lemmas.List.{take-append-drop}
-use Rattle.std.proofs.lemmas.List.Folds.{concat-append}
 use Rattle.std.proofs.lemmas.List.Sums.{prefix_len_passes, prefix_len-le-length}
-use Rattle.std.proofs.lemmas.Str.{encodes-chars, IsUtf8-drop, IsCharBoundary-start, IsCharBoundary-after_ascii, chars_past_char, encode_ascii}
-use Rattle.std.specs.List.{AllByRecursion, concat, prefix_len}
+use Rattle.std.proofs.lemmas.Str.{encodes-chars, encodes-append, IsUtf8-drop, IsCharBoundary-start, IsCharBoundary-after_ascii, chars_past_char, encode_ascii}
+use Rattle.std.specs.List.{AllByRecursion, prefix_len}
 use Rattle.std.specs.Str.{chars, encode_utf8_all, IsUtf8, IsCharBoundary}
 use Rattle.graphql_tokens.specs.tokens.Classes.{is_ignored}
-use Rattle.graphql_tokens.specs.tokens.Ignored.{IsComment, IsPiece, AreIgnored}
+use Rattle.graphql_tokens.specs.tokens.Ignored.{IsComment}
 use Rattle.graphql_tokens.proofs.Scan.{IsAlike, span_chars}
+use Rattle.graphql_layout.specs.declared.comments.Passed.{Passed}
 use Rattle.graphql_layout.specs.inner.FirstLine.{IsFirstLine}
-use Rattle.graphql_layout.specs.inner.Standing.{is_blank_byte, begins_with_hash, IsAfterIgnored}
-use Rattle.graphql_layout.specs.texts.Items.{IsBlankText}
+use Rattle.graphql_layout.specs.inner.Standing.{is_blank_byte, begins_with_hash, comments_in, IsCommentPassed, IsPassed}
+use Rattle.graphql_layout.specs.texts.Items.{Item, comment, IsBlankText, IsItems}
 use Rattle.graphql_layout.proofs.Hashes.{begun, some_comment}
-use Rattle.graphql_layout.proofs.Readings.{seam}
+use Rattle.graphql_layout.proofs.Items.{ignored_item, comment_item, past_ignored, past_comment_item}
 
 -- ---- one after another
 
-pub both_ignored : (ps qs : List (List ℕ)) (after : List ℕ) → AreIgnored ps (concat qs ++ after) → AreIgnored qs after → AreIgnored (ps ++ qs) after
-both_ignored [] qs after h k = k
-both_ignored (p ∷ ps) qs after h k =
-    let same : concat ps ++ (concat qs ++ after) ≡ concat (ps ++ qs) ++ after = sym (append_assoc (concat ps) (concat qs) after) ∙ ap (λ (x : List ℕ). x ++ after) (sym (concat-append ps qs)) in
-    (subst (IsPiece p) same h.0, both_ignored ps qs after h.1 k)
+in_both : (ps qs : List Passed) → comments_in (ps ++ qs) ≡ comments_in ps ++ comments_in qs
+in_both [] qs = refl
+in_both (p ∷ ps) qs = ap (λ (l : List Item). comment (chars p.text.now) ∷ l) (in_both ps qs)
 
-abbrev pub none_ignored : (text : List ℕ) → IsUtf8 text → IsAfterIgnored text text
-none_ignored text u = record { pieces = []; whole = refl; ignored = tt; utf8 = u; no_longer = omega arith }
+each_both : (ps qs : List Passed) → AllByRecursion IsCommentPassed ps → AllByRecursion IsCommentPassed qs → AllByRecursion IsCommentPassed (ps ++ qs)
+each_both [] qs h k = k
+each_both (p ∷ ps) qs h k = (h.0, each_both ps qs h.1 k)
 
-pub then_ignored : (text mid rest : List ℕ) → IsAfterIgnored text mid → IsAfterIgnored mid rest → IsAfterIgnored text rest
-then_ignored text mid rest h k = record {
-  pieces = h.pieces ++ k.pieces;
-  whole =
-      h.whole ∙ ap (λ (x : List ℕ). concat h.pieces ++ x) k.whole ∙ sym (append_assoc (concat h.pieces) (concat k.pieces) (chars rest))
-      ∙ ap (λ (x : List ℕ). x ++ chars rest) (sym (concat-append h.pieces k.pieces));
-  ignored = both_ignored h.pieces k.pieces (chars rest) (subst (AreIgnored h.pieces) k.whole h.ignored) k.ignored;
-  utf8 = k.utf8;
-  no_longer = omega (arith, h.no_longer, k.no_longer);
-}
+pub none_passed : (text : List ℕ) → IsUtf8 text → IsPassed text [] text
+none_passed text u = record { each = tt; on = λ tail h. h; off = λ all h. (all, h, refl); utf8 = u; front = []; whole = refl }
 
--- the text, cut before the rest
-pub record Parted (text rest : List ℕ) (pieces : List (List ℕ)) : Type 0 where
-  pub boundary : IsCharBoundary text (length text - length rest)
-  pub front : chars (take (length text - length rest) text) ≡ concat pieces
-  pub back : drop (length text - length rest) text ≡ rest
+pub passed_long : (text rest : List ℕ) (ps : List Passed) → IsPassed text ps rest → length rest ≤ length text
+passed_long text rest ps h = omega (arith, ap length h.whole, length-append h.front rest)
 
-pub parted : (text rest : List ℕ) → IsUtf8 text → (a : IsAfterIgnored text rest) → Parted text rest a.pieces
-parted text rest u a =
-    let s = seam text (concat a.pieces) (chars rest) u a.whole in
-    let same : encode_utf8_all (chars rest) ≡ rest = encodes-chars rest a.utf8 in
-    let way : length text - length rest ≡ length (encode_utf8_all (concat a.pieces)) = omega (arith, s.long, ap length same) in
+pub then_passed : (text mid rest : List ℕ) (ps qs : List Passed) → IsPassed text ps mid → IsPassed mid qs rest → IsPassed text (ps ++ qs) rest
+then_passed text mid rest ps qs h k =
+    let seamed : (tail : List Item) → comments_in ps ++ (comments_in qs ++ tail) ≡ comments_in (ps ++ qs) ++ tail =
+    λ tail. sym (append_assoc (comments_in ps) (comments_in qs) tail) ∙ ap (λ (l : List Item). l ++ tail) (sym (in_both ps qs)) in
     record {
-      boundary = subst (IsCharBoundary text) (sym way) s.boundary;
-      front = ap chars (ap (λ (n : ℕ). take n text) way ∙ s.front) ∙ s.front_chars;
-      back = ap (λ (n : ℕ). drop n text) way ∙ s.back ∙ same;
+      each = each_both ps qs h.each k.each;
+      on = λ tail t. subst (IsItems (chars text)) (seamed tail) (h.on (comments_in qs ++ tail) (k.on tail t));
+      off = λ all t. let o = h.off all t in let p = k.off o.0 o.1 in (p.0, p.1, o.2 ∙ ap (λ (l : List Item). comments_in ps ++ l) p.2 ∙ seamed p.0);
+      utf8 = k.utf8;
+      front = h.front ++ k.front;
+      whole = h.whole ∙ ap (λ (x : List ℕ). h.front ++ x) k.whole ∙ sym (append_assoc h.front k.front rest);
     }
-
-abbrev pub same_ignored : (text after rest : List ℕ) → IsAfterIgnored text after → rest ≡ after → IsAfterIgnored text rest
-same_ignored text after rest a e = record {
-  pieces = a.pieces;
-  whole = a.whole ∙ ap (λ (x : List ℕ). concat a.pieces ++ chars x) (sym e);
-  ignored = subst (λ (x : List ℕ). AreIgnored a.pieces (chars x)) (sym e) a.ignored;
-  utf8 = subst IsUtf8 (sym e) a.utf8;
-  no_longer = omega (arith, ap length e, a.no_longer);
-}
 
 -- ---- blanks
 
@@ -88,15 +69,13 @@ all_ignored (c ∷ cs) = by (is_blank_byte c) refl (all_ignored cs)
     by true e more = rw (one-add (prefix_len is_blank_byte cs)) (ignored c e, more)
     by false e more = tt
 
--- a piece for each
-record Singles (cs rest : List ℕ) : Type 0 where
-  pieces : List (List ℕ)
-  whole : concat pieces ≡ cs
-  are : AreIgnored pieces rest
+blank_on : (cs rest : List ℕ) (items : List Item) → IsBlankText cs → IsItems rest items → IsItems (cs ++ rest) items
+blank_on [] rest items h k = k
+blank_on (c ∷ cs) rest items h k = ignored_item c (cs ++ rest) items h.0 (blank_on cs rest items h.1 k)
 
-singles : (cs rest : List ℕ) → IsBlankText cs → Singles cs rest
-singles [] rest h = record { pieces = []; whole = refl; are = tt }
-singles (c ∷ cs) rest h = let s = singles cs rest h.1 in record { pieces = (c ∷ []) ∷ s.pieces; whole = ap (λ (x : List ℕ). c ∷ x) s.whole; are = (inl (c, refl, h.0), s.are) }
+blank_off : (cs rest : List ℕ) (items : List Item) → IsBlankText cs → IsItems (cs ++ rest) items → IsItems rest items
+blank_off [] rest items h k = k
+blank_off (c ∷ cs) rest items h k = blank_off cs rest items h.1 (past_ignored c (cs ++ rest) items h.0 k)
 
 pub blanks_boundary : (text : List ℕ) (n : ℕ) → IsUtf8 text → n ≡ prefix_len is_blank_byte text → IsCharBoundary text n
 blanks_boundary text n u e = by (cases_lt 0 n)
@@ -110,18 +89,19 @@ blanks_boundary text n u e = by (cases_lt 0 n)
         let same : k + 1 ≡ n = omega arith in
         subst (IsCharBoundary text) same (IsCharBoundary-after_ascii text k u within (ascii (get_or text k 0) blank))
 
-pub blanks_ignored : (text from : List ℕ) (n : ℕ) → IsUtf8 text → n ≡ prefix_len is_blank_byte text → from ≡ drop n text → IsAfterIgnored text from
-blanks_ignored text from n u e f =
+pub blanks_passed : (text from : List ℕ) (n : ℕ) → IsUtf8 text → n ≡ prefix_len is_blank_byte text → from ≡ drop n text → IsPassed text [] from
+blanks_passed text from n u e f =
     let cs = chars text in
     let m = prefix_len is_blank_byte cs in
     let is : chars from ≡ drop m cs = ap chars (f ∙ ap (λ (k : ℕ). drop k text) e) ∙ span_chars is_blank_byte alike text u in
-    let s = singles (take m cs) (chars from) (all_ignored cs) in
+    let whole : cs ≡ take m cs ++ chars from = sym (take-append-drop m cs) ∙ ap (λ (x : List ℕ). take m cs ++ x) (sym is) in
     record {
-      pieces = s.pieces;
-      whole = sym (take-append-drop m cs) ∙ ap (λ (x : List ℕ). x ++ drop m cs) (sym s.whole) ∙ ap (λ (x : List ℕ). concat s.pieces ++ x) (sym is);
-      ignored = s.are;
+      each = tt;
+      on = λ tail h. subst (λ (x : List ℕ). IsItems x tail) (sym whole) (blank_on (take m cs) (chars from) tail (all_ignored cs) h);
+      off = λ all h. (all, blank_off (take m cs) (chars from) all (all_ignored cs) (subst (λ (x : List ℕ). IsItems x all) whole h), refl);
       utf8 = subst IsUtf8 (sym f) (IsUtf8-drop text n u (blanks_boundary text n u e));
-      no_longer = omega (arith, ap length f, length-drop n text);
+      front = take n text;
+      whole = sym (take-append-drop n text) ∙ ap (λ (x : List ℕ). take n text ++ x) (sym f);
     }
 
 -- ---- a comment
@@ -133,21 +113,23 @@ hash_first (c ∷ cs) u h =
     (chars cs, chars_past_char (c ∷ cs) cs 35 u (ap (λ (x : ℕ). x ∷ cs) is ∙ ap (λ (x : List ℕ). x ++ cs) (sym (encode_ascii 35 (omega arith)))))
 
 -- the comment is passed, and what comes after it is shorter
-pub record Past (from after : List ℕ) : Type 0 where
-  pub ignored : IsAfterIgnored from after
+pub record First (from : List ℕ) (p : Passed) (after : List ℕ) : Type 0 where
+  pub passes : IsPassed from (p ∷ []) after
   pub shorter : length after < length from
 
-pub comment_ignored : (from first after : List ℕ) → IsUtf8 from → begins_with_hash from ≡ true → IsFirstLine from first after → Past from after
-comment_ignored from first after u h l =
+pub comment_passed : (from after : List ℕ) (p : Passed) → IsUtf8 from → begins_with_hash from ≡ true → IsFirstLine from p.text.now after → First from p after
+comment_passed from after p u h l =
+    let c = chars p.text.now in
     let b = hash_first from u h in
-    let is : IsComment (chars first) = begun (chars first) b.0 (chars from) (chars after) b.1 l.whole l.in_line l.ends in
+    let is : IsComment c = begun c b.0 (chars from) (chars after) b.1 l.whole l.in_line l.ends in
     record {
-      ignored = record {
-        pieces = chars first ∷ [];
-        whole = l.whole ∙ ap (λ (x : List ℕ). x ++ chars after) (sym (append-nil (chars first)));
-        ignored = (inr (is, l.ends), tt);
+      passes = record {
+        each = (is, tt);
+        on = λ tail t. subst (λ (x : List ℕ). IsItems x (comment c ∷ tail)) (sym l.whole) (comment_item c (chars after) tail is l.ends t);
+        off = λ all t. let o = past_comment_item c (chars after) all is l.ends (subst (λ (x : List ℕ). IsItems x all) l.whole t) in (o.others, o.are, o.is);
         utf8 = l.rest_utf8;
-        no_longer = omega (arith, l.long);
+        front = p.text.now;
+        whole = sym (encodes-chars from u) ∙ ap encode_utf8_all l.whole ∙ encodes-append (chars p.text.now) (chars after) ∙ ap₂ (λ (x y : List ℕ). x ++ y) (encodes-chars p.text.now l.utf8) (encodes-chars after l.rest_utf8);
       };
-      shorter = omega (arith, l.long, some_comment first is);
+      shorter = omega (arith, l.long, some_comment p.text.now is);
     }

@@ -1,15 +1,13 @@
 -- Where the first `#` of a text stands.
-use Rattle.std.proofs.Common.{◌≡◌, ◌≢◌, ℕ, ◌+◌, ◌<◌, Bool, true, false, ◌==◌, Some, None, List, [], ◌∷◌, ◌++◌, length, take, drop, get_or, refl, sym, ap, ◌∙◌, subst, arith, length-take, length-drop, length-append, ◌-◌, ◌≤◌}
+use Rattle.std.proofs.Common.{◌≡◌, ◌≢◌, ℕ, ◌+◌, ◌<◌, Bool, true, false, ◌==◌, Some, None, List, [], ◌∷◌, ◌++◌, length, take, drop, get_or, refl, sym, ap, ◌∙◌, subst, arith, length-take, length-append, ◌-◌, ◌≤◌}
 use Rattle.std.proofs.lemmas.Bool.Decides.{nat_tests}
-use Rattle.std.proofs.lemmas.List.{drop_more, get_or-take, get_or-drop, get_or-append-add}
-use Rattle.std.proofs.lemmas.List.Sums.{prefix_len_passes}
+use Rattle.std.proofs.lemmas.List.{drop_more, get_or-take, get_or-append-add, take-append-drop}
 use Rattle.std.proofs.lemmas.Str.{IsUtf8-take, IsCharBoundary-before_ascii, IsCharBoundary-after_ascii}
 use Rattle.std.specs.Char.{encode_utf8}
 use Rattle.std.specs.Str.{IsUtf8, IsCharBoundary, NonePass, NoCharPasses, encode_utf8_all}
 use Rattle.std.specs.Str.Pattern.{FindsChar}
-use Rattle.std.specs.List.{prefix_len}
 use Rattle.memchr.specs.Find.{IsFirstByte, is_byte}
-use Rattle.graphql_layout.specs.inner.Standing.{is_blank_byte, IsClear}
+use Rattle.graphql_layout.specs.inner.Standing.{IsClear}
 
 abbrev Lacks : List ℕ → Type 0
 Lacks bs = (i : ℕ) → i < length bs → get_or bs i 0 ≢ 35
@@ -70,25 +68,21 @@ hash_found text bytes i u same f =
 
 -- ---- what stands before it
 
-pub blanks_first : (bytes : List ℕ) (n : ℕ) → n ≡ prefix_len is_blank_byte bytes → n < length bytes → get_or bytes n 0 ≡ 35 → IsFirstByte (is_byte 35) bytes (Some n)
-blanks_first bytes n e l h = (record { low = omega arith; high = l; before = λ k a b p. let blank = prefix_len_passes is_blank_byte bytes k 0 (omega (arith, e)) in absurd (hash_apart (get_or bytes k 0) blank (is_hash (get_or bytes k 0) p)) }, passes (get_or bytes n 0) h)
-  where
-    hash_apart : (c : ℕ) → is_blank_byte c ≡ true → c ≡ 35 → ⊥
-    hash_apart c b e = let k : is_blank_byte 35 ≡ true = ap is_blank_byte (sym e) ∙ b in cc
-
 -- nothing before the last so many bytes
 pub clear_text : (text bytes : List ℕ) (near : ℕ) → bytes ≡ text → IsFirstByte (is_byte 35) bytes None → IsClear near text
 clear_text text bytes near same f = subst (IsClear near) same (λ i l n. f i (omega arith) l)
 
-pub clear_before : (text bytes : List ℕ) (start near : ℕ) → bytes ≡ text → IsFirstByte (is_byte 35) bytes (Some start) → length text < start + near → IsClear near text
+pub clear_before : (text bytes : List ℕ) (start near : ℕ) → bytes ≡ text → IsFirstByte (is_byte 35) bytes (Some start) → length text ≤ start + near → IsClear near text
 clear_before text bytes start near same f e = λ i l n. let g = subst (λ (x : List ℕ). IsFirstByte (is_byte 35) x (Some start)) same f in g.0.before i (omega arith) (omega arith)
 
+pub clear_rest : (near : ℕ) (text front rest : List ℕ) → text ≡ front ++ rest → IsClear near text → IsClear near rest
+clear_rest near text front rest e h = λ i l m.
+    let long : length text ≡ length front + length rest = ap length e ∙ length-append front rest in
+    let is : get_or text (length front + i) 0 ≡ get_or rest i 0 = ap (λ (x : List ℕ). get_or x (length front + i) 0) e ∙ get_or-append-add front rest i 0 in
+    λ p. h (length front + i) (omega (arith, long, l)) (omega (arith, long, l, m)) (ap (is_byte 35) is ∙ p)
+
 pub clear_after : (near n : ℕ) (text after : List ℕ) → IsClear near text → after ≡ drop n text → IsClear near after
-clear_after near n text after h e =
-    subst (IsClear near) (sym e) (λ i l m.
-        let long = length-drop n text in
-        let is : get_or (drop n text) i 0 ≡ get_or text (n + i) 0 = get_or-drop n text i 0 in
-        λ p. h (n + i) (omega (arith, long, l)) (omega (arith, long, l, m)) (ap (is_byte 35) (sym is) ∙ p))
+clear_after near n text after h e = clear_rest near text (take n text) after (sym (take-append-drop n text) ∙ ap (λ (x : List ℕ). take n text ++ x) (sym e)) h
 
 pub clear_gap : (near left : ℕ) (text gap : List ℕ) → IsClear near text → near ≤ left → left ≤ length text → gap ≡ take (length text - left) text → IsUtf8 gap → FindsChar 35 gap None
 clear_gap near left text gap h far w e u =

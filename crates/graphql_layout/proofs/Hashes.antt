@@ -159,16 +159,9 @@ tidied_both [] ys = refl
 tidied_both (comment c ∷ xs) ys = ap (λ (l : List Item). comment (trimmed c) ∷ l) (tidied_both xs ys)
 tidied_both (word b ∷ xs) ys = ap (λ (l : List Item). word b ∷ l) (tidied_both xs ys)
 
-pub no_bytes : (bs : List ℕ) → length bs ≡ 0 → bs ≡ []
-no_bytes [] e = refl
-no_bytes (b ∷ bs) e = absurd (omega (arith, e))
-
--- two texts without tokens, and without comments
-pub none_pushed : (comments gap : List ℕ) (sheet : List Item) → IsUtf8 gap → comments ≡ [] → FindsChar 35 gap None → (items others : List Item) → IsItems (chars comments) items → IsItems (chars gap) others → words others ≡ []
-    → sheet ≡ sheet ++ (tidied items ++ tidied others)
-none_pushed comments gap sheet u e f items others h k z =
-    let none : [] ≡ items = none_left items (subst (λ (l : List ℕ). IsItems l items) (ap chars e ∙ chars-nil) h) in
-    all_passed gap gap sheet sheet (none_passed gap sheet u) f others k z ∙ ap (λ (l : List Item). sheet ++ (tidied l ++ tidied others)) none
+-- a text without tokens and comments
+pub none_pushed : (gap : List ℕ) (sheet : List Item) → IsUtf8 gap → FindsChar 35 gap None → (items : List Item) → IsItems (chars gap) items → words items ≡ [] → sheet ≡ sheet ++ tidied items
+none_pushed gap sheet u f items h z = all_passed gap gap sheet sheet (none_passed gap sheet u) f items h z
 
 pub both_pushed : (old mid new items others : List Item) → mid ≡ old ++ tidied items → new ≡ mid ++ tidied others → new ≡ old ++ (tidied items ++ tidied others)
 both_pushed old mid new items others e f = f ∙ ap (λ (l : List Item). l ++ tidied others) e ∙ append_assoc old (tidied items) (tidied others)

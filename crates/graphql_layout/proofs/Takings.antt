@@ -15,10 +15,12 @@ use Rattle.graphql_tokens.proofs.Lists.{Stands, tokens_cuts}
 use Rattle.graphql_tokens.proofs.Nexts.{begins_some}
 use Rattle.graphql_layout.specs.texts.Items.{Item, word, IsItems, words}
 use Rattle.graphql_layout.specs.declared.layout.ahead.Ahead.{Ahead}
-use Rattle.graphql_layout.specs.inner.Standing.{IsAhead, StandsAt}
+use Rattle.graphql_layout.specs.inner.Standing.{comments_in, IsAhead, StandsAt}
+use Rattle.graphql_layout.specs.declared.comments.Passed.{Passed}
 use Rattle.graphql_layout.specs.inner.Tidied.{tidied, IsAdded}
 use Rattle.graphql_layout.specs.texts.LaidOut.{AreLaid, IsLaidOut}
 use Rattle.graphql_layout.specs.texts.SameTokens.{HasFault}
+use Rattle.graphql_layout.proofs.Aheads.{passed_long}
 use Rattle.graphql_layout.proofs.Hashes.{tidied_both}
 use Rattle.graphql_layout.proofs.Items.{word_item, past_word_item, no_items, itemized, items_written}
 use Rattle.graphql_layout.proofs.Joined.{proper_of, spells_of}
@@ -45,34 +47,32 @@ some_left l rest s e = subst EndsOnce e s.ends
 -- ---- the next token
 
 -- The token stands after the comments that were passed and what the lexer passes.
-pub record Next (rest comments start base : List ℕ) (t : Token) (more : List Token) : Type 0 where
-  pub passed : List (List ℕ)
+pub record Next (rest : List ℕ) (passed : List Passed) (start base : List ℕ) (t : Token) (more : List Token) : Type 0 where
+  pub pieces : List (List ℕ)
   pub after : List ℕ
   pub here : List ℕ
   pub stands : Stands Current here after t more
-  pub cut : Seam start (concat passed) after
+  pub cut : Seam start (concat pieces) after
   pub text_is : chars base ≡ here ++ after
   pub shorter : length start ≤ length base
   pub reached : length base - length start ≤ t.start
-  pub way : t.start - (length base - length start) ≡ length (encode_utf8_all (concat passed))
+  pub way : t.start - (length base - length start) ≡ length (encode_utf8_all (concat pieces))
   pub no_longer : length start ≤ length rest
   pub items : List Item
-  pub others : List Item
-  pub are : IsItems (chars comments) items
-  pub others_are : IsItems (concat passed) others
+  pub are : IsItems (concat pieces) items
   pub none : words items ≡ []
-  pub others_none : words others ≡ []
-  pub on : (tail : List Item) → IsItems after tail → IsItems (chars rest) ((items ++ others) ++ tail)
-  pub off : (all : List Item) → IsItems (chars rest) all → (tail : List Item) × IsItems after tail × (all ≡ (items ++ others) ++ tail)
+  pub on : (tail : List Item) → IsItems after tail → IsItems (chars rest) ((comments_in passed ++ items) ++ tail)
+  pub off : (all : List Item) → IsItems (chars rest) all → (tail : List Item) × IsItems after tail × (all ≡ (comments_in passed ++ items) ++ tail)
 
 start_of : (here after : List ℕ) (t : Token) (more : List Token) → Stands Current here after t more → t.start ≡ length (encode_utf8_all here)
 start_of here after t more (inl m) = ap (λ (u : Token). u.start) m.0.is
 start_of here after t more (inr (inl m)) = ap (λ (u : Token). u.start) m.0.is
 start_of here after t more (inr (inr m)) = ap (λ (u : Token). u.start) m.0.is
 
-pub next : (rest base : List ℕ) (ahead : Ahead) (l : Lexing) (t : Token) (more : List Token) → base ≡ l.text → IsUtf8 base → IsAhead rest ahead → StandsAt l ahead.rest.now → left l ≡ t ∷ more → Next rest ahead.comments.now ahead.rest.now base t more
-next rest base ahead l t more e u h s is =
-    let a = h.ignored in
+pub next : (rest base : List ℕ) (passed : List Passed) (ahead : Ahead) (l : Lexing) (t : Token) (more : List Token) → base ≡ l.text → IsUtf8 base → IsAhead rest passed ahead → StandsAt l ahead.rest.now → left l ≡ t ∷ more
+    → Next rest passed ahead.rest.now base t more
+next rest base passed ahead l t more e u h s is =
+    let a = h.passes in
     let start = ahead.rest.now in
     let text : chars base ≡ s.front ++ chars start = ap chars e ∙ s.whole in
     let c : Cuts Current s.front (chars start) (t ∷ more) = subst (λ (ts : List Token). Cuts Current s.front (chars start) ts) is s.cut in
@@ -81,10 +81,10 @@ next rest base ahead l t more e u h s is =
     let same : length (encode_utf8_all (chars start)) ≡ length start = ap length (encodes-chars start a.utf8) in
     let at : t.start ≡ length (encode_utf8_all s.front ++ encode_utf8_all gap) = start_of (s.front ++ gap) c.0.after t more c.1 ∙ ap length (encodes-append s.front gap) in
     let sum : length (encode_utf8_all s.front ++ encode_utf8_all gap) ≡ length (encode_utf8_all s.front) + length (encode_utf8_all gap) = length-append (encode_utf8_all s.front) (encode_utf8_all gap) in
-    let first = comments_of a.pieces (chars start) a.ignored in
-    let second = comments_of c.0.pieces c.0.after c.0.ignored in
+    let k = comments_of c.0.pieces c.0.after c.0.ignored in
+    let first = comments_in passed in
     record {
-      passed = c.0.pieces;
+      pieces = c.0.pieces;
       after = c.0.after;
       here = s.front ++ gap;
       stands = c.1;
@@ -93,47 +93,43 @@ next rest base ahead l t more e u h s is =
       shorter = omega (arith, long, same);
       reached = omega (arith, long, same, at, sum);
       way = omega (arith, long, same, at, sum);
-      no_longer = a.no_longer;
-      items = first.items;
-      others = second.items;
-      are = subst (λ (x : List ℕ). IsItems x first.items) (sym h.comments) first.alone;
-      others_are = second.alone;
-      none = first.none;
-      others_none = second.none;
-      on = λ tail k.
-          let there = subst (λ (x : List ℕ). IsItems x (second.items ++ tail)) (sym c.0.whole) (second.before tail k) in
-          subst (IsItems (chars rest)) (sym (append_assoc first.items second.items tail)) (subst (λ (x : List ℕ). IsItems x (first.items ++ (second.items ++ tail))) (sym a.whole) (first.before (second.items ++ tail) there));
-      off = λ all k.
-          let o = first.past all (subst (λ (x : List ℕ). IsItems x all) a.whole k) in
-          let p = second.past o.0 (subst (λ (x : List ℕ). IsItems x o.0) c.0.whole o.1) in
-          (p.0, p.1, o.2 ∙ ap (λ (x : List Item). first.items ++ x) p.2 ∙ sym (append_assoc first.items second.items p.0));
+      no_longer = passed_long rest start passed a;
+      items = k.items;
+      are = k.alone;
+      none = k.none;
+      on = λ tail t.
+          let there = subst (λ (x : List ℕ). IsItems x (k.items ++ tail)) (sym c.0.whole) (k.before tail t) in
+          subst (IsItems (chars rest)) (sym (append_assoc first k.items tail)) (a.on (k.items ++ tail) there);
+      off = λ all t.
+          let o = a.off all t in
+          let p = k.past o.0 (subst (λ (x : List ℕ). IsItems x o.0) c.0.whole o.1) in
+          (p.0, p.1, o.2 ∙ ap (λ (x : List Item). first ++ x) p.2 ∙ sym (append_assoc first k.items p.0));
     }
 
-pub boundary : (rest comments start base : List ℕ) (t : Token) (more : List Token) → Next rest comments start base t more → IsCharBoundary start (t.start - (length base - length start))
-boundary rest comments start base t more n = subst (IsCharBoundary start) (sym n.way) n.cut.boundary
+pub boundary : (rest : List ℕ) (passed : List Passed) (start base : List ℕ) (t : Token) (more : List Token) → Next rest passed start base t more → IsCharBoundary start (t.start - (length base - length start))
+boundary rest passed start base t more n = subst (IsCharBoundary start) (sym n.way) n.cut.boundary
 
 -- what begins with the token
-pub from_token : (rest comments start from base : List ℕ) (t : Token) (more : List Token) (n : Next rest comments start base t more) → from ≡ drop (t.start - (length base - length start)) start → from ≡ encode_utf8_all n.after
-from_token rest comments start from base t more n e = e ∙ ap (λ (k : ℕ). drop k start) n.way ∙ n.cut.back
+pub from_token : (rest : List ℕ) (passed : List Passed) (start from base : List ℕ) (t : Token) (more : List Token) (n : Next rest passed start base t more) → from ≡ drop (t.start - (length base - length start)) start → from ≡ encode_utf8_all n.after
+from_token rest passed start from base t more n e = e ∙ ap (λ (k : ℕ). drop k start) n.way ∙ n.cut.back
 
 -- and what stands before it
-pub gap_is : (rest comments start gap from base : List ℕ) (t : Token) (more : List Token) (n : Next rest comments start base t more) → gap ≡ take (t.start - (length base - length start)) start → from ≡ drop (t.start - (length base - length start)) start → gap ≡ take (length start - length from) start
-gap_is rest comments start gap from base t more n e f =
-    let way : t.start - (length base - length start) ≡ length start - length from = omega (arith, n.way, n.cut.long, ap length (from_token rest comments start from base t more n f)) in
+pub gap_is : (rest : List ℕ) (passed : List Passed) (start gap from base : List ℕ) (t : Token) (more : List Token) (n : Next rest passed start base t more) → gap ≡ take (t.start - (length base - length start)) start → from ≡ drop (t.start - (length base - length start)) start → gap ≡ take (length start - length from) start
+gap_is rest passed start gap from base t more n e f =
+    let way : t.start - (length base - length start) ≡ length start - length from = omega (arith, n.way, n.cut.long, ap length (from_token rest passed start from base t more n f)) in
     e ∙ ap (λ (k : ℕ). take k start) way
 
 -- ---- the comments before it
 
 -- what `push_ignored` promises
-abbrev Pushed : List ℕ → List ℕ → List Item → List Item → Type 0
-Pushed comments gap sheet new =
-    (items others : List Item) → IsItems (chars comments) items → words items ≡ [] → IsItems (chars gap) others → words others ≡ [] → new ≡ sheet ++ (tidied items ++ tidied others)
+abbrev pub Pushed : List Passed → List ℕ → List Item → List Item → Type 0
+Pushed passed gap sheet new = (items : List Item) → IsItems (chars gap) items → words items ≡ [] → new ≡ sheet ++ (tidied (comments_in passed) ++ tidied items)
 
-pushed : (rest comments start gap base : List ℕ) (t : Token) (more : List Token) (n : Next rest comments start base t more) (sheet new : List Item) → gap ≡ take (t.start - (length base - length start)) start → Pushed comments gap sheet new
-    → new ≡ sheet ++ tidied (n.items ++ n.others)
-pushed rest comments start gap base t more n sheet new e p =
-    let is : chars gap ≡ concat n.passed = ap chars (e ∙ ap (λ (k : ℕ). take k start) n.way ∙ n.cut.front) ∙ n.cut.front_chars in
-    p n.items n.others n.are n.none (subst (λ (x : List ℕ). IsItems x n.others) (sym is) n.others_are) n.others_none ∙ ap (λ (x : List Item). sheet ++ x) (sym (tidied_both n.items n.others))
+pushed : (rest : List ℕ) (passed : List Passed) (start gap base : List ℕ) (t : Token) (more : List Token) (n : Next rest passed start base t more) (sheet new : List Item) → gap ≡ take (t.start - (length base - length start)) start
+    → Pushed passed gap sheet new → new ≡ sheet ++ tidied (comments_in passed ++ n.items)
+pushed rest passed start gap base t more n sheet new e p =
+    let is : chars gap ≡ concat n.pieces = ap chars (e ∙ ap (λ (k : ℕ). take k start) n.way ∙ n.cut.front) ∙ n.cut.front_chars in
+    p n.items (subst (λ (x : List ℕ). IsItems x n.items) (sym is) n.are) n.none ∙ ap (λ (x : List Item). sheet ++ x) (sym (tidied_both (comments_in passed) n.items))
 
 -- ---- the end
 
@@ -145,15 +141,15 @@ ended here after t more (inl m) k = absurd (no_word m.0.kind m.0.word m.0.rest m
 ended here after t more (inr (inl m)) k = m.0.ends
 ended here after t more (inr (inr m)) k = absurd (let f : Fault ≡ End = ap (λ (u : Token). u.bare.kind) (sym m.0.is) ∙ k in cc)
 
-pub all_laid_out : (text other rest comments start gap base : List ℕ) (t : Token) (more : List Token) (sheet new : List Item) → Reads text rest sheet → (n : Next rest comments start base t more) → t.bare.kind ≡ End
-    → gap ≡ take (t.start - (length base - length start)) start → Pushed comments gap sheet new → IsItems (chars other) new → IsLaidOut text other
-all_laid_out text other rest comments start gap base t more sheet new r n kind e p others =
-    let k = n.items ++ n.others in
+pub all_laid_out : (text other rest : List ℕ) (passed : List Passed) (start gap base : List ℕ) (t : Token) (more : List Token) (sheet new : List Item) → Reads text rest sheet → (n : Next rest passed start base t more) → t.bare.kind ≡ End
+    → gap ≡ take (t.start - (length base - length start)) start → Pushed passed gap sheet new → IsItems (chars other) new → IsLaidOut text other
+all_laid_out text other rest passed start gap base t more sheet new r n kind e p others =
+    let k = comments_in passed ++ n.items in
     let last : n.after ≡ [] = ended n.here n.after t more n.stands kind in
     let alone : IsItems (chars rest) k = subst (IsItems (chars rest)) (append-nil k) (n.on [] (subst (λ (x : List ℕ). IsItems x []) (sym last) tt)) in
     let items = r.passed ++ k in
     let are : IsItems (chars text) items = r.on k alone in
-    let alike : AreLaid items new = subst (AreLaid items) (sym (pushed rest comments start gap base t more n sheet new e p)) (both_laid r.passed sheet k (tidied k) r.laid (are_tidied k)) in
+    let alike : AreLaid items new = subst (AreLaid items) (sym (pushed rest passed start gap base t more n sheet new e p)) (both_laid r.passed sheet k (tidied k) r.laid (are_tidied k)) in
     record {
       tokens = record {
         tokens = words items;
@@ -196,21 +192,21 @@ ends_more t [] l e = absurd cc
 ends_more t (u ∷ more) l e = e.1
 
 -- what comes after the token
-pub record Passed (from : List ℕ) (t : Token) (word rest : List ℕ) : Type 0 where
+pub record Spelled (from : List ℕ) (t : Token) (word rest : List ℕ) : Type 0 where
   pub spelled : t.bare.spelling ≡ encode_utf8_all word
   pub cut : Seam from word rest
 
-passed : (from here after : List ℕ) (t : Token) → IsUtf8 (encode_utf8_all after) → chars (encode_utf8_all after) ≡ after → from ≡ encode_utf8_all after → (m : TokenStands Current here after t) → Passed from t m.word m.rest
-passed from here after t u c is m = record {
+spelled : (from here after : List ℕ) (t : Token) → IsUtf8 (encode_utf8_all after) → chars (encode_utf8_all after) ≡ after → from ≡ encode_utf8_all after → (m : TokenStands Current here after t) → Spelled from t m.word m.rest
+spelled from here after t u c is m = record {
   spelled = ap (λ (u : Token). u.bare.spelling) m.is;
   cut = seam from m.word m.rest (subst IsUtf8 (sym is) u) (ap chars is ∙ c ∙ m.whole);
 }
 
-pub boundary_after : (rest comments start from base : List ℕ) (t : Token) (more : List Token) (n : Next rest comments start base t more) → from ≡ drop (t.start - (length base - length start)) start → t.bare.kind ≢ Fault → t.bare.kind ≢ End → IsCharBoundary from (length t.bare.spelling)
-boundary_after rest comments start from base t more n f k e =
-    let is = from_token rest comments start from base t more n f in
+pub boundary_after : (rest : List ℕ) (passed : List Passed) (start from base : List ℕ) (t : Token) (more : List Token) (n : Next rest passed start base t more) → from ≡ drop (t.start - (length base - length start)) start → t.bare.kind ≢ Fault → t.bare.kind ≢ End → IsCharBoundary from (length t.bare.spelling)
+boundary_after rest passed start from base t more n f k e =
+    let is = from_token rest passed start from base t more n f in
     let m = (standing n.here n.after t more n.stands k e).0 in
-    let p = passed from n.here n.after t n.cut.back_utf8 n.cut.back_chars is m in
+    let p = spelled from n.here n.after t n.cut.back_utf8 n.cut.back_chars is m in
     subst (λ (s : List ℕ). IsCharBoundary from (length s)) (sym p.spelled) p.cut.boundary
 
 -- the rest after it is a text, and shorter
@@ -220,19 +216,19 @@ pub record Read (text rest after : List ℕ) (next : Lexing) (longer : List Item
   pub stands : StandsAt next after
   pub shorter : length after < length rest
 
-pub one_read : (text rest comments start gap from after base : List ℕ) (l next : Lexing) (t : Token) (sheet new longer : List Item) → Reads text rest sheet → StandsAt l start → base ≡ next.text → left l ≡ t ∷ left next
-    → (n : Next rest comments start base t (left next)) → t.bare.kind ≢ Fault → t.bare.kind ≢ End → gap ≡ take (t.start - (length base - length start)) start → from ≡ drop (t.start - (length base - length start)) start → after ≡ drop (length t.bare.spelling) from
-    → Pushed comments gap sheet new → IsAdded t.bare new longer → Read text rest after next longer
-one_read text rest comments start gap from after base l next t sheet new longer r s same is n k e g f a p d =
+pub one_read : (text rest : List ℕ) (passed : List Passed) (start gap from after base : List ℕ) (l next : Lexing) (t : Token) (sheet new longer : List Item) → Reads text rest sheet → StandsAt l start → base ≡ next.text → left l ≡ t ∷ left next
+    → (n : Next rest passed start base t (left next)) → t.bare.kind ≢ Fault → t.bare.kind ≢ End → gap ≡ take (t.start - (length base - length start)) start → from ≡ drop (t.start - (length base - length start)) start → after ≡ drop (length t.bare.spelling) from
+    → Pushed passed gap sheet new → IsAdded t.bare new longer → Read text rest after next longer
+one_read text rest passed start gap from after base l next t sheet new longer r s same is n k e g f a p d =
     let q = standing n.here n.after t (left next) n.stands k e in
     let m = q.0 in
-    let from_is = from_token rest comments start from base t (left next) n f in
-    let w = passed from n.here n.after t n.cut.back_utf8 n.cut.back_chars from_is m in
+    let from_is = from_token rest passed start from base t (left next) n f in
+    let w = spelled from n.here n.after t n.cut.back_utf8 n.cut.back_chars from_is m in
     let after_is : after ≡ encode_utf8_all m.rest = a ∙ ap (λ (s : List ℕ). drop (length s) from) w.spelled ∙ w.cut.back in
     let chars_is : chars after ≡ m.rest = ap chars after_is ∙ w.cut.back_chars in
     let b : Bare = record { kind = m.kind; spelling = encode_utf8_all m.word } in
     let bare_is : b ≡ t.bare = ap (λ (x : Token). x.bare) (sym m.is) in
-    let c = n.items ++ n.others in
+    let c = comments_in passed ++ n.items in
     let some : 1 ≤ length t.bare.spelling = omega (arith, ap length w.spelled, length-le-encodes m.word, begins_some Current m.kind m.word m.rest m.begins) in
     let before : AreLaid (r.passed ++ c) (sheet ++ tidied c) = both_laid r.passed sheet c (tidied c) r.laid (are_tidied c) in
     let laid : AreLaid ((r.passed ++ c) ++ word t.bare ∷ []) ((sheet ++ tidied c) ++ word d.other ∷ []) = both_laid (r.passed ++ c) (sheet ++ tidied c) (word t.bare ∷ []) (word d.other ∷ []) before (d.alike, tt) in
@@ -242,7 +238,7 @@ one_read text rest comments start gap from after base l next t sheet new longer 
       utf8 = subst IsUtf8 (sym after_is) w.cut.back_utf8;
       reads = record {
         passed = (r.passed ++ c) ++ word t.bare ∷ [];
-        laid = subst (AreLaid ((r.passed ++ c) ++ word t.bare ∷ [])) (sym (d.is ∙ ap (λ (x : List Item). x ++ word d.other ∷ []) (pushed rest comments start gap base t (left next) n sheet new g p))) laid;
+        laid = subst (AreLaid ((r.passed ++ c) ++ word t.bare ∷ [])) (sym (d.is ∙ ap (λ (x : List Item). x ++ word d.other ∷ []) (pushed rest passed start gap base t (left next) n sheet new g p))) laid;
         on = λ tail h.
             let here : IsItems (m.word ++ m.rest) (word b ∷ tail) = word_item m.kind m.word m.rest tail m.begins (subst (λ (x : List ℕ). IsItems x tail) chars_is h) in
             let there : IsItems n.after (word t.bare ∷ tail) = subst (λ (x : Bare). IsItems n.after (word x ∷ tail)) bare_is (subst (λ (x : List ℕ). IsItems x (word b ∷ tail)) (sym m.whole) here) in
@@ -273,8 +269,8 @@ fault here after t more (inl m) k = absurd ((subst (λ (x : TokenKind). Begins C
 fault here after t more (inr (inl m)) k = absurd (let f : End ≡ Fault = ap (λ (u : Token). u.bare.kind) (sym m.0.is) ∙ k in cc)
 fault here after t more (inr (inr m)) k = m.0
 
-pub fault_read : (text rest comments start base : List ℕ) (t : Token) (more : List Token) (sheet : List Item) → Reads text rest sheet → Next rest comments start base t more → t.bare.kind ≡ Fault → HasFault text
-fault_read text rest comments start base t more sheet r n k =
+pub fault_read : (text rest : List ℕ) (passed : List Passed) (start base : List ℕ) (t : Token) (more : List Token) (sheet : List Item) → Reads text rest sheet → Next rest passed start base t more → t.bare.kind ≡ Fault → HasFault text
+fault_read text rest passed start base t more sheet r n k =
     let all = tokens [] (chars text) in
     let cut : IsCutInto text all = tokens_cuts [] (chars text) in
     let here = fault n.here n.after t more n.stands k in (

@@ -14,7 +14,7 @@ pub mod walk;
 use crate::blocks::value_of;
 use crate::comments::push_ignored;
 use crate::sheet::Sheet;
-use ahead::{go_on, near_hash};
+use ahead::{Ahead, first_hash, go_on};
 use gaps::{Layout, Place};
 use graphql_tokens::lexer::{TokenKind, Tokens};
 use lines::begin_token;
@@ -53,10 +53,11 @@ pub fn format(alloc: Global, text: &str) -> Result<Option<String>, AllocError>
     let mut layout = Layout::new(alloc, text);
     let mut sheet = Sheet::with_room(alloc, text.len())?;
     let mut tokens = Tokens::new(text);
+    let mut passed = Vec::new(alloc);
     let mut rest = text;
-    let mut near = near_hash(text);
+    let mut hash = first_hash(text);
     'tokens: loop {
-        let ahead = go_on(&mut tokens, rest, near);
+        let ahead = go_on(&mut tokens, &mut passed, Ahead { rest, hash })?;
         let token = tokens.next_token();
         let end = tokens.text().len() - ahead.rest.len();
         if token.kind == TokenKind::Fault {
@@ -64,14 +65,15 @@ pub fn format(alloc: Global, text: &str) -> Result<Option<String>, AllocError>
         }
         let (gap, from) = ahead.rest.split_at(token.start - end);
         let place = layout.pass(token.kind, token.text, from)?;
-        let before = push_ignored(&mut sheet, &place, &ahead, gap, from.len())?;
+        let before = push_ignored(&mut sheet, &place, &passed, ahead, gap, from.len())?;
         if token.kind.is_end() {
             return Ok(Some(sheet.finish()));
         }
         begin_token(&mut sheet, &place, before)?;
         push_token(alloc, &mut sheet, &place, token.kind, token.text)?;
         let (_, after) = from.split_at(token.text.len());
+        passed.clear();
         rest = after;
-        near = ahead.near;
+        hash = ahead.hash;
     }
 }

@@ -1,77 +1,79 @@
 //! Where a text is read on.
-ghost use Rattle.graphql_layout.specs.inner.Standing.{IsAhead, IsClear, StandsAt};
+ghost use Rattle.std.specs.Prelude.{◌≡◌, [], IfOk};
+ghost use Rattle.graphql_layout.specs.inner.Standing.{IsAhead, IsClear, IsPassed, StandsAt};
 
-use crate::comments::past_comments;
+use crate::comments::{Passed, pass_comments};
 use graphql_tokens::lexer::Tokens;
 use memchr::memchr;
+use std::alloc::AllocError;
 
 // Within so many bytes before a `#`, comments are looked for before the next token is read.
 const NEAR: usize = 64;
 
-/// Where a text is read on.
+/// What is left of a text.
 #[derive(Clone, Copy)]
 pub struct Ahead<'a> {
-    /// The comments that were passed, and the blanks before them.
-    pub comments: &'a str,
-    /// The text after them.
+    /// It.
     pub rest: &'a str,
-    /// How much of the text is left, at most, where its next `#` is near: no more than there is, where it has one.
-    pub near: usize,
+    /// How much is left of it where its next `#` is; nothing, if it has none.
+    pub hash: usize,
 }
 
-/// How much of a text is left where its first `#` is near.
-pub fn near_hash(text: &str) -> usize
+/// How much of a text is left where its first `#` is; nothing, if it has none.
+pub fn first_hash(text: &str) -> usize
     ensures { IsClear result text.now }
 {
     match memchr(b'#', text.as_bytes()) {
         None => 0,
-        Some(start) => (text.len() - start).saturating_add(NEAR),
+        Some(start) => text.len() - start,
     }
 }
 
-// The same of a text that is left of one of which so much was left.
-fn next_near(text: &str, near: usize) -> usize
-    requires { IsClear near text.now }
-    ensures { IsClear result text.now }
+// The same of what is left of a text, by what it was of that.
+fn next_hash(rest: &str, hash: usize) -> usize
+    requires { IsClear hash rest.now }
+    ensures { IsClear result rest.now }
 {
-    if text.len() >= near.saturating_sub(NEAR) {
-        near
+    if rest.len() >= hash {
+        hash
     } else {
-        near_hash(text)
+        first_hash(rest)
     }
 }
 
-// What is ahead where the next `#` is near. Never inlined: most tokens are far from comments.
+// What is left after the comments with which it begins, which are put into the list. Never inlined: most tokens are far from
+// comments.
 #[inline(never)]
-fn look_ahead(text: &str, near: usize) -> Ahead<'_>
-    requires { IsClear near text.now }
-    ensures ahead { IsAhead text.now result }
+fn look_ahead<'a>(passed: &mut Vec<Passed<'a>>, ahead: Ahead<'a>) -> Result<Ahead<'a>, AllocError>
+    requires none { passed.old.items ≡ [] }
+    requires clear { IsClear ahead.hash ahead.rest.now }
+    ensures { IfOk result (λ next. IsAhead ahead.entry.rest.now passed.new.items next) }
 {
-    let after = past_comments(text);
-    let (comments, rest) = text.split_at(text.len() - after.len());
-    Ahead {
-        comments,
+    let rest = pass_comments(passed, ahead.rest)?;
+    Ok(Ahead {
         rest,
-        near: next_near(rest, near),
-    }
+        hash: next_hash(rest, ahead.hash),
+    })
 }
 
-/// What is ahead in a text. Where its next `#` is near, the lexer begins anew after the comments, which it would pass line by line.
+/// Passes the comments that come next where the next `#` is near. The lexer would pass them line by line, and begins anew after them.
+/// It fails only where memory runs out.
 #[inline(always)]
-pub fn go_on<'a>(tokens: &mut Tokens<'a>, text: &'a str, near: usize) -> Ahead<'a>
-    requires stands { StandsAt tokens.old text.now }
-    requires clear { IsClear near text.now }
-    ensures stands { StandsAt tokens.new result.rest.now }
-    ensures ahead { IsAhead text.now result }
+pub fn go_on<'a>(
+    tokens: &mut Tokens<'a>,
+    passed: &mut Vec<Passed<'a>>,
+    ahead: Ahead<'a>,
+) -> Result<Ahead<'a>, AllocError>
+    requires none { passed.old.items ≡ [] }
+    requires stands { StandsAt tokens.old ahead.rest.now }
+    requires clear { IsClear ahead.hash ahead.rest.now }
+    ensures stands { IfOk result (λ next. StandsAt tokens.new next.rest.now) }
+    ensures ahead { IfOk result (λ next. IsAhead ahead.entry.rest.now passed.new.items next) }
 {
-    if text.len() >= near {
-        return Ahead {
-            comments: "",
-            rest: text,
-            near,
-        };
+    if ahead.rest.len() >= ahead.hash.saturating_add(NEAR) {
+        return Ok(ahead);
     }
-    let ahead = look_ahead(text, near);
-    *tokens = Tokens::new(ahead.rest);
-    ahead
+    let next = look_ahead(passed, ahead)?;
+    *tokens = Tokens::new(next.rest);
+    Ok(next)
 }

@@ -26,12 +26,9 @@ impl Before {
         }
     }
 
-    /// With so many bytes after it, with which this text begins, and which are ignored and hold no comment.
-    pub fn with_blanks(self, text: &[u8], length: usize) -> Before {
-        Before {
-            line_ends: line_ends(text, length),
-            ..self
-        }
+    /// With ignored text after it in which so many lines end, and in which no comment is.
+    pub fn with_line_ends(self, line_ends: usize) -> Before {
+        Before { line_ends, ..self }
     }
 
     /// With a comment after it, before a token that stands there.
@@ -55,10 +52,10 @@ impl Before {
 }
 
 // How many bytes are looked at at once.
-const LANES: usize = 64;
+const LANES: usize = 16;
 
-// How many lines end in so many bytes of the text: at each carriage return, and at each line feed that isn't right after one.
-fn line_ends(text: &[u8], length: usize) -> usize {
+/// How many lines end in so many bytes of the text: at each carriage return, and at each line feed that isn't right after one.
+pub fn line_ends(text: &[u8], length: usize) -> usize {
     let mut ends = 0u32;
     let mut after_return = 0u64;
     let mut rest = text;
@@ -68,17 +65,17 @@ fn line_ends(text: &[u8], length: usize) -> usize {
             let others = line_ends_by_one(rest, left, after_return != 0);
             return others.saturating_add(ends as usize);
         };
-        let bytes = u8x64::from_array(*bytes);
+        let bytes = u8x16::from_array(*bytes);
         let inside = if left < LANES {
             !(u64::MAX << left)
         } else {
             u64::MAX
         };
-        let feeds = bytes.simd_eq(u8x64::splat(b'\n')).to_bitmask() & inside;
-        let returns = bytes.simd_eq(u8x64::splat(b'\r')).to_bitmask() & inside;
+        let feeds = bytes.simd_eq(u8x16::splat(b'\n')).to_bitmask() & inside;
+        let returns = bytes.simd_eq(u8x16::splat(b'\r')).to_bitmask() & inside;
         let alone = feeds & !((returns << 1) | after_return);
         ends = ends.saturating_add((returns | alone).count_ones());
-        after_return = (returns >> 63) & 1;
+        after_return = (returns >> 15) & 1;
         left = left.saturating_sub(LANES);
         rest = after;
     }

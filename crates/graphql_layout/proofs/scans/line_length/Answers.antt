@@ -11,19 +11,19 @@ use Rattle.graphql_layout.proofs.scans.line_length.Goals as goal
 
 pub returns-then-ends-ne0-clause-value : goal.returns-then-ends-ne0-clause-value
 returns-then-ends-ne0-clause-value c =
-    let mask = c.line_ends-ends.ensures in
+    let mask = c.ends-ends.ensures in
     let end = run_ends is_in_line c.args.bytes.now c.chunks.at 64 (omega arith) (omega arith) (omega (arith, mask)) ∙ ap (count_trailing_zeros 64) (sym mask) in
     omega (arith, end, c.chunks.invariant.0)
 
 pub returns-then-ends-ne0-clause-within : goal.returns-then-ends-ne0-clause-within
 returns-then-ends-ne0-clause-within c =
-    let mask = c.line_ends-ends.ensures in
+    let mask = c.ends-ends.ensures in
     let end = run_ends is_in_line c.args.bytes.now c.chunks.at 64 (omega arith) (omega arith) (omega (arith, mask)) ∙ ap (count_trailing_zeros 64) (sym mask) in
     omega (arith, end, c.chunks.invariant.0, prefix_len-le-length is_in_line c.args.bytes.now)
 
 pub chunks-preserved : goal.chunks-preserved
 chunks-preserved c =
-    let on = run_goes_on is_in_line c.args.bytes.now c.chunks.at 64 (omega arith) (omega (arith, c.line_ends-ends.ensures)) in
+    let on = run_goes_on is_in_line c.args.bytes.now c.chunks.at 64 (omega arith) (omega (arith, c.ends-ends.ensures)) in
     (omega (arith, on, c.chunks.invariant.0), omega arith)
 
 pub returns-clause-value : goal.returns-clause-value

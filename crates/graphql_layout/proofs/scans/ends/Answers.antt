@@ -3,7 +3,7 @@ use Rattle.std.proofs.lemmas.Simd.{zip2_of_maps, zip2_splat}
 use Rattle.graphql_tokens.specs.inner.ByteClasses.{is_outside}
 use Rattle.graphql_tokens.specs.tokens.Place.{is_in_line}
 use Rattle.graphql_tokens.proofs.Lanes.{mask_of}
-use Rattle.graphql_layout.proofs.scans.line_ends.Goals as goal
+use Rattle.graphql_layout.proofs.scans.ends.Goals as goal
 
 pub returns : goal.returns
 returns c =

@@ -1,7 +1,7 @@
 use Rattle.std.proofs.Common.{◌≡◌, ◌+◌, ◌-◌, ◌≤◌, length, drop}
 use Rattle.std.specs.List.{prefix_len}
 use Rattle.graphql_layout.specs.inner.Standing.{is_blank_byte}
-use Rattle.graphql_layout.proofs.scans.blanks_of.Given as goal
+use Rattle.graphql_layout.proofs.scans.long_blanks_of.Given as goal
 
 abbrev pub invariant-chunks : goal.invariant-chunks
 invariant-chunks l = (l.at + prefix_len is_blank_byte (drop l.at l.bytes) ≡ prefix_len is_blank_byte l.bytes) × (l.at ≤ length l.bytes)
