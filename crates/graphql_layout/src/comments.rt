@@ -118,11 +118,12 @@ fn push_comment(
     Ok(before.with_comment(place))
 }
 
-// Writes the comments that were passed. Never inlined: before most tokens there is none.
+// Writes the comments that were passed. Never inlined: before most tokens there is none. The place is a copy, so that the caller's
+// own has no address and stays in registers.
 #[inline(never)]
 fn push_each(
     sheet: &mut Sheet,
-    place: &Place,
+    place: Place,
     passed: &[Passed<'_>],
 ) -> Result<Before, AllocError>
     requires { AllByRecursion IsCommentPassed passed.now }
@@ -133,7 +134,7 @@ fn push_each(
     while at < passed.len() {
         let comment = passed[at];
         before = before.with_line_ends(comment.line_ends);
-        before = push_comment(sheet, place, before, comment.text)?;
+        before = push_comment(sheet, &place, before, comment.text)?;
         at += 1;
     }
     Ok(before)
@@ -152,7 +153,7 @@ fn push_passed(
     if passed.is_empty() {
         return Ok(Before::nothing());
     }
-    push_each(sheet, place, passed)
+    push_each(sheet, *place, passed)
 }
 
 // The text from the rest of the gap on, of the text that begins with the gap.
@@ -166,7 +167,7 @@ fn from_rest<'a>(text: &'a str, gap: &str, rest: &str) -> &'a [u8] {
 #[inline(never)]
 fn push_gap(
     sheet: &mut Sheet,
-    place: &Place,
+    place: Place,
     written: Before,
     gap: &str,
     text: &str,
@@ -179,7 +180,7 @@ fn push_gap(
     while let Some((blanks, from)) = split_hash(rest) {
         let (comment, after) = split_line(from);
         let ends = line_ends(from_rest(text, gap, rest), blanks.len());
-        before = push_comment(sheet, place, before.with_line_ends(ends), comment)?;
+        before = push_comment(sheet, &place, before.with_line_ends(ends), comment)?;
         rest = after;
     }
     let ends = line_ends(from_rest(text, gap, rest), rest.len());
@@ -212,5 +213,5 @@ pub fn push_ignored(
         let ends = line_ends(ahead.rest.as_bytes(), gap.len());
         return Ok(before.with_line_ends(ends));
     }
-    push_gap(sheet, place, before, gap, ahead.rest)
+    push_gap(sheet, *place, before, gap, ahead.rest)
 }
