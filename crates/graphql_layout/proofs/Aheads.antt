@@ -4,7 +4,8 @@ use Rattle.std.proofs.lemmas.Bool.{cases_lt}
 use Rattle.std.proofs.lemmas.Bool.Decides.{nat_tests}
 use Rattle.std.proofs.lemmas.List.{take-append-drop}
 use Rattle.std.proofs.lemmas.List.Sums.{prefix_len_passes, prefix_len-le-length}
-use Rattle.std.proofs.lemmas.Str.{encodes-chars, encodes-append, IsUtf8-drop, IsCharBoundary-start, IsCharBoundary-after_ascii, chars_past_char, encode_ascii}
+use Rattle.std.proofs.Math.Seq.{drop-append_seam}
+use Rattle.std.proofs.lemmas.Str.{IsCharBoundary-at_seam, encodes-chars, encodes-append, IsUtf8-drop, IsCharBoundary-start, IsCharBoundary-after_ascii, chars_past_char, encode_ascii}
 use Rattle.std.specs.List.{AllByRecursion, prefix_len}
 use Rattle.std.specs.Str.{chars, encode_utf8_all, IsUtf8, IsCharBoundary}
 use Rattle.graphql_tokens.specs.tokens.Classes.{is_ignored}
@@ -14,24 +15,31 @@ use Rattle.graphql_layout.specs.declared.comments.Passed.{Passed}
 use Rattle.graphql_layout.specs.inner.FirstLine.{IsFirstLine}
 use Rattle.graphql_layout.specs.inner.Standing.{is_blank_byte, begins_with_hash, comments_in, IsCommentPassed, IsPassed}
 use Rattle.graphql_layout.specs.texts.Items.{Item, comment, IsBlankText, IsItems}
-use Rattle.graphql_layout.proofs.Hashes.{begun, some_comment}
+use Rattle.graphql_layout.proofs.Hashes.{begun, some_comment, in_both, each_both}
 use Rattle.graphql_layout.proofs.Items.{ignored_item, comment_item, past_ignored, past_comment_item}
 
 -- ---- one after another
-
-in_both : (ps qs : List Passed) → comments_in (ps ++ qs) ≡ comments_in ps ++ comments_in qs
-in_both [] qs = refl
-in_both (p ∷ ps) qs = ap (λ (l : List Item). comment (chars p.text.now) ∷ l) (in_both ps qs)
-
-each_both : (ps qs : List Passed) → AllByRecursion IsCommentPassed ps → AllByRecursion IsCommentPassed qs → AllByRecursion IsCommentPassed (ps ++ qs)
-each_both [] qs h k = k
-each_both (p ∷ ps) qs h k = (h.0, each_both ps qs h.1 k)
 
 pub none_passed : (text : List ℕ) → IsUtf8 text → IsPassed text [] text
 none_passed text u = record { each = tt; on = λ tail h. h; off = λ all h. (all, h, refl); utf8 = u; front = []; whole = refl }
 
 pub passed_long : (text rest : List ℕ) (ps : List Passed) → IsPassed text ps rest → length rest ≤ length text
 passed_long text rest ps h = omega (arith, ap length h.whole, length-append h.front rest)
+
+-- the rest begins where the comments end
+pub record Cut (text : List ℕ) (n : ℕ) (passed : List Passed) : Type 0 where
+  pub passes : IsPassed text passed (drop n text)
+  pub boundary : IsCharBoundary text n
+
+pub passed_cut : (text rest : List ℕ) (ps : List Passed) → IsPassed text ps rest → Cut text (length text - length rest) ps
+passed_cut text rest ps h =
+    let long : length text ≡ length h.front + length rest = ap length h.whole ∙ length-append h.front rest in
+    let n : length text - length rest ≡ length h.front = omega (arith, long) in
+    let is : drop (length text - length rest) text ≡ rest = ap (λ (k : ℕ). drop k text) n ∙ ap (drop (length h.front)) h.whole ∙ drop-append_seam h.front rest in
+    record {
+      passes = subst (IsPassed text ps) (sym is) h;
+      boundary = subst (IsCharBoundary text) (sym n) (IsCharBoundary-at_seam text h.front rest h.whole h.utf8);
+    }
 
 pub then_passed : (text mid rest : List ℕ) (ps qs : List Passed) → IsPassed text ps mid → IsPassed mid qs rest → IsPassed text (ps ++ qs) rest
 then_passed text mid rest ps qs h k =

@@ -1,5 +1,6 @@
 -- The comments of a text that has no tokens.
-use Rattle.std.proofs.Common.{◌≡◌, ℕ, ◌<◌, ◌≤◌, true, false, ◌==◌, None, List, [], ◌∷◌, ◌++◌, length, take, drop, refl, sym, ap, ap₂, ◌∙◌, subst, append_assoc, append-nil, arith, length-drop}
+use Rattle.std.proofs.Common.{◌≡◌, ℕ, ◌<◌, ◌≤◌, true, false, ◌==◌, None, List, [], ◌∷◌, ◌++◌, length, take, drop, refl, sym, ap, ap₂, ◌∙◌, subst, append_assoc, append-nil, arith, length-drop, get_or}
+use Rattle.std.proofs.lemmas.List.{drop_more}
 use Rattle.std.specs.List.{AllByRecursion}
 use Rattle.std.specs.Str.{chars, IsUtf8, NonePass, NoCharPasses}
 use Rattle.std.specs.Str.Pattern.{FindsChar}
@@ -8,11 +9,13 @@ use Rattle.graphql_tokens.specs.tokens.Classes.{is_ignored}
 use Rattle.graphql_tokens.specs.tokens.Ignored.{IsComment, EndsLine}
 use Rattle.graphql_tokens.specs.tokens.Place.{is_line_end}
 use Rattle.graphql_tokens.proofs.Chars.{chars_split}
+use Rattle.graphql_layout.specs.declared.comments.Passed.{Passed}
 use Rattle.graphql_layout.specs.inner.FirstLine.{IsFirstLine, IsFirstHash}
+use Rattle.graphql_layout.specs.inner.Standing.{comments_in, AreAdded, IsCommentPassed}
 use Rattle.graphql_layout.specs.texts.Items.{Item, comment, word, IsBlankText, IsItems, words}
 use Rattle.graphql_layout.specs.inner.Tidied.{tidied}
 use Rattle.graphql_layout.specs.texts.LaidOut.{trimmed}
-use Rattle.graphql_layout.proofs.Items.{one_comment, none_left}
+use Rattle.graphql_layout.proofs.Items.{one_comment}
 
 abbrev HasNoHash : List ℕ → Type 0
 HasNoHash cs = NonePass (λ d. d == 35) cs
@@ -86,13 +89,16 @@ no_more text (word b ∷ items) n h z = absurd cc
 
 -- ---- the loop
 
--- Of the gap the rest is left, and the comments before it are on the sheet.
-pub record Passes (gap rest : List ℕ) (old sheet : List Item) : Type 0 where
+-- Of the gap the rest is left, and the comments before it were put after the old ones.
+pub record Passes (gap rest : List ℕ) (old new : List Passed) : Type 0 where
   pub utf8 : IsUtf8 rest
-  pub goes : (items : List Item) → IsItems (chars gap) items → words items ≡ [] → (others : List Item) × IsItems (chars rest) others × (words others ≡ []) × (sheet ++ tidied others ≡ old ++ tidied items)
+  pub more : List Passed
+  pub is : new ≡ old ++ more
+  pub each : AllByRecursion IsCommentPassed more
+  pub goes : (items : List Item) → IsItems (chars gap) items → words items ≡ [] → (others : List Item) × IsItems (chars rest) others × (words others ≡ []) × (comments_in more ++ others ≡ items)
 
-pub none_passed : (gap : List ℕ) (old : List Item) → IsUtf8 gap → Passes gap gap old old
-none_passed gap old u = record { utf8 = u; goes = λ items h z. (items, h, z, refl) }
+pub none_passed : (gap : List ℕ) (old : List Passed) → IsUtf8 gap → Passes gap gap old old
+none_passed gap old u = record { utf8 = u; more = []; is = sym (append-nil old); each = tt; goes = λ items h z. (items, h, z, refl) }
 
 -- the first `#`, and the line that it begins
 pub record Hash (rest from first after : List ℕ) : Type 0 where
@@ -135,33 +141,55 @@ hash rest before from first after u h l =
       shorter = omega (arith, l.long, ap length is, length-drop i rest, some_comment first is_comment);
     }
 
-pub one_passed : (gap rest from first after : List ℕ) (old sheet longer : List Item) → Passes gap rest old sheet → Hash rest from first after → longer ≡ sheet ++ comment (trimmed (chars first)) ∷ [] → Passes gap after old longer
-one_passed gap rest from first after old sheet longer p h e = record {
+pub in_both : (ps qs : List Passed) → comments_in (ps ++ qs) ≡ comments_in ps ++ comments_in qs
+in_both [] qs = refl
+in_both (p ∷ ps) qs = ap (λ (l : List Item). comment (chars p.text.now) ∷ l) (in_both ps qs)
+
+pub each_both : (ps qs : List Passed) → AllByRecursion IsCommentPassed ps → AllByRecursion IsCommentPassed qs → AllByRecursion IsCommentPassed (ps ++ qs)
+each_both [] qs h k = k
+each_both (p ∷ ps) qs h k = (h.0, each_both ps qs h.1 k)
+
+pub one_passed : (gap rest from after : List ℕ) (p : Passed) (old new newer : List Passed) → Passes gap rest old new → Hash rest from p.text.now after → newer ≡ new ++ p ∷ [] → Passes gap after old newer
+one_passed gap rest from after p old new newer r h e = record {
   utf8 = h.after_utf8;
+  more = r.more ++ p ∷ [];
+  is = e ∙ ap (λ (x : List Passed). x ++ p ∷ []) r.is ∙ append_assoc old r.more (p ∷ []);
+  each = each_both r.more (p ∷ []) r.each (h.is, tt);
   goes = λ items i z.
-      let o = p.goes items i z in
-      let l = leads (chars rest) h.blanks (chars first) (chars after) o.0 h.none h.is h.ends h.whole o.1 o.2 in (
+      let o = r.goes items i z in
+      let l = leads (chars rest) h.blanks (chars p.text.now) (chars after) o.0 h.none h.is h.ends h.whole o.1 o.2 in (
         l.others,
         l.are,
         l.none,
-        ap (λ (x : List Item). x ++ tidied l.others) e ∙ append_assoc sheet (comment (trimmed (chars first)) ∷ []) (tidied l.others) ∙ ap (λ (x : List Item). sheet ++ tidied x) (sym l.is) ∙ o.3,
+        ap (λ (x : List Item). x ++ l.others) (in_both r.more (p ∷ [])) ∙ append_assoc (comments_in r.more) (comment (chars p.text.now) ∷ []) l.others ∙ ap (λ (x : List Item). comments_in r.more ++ x) (sym l.is) ∙ o.3,
       );
 }
 
-pub all_passed : (gap rest : List ℕ) (old sheet : List Item) → Passes gap rest old sheet → FindsChar 35 rest None → (items : List Item) → IsItems (chars gap) items → words items ≡ [] → sheet ≡ old ++ tidied items
-all_passed gap rest old sheet p f items i z =
-    let o = p.goes items i z in
-    let nothing = no_more (chars rest) o.0 (no_hash rest p.utf8 f) o.1 o.2 in
-    sym (append-nil sheet) ∙ ap (λ (x : List Item). sheet ++ tidied x) (sym nothing) ∙ o.3
+pub all_passed : (gap rest : List ℕ) (old new : List Passed) → Passes gap rest old new → FindsChar 35 rest None → AreAdded gap old new
+all_passed gap rest old new r f = record {
+  more = r.more;
+  is = r.is;
+  each = r.each;
+  all = λ items i z.
+      let o = r.goes items i z in
+      let nothing = no_more (chars rest) o.0 (no_hash rest r.utf8 f) o.1 o.2 in
+      sym (append-nil (comments_in r.more)) ∙ ap (λ (x : List Item). comments_in r.more ++ x) (sym nothing) ∙ o.3;
+}
 
 pub tidied_both : (xs ys : List Item) → tidied (xs ++ ys) ≡ tidied xs ++ tidied ys
 tidied_both [] ys = refl
 tidied_both (comment c ∷ xs) ys = ap (λ (l : List Item). comment (trimmed c) ∷ l) (tidied_both xs ys)
 tidied_both (word b ∷ xs) ys = ap (λ (l : List Item). word b ∷ l) (tidied_both xs ys)
 
--- a text without tokens and comments
-pub none_pushed : (gap : List ℕ) (sheet : List Item) → IsUtf8 gap → FindsChar 35 gap None → (items : List Item) → IsItems (chars gap) items → words items ≡ [] → sheet ≡ sheet ++ tidied items
-none_pushed gap sheet u f items h z = all_passed gap gap sheet sheet (none_passed gap sheet u) f items h z
+-- all comments were written
+pub all_pushed : (gap : List ℕ) (old new : List Passed) (sheet longer : List Item) → AreAdded gap old new → longer ≡ sheet ++ tidied (comments_in new) → (items : List Item) → IsItems (chars gap) items → words items ≡ []
+    → longer ≡ sheet ++ (tidied (comments_in old) ++ tidied items)
+all_pushed gap old new sheet longer a e items i z =
+    let parts : comments_in new ≡ comments_in old ++ items = ap comments_in a.is ∙ in_both old a.more ∙ ap (λ (l : List Item). comments_in old ++ l) (a.all items i z) in
+    e ∙ ap (λ (l : List Item). sheet ++ tidied l) parts ∙ ap (λ (l : List Item). sheet ++ l) (tidied_both (comments_in old) items)
 
-pub both_pushed : (old mid new items others : List Item) → mid ≡ old ++ tidied items → new ≡ mid ++ tidied others → new ≡ old ++ (tidied items ++ tidied others)
-both_pushed old mid new items others e f = f ∙ ap (λ (l : List Item). l ++ tidied others) e ∙ append_assoc old (tidied items) (tidied others)
+pub each_added : (gap : List ℕ) (old new : List Passed) → AreAdded gap old new → AllByRecursion IsCommentPassed old → AllByRecursion IsCommentPassed new
+each_added gap old new a h = subst (AllByRecursion IsCommentPassed) (sym a.is) (each_both old a.more h a.each)
+
+pub each_at : (ps : List Passed) (i : ℕ) (d : Passed) → i < length ps → AllByRecursion IsCommentPassed (drop i ps) → IsCommentPassed (get_or ps i d)
+each_at ps i d l h = (subst (AllByRecursion IsCommentPassed) (drop_more ps i d l) h).0

@@ -122,7 +122,7 @@ gap_is rest passed start gap from base t more n e f =
 -- ---- the comments before it
 
 -- what `push_ignored` promises
-abbrev pub Pushed : List Passed → List ℕ → List Item → List Item → Type 0
+abbrev Pushed : List Passed → List ℕ → List Item → List Item → Type 0
 Pushed passed gap sheet new = (items : List Item) → IsItems (chars gap) items → words items ≡ [] → new ≡ sheet ++ (tidied (comments_in passed) ++ tidied items)
 
 pushed : (rest : List ℕ) (passed : List Passed) (start gap base : List ℕ) (t : Token) (more : List Token) (n : Next rest passed start base t more) (sheet new : List Item) → gap ≡ take (t.start - (length base - length start)) start

@@ -1,18 +1,17 @@
 //! The comments between two tokens.
-ghost use Rattle.std.specs.Prelude.{◌≡◌, ◌<◌, ◌≤◌, ◌+◌, ◌-◌, [], ◌∷◌, ◌++◌, List, None, true, IfOk, IfSome, OnOk, MatchOption, length, take};
+ghost use Rattle.std.specs.Prelude.{◌≡◌, ◌<◌, ◌≤◌, ◌-◌, [], ◌∷◌, ◌++◌, List, None, IfOk, IfSome, OnOk, MatchOption, length, take, drop};
 ghost use Rattle.std.specs.List.{AllByRecursion};
-ghost use Rattle.std.specs.Str.{byte, chars};
+ghost use Rattle.std.specs.Str.{byte, chars, IsCharBoundary};
 ghost use Rattle.std.specs.Str.Pattern.{FindsChar};
 ghost use Rattle.graphql_layout.specs.inner.FirstLine.{IsFirstLine, IsFirstHash};
-ghost use Rattle.graphql_tokens.specs.tokens.Ignored.{IsComment};
-ghost use Rattle.graphql_layout.specs.texts.Items.{Item, comment, IsItems, words};
-ghost use Rattle.graphql_layout.specs.inner.Standing.{begins_with_hash, comments_in, IsCommentPassed, IsPassed, IsClear};
+ghost use Rattle.graphql_layout.specs.texts.Items.{Item, IsItems, words};
+ghost use Rattle.graphql_layout.specs.inner.Standing.{begins_with_hash, comments_in, AreAdded, IsCommentPassed, IsPassed, IsClear};
 ghost use Rattle.graphql_layout.specs.inner.Tidied.{tidied};
 ghost use Rattle.graphql_layout.specs.texts.LaidOut.{trimmed};
 
 use crate::layout::ahead::Ahead;
 use crate::layout::gaps::Place;
-use crate::layout::lines::{Before, begin_comment, line_ends};
+use crate::layout::lines::{Before, line_ends, push_comments};
 use crate::scans::{blanks_of, line_length};
 use crate::sheet::Sheet;
 use memchr::memchr;
@@ -21,17 +20,10 @@ use std::alloc::AllocError;
 /// A comment that was passed.
 #[derive(Clone, Copy)]
 pub struct Passed<'a> {
-    // It, up to the end of its line.
-    text: &'a str,
-    // How many lines end before it, since the last comment or the token before; two where more do.
-    line_ends: usize,
-}
-
-// Whether it is empty or a blank, as most of what is ignored between two tokens.
-fn is_short(gap: &str) -> bool
-    ensures { result ≡ true → FindsChar (byte "#") gap.now None }
-{
-    gap.is_empty() || gap == " "
+    /// It, up to the end of its line.
+    pub text: &'a str,
+    /// How many lines end before it, since the last comment or the token before; two at least, where more do.
+    pub line_ends: usize,
 }
 
 // The text before its first `#`, and the text from there on.
@@ -52,8 +44,8 @@ fn split_line(text: &str) -> (&str, &str)
     text.split_at(line_length(text.as_bytes()))
 }
 
-// A comment without the blanks at its end.
-fn without_blanks(comment: &str) -> &str
+/// A comment without the blanks at its end.
+pub fn without_blanks(comment: &str) -> &str
     ensures { chars result.now ≡ trimmed (chars comment.now) }
 {
     comment.trim_end_matches(['\t', ' '])
@@ -86,74 +78,20 @@ fn first_comment(text: &str) -> Option<(Passed<'_>, &str)>
     Some((passed, after))
 }
 
-/// The text after the comments that come before all else but blanks. They are put into the list. It fails only where memory runs out.
-pub fn pass_comments<'a>(
-    passed: &mut Vec<Passed<'a>>,
-    text: &'a str,
-) -> Result<&'a str, AllocError>
+/// Passes the comments that come before all else but blanks, and gives how long they are together. They are put into the list. It
+/// fails only where memory runs out. Never inlined: most tokens are far from comments.
+#[inline(never)]
+pub fn pass_comments<'a>(passed: &mut Vec<Passed<'a>>, text: &'a str) -> Result<usize, AllocError>
     requires { passed.old.items ≡ [] }
-    ensures { IfOk result (λ rest. IsPassed text.now passed.new.items rest.now) }
+    ensures passed { IfOk result (λ n. IsPassed text.now passed.new.items (drop n text.now)) }
+    ensures boundary { IfOk result (λ n. IsCharBoundary text.now n) }
 {
     let mut rest = text;
     while let Some((comment, after)) = first_comment(rest) {
         passed.push(comment)?;
         rest = after;
     }
-    Ok(rest)
-}
-
-// Writes a comment, less the blanks at its end, before a token that stands there, and gives what is then written before it.
-#[inline(always)]
-fn push_comment(
-    sheet: &mut Sheet,
-    place: &Place,
-    before: Before,
-    spelling: &str,
-) -> Result<Before, AllocError>
-    requires { IsComment (chars spelling.now) }
-    ensures { OnOk result (sheet.new ≡ sheet.old ++ comment (trimmed (chars spelling.now)) ∷ []) }
-{
-    begin_comment(sheet, place, before)?;
-    sheet.comment(without_blanks(spelling))?;
-    Ok(before.with_comment(place))
-}
-
-// Writes the comments that were passed. Never inlined: before most tokens there is none. The place is a copy, so that the caller's
-// own has no address and stays in registers.
-#[inline(never)]
-fn push_each(
-    sheet: &mut Sheet,
-    place: Place,
-    passed: &[Passed<'_>],
-) -> Result<Before, AllocError>
-    requires { AllByRecursion IsCommentPassed passed.now }
-    ensures { OnOk result (sheet.new ≡ sheet.old ++ tidied (comments_in passed.now)) }
-{
-    let mut before = Before::nothing();
-    let mut at = 0;
-    while at < passed.len() {
-        let comment = passed[at];
-        before = before.with_line_ends(comment.line_ends);
-        before = push_comment(sheet, &place, before, comment.text)?;
-        at += 1;
-    }
-    Ok(before)
-}
-
-// The same.
-#[inline(always)]
-fn push_passed(
-    sheet: &mut Sheet,
-    place: &Place,
-    passed: &[Passed<'_>],
-) -> Result<Before, AllocError>
-    requires { AllByRecursion IsCommentPassed passed.now }
-    ensures { OnOk result (sheet.new ≡ sheet.old ++ tidied (comments_in passed.now)) }
-{
-    if passed.is_empty() {
-        return Ok(Before::nothing());
-    }
-    push_each(sheet, *place, passed)
+    Ok(text.len() - rest.len())
 }
 
 // The text from the rest of the gap on, of the text that begins with the gap.
@@ -162,56 +100,92 @@ fn from_rest<'a>(text: &'a str, gap: &str, rest: &str) -> &'a [u8] {
     text.as_bytes().get(passed..).unwrap_or(b"")
 }
 
-// Writes the comments of ignored text with which the text begins, after what is written before it. Never inlined: most are
-// passed before.
+// Puts the comments of ignored text, with which the text begins, after those in the list, and gives how much of it comes after them.
+// Never inlined: most are passed before.
 #[inline(never)]
-fn push_gap(
-    sheet: &mut Sheet,
-    place: Place,
-    written: Before,
-    gap: &str,
-    text: &str,
-) -> Result<Before, AllocError>
-    ensures { (items : List Item) → IsItems (chars gap.now) items → words items ≡ [] →
-        OnOk result (sheet.new ≡ sheet.old ++ tidied items) }
+fn pass_gap<'a>(
+    passed: &mut Vec<Passed<'a>>,
+    gap: &'a str,
+    text: &'a str,
+) -> Result<usize, AllocError>
+    ensures { IfOk result (λ n. AreAdded gap.now passed.old.items passed.new.items) }
 {
-    let mut before = written;
     let mut rest = gap;
     while let Some((blanks, from)) = split_hash(rest) {
         let (comment, after) = split_line(from);
-        let ends = line_ends(from_rest(text, gap, rest), blanks.len());
-        before = push_comment(sheet, &place, before.with_line_ends(ends), comment)?;
+        passed.push(Passed {
+            text: comment,
+            line_ends: line_ends(from_rest(text, gap, rest), blanks.len()),
+        })?;
         rest = after;
     }
-    let ends = line_ends(from_rest(text, gap, rest), rest.len());
-    Ok(before.with_line_ends(ends))
+    Ok(rest.len())
 }
 
-/// Writes what is ignored before a token that stands there: the comments that were passed, and those between them and the token,
-/// each less the blanks at its end. The gap is what is ahead up to the token, from which on so much is left.
+// Puts the comments of ignored text, with which what is ahead begins, after those in the list, and gives how much of it comes after
+// them. From its end on so much is left.
 #[inline(always)]
-pub fn push_ignored(
-    sheet: &mut Sheet,
-    place: &Place,
-    passed: &[Passed<'_>],
-    ahead: Ahead<'_>,
-    gap: &str,
+fn pass_ignored<'a>(
+    passed: &mut Vec<Passed<'a>>,
+    ahead: Ahead<'a>,
+    gap: &'a str,
     left: usize,
-) -> Result<Before, AllocError>
-    requires passed { AllByRecursion IsCommentPassed passed.now }
+) -> Result<usize, AllocError>
     requires clear { IsClear ahead.hash ahead.rest.now }
     requires gap { gap.now ≡ take (length ahead.rest.now - left) ahead.rest.now }
     requires within { left ≤ length ahead.rest.now }
-    ensures { (items : List Item) → IsItems (chars gap.now) items → words items ≡ [] →
-        OnOk result (sheet.new ≡ sheet.old ++ (tidied (comments_in passed.now) ++ tidied items)) }
+    ensures { IfOk result (λ n. AreAdded gap.entry.now passed.old.items passed.new.items) }
 {
-    let before = push_passed(sheet, place, passed)?;
-    if is_short(gap) {
-        return Ok(before.with_line_ends(0));
-    }
     if left >= ahead.hash {
-        let ends = line_ends(ahead.rest.as_bytes(), gap.len());
-        return Ok(before.with_line_ends(ends));
+        return Ok(gap.len());
     }
-    push_gap(sheet, *place, before, gap, ahead.rest)
+    pass_gap(passed, gap, ahead.rest)
+}
+
+// Writes the comments in the list, which is empty then, before a token that stands there.
+#[inline(always)]
+fn push_passed(
+    sheet: &mut Sheet,
+    place: &Place,
+    passed: &mut Vec<Passed<'_>>,
+) -> Result<Before, AllocError>
+    requires { AllByRecursion IsCommentPassed passed.old.items }
+    ensures written { OnOk result (sheet.new ≡ sheet.old ++ tidied (comments_in passed.old.items)) }
+    ensures none { OnOk result (passed.new.items ≡ []) }
+{
+    if passed.is_empty() {
+        return Ok(Before::nothing());
+    }
+    let has_own_line = push_comments(sheet, place.gap, place.is_first, place.comments, passed)?;
+    passed.clear();
+    Ok(Before::comments(has_own_line))
+}
+
+/// Writes what is ignored before a token that stands there: the comments in the list, which is empty then, and those of the gap,
+/// each less the blanks at its end. The gap is what is ahead up to the token, from which on so much is left.
+#[inline(always)]
+pub fn push_ignored<'a>(
+    sheet: &mut Sheet,
+    place: &Place,
+    passed: &mut Vec<Passed<'a>>,
+    ahead: Ahead<'a>,
+    gap: &'a str,
+    left: usize,
+) -> Result<Before, AllocError>
+    requires passed { AllByRecursion IsCommentPassed passed.old.items }
+    requires clear { IsClear ahead.hash ahead.rest.now }
+    requires gap { gap.now ≡ take (length ahead.rest.now - left) ahead.rest.now }
+    requires within { left ≤ length ahead.rest.now }
+    ensures written { (items : List Item) → IsItems (chars gap.entry.now) items → words items ≡ [] →
+        OnOk result (sheet.new ≡ sheet.old ++ (tidied (comments_in passed.old.items) ++ tidied items)) }
+    ensures none { OnOk result (passed.new.items ≡ []) }
+{
+    let length = pass_ignored(passed, ahead, gap, left)?;
+    let before = push_passed(sheet, place, passed)?;
+    if length == 0 || gap == " " {
+        return Ok(before);
+    }
+    let start = gap.len().saturating_sub(length);
+    let blanks = ahead.rest.as_bytes().get(start..).unwrap_or(b"");
+    Ok(before.with_line_ends(line_ends(blanks, length)))
 }

@@ -65,14 +65,13 @@ pub fn format(alloc: Global, text: &str) -> Result<Option<String>, AllocError>
         }
         let (gap, from) = ahead.rest.split_at(token.start - end);
         let place = layout.pass(token.kind, token.text, from)?;
-        let before = push_ignored(&mut sheet, &place, &passed, ahead, gap, from.len())?;
+        let before = push_ignored(&mut sheet, &place, &mut passed, ahead, gap, from.len())?;
         if token.kind.is_end() {
             return Ok(Some(sheet.finish()));
         }
         begin_token(&mut sheet, &place, before)?;
         push_token(alloc, &mut sheet, &place, token.kind, token.text)?;
         let (_, after) = from.split_at(token.text.len());
-        passed.clear();
         rest = after;
         hash = ahead.hash;
     }

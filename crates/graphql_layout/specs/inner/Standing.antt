@@ -12,7 +12,7 @@ use Rattle.graphql_tokens.specs.tokens.Proper.{AreProperButFaults}
 use Rattle.graphql_tokens.specs.tokens.Token.{Lexing, left}
 use Rattle.graphql_layout.specs.declared.comments.Passed.{Passed}
 use Rattle.graphql_layout.specs.declared.layout.ahead.Ahead.{Ahead}
-use Rattle.graphql_layout.specs.texts.Items.{Item, comment, IsItems}
+use Rattle.graphql_layout.specs.texts.Items.{Item, comment, IsItems, words}
 
 -- an ignored character of one byte
 abbrev pub is_blank_byte : ℕ → Bool
@@ -38,6 +38,13 @@ pub record IsPassed (text : List ℕ) (passed : List Passed) (rest : List ℕ) :
   pub utf8 : IsUtf8 rest
   pub front : List ℕ
   pub whole : text ≡ front ++ rest
+
+-- The comments of the text, which has no tokens, were put after the old ones.
+pub record AreAdded (text : List ℕ) (old new : List Passed) : Type 0 where
+  pub more : List Passed
+  pub is : new ≡ old ++ more
+  pub each : AllByRecursion IsCommentPassed more
+  pub all : (items : List Item) → IsItems (chars text) items → words items ≡ [] → comments_in more ≡ items
 
 -- no `#` is in the text but in its last so many bytes
 abbrev pub IsClear : ℕ → List ℕ → Type 0

@@ -1,6 +1,6 @@
 //! Where a text is read on.
 ghost use Rattle.std.specs.Prelude.{◌≡◌, [], IfOk};
-ghost use Rattle.graphql_layout.specs.inner.Standing.{IsAhead, IsClear, IsPassed, StandsAt};
+ghost use Rattle.graphql_layout.specs.inner.Standing.{IsAhead, IsClear, StandsAt};
 
 use crate::comments::{Passed, pass_comments};
 use graphql_tokens::lexer::Tokens;
@@ -20,6 +20,7 @@ pub struct Ahead<'a> {
 }
 
 /// How much of a text is left where its first `#` is; nothing, if it has none.
+#[inline(never)]
 pub fn first_hash(text: &str) -> usize
     ensures { IsClear result text.now }
 {
@@ -41,21 +42,6 @@ fn next_hash(rest: &str, hash: usize) -> usize
     }
 }
 
-// What is left after the comments with which it begins, which are put into the list. Never inlined: most tokens are far from
-// comments.
-#[inline(never)]
-fn look_ahead<'a>(passed: &mut Vec<Passed<'a>>, ahead: Ahead<'a>) -> Result<Ahead<'a>, AllocError>
-    requires none { passed.old.items ≡ [] }
-    requires clear { IsClear ahead.hash ahead.rest.now }
-    ensures { IfOk result (λ next. IsAhead ahead.entry.rest.now passed.new.items next) }
-{
-    let rest = pass_comments(passed, ahead.rest)?;
-    Ok(Ahead {
-        rest,
-        hash: next_hash(rest, ahead.hash),
-    })
-}
-
 /// Passes the comments that come next where the next `#` is near. The lexer would pass them line by line, and begins anew after them.
 /// It fails only where memory runs out.
 #[inline(always)]
@@ -73,7 +59,11 @@ pub fn go_on<'a>(
     if ahead.rest.len() >= ahead.hash.saturating_add(NEAR) {
         return Ok(ahead);
     }
-    let next = look_ahead(passed, ahead)?;
-    *tokens = Tokens::new(next.rest);
-    Ok(next)
+    let length = pass_comments(passed, ahead.rest)?;
+    let (_, rest) = ahead.rest.split_at(length);
+    *tokens = Tokens::new(rest);
+    Ok(Ahead {
+        rest,
+        hash: next_hash(rest, ahead.hash),
+    })
 }

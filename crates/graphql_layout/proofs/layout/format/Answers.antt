@@ -6,11 +6,10 @@ use Rattle.graphql_tokens.specs.tokens.Seen.{seen}
 use Rattle.graphql_tokens.specs.tokens.Token.{left}
 use Rattle.graphql_tokens.specs.declared.lexer.TokenKind.{TokenKind}
 use Rattle.graphql_tokens.specs.declared.lexer.TokenKind.TheVariants.{Punct, Name, Number, String, Block, Fault, End}
-use Rattle.graphql_layout.specs.declared.comments.Passed.{Passed}
 use Rattle.graphql_layout.specs.inner.Tidied.{IsAdded}
 use Rattle.graphql_layout.specs.texts.Items.{Item}
 use Rattle.graphql_layout.proofs.FirstHashes.{clear_after}
-use Rattle.graphql_layout.proofs.Takings.{Pushed, next, boundary, from_token, gap_is, all_laid_out, next_spells, boundary_after, one_read, fault_read}
+use Rattle.graphql_layout.proofs.Takings.{next, boundary, from_token, gap_is, all_laid_out, next_spells, boundary_after, one_read, fault_read}
 use Rattle.graphql_layout.proofs.layout.format.Goals as goal
 
 is_fault : (kind : TokenKind) → sameb the_type kind Fault ≡ true → kind ≡ Fault
@@ -78,7 +77,7 @@ returns-then-is_end c =
     next c.tokens.rest.now c.text.result.now c.go_on.new.passed.items c.in_ok-ahead.ahead c.go_on.new.tokens (seen c.next_token-token.result) (left c.next_token-token.new.self) (c.text.ensures ∙ c.next_token-token.ensures.text) c.text.utf8
     c.in_ok-ahead.ensures.ahead c.in_ok-ahead.ensures.stands c.next_token-token.ensures.token in
     all_laid_out c.args.text.now (string_bytes c.finish.result) c.tokens.rest.now c.go_on.new.passed.items c.in_ok-ahead.ahead.rest.now c.split_at.result.0.now c.text.result.now (seen c.next_token-token.result) (left c.next_token-token.new.self)
-    c.tokens.sheet c.push_ignored.new.sheet c.tokens.invariant.1 n (the_end c.next_token-token.result.kind (sym c.is_end.ensures ∙ c.if-is_end.true)) c.split_at.ensures.front (subst (λ (ps : List Passed). Pushed ps c.split_at.result.0.now c.tokens.sheet c.push_ignored.new.sheet) c.deref.ensures.value c.in_ok-before.ensures) c.finish.ensures.items
+    c.tokens.sheet c.push_ignored.new.sheet c.tokens.invariant.1 n (the_end c.next_token-token.result.kind (sym c.is_end.ensures ∙ c.if-is_end.true)) c.split_at.ensures.front c.in_ok-before.ensures.written c.finish.ensures.items
 
 pub push_token-requires : goal.push_token-requires
 push_token-requires c =
@@ -102,7 +101,7 @@ tokens-smaller c =
     one_read c.args.text.now c.tokens.rest.now c.go_on.new.passed.items c.in_ok-ahead.ahead.rest.now c.split_at.result.0.now c.split_at.result.1.now c.split_at-in-tokens.result.1.now c.text.result.now c.go_on.new.tokens c.next_token-token.new.self
     (seen c.next_token-token.result) c.tokens.sheet c.push_ignored.new.sheet c.push_token.new.sheet c.tokens.invariant.1 c.in_ok-ahead.ensures.stands c.text.ensures c.next_token-token.ensures.token n
     (not_fault c.next_token-token.result.kind (sym c.eq.ensures ∙ c.if-eq.false)) (not_end c.next_token-token.result.kind (sym c.is_end.ensures ∙ c.if-is_end.false)) c.split_at.ensures.front c.split_at.ensures.back
-    c.split_at-in-tokens.ensures.back (subst (λ (ps : List Passed). Pushed ps c.split_at.result.0.now c.tokens.sheet c.push_ignored.new.sheet) c.deref.ensures.value c.in_ok-before.ensures) (subst (λ (l : List Item). IsAdded (seen c.next_token-token.result).bare l c.push_token.new.sheet) c.begin_token.ensures c.in_ok-push_token.ensures) in
+    c.split_at-in-tokens.ensures.back c.in_ok-before.ensures.written (subst (λ (l : List Item). IsAdded (seen c.next_token-token.result).bare l c.push_token.new.sheet) c.begin_token.ensures c.in_ok-push_token.ensures) in
     r.shorter
 
 pub tokens-preserved : goal.tokens-preserved
@@ -114,6 +113,6 @@ tokens-preserved c =
     one_read c.args.text.now c.tokens.rest.now c.go_on.new.passed.items c.in_ok-ahead.ahead.rest.now c.split_at.result.0.now c.split_at.result.1.now c.split_at-in-tokens.result.1.now c.text.result.now c.go_on.new.tokens c.next_token-token.new.self
     (seen c.next_token-token.result) c.tokens.sheet c.push_ignored.new.sheet c.push_token.new.sheet c.tokens.invariant.1 c.in_ok-ahead.ensures.stands c.text.ensures c.next_token-token.ensures.token n
     (not_fault c.next_token-token.result.kind (sym c.eq.ensures ∙ c.if-eq.false)) (not_end c.next_token-token.result.kind (sym c.is_end.ensures ∙ c.if-is_end.false)) c.split_at.ensures.front c.split_at.ensures.back
-    c.split_at-in-tokens.ensures.back (subst (λ (ps : List Passed). Pushed ps c.split_at.result.0.now c.tokens.sheet c.push_ignored.new.sheet) c.deref.ensures.value c.in_ok-before.ensures) (subst (λ (l : List Item). IsAdded (seen c.next_token-token.result).bare l c.push_token.new.sheet) c.begin_token.ensures c.in_ok-push_token.ensures) in
+    c.split_at-in-tokens.ensures.back c.in_ok-before.ensures.written (subst (λ (l : List Item). IsAdded (seen c.next_token-token.result).bare l c.push_token.new.sheet) c.begin_token.ensures c.in_ok-push_token.ensures) in
     let from = clear_after c.in_ok-ahead.ahead.hash _ c.in_ok-ahead.ahead.rest.now c.split_at.result.1.now c.in_ok-ahead.ensures.ahead.clear c.split_at.ensures.back in
-    (r.utf8, r.reads, r.stands, clear_after c.in_ok-ahead.ahead.hash _ c.split_at.result.1.now c.split_at-in-tokens.result.1.now from c.split_at-in-tokens.ensures.back, c.clear.ensures.items)
+    (r.utf8, r.reads, r.stands, clear_after c.in_ok-ahead.ahead.hash _ c.split_at.result.1.now c.split_at-in-tokens.result.1.now from c.split_at-in-tokens.ensures.back, c.in_ok-before.ensures.none)
