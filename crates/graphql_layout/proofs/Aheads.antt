@@ -6,14 +6,14 @@ use Rattle.std.proofs.lemmas.List.{take-append-drop}
 use Rattle.std.proofs.lemmas.List.Sums.{prefix_len_passes, prefix_len-le-length}
 use Rattle.std.proofs.Math.Seq.{drop-append_seam}
 use Rattle.std.proofs.lemmas.Str.{IsCharBoundary-at_seam, encodes-chars, encodes-append, IsUtf8-drop, IsCharBoundary-start, IsCharBoundary-after_ascii, chars_past_char, encode_ascii}
-use Rattle.std.specs.List.{AllByRecursion, prefix_len}
+use Rattle.std.specs.List.{prefix_len}
 use Rattle.std.specs.Str.{chars, encode_utf8_all, IsUtf8, IsCharBoundary}
 use Rattle.graphql_tokens.specs.tokens.Classes.{is_ignored}
 use Rattle.graphql_tokens.specs.tokens.Ignored.{IsComment}
 use Rattle.graphql_tokens.proofs.Scan.{IsAlike, span_chars}
 use Rattle.graphql_layout.specs.declared.comments.Passed.{Passed}
 use Rattle.graphql_layout.specs.inner.FirstLine.{IsFirstLine}
-use Rattle.graphql_layout.specs.inner.Standing.{is_blank_byte, begins_with_hash, comments_in, IsCommentPassed, IsPassed}
+use Rattle.graphql_layout.specs.inner.Standing.{is_blank_byte, begins_with_hash, comments_in, IsPassed}
 use Rattle.graphql_layout.specs.texts.Items.{Item, comment, IsBlankText, IsItems}
 use Rattle.graphql_layout.proofs.Hashes.{begun, some_comment, in_both, each_both}
 use Rattle.graphql_layout.proofs.Items.{ignored_item, comment_item, past_ignored, past_comment_item}

@@ -87,7 +87,7 @@ clear_after near n text after h e = clear_rest near text (take n text) after (sy
 pub clear_gap : (near left : ℕ) (text gap : List ℕ) → IsClear near text → near ≤ left → left ≤ length text → gap ≡ take (length text - left) text → IsUtf8 gap → FindsChar 35 gap None
 clear_gap near left text gap h far w e u =
     none_passes gap u (λ i l is.
-        let n = length text - left in
-        let inside : i < n = omega (arith, l, ap length e, length-take n text) in
-        let same : get_or gap i 0 ≡ get_or text i 0 = ap (λ (x : List ℕ). get_or x i 0) e ∙ get_or-take n text i 0 inside in
-        h i (omega (arith, inside)) (omega (arith, inside, far, w)) (passes (get_or text i 0) (sym same ∙ is)))
+    let n = length text - left in
+    let inside : i < n = omega (arith, l, ap length e, length-take n text) in
+    let same : get_or gap i 0 ≡ get_or text i 0 = ap (λ (x : List ℕ). get_or x i 0) e ∙ get_or-take n text i 0 inside in
+    h i (omega (arith, inside)) (omega (arith, inside, far, w)) (passes (get_or text i 0) (sym same ∙ is)))

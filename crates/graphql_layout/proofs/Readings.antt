@@ -1,23 +1,15 @@
 -- A text that is read token after token, with the comments between them, and written so.
-use Rattle.std.proofs.Common.{◌≡◌, ◌≢◌, ℕ, ◌+◌, Bool, true, false, ◌&&◌, inl, inr, List, [], ◌∷◌, ◌++◌, length, take, drop, refl, sym, ap, ◌∙◌, subst, append_assoc, length-append}
+use Rattle.std.proofs.Common.{◌≡◌, ℕ, ◌+◌, Bool, true, false, ◌&&◌, inl, inr, List, [], ◌∷◌, ◌++◌, length, take, drop, refl, sym, ap, ◌∙◌, subst, append_assoc, length-append}
 use Rattle.std.proofs.Math.Seq.{take-append_seam, drop-append_seam}
 use Rattle.std.proofs.lemmas.Str.{chars-encodes, encodes-chars, encodes-append, scalars-chars, IsCharBoundary-at_seam}
 use lib.Utf8.{scalar}
 use Rattle.std.specs.List.{concat}
 use Rattle.std.specs.Str.{chars, IsUtf8, IsCharBoundary, all_scalars, encode_utf8_all}
-use Rattle.graphql_tokens.specs.tokens.Cuts.{IsCutInto, HasNoFault}
-use Rattle.graphql_tokens.specs.tokens.Edition.{Current}
 use Rattle.graphql_tokens.specs.tokens.Ignored.{IsPiece, AreIgnored, EndsLine}
-use Rattle.graphql_tokens.specs.tokens.Spelling.{Begins}
-use Rattle.graphql_tokens.specs.tokens.Token.{Bare, Token}
-use Rattle.graphql_tokens.specs.declared.lexer.TokenKind.{TokenKind}
-use Rattle.graphql_tokens.specs.declared.lexer.TokenKind.TheVariants.{Fault, End}
-use Rattle.graphql_tokens.proofs.Lists.{tokens_only}
 use Rattle.graphql_layout.specs.texts.Items.{Item, comment, word, IsItems, words}
 use Rattle.graphql_tokens.specs.tokens.Alike.{AreAlike}
 use Rattle.graphql_layout.specs.inner.Tidied.{tidied}
 use Rattle.graphql_layout.specs.texts.LaidOut.{AreLaid}
-use Rattle.graphql_layout.specs.texts.SameTokens.{bares, bare_end}
 use Rattle.graphql_layout.proofs.Items.{ignored_item, comment_item, past_ignored, past_comment_item}
 
 -- ---- a text in two

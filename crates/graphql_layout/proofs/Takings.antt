@@ -3,7 +3,7 @@ use Rattle.std.proofs.Common.{◌≡◌, ◌≢◌, ℕ, ◌+◌, ◌-◌, ◌�
 use Rattle.std.proofs.lemmas.Str.{encodes-chars, encodes-append, length-le-encodes}
 use Rattle.std.specs.List.{concat}
 use Rattle.std.specs.Str.{chars, IsUtf8, IsCharBoundary, encode_utf8_all}
-use Rattle.graphql_tokens.specs.tokens.Cuts.{is_last, Cuts, TokenStands, FaultStands, IsCutInto, EndsOnce, HasNoFault}
+use Rattle.graphql_tokens.specs.tokens.Cuts.{is_last, Cuts, TokenStands, FaultStands, IsCutInto, EndsOnce}
 use Rattle.graphql_tokens.specs.tokens.Edition.{Current}
 use Rattle.graphql_tokens.specs.tokens.Proper.{Spells, AreProperButFaults}
 use Rattle.graphql_tokens.specs.tokens.Spelling.{Begins}

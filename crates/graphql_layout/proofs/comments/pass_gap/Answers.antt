@@ -1,4 +1,3 @@
-use Rattle.std.proofs.Common.{◌∙◌}
 use Rattle.graphql_layout.proofs.Hashes.{hash, none_passed, one_passed, all_passed}
 use Rattle.graphql_layout.proofs.comments.pass_gap.Goals as goal
 

@@ -9,7 +9,7 @@ use Rattle.graphql_tokens.specs.declared.lexer.TokenKind.TheVariants.{Punct, Nam
 use Rattle.graphql_layout.specs.inner.Tidied.{IsAdded}
 use Rattle.graphql_layout.specs.texts.Items.{Item}
 use Rattle.graphql_layout.proofs.FirstHashes.{clear_after}
-use Rattle.graphql_layout.proofs.Takings.{next, boundary, from_token, gap_is, all_laid_out, next_spells, boundary_after, one_read, fault_read}
+use Rattle.graphql_layout.proofs.Takings.{next, boundary, gap_is, all_laid_out, next_spells, boundary_after, one_read, fault_read}
 use Rattle.graphql_layout.proofs.layout.format.Goals as goal
 
 is_fault : (kind : TokenKind) → sameb the_type kind Fault ≡ true → kind ≡ Fault

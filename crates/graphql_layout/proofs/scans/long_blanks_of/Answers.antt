@@ -1,4 +1,4 @@
-use Rattle.std.proofs.Common.{drop, sym, ap, ◌∙◌, arith, length-drop}
+use Rattle.std.proofs.Common.{sym, ap, ◌∙◌, arith}
 use Rattle.std.proofs.lemmas.List.Sums.{prefix_len-le-length}
 use lib.Count.{count_trailing_zeros}
 use Rattle.graphql_tokens.proofs.Lanes.{run_goes_on, run_ends}
