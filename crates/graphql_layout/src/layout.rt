@@ -14,7 +14,7 @@ pub mod walk;
 use crate::blocks::value_of;
 use crate::comments::push_ignored;
 use crate::sheet::Sheet;
-use ahead::{Ahead, first_hash, go_on};
+use ahead::{Ahead, go_on};
 use gaps::{Layout, Place};
 use graphql_tokens::lexer::{TokenKind, Tokens};
 use lines::begin_token;
@@ -54,25 +54,23 @@ pub fn format(alloc: Global, text: &str) -> Result<Option<String>, AllocError>
     let mut sheet = Sheet::with_room(alloc, text.len())?;
     let mut tokens = Tokens::new(text);
     let mut passed = Vec::new(alloc);
-    let mut rest = text;
-    let mut hash = first_hash(text);
+    let mut ahead = Ahead::of(text);
     'tokens: loop {
-        let ahead = go_on(&mut tokens, &mut passed, Ahead { rest, hash })?;
+        let next = go_on(&mut tokens, &mut passed, ahead)?;
         let token = tokens.next_token();
-        let end = tokens.text().len() - ahead.rest.len();
+        let end = tokens.text().len() - next.rest.len();
         if token.kind == TokenKind::Fault {
             return Ok(None);
         }
-        let (gap, from) = ahead.rest.split_at(token.start - end);
+        let (gap, from) = next.rest.split_at(token.start - end);
         let place = layout.pass(token.kind, token.text, from)?;
-        let before = push_ignored(&mut sheet, &place, &mut passed, ahead, gap, from.len())?;
+        let before = push_ignored(&mut sheet, &place, &mut passed, next, gap, from.len())?;
         if token.kind.is_end() {
             return Ok(Some(sheet.finish()));
         }
         begin_token(&mut sheet, &place, before)?;
         push_token(alloc, &mut sheet, &place, token.kind, token.text)?;
         let (_, after) = from.split_at(token.text.len());
-        rest = after;
-        hash = ahead.hash;
+        ahead = next.with_rest(after);
     }
 }

@@ -17,11 +17,48 @@ pub struct Ahead<'a> {
     pub rest: &'a str,
     /// How much is left of it where its next `#` is; nothing, if it has none.
     pub hash: usize,
+    // How much is left of it where its next `#` is near; nothing, if it has none.
+    near: usize,
 }
 
-/// How much of a text is left where its first `#` is; nothing, if it has none.
+impl<'a> Ahead<'a> {
+    ghost use Rattle.std.specs.Prelude.{◌≡◌};
+    ghost use Rattle.graphql_layout.specs.inner.Standing.{IsClear};
+
+    /// A text, with so much left where its next `#` is.
+    fn new(rest: &'a str, hash: usize) -> Ahead<'a>
+        ensures rest { result.rest.now ≡ rest.entry.now }
+        ensures hash { result.hash ≡ hash }
+    {
+        let near = if hash == 0 {
+            0
+        } else {
+            hash.saturating_add(NEAR)
+        };
+        Ahead { rest, hash, near }
+    }
+
+    /// A whole text.
+    pub fn of(text: &'a str) -> Ahead<'a>
+        ensures rest { result.rest.now ≡ text.entry.now }
+        ensures clear { IsClear result.hash result.rest.now }
+    {
+        Ahead::new(text, first_hash(text))
+    }
+
+    /// With this text left.
+    #[inline(always)]
+    pub fn with_rest(self, rest: &'a str) -> Ahead<'a>
+        ensures rest { result.rest.now ≡ rest.entry.now }
+        ensures hash { result.hash ≡ self.entry.hash }
+    {
+        Ahead { rest, ..self }
+    }
+}
+
+// How much of a text is left where its first `#` is; nothing, if it has none.
 #[inline(never)]
-pub fn first_hash(text: &str) -> usize
+fn first_hash(text: &str) -> usize
     ensures { IsClear result text.now }
 {
     match memchr(b'#', text.as_bytes()) {
@@ -56,14 +93,11 @@ pub fn go_on<'a>(
     ensures stands { IfOk result (λ next. StandsAt tokens.new next.rest.now) }
     ensures ahead { IfOk result (λ next. IsAhead ahead.entry.rest.now passed.new.items next) }
 {
-    if ahead.rest.len() >= ahead.hash.saturating_add(NEAR) {
+    if ahead.rest.len() >= ahead.near {
         return Ok(ahead);
     }
     let length = pass_comments(passed, ahead.rest)?;
     let (_, rest) = ahead.rest.split_at(length);
     *tokens = Tokens::new(rest);
-    Ok(Ahead {
-        rest,
-        hash: next_hash(rest, ahead.hash),
-    })
+    Ok(Ahead::new(rest, next_hash(rest, ahead.hash)))
 }

@@ -6,7 +6,7 @@ use Rattle.graphql_layout.proofs.Takings.{Reads}
 use Rattle.graphql_layout.proofs.layout.format.Given as goal
 
 abbrev pub invariant-tokens : goal.invariant-tokens
-invariant-tokens l = shadow (Utf8 l.rest) × Reads l.fn.text l.rest l.sheet × StandsAt l.tokens l.rest × IsClear l.hash l.rest × (l.passed.items ≡ [])
+invariant-tokens l = shadow (Utf8 l.ahead.rest.now) × Reads l.fn.text l.ahead.rest.now l.sheet × StandsAt l.tokens l.ahead.rest.now × IsClear l.ahead.hash l.ahead.rest.now × (l.passed.items ≡ [])
 
 abbrev pub decreases-tokens : goal.decreases-tokens
-decreases-tokens l = length l.rest
+decreases-tokens l = length l.ahead.rest.now
