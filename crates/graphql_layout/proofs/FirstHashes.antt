@@ -68,13 +68,6 @@ hash_found text bytes i u same f =
 
 -- ---- what stands before it
 
--- nothing before the last so many bytes
-pub clear_text : (text bytes : List ℕ) (near : ℕ) → bytes ≡ text → IsFirstByte (is_byte 35) bytes None → IsClear near text
-clear_text text bytes near same f = subst (IsClear near) same (λ i l n. f i (omega arith) l)
-
-pub clear_before : (text bytes : List ℕ) (start near : ℕ) → bytes ≡ text → IsFirstByte (is_byte 35) bytes (Some start) → length text ≤ start + near → IsClear near text
-clear_before text bytes start near same f e = λ i l n. let g = subst (λ (x : List ℕ). IsFirstByte (is_byte 35) x (Some start)) same f in g.0.before i (omega arith) (omega arith)
-
 pub clear_rest : (near : ℕ) (text front rest : List ℕ) → text ≡ front ++ rest → IsClear near text → IsClear near rest
 clear_rest near text front rest e h = λ i l m.
     let long : length text ≡ length front + length rest = ap length e ∙ length-append front rest in

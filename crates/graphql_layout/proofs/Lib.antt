@@ -25,6 +25,7 @@ pub mod Readings
 pub mod Remains
 pub mod Room
 pub mod Sheets
+pub mod Swizzles
 pub mod Shortenings
 pub mod Takings
 pub mod Trimmed

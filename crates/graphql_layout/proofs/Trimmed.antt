@@ -1,7 +1,8 @@
 -- A comment without the blanks at its end.
 use Rattle.std.proofs.Common.{◌≡◌, ℕ, ◌-◌, ◌<◌, Bool, true, false, ◌&&◌, if◌then◌else◌, Option, Some, None, IfSome, List, [], ◌∷◌, ◌++◌, length, take, drop, refl, sym, ap, ◌∙◌, subst, append_assoc, append-nil, arith, length-drop, get_or, zero, suc}
 use Rattle.std.proofs.lemmas.Bool.Decides.{nat_tests}
-use Rattle.std.proofs.lemmas.List.{take-append-drop, drop_all}
+use Rattle.std.proofs.Math.Seq.{get_or-append_seam}
+use Rattle.std.proofs.lemmas.List.{take-append-drop, drop_all, length-append}
 use Rattle.std.proofs.lemmas.Str.{chars-append, IsUtf8-take, IsCharBoundary-before_ascii, encode_ascii, chars-IsAscii, encodes-chars, encodes-append, len_utf8_ascii}
 use Rattle.std.specs.Char.{char_set_contains, encode_utf8, IsScalar}
 use Rattle.std.specs.List.{AllByRecursion}
@@ -159,3 +160,21 @@ pub trimmed_is : (s r : List ℕ) → IsUtf8 s → IsTrimEndMatches Suffixes s r
 trimmed_is s r u h =
     let cut = all_cut s h.0.0 r u h.0.1 in
     sym (kept_is (chars r) cut.blanks (bare r cut.utf8 h.1) cut.blank) ∙ sym (ap trimmed cut.whole)
+
+-- ---- where there is nothing to cut
+
+bare_last : (s : List ℕ) → IsUtf8 s → is_blank_char (get_or s (length s - 1) 0) ≡ false → (front : List ℕ) (c : ℕ) → chars s ≡ front ++ c ∷ [] → is_blank_char c ≡ false
+bare_last s u n front c e = by (is_blank_char c) refl
+  where
+    by : (b : Bool) → is_blank_char c ≡ b → is_blank_char c ≡ false
+    by false k = k
+    by true k =
+        let low = blank_low c (same_class c ∙ k) in
+        let bytes = encode_utf8_all front in
+        let whole : s ≡ bytes ++ c ∷ [] = sym (encodes-chars s u) ∙ ap encode_utf8_all e ∙ encodes-append front (c ∷ []) ∙ ap (λ (l : List ℕ). bytes ++ l) (append-nil (encode_utf8 c) ∙ encode_ascii c low) in
+        let long : length s - 1 ≡ length bytes = omega (arith, ap length whole, length-append bytes (c ∷ [])) in
+        let last : get_or s (length s - 1) 0 ≡ c = ap (λ (i : ℕ). get_or s i 0) long ∙ ap (λ (l : List ℕ). get_or l (length bytes) 0) whole ∙ get_or-append_seam bytes c [] 0 in
+        sym (ap is_blank_char last) ∙ n
+
+pub bare_stays : (s : List ℕ) → IsUtf8 s → is_blank_char (get_or s (length s - 1) 0) ≡ false → chars s ≡ trimmed (chars s)
+bare_stays s u n = sym (kept_is (chars s) [] (ends_bare (chars s) (bare_last s u n)) tt) ∙ ap trimmed (append-nil (chars s))

@@ -1,8 +1,9 @@
 //! The comments between two tokens.
-ghost use Rattle.std.specs.Prelude.{◌≡◌, ◌<◌, ◌≤◌, ◌-◌, [], ◌∷◌, ◌++◌, List, None, IfOk, IfSome, OnOk, MatchOption, length, take, drop};
+ghost use Rattle.std.specs.Prelude.{◌≡◌, ◌<◌, ◌≤◌, ◌-◌, [], ◌∷◌, ◌++◌, List, None, IfOk, IfSome, OnOk, MatchOption, length, take, drop, slice_index};
 ghost use Rattle.std.specs.List.{AllByRecursion};
 ghost use Rattle.std.specs.Str.{byte, chars, IsCharBoundary};
 ghost use Rattle.std.specs.Str.Pattern.{FindsChar};
+ghost use Rattle.graphql_tokens.specs.tokens.BlockText.{is_blank_char};
 ghost use Rattle.graphql_layout.specs.inner.FirstLine.{IsFirstLine, IsFirstHash};
 ghost use Rattle.graphql_layout.specs.texts.Items.{Item, IsItems, words};
 ghost use Rattle.graphql_layout.specs.inner.Standing.{begins_with_hash, comments_in, AreAdded, IsCommentPassed, IsPassed, IsClear};
@@ -11,8 +12,8 @@ ghost use Rattle.graphql_layout.specs.texts.LaidOut.{trimmed};
 
 use crate::layout::ahead::Ahead;
 use crate::layout::gaps::Place;
-use crate::layout::lines::{Before, line_ends, push_comments};
-use crate::scans::{blanks_of, line_length};
+use crate::layout::lines::{Before, push_comments};
+use crate::scans::{blanks_of, line_ends, line_length};
 use crate::sheet::Sheet;
 use memchr::memchr;
 use std::alloc::AllocError;
@@ -44,11 +45,24 @@ fn split_line(text: &str) -> (&str, &str)
     text.split_at(line_length(text.as_bytes()))
 }
 
-/// A comment without the blanks at its end.
+fn ends_in_blank(text: &str) -> bool
+    ensures { result ≡ is_blank_char (slice_index text.now (length text.now - 1)) }
+{
+    match text.as_bytes().last() {
+        Some(last) => *last == b'\t' || *last == b' ',
+        None => false,
+    }
+}
+
+/// A comment without the blanks at its end. Most have none.
+#[inline(always)]
 pub fn without_blanks(comment: &str) -> &str
     ensures { chars result.now ≡ trimmed (chars comment.now) }
 {
-    comment.trim_end_matches(['\t', ' '])
+    if ends_in_blank(comment) {
+        return comment.trim_end_matches(['\t', ' ']);
+    }
+    comment
 }
 
 fn begins_with_hash(text: &str) -> bool
@@ -66,14 +80,14 @@ fn first_comment(text: &str) -> Option<(Passed<'_>, &str)>
     ensures { IfSome result (λ r. IsPassed text.now (r.0 ∷ []) r.1.now × (length r.1.now < length text.now)) }
 {
     let blanks = blanks_of(text.as_bytes());
-    let (_, from) = text.split_at(blanks.length);
+    let (_, from) = text.split_at(blanks);
     if !begins_with_hash(from) {
         return None;
     }
     let (comment, after) = split_line(from);
     let passed = Passed {
         text: comment,
-        line_ends: blanks.line_ends,
+        line_ends: line_ends(text.as_bytes(), blanks),
     };
     Some((passed, after))
 }

@@ -7,12 +7,18 @@ ghost use Rattle.graphql_tokens.specs.inner.ByteClasses.{is_outside};
 ghost use Rattle.graphql_tokens.specs.tokens.Place.{is_in_line};
 ghost use Rattle.graphql_layout.specs.inner.Standing.{is_blank_byte};
 
-use crate::layout::lines::line_ends;
 use memchr::memchr2;
 use std::simd::prelude::*;
 
 // How many bytes are looked at at once.
 const LANES: usize = 64;
+
+// Four times: at the lowest four bits of each tab, space, comma and line end the byte itself, and elsewhere a byte that has others.
+const BLANKS: [u8; LANES] = [
+    b' ', 0, 0, 0, 0, 0, 0, 0, 0, b'\t', b'\n', 0, b',', b'\r', 0, 0, b' ', 0, 0, 0, 0, 0, 0, 0, 0,
+    b'\t', b'\n', 0, b',', b'\r', 0, 0, b' ', 0, 0, 0, 0, 0, 0, 0, 0, b'\t', b'\n', 0, b',', b'\r',
+    0, 0, b' ', 0, 0, 0, 0, 0, 0, 0, 0, b'\t', b'\n', 0, b',', b'\r', 0, 0,
+];
 
 // Whether it is a tab, a space, a comma or ends a line.
 fn is_blank(b: u8) -> bool
@@ -26,49 +32,21 @@ fn is_blank(b: u8) -> bool
 fn others(bytes: u8x64) -> u64
     ensures { result ≡ mask_l (map (is_outside is_blank_byte) bytes) }
 {
-    let others = bytes.simd_ne(u8x64::splat(b'\t'))
-        & bytes.simd_ne(u8x64::splat(b' '))
-        & bytes.simd_ne(u8x64::splat(b','))
-        & bytes.simd_ne(u8x64::splat(b'\n'))
-        & bytes.simd_ne(u8x64::splat(b'\r'));
-    others.to_bitmask()
+    let blanks = u8x64::from_array(BLANKS);
+    let same = blanks.swizzle_dyn_within::<16>(bytes & u8x64::splat(15));
+    bytes.simd_ne(same).to_bitmask()
 }
 
-/// The blanks at the front of a text.
-#[derive(Clone, Copy)]
-pub struct Blanks {
-    /// How many bytes they are.
-    pub length: usize,
-    /// How many lines end among them; two where more do.
-    pub line_ends: usize,
-}
-
-// How many lines end among so many of these bytes, two where more do: at each carriage return, and at each line feed that isn't
-// right after one.
+/// How many tabs, spaces, commas and line ends a text begins with.
 #[inline(always)]
-fn line_ends_of(bytes: u8x64, length: u32) -> usize {
-    let feeds = bytes.simd_eq(u8x64::splat(b'\n')).to_bitmask();
-    let returns = bytes.simd_eq(u8x64::splat(b'\r')).to_bitmask();
-    let inside = !u64::MAX.unbounded_shl(length);
-    let ends = (returns | feeds & !(returns << 1)) & inside;
-    usize::from(ends != 0) + usize::from(ends & ends.wrapping_sub(1) != 0)
-}
-
-/// The tabs, spaces, commas and line ends that a text begins with.
-#[inline(always)]
-pub fn blanks_of(bytes: &[u8]) -> Blanks
-    ensures value { result.length ≡ prefix_len is_blank_byte bytes.now }
-    ensures within { result.length ≤ length bytes.now }
+pub fn blanks_of(bytes: &[u8]) -> usize
+    ensures value { result ≡ prefix_len is_blank_byte bytes.now }
+    ensures within { result ≤ length bytes.now }
 {
     if bytes.len() >= LANES {
-        let block = u8x64::from_slice(bytes);
-        let others = others(block);
+        let others = others(u8x64::from_slice(bytes));
         if others != 0 {
-            let length = others.trailing_zeros();
-            return Blanks {
-                length: length as usize,
-                line_ends: line_ends_of(block, length),
-            };
+            return others.trailing_zeros() as usize;
         }
     }
     long_blanks_of(bytes)
@@ -76,29 +54,54 @@ pub fn blanks_of(bytes: &[u8]) -> Blanks
 
 // The same, of many or of a short text. Never inlined: it is rare.
 #[inline(never)]
-fn long_blanks_of(bytes: &[u8]) -> Blanks
-    ensures value { result.length ≡ prefix_len is_blank_byte bytes.now }
-    ensures within { result.length ≤ length bytes.now }
+fn long_blanks_of(bytes: &[u8]) -> usize
+    ensures value { result ≡ prefix_len is_blank_byte bytes.now }
+    ensures within { result ≤ length bytes.now }
 {
     let mut at = 0;
     'chunks: while bytes.len() - at >= LANES {
         let others = others(u8x64::from_slice(&bytes[at..]));
         if others != 0 {
-            let length = at + others.trailing_zeros() as usize;
-            return Blanks {
-                length,
-                line_ends: line_ends(bytes, length),
-            };
+            return at + others.trailing_zeros() as usize;
         }
         at += LANES;
     }
     'last: while at < bytes.len() && is_blank(bytes[at]) {
         at += 1;
     }
-    Blanks {
-        length: at,
-        line_ends: line_ends(bytes, at),
+    at
+}
+
+/// How many lines end among so many bytes that a text begins with; two at least, where more do: at each carriage return, and at
+/// each line feed that isn't right after one.
+#[inline(always)]
+pub fn line_ends(bytes: &[u8], length: usize) -> usize {
+    if length >= LANES || bytes.len() < LANES {
+        return many_line_ends(bytes, length);
     }
+    let block = u8x64::from_slice(bytes);
+    let feeds = block.simd_eq(u8x64::splat(b'\n')).to_bitmask();
+    let returns = block.simd_eq(u8x64::splat(b'\r')).to_bitmask();
+    let inside = (1u64 << length) - 1;
+    let ends = (returns | feeds & !(returns << 1)) & inside;
+    usize::from(ends != 0) + usize::from(ends & ends.wrapping_sub(1) != 0)
+}
+
+// The same, of many bytes or of a short text. Never inlined: it is rare.
+#[inline(never)]
+fn many_line_ends(bytes: &[u8], length: usize) -> usize {
+    let mut is_first = true;
+    let mut last = b' ';
+    for next in bytes.get(..length).unwrap_or(bytes) {
+        if *next == b'\r' || *next == b'\n' && last != b'\r' {
+            if !is_first {
+                return 2;
+            }
+            is_first = false;
+        }
+        last = *next;
+    }
+    usize::from(!is_first)
 }
 
 // The same where the byte ends a line.

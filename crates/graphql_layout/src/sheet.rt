@@ -1,6 +1,6 @@
 //! A text that is written token after token, and comment after comment.
 
-ghost use Rattle.std.specs.Prelude.{◌≡◌, ◌++◌, ◌∷◌, [], false, IfOk, OnOk, OnErr, string_bytes};
+ghost use Rattle.std.specs.Prelude.{◌≡◌, ◌≤◌, ◌++◌, ◌∷◌, [], false, IfOk, OnOk, OnErr, string_bytes};
 ghost use Rattle.std.specs.Str.{byte, chars};
 ghost use Rattle.graphql_tokens.specs.tokens.Ignored.{IsComment};
 ghost use Rattle.graphql_tokens.specs.tokens.Proper.{Spells};
@@ -97,7 +97,28 @@ fn push_line(text: &mut String, last: Last) -> Result<(), AllocError>
     text.push('\n')
 }
 
+// A line feed and blanks, which are written by one copy of a length that is known.
+const LINE: &str = "\n                               ";
+
+// How many levels of two blanks these are.
+const LEVELS: usize = 15;
+
+// Writes a line feed and so many levels of two blanks.
+#[inline(always)]
+fn push_begin(text: &mut String, last: Last, depth: usize) -> Result<(), AllocError>
+    requires sheet { IsSheet (string_bytes text.old) last }
+    requires depth { depth ≤ 15 }
+    ensures ok { OnOk result (Holds (string_bytes text.new) (Last.Other Ending.Open)
+        (items_in (string_bytes text.old))) }
+    ensures err { OnErr result (string_bytes text.new ≡ string_bytes text.old) }
+{
+    text.push_str(LINE)?;
+    text.truncate(text.len() - (LINE.len() - 1 - 2 * depth));
+    Ok(())
+}
+
 // Writes so many levels of two blanks.
+#[inline(never)]
 fn push_levels(text: &mut String, depth: usize) -> Result<(), AllocError>
     requires { IsSheet (string_bytes text.old) (Last.Other Ending.Open) }
     ensures { Holds (string_bytes text.new) (Last.Other Ending.Open) (items_in (string_bytes text.old)) }
@@ -186,13 +207,17 @@ impl Sheet {
         Ok(())
     }
 
-    /// Begins a line, so many levels of two blanks deep. It fails only where memory runs out.
+    /// Begins a line, so many levels of two blanks deep. It fails only where memory runs out. Never inlined: most tokens begin none.
+    #[inline(never)]
     pub fn begin_line(&mut self, depth: usize) -> Result<(), AllocError>
         ensures { self.new ≡ self.old }
     {
-        push_line(&mut self.text, self.last)?;
+        push_begin(&mut self.text, self.last, depth.min(LEVELS))?;
         self.last = Last::Other(Ending::Open);
-        push_levels(&mut self.text, depth)
+        if depth > LEVELS {
+            return push_levels(&mut self.text, depth - LEVELS);
+        }
+        Ok(())
     }
 
     /// Writes a comma, which is as good as a blank (GraphQL October 2021, section 2.1.5), or ends the line of a comment. It fails

@@ -1,4 +1,4 @@
-//! A sheet, worked out by hand, and block strings, as GraphQL.js 16.6 prints them, alone and in texts.
+//! A sheet, worked out by hand, and block strings and texts, as GraphQL.js 16.6 prints them.
 use crate::blocks::{may_be_block, push_block};
 use crate::sheet::Sheet;
 use crate::{format, minify};
@@ -107,7 +107,7 @@ fn block_strings_are_printed_alike(rt: HostRuntime) -> Result<(), io::Error> {
 }
 
 // A text, and as GraphQL.js prints its tree.
-const LAID_OUT: [(&str, &str); 14] = [
+const LAID_OUT: [(&str, &str); 15] = [
     (
         "type A{\"\"\" first\n   second\n  \"\"\"a(\"\"\"x\"\"\"b:Int):Int}",
         "type A {\n  \"\"\"\n   first\n  second\n  \"\"\"\n  a(\n    \"\"\"x\"\"\"\n    b: Int\n  ): Int\n}",
@@ -158,10 +158,14 @@ const LAID_OUT: [(&str, &str); 14] = [
         "{a(b:\"\"\"\n  éé→😀 and so on, up to the end of the line that is seventy characters\n\"\"\")}",
         "{\n  a(\n    b: \"\"\"éé→😀 and so on, up to the end of the line that is seventy characters\"\"\"\n  )\n}",
     ),
+    (
+        "{a(b:{ \r\n\u{FEFF}},c:[\n\u{FEFF},])}",
+        "{\n  a(b: {}, c: [])\n}",
+    ),
 ];
 
 #[test]
-fn block_strings_are_laid_out(rt: HostRuntime) -> Result<(), io::Error> {
+fn texts_are_laid_out(rt: HostRuntime) -> Result<(), io::Error> {
     for (text, printed) in LAID_OUT {
         let laid_out = format(rt.alloc(), text)?;
         assert_eq!(rt; laid_out.as_deref(), Some(printed));

@@ -341,13 +341,14 @@ fn is_described(arguments: &str) -> bool {
     false
 }
 
-// Whether what a bracket holds begins on a line after it, if it holds anything.
+// Whether what a bracket holds begins on a line after it, if it holds anything. Where no string and no comment is, these bytes past
+// ASCII are U+FEFF, which is ignored (GraphQL October 2021, section 2.1.1), or the text has a fault.
 fn begins_on_next_line(after: &str) -> bool {
     let mut ends_line = false;
     for next in after.bytes() {
         match next {
             b'\n' | b'\r' => ends_line = true,
-            b' ' | b'\t' | b',' => {}
+            b' ' | b'\t' | b',' | 0xEF | 0xBB | 0xBF => {}
             _ => return ends_line && !matches!(next, b')' | b']' | b'}'),
         }
     }

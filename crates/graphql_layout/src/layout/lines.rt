@@ -8,7 +8,6 @@ use crate::comments::{Passed, without_blanks};
 use crate::layout::gaps::{Gap, Place};
 use crate::sheet::Sheet;
 use std::alloc::AllocError;
-use std::simd::prelude::*;
 
 /// What was written of the ignored text before a token.
 #[derive(Clone, Copy, Debug)]
@@ -58,50 +57,6 @@ impl Before {
     fn keeps_line(self, is_first: bool) -> bool {
         self.line_ends > 1 && (self.is_commented || !is_first)
     }
-}
-
-// How many bytes are looked at at once.
-const LANES: usize = 16;
-
-/// How many lines end in so many bytes of the text: at each carriage return, and at each line feed that isn't right after one.
-pub fn line_ends(text: &[u8], length: usize) -> usize {
-    let mut ends = 0u32;
-    let mut after_return = 0u64;
-    let mut rest = text;
-    let mut left = length;
-    for _ in 0..length.div_ceil(LANES) {
-        let Some((bytes, after)) = rest.split_first_chunk::<LANES>() else {
-            let others = line_ends_by_one(rest, left, after_return != 0);
-            return others.saturating_add(ends as usize);
-        };
-        let bytes = u8x16::from_array(*bytes);
-        let inside = if left < LANES {
-            !(u64::MAX << left)
-        } else {
-            u64::MAX
-        };
-        let feeds = bytes.simd_eq(u8x16::splat(b'\n')).to_bitmask() & inside;
-        let returns = bytes.simd_eq(u8x16::splat(b'\r')).to_bitmask() & inside;
-        let alone = feeds & !((returns << 1) | after_return);
-        ends = ends.saturating_add((returns | alone).count_ones());
-        after_return = (returns >> 15) & 1;
-        left = left.saturating_sub(LANES);
-        rest = after;
-    }
-    ends as usize
-}
-
-// The same, byte after byte.
-fn line_ends_by_one(text: &[u8], length: usize, is_after_return: bool) -> usize {
-    let mut ends = 0usize;
-    let mut last = if is_after_return { b'\r' } else { b' ' };
-    for next in text.get(..length).unwrap_or(text) {
-        if *next == b'\r' || *next == b'\n' && last != b'\r' {
-            ends = ends.saturating_add(1);
-        }
-        last = *next;
-    }
-    ends
 }
 
 // Writes what stands before a comment, so deep, before a token after this gap: nothing or a blank on the line of the token before
