@@ -1,10 +1,10 @@
 //! The program's work, over any reader and writers.
 ghost use Rattle.std.specs.Prelude.{◌≡◌, ◌≢◌, ◌≤◌, ◌↔◌, ◌⊎◌, Ok, Err, IsSome, IsTrue, IfErr, IfOk, IfSome, codes, map, string_bytes};
-ghost use Rattle.gqlparse.specs.Words.{IsServed, AsksForHelp};
-ghost use Rattle.gqlparse.specs.declared.program.Answer.TheVariants.{Help};
-ghost use Rattle.gqlparse.specs.declared.program.Stop.TheVariants.{NoMemory, Usage};
+ghost use Rattle.graphql_listing.specs.Words.{IsServed, AsksForHelp};
+ghost use Rattle.graphql_listing.specs.declared.program.Answer.TheVariants.{Help};
+ghost use Rattle.graphql_listing.specs.declared.program.Stop.TheVariants.{NoMemory, Usage};
 
-use crate::listing::{request_lines, schema_lines};
+use crate::lines::{request_lines, schema_lines};
 use graphql_grammar::error::Error;
 use graphql_requests::parse_query;
 use graphql_schemas::parse_schema;
@@ -222,10 +222,15 @@ fn read<R: Read>(alloc: Global, input: &mut R) -> Result<String, Stop>
     String::from_utf8(bytes).map_err(|_| Stop::NotText)
 }
 
-// The two lines of a refused text.
+// The two lines of a refused text: the error, and the list of its places as JSON.
 fn refusal(alloc: Global, error: &Error) -> Result<String, AllocError> {
-    let Ok(places) = serde_json::to_string(alloc, &error.positions()) else {
-        return Err(AllocError);
-    };
-    format!(in alloc; "error: {error}\nat {places}\n")
+    let mut lines = format!(in alloc; "error: {error}\nat [")?;
+    let mut comma = "";
+    for place in error.positions() {
+        let (line, column) = (place.line, place.column);
+        write!(lines, "{comma}{{\"line\":{line},\"column\":{column}}}")?;
+        comma = ",";
+    }
+    lines.push_str("]\n")?;
+    Ok(lines)
 }
