@@ -692,8 +692,8 @@ def reports(random, requests, schemas):
         yield "explain", "schema", maker
 
 
-def remarks(random, sizes):
-    for comments, layout in STYLES:
+def remarks(random, styles, sizes):
+    for comments, layout in styles:
         for language, size in sizes:
             text = remarked_text(random, language, size, comments)
             maker = Maker(random.bits())
@@ -709,9 +709,9 @@ def editing(random, sizes):
 def few(random):
     """Some short texts for each of what is done with them."""
     for way in ["walk", "check", "give", "write"]:
-        yield from requests_and_schemas(random, way, 3, [2_000])
-    yield from reports(random, 2, [2_000])
-    yield from remarks(random, [("query", 400), ("schema", 400)])
+        yield from requests_and_schemas(random, way, 2, [1_000])
+    yield from reports(random, 2, [1_000])
+    yield from remarks(random, STYLES[6::5], [("query", 400), ("schema", 400)])
 
 
 JOBS = {
@@ -721,7 +721,7 @@ JOBS = {
     "trees": lambda random: requests_and_schemas(random, "give", 400, [50_000, 150_000]),
     "awkward": awkward,
     "reports": lambda random: reports(random, 200, [50_000, 120_000, 300_000]),
-    "remarks": lambda random: remarks(random, SIZES),
+    "remarks": lambda random: remarks(random, STYLES, SIZES),
     "printing": lambda random: requests_and_schemas(random, "write", 400, [50_000, 150_000]),
     "editing": lambda random: editing(random, [("query", 100_000), ("schema", 100_000), ("schema", 2_000_000)]),
     "few": few,

@@ -27,7 +27,11 @@ pub fn digest_of(alloc: Global, file: &str, strokes: u32) -> Result<u64, AllocEr
     for text in &texts {
         let document = Document::new(alloc, String::from_str(alloc, text.text())?)?;
         let definitions = text.text().lines().count() / LINES;
-        documents.push(Edited { language: text.language, document, definitions })?;
+        documents.push(Edited {
+            language: text.language,
+            document,
+            definitions,
+        })?;
     }
     for _ in 0..strokes {
         for text in &mut documents {

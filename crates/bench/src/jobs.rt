@@ -5,7 +5,9 @@ use crate::walks::{add_request, add_schema};
 use graphql_json::{Places, request_json, schema_json};
 use graphql_packed::{packed_request, packed_schema};
 use graphql_parser::lexer::Tokens;
-use graphql_parser::{Limits, Result as Answer, check_query, check_schema, parse_query, parse_schema};
+use graphql_parser::{
+    Limits, Result as Answer, check_query, check_schema, parse_query, parse_schema,
+};
 use graphql_printer::{
     format_query, format_schema, minify_query, minify_schema, print_query, print_schema,
 };
@@ -78,7 +80,14 @@ fn report(
     digest: &mut Digest,
 ) -> Result<(), AllocError> {
     if let Err(error) = checked(alloc, language, text) {
-        let report = explain(alloc, language, "a.graphql", text, Limits::default(), &error)?;
+        let report = explain(
+            alloc,
+            language,
+            "a.graphql",
+            text,
+            Limits::default(),
+            &error,
+        )?;
         digest.add_text(report.as_str());
     }
     Ok(())

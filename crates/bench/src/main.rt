@@ -37,13 +37,18 @@ fn main(rt: HostRuntime) -> io::Result<()> {
         return println!(rt; "{USAGE}");
     };
     let more = words.get(1).map_or("", |word| word.as_str());
-    let text = io::read_to_string(rt.alloc(), rt.stdin())?;
-    let rounds = more.parse::<u32>().ok();
-    let digest = match (mode, rounds) {
-        (Mode::Texts, Some(rounds)) => jobs::digest_of(rt.alloc(), text.as_str(), rounds)?,
-        (Mode::Editing, Some(rounds)) => editing::digest_of(rt.alloc(), text.as_str(), rounds)?,
-        _ if more == "memory" => return count_memory(&rt, mode, text.as_str()),
-        _ => return time(&rt, mode, text.as_str()),
-    };
+    let given = io::read_to_string(rt.alloc(), rt.stdin())?;
+    let text = given.as_str();
+    match (mode, more, more.parse::<u32>()) {
+        (Mode::Texts, _, Ok(rounds)) => tell(&rt, jobs::digest_of(rt.alloc(), text, rounds)?),
+        (Mode::Editing, _, Ok(rounds)) => tell(&rt, editing::digest_of(rt.alloc(), text, rounds)?),
+        (Mode::Texts | Mode::Editing, ..) => println!(rt; "{USAGE}"),
+        (_, "", _) => time(&rt, mode, text),
+        (_, "memory", _) => count_memory(&rt, mode, text),
+        _ => println!(rt; "{USAGE}"),
+    }
+}
+
+fn tell(rt: &HostRuntime, digest: u64) -> io::Result<()> {
     println!(rt; "{digest:016x}")
 }

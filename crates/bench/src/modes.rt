@@ -61,7 +61,7 @@ fn told(is_accepted: bool) -> &'static str {
     if is_accepted { "accepted" } else { "refused" }
 }
 
-/// Prints what a mode takes of a budget.
+/// Prints what a mode takes of a budget, and nothing for a mode without one.
 pub fn count_memory(rt: &HostRuntime, mode: Mode, text: &str) -> io::Result<()> {
     let mut memory = Memory::new(rt.alloc());
     let limits = Limits::default();
@@ -69,8 +69,9 @@ pub fn count_memory(rt: &HostRuntime, mode: Mode, text: &str) -> io::Result<()> 
     let is_accepted = match mode {
         Mode::Query => parse_query_within(&mut memory, text, limits).is_ok(),
         Mode::Schema => parse_schema_within(&mut memory, text, limits).is_ok(),
+        Mode::Check => check_query_within(&mut memory, text, limits).is_ok(),
         Mode::CheckSchema => check_schema_within(&mut memory, text, limits).is_ok(),
-        _ => check_query_within(&mut memory, text, limits).is_ok(),
+        _ => return Ok(()),
     };
     let taken = before.wrapping_sub(memory.left());
     let answer = told(is_accepted);
@@ -153,13 +154,15 @@ fn look_over(text: &str) -> Seen {
     Seen::Tokens { count, mixed }
 }
 
+// What is printed of a tree has no bytes where the text is refused.
 fn time_print_query(rt: &HostRuntime, text: &str) -> io::Result<()> {
-    let Ok(document) = parse_query(rt.alloc(), text) else {
-        return Ok(());
-    };
+    let document = parse_query(rt.alloc(), text).ok();
     for _ in 0..rounds(text) {
         let start = Instant::now(rt)?;
-        let length = print_query(rt.alloc(), &document)?.len();
+        let length = match &document {
+            Some(document) => print_query(rt.alloc(), document)?.len(),
+            None => 0,
+        };
         let time = start.elapsed(rt)?.as_nanos();
         println!(rt; "write {time} {length}")?;
     }
@@ -167,12 +170,13 @@ fn time_print_query(rt: &HostRuntime, text: &str) -> io::Result<()> {
 }
 
 fn time_print_schema(rt: &HostRuntime, text: &str) -> io::Result<()> {
-    let Ok(document) = parse_schema(rt.alloc(), text) else {
-        return Ok(());
-    };
+    let document = parse_schema(rt.alloc(), text).ok();
     for _ in 0..rounds(text) {
         let start = Instant::now(rt)?;
-        let length = print_schema(rt.alloc(), &document)?.len();
+        let length = match &document {
+            Some(document) => print_schema(rt.alloc(), document)?.len(),
+            None => 0,
+        };
         let time = start.elapsed(rt)?.as_nanos();
         println!(rt; "write {time} {length}")?;
     }

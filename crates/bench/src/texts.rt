@@ -71,13 +71,22 @@ pub fn texts_of(alloc: Global, file: &str) -> Result<(Random, Vec<Text>), AllocE
         let (Some(way), Some((text, after))) = (way, parts) else {
             break;
         };
-        let language = if is_schema { Language::Schemas } else { Language::Requests };
+        let language = if is_schema {
+            Language::Schemas
+        } else {
+            Language::Requests
+        };
         let mut marks = Vec::new(alloc);
         for word in words {
             marks.push(word.parse::<usize>().unwrap_or(0))?;
         }
         let bytes = Vec::from_slice(alloc, text.as_bytes())?;
-        texts.push(Text { way, language, bytes, marks })?;
+        texts.push(Text {
+            way,
+            language,
+            bytes,
+            marks,
+        })?;
         rest = after.strip_prefix('\n').unwrap_or("");
     }
     let state = state.parse::<u64>().unwrap_or(0);
