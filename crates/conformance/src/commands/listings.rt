@@ -145,21 +145,29 @@ fn written(text: &str, calls: usize) -> &str {
     }
 }
 
-/// Prints how many rows the file has, how many runs were made of them, and the rows that do not hold.
-pub fn judge_listings(rt: &HostRuntime) -> Result<(), Fail> {
+/// Prints how many rows the file has and how many runs were made of them, and before that the rows that don't hold, each with its
+/// line and what was found. Returns how many these are.
+pub fn judge_listings(rt: &HostRuntime) -> Result<usize, Fail> {
     let alloc = rt.alloc();
     let listings = fs::read_to_string(rt, "listings")?;
-    let mut failures = String::new(alloc);
+    let mut line = 1usize;
     let mut count = 0usize;
     let mut runs = 0usize;
-    for text in listings.as_str().trim_ascii().split("\n\n") {
+    let mut wrong = 0usize;
+    for text in listings.as_str().trim_ascii_end().split("\n\n") {
         let (mut row, wanted) = read_row(alloc, text)?;
-        judge_row(alloc, text, wanted, &mut row, &mut failures)?;
+        if let Some(found) = other_end(alloc, text, wanted, &mut row)? {
+            println!(rt; "listings:{line}:\n{text}\n  found:\n{found}")?;
+            wrong = wrong.saturating_add(1);
+        }
         count = count.saturating_add(1);
         runs = runs.saturating_add(row.runs);
+        line = line
+            .saturating_add(text.split('\n').count())
+            .saturating_add(1);
     }
-    println!(rt; "listings: {count} rows, {runs} runs{failures}")?;
-    Ok(())
+    println!(rt; "listings: {count} rows, {runs} runs")?;
+    Ok(wrong)
 }
 
 // The arguments and the input of a row, and what comes after them.
@@ -191,14 +199,13 @@ fn read_row(alloc: Global, text: &str) -> Result<(Row, &str), Fail> {
     Ok((row, wanted))
 }
 
-// Makes the runs of a row, and adds it to `failures` where one of them ends otherwise.
-fn judge_row(
+// Makes the runs of a row, and returns what is found if one of them ends otherwise.
+fn other_end(
     alloc: Global,
     text: &str,
     wanted: &str,
     row: &mut Row,
-    failures: &mut String,
-) -> Result<(), Fail> {
+) -> Result<Option<String>, Fail> {
     let mut out = sheet(alloc, MANY);
     let mut err = sheet(alloc, MANY);
     let status = row.run(alloc, MANY, &mut out, &mut err);
@@ -212,13 +219,13 @@ fn judge_row(
     push_lines(&mut made, "! ", ended.err)?;
     write!(made, "= {status}")?;
     if made.as_str() != wanted {
-        write!(failures, "\n{text}\n  found:\n{made}")?;
-    } else if text.starts_with('*') {
-        row.calls_fail_in_turn(alloc, ended);
-        if row.failed > 0 {
-            let failed = row.failed;
-            write!(failures, "\n{text}\n  found: {failed} other ends")?;
-        }
+        return Ok(Some(made));
     }
-    Ok(())
+    if text.starts_with('*') {
+        row.calls_fail_in_turn(alloc, ended);
+    }
+    if row.failed > 0 {
+        return Ok(Some(String::from_str(alloc, "other ends")?));
+    }
+    Ok(None)
 }

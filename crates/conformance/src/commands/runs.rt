@@ -19,26 +19,12 @@ pub fn patient(alloc: Global) -> Sheet {
     Sheet::new(alloc, MANY, ErrorKind::Other)
 }
 
-/// Runs the program on these words, which have blanks between them; there are none that are text where it is None.
+/// Runs the program over these files on these words, which have blanks between them; if they are None, they are no text.
 pub fn ended(
     alloc: Global,
+    files: &mut Files<'_>,
     words: Option<&str>,
     style: Style,
-    out: &mut Sheet,
-    err: &mut Sheet,
-) -> Result<u8, AllocError> {
-    let mut files = Files {
-        written: Vec::new(alloc),
-    };
-    ended_over(alloc, words, style, &mut files, out, err)
-}
-
-// The same over these files.
-fn ended_over(
-    alloc: Global,
-    words: Option<&str>,
-    style: Style,
-    files: &mut Files,
     out: &mut Sheet,
     err: &mut Sheet,
 ) -> Result<u8, AllocError> {
@@ -50,26 +36,32 @@ fn ended_over(
     Ok(run(alloc, words, style, files, out, err))
 }
 
-/// Prints how many runs the file has, and those that make something else, each with what it makes.
-pub fn judge_runs(rt: &HostRuntime) -> Result<(), Fail> {
+/// Prints how many runs the file has, and before that those that make something else, each with its line and what it makes. Returns
+/// how many these are. The runs are over the files that `listed` has.
+pub fn judge_runs(rt: &HostRuntime, listed: &str) -> Result<usize, Fail> {
     let alloc = rt.alloc();
     let runs = fs::read_to_string(rt, "runs")?;
-    let mut failures = String::new(alloc);
+    let mut line = 1usize;
     let mut count = 0usize;
-    for row in runs.as_str().trim_ascii().split("\n\n") {
+    let mut wrong = 0usize;
+    for row in runs.as_str().trim_ascii_end().split("\n\n") {
         let wanted = meant(alloc, row)?;
-        let made = made(alloc, wanted.as_str())?;
+        let made = made(alloc, listed, wanted.as_str())?;
         if made.as_str() != wanted.as_str() {
-            write!(failures, "\n{row}\n  found:\n{made}")?;
+            println!(rt; "runs:{line}:\n{row}\n  found:\n{made}")?;
+            wrong = wrong.saturating_add(1);
         }
         count = count.saturating_add(1);
+        line = line
+            .saturating_add(row.split('\n').count())
+            .saturating_add(1);
     }
-    println!(rt; "runs: {count} rows{failures}")?;
-    Ok(())
+    println!(rt; "runs: {count} rows")?;
+    Ok(wrong)
 }
 
 // The row that a run makes whose first line is that of this one.
-fn made(alloc: Global, row: &str) -> Result<String, Fail> {
+fn made(alloc: Global, listed: &str, row: &str) -> Result<String, Fail> {
     let head = row.lines().next().unwrap_or("");
     let (words, style) = match head.strip_prefix('%') {
         Some(words) => (words, Style::Coloured),
@@ -77,17 +69,15 @@ fn made(alloc: Global, row: &str) -> Result<String, Fail> {
     };
     let mut out = patient(alloc);
     let mut err = patient(alloc);
-    let mut files = Files {
-        written: Vec::new(alloc),
-    };
-    let status = ended_over(alloc, Some(words), style, &mut files, &mut out, &mut err)?;
+    let mut files = Files::new(alloc, listed);
+    let status = ended(alloc, &mut files, Some(words), style, &mut out, &mut err)?;
     let mut made = String::from_str(alloc, head)?;
     made.push('\n')?;
     push_lines(&mut made, "> ", str::from_utf8(out.held.as_slice())?)?;
     push_lines(&mut made, "! ", str::from_utf8(err.held.as_slice())?)?;
     for written in &files.written {
-        let name = written.name.as_str();
-        writeln!(made, "+ {name}")?;
+        push_lines(&mut made, "+ ", written.name.as_str())?;
+        made.push('\n')?;
         push_lines(&mut made, "| ", written.text.as_str())?;
     }
     write!(made, "= {status}")?;
