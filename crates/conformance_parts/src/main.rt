@@ -26,7 +26,7 @@ use graphql_syntax::types::{BaseType, OperationType, Type};
 use graphql_syntax::value::Name;
 use graphql_tokens::pos::Pos;
 use graphql_tokens::text::{block_string_value, string_value};
-use rows::{Subject, judge};
+use rows::{Subject, ended, judge};
 use std::alloc::Global;
 use std::test::Fail;
 
@@ -78,5 +78,5 @@ impl Subject for Calls {
 }
 
 fn main(rt: HostRuntime) -> Result<(), Fail> {
-    judge(&rt, &Calls)
+    ended(judge(&rt, &Calls)?)
 }
