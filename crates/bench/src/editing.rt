@@ -1,7 +1,7 @@
 //! Key strokes: a text is changed, and all that is wrong with it is told, as a language server does it.
 use crate::random::Random;
 use crate::texts::texts_of;
-use graphql_commands::{Diagnosis, Language, diagnoses_of};
+use graphql_texts::{Diagnosis, Language, diagnoses_of};
 use graphql_parser::Limits;
 use std::alloc::{AllocError, Global};
 use text_edits::{Document, Encoding, Position, Range};

@@ -1,15 +1,17 @@
-//! The program `gql`: what its calls print, what a text is read as, and what is told of texts with many mistakes.
+//! The programs `gql` and `gqlparse`: what their calls print, what a text is read as, and what is told of texts with many mistakes.
 mod diagnoses;
 mod fakes;
 mod findings;
+mod listings;
 mod outputs;
 mod rests;
 mod runs;
 mod spellings;
 mod strings;
 
-use graphql_commands::language::read_as;
+use graphql_texts::language::read_as;
 use graphql_report::Language;
+pub use listings::judge_listings;
 use rows::pair;
 pub use runs::judge_runs;
 use std::alloc::Global;

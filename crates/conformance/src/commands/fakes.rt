@@ -164,19 +164,26 @@ fn files_of(alloc: Global, front: &str) -> Result<Vec<String>, AllocError> {
     Ok(files)
 }
 
-/// Keeps what it is given, and fails in this way once no call is left. A flush is a call too.
+/// Keeps what it is given, at most so many bytes at a call, and fails in this way once no call is left. A flush is a call too.
 #[derive(Drop)]
 pub struct Sheet {
     pub held: Vec<u8>,
+    at_once: usize,
     calls_left: usize,
     kind: ErrorKind,
 }
 
 impl Sheet {
-    /// An empty one.
+    /// An empty one, which takes any number of bytes at a call.
     pub fn new(alloc: Global, calls_left: usize, kind: ErrorKind) -> Sheet {
+        Sheet::slow(alloc, usize::MAX, calls_left, kind)
+    }
+
+    /// An empty one, which takes so many bytes at a call.
+    pub fn slow(alloc: Global, at_once: usize, calls_left: usize, kind: ErrorKind) -> Sheet {
         Sheet {
             held: Vec::new(alloc),
+            at_once,
             calls_left,
             kind,
         }
@@ -194,8 +201,9 @@ impl Sheet {
 impl Write for Sheet {
     fn write(&mut self, buf: &[u8]) -> IoResult<usize> {
         self.call()?;
-        self.held.extend_from_slice(buf)?;
-        Ok(buf.len())
+        let n = buf.len().min(self.at_once);
+        self.held.extend_from_slice(&buf[..n])?;
+        Ok(n)
     }
 
     fn flush(&mut self) -> IoResult<()> {

@@ -94,8 +94,8 @@ fn made(alloc: Global, row: &str) -> Result<String, Fail> {
     Ok(made)
 }
 
-// Adds what was written, each line after this mark.
-fn push_lines(made: &mut String, mark: &str, text: &str) -> Result<(), AllocError> {
+/// Adds what was written, each line after this mark.
+pub fn push_lines(made: &mut String, mark: &str, text: &str) -> Result<(), AllocError> {
     for line in text.split_inclusive('\n') {
         made.push_str(mark)?;
         made.push_str(line)?;
