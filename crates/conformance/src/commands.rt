@@ -9,7 +9,7 @@ mod runs;
 mod spellings;
 mod strings;
 
-use graphql_commands::language::read_as;
+use graphql_texts::language::read_as;
 use graphql_report::Language;
 pub use listings::judge_listings;
 use rows::pair;

@@ -1,10 +1,11 @@
 //! Tables of cases with expected answers: requests and schema files, what the calls of their trees and of their errors give,
-//! their JSON, what they are minified and formatted to, the reports of refused texts, and what the programs `gql` and `gqlparse` do. The answers were
-//! worked out by hand from the rules of `docs/GRAMMAR.md`, and never taken from what the crates print.
+//! their JSON, what they are minified and formatted to, what their trees are printed as, the reports of refused texts, and what
+//! the programs `gql` and `gqlparse` do. The answers were worked out by hand from the rules of `docs/GRAMMAR.md`, and never
+//! taken from what the crates print.
 //!
-//! The tables are the files of `data/tables`, in the notation of the crate `rows`; the runs of `gql` are the file
-//! `data/runs`, and those of `gqlparse` the file `data/listings`. The program prints how many rows each table has, and the rows that do not hold: the file `stdout` has the
-//! counts, and no such row. So a new row is a line of a table, and counts there.
+//! The tables are the files of `data/tables`, in the notation of the crate `rows`; the runs of `gql` are the file `data/runs`, and
+//! those of `gqlparse` the file `data/listings`. The program prints how many rows each table has, and the rows that do not hold:
+//! the file `stdout` has the counts, and no such row. So a new row is a line of a table, and counts there.
 #![tactic(auto)]
 
 mod commands;
@@ -13,6 +14,7 @@ mod json;
 mod kept;
 mod made;
 mod parser;
+mod printed;
 mod readme;
 mod reports;
 mod rewritten;
@@ -37,6 +39,7 @@ impl Subject for Calls {
             Some(("formatted", asked)) => {
                 rewritten::answer(alloc, Rewriting::Formatted, asked, text)
             }
+            Some(("printed", what)) => printed::answer(alloc, what, text),
             Some(("query", asked)) => parser::answer(alloc, Parser::Query, asked, text),
             Some(("schema", "kept")) => kept::of_file(alloc, text),
             Some(("schema", "long")) => kept::of_long_file(alloc, text),

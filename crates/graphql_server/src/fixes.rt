@@ -2,7 +2,7 @@
 
 use crate::diagnostics::{diagnostic_of, found_in, range_of};
 use crate::messages::{CodeAction, TextEdit, WorkspaceEdit};
-use graphql_commands::{Diagnosis, Fix, Language};
+use graphql_texts::{Diagnosis, Fix, Language};
 use std::alloc::{AllocError, Global};
 use std::borrow::CowStr;
 use text_edits::{Document, Encoding, Range};

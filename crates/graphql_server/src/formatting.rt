@@ -3,11 +3,11 @@
 
 use crate::diagnostics::range_of;
 use crate::messages::TextEdit;
-use graphql_commands::Language;
-use graphql_commands::check::error_of;
-use graphql_commands::errors::Source;
-use graphql_commands::rewriting::laid_out;
-use graphql_commands::telling::Names;
+use graphql_texts::Language;
+use graphql_texts::check::error_of;
+use graphql_texts::errors::Source;
+use graphql_texts::rewriting::laid_out;
+use graphql_texts::errors::Names;
 use graphql_editor::{Span, Structure};
 use graphql_parser::{Limits, Memory};
 use std::alloc::{AllocError, Global};

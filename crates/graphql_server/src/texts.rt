@@ -6,8 +6,8 @@ ghost use Rattle.graphql_server.specs.Changes.{AreChanged, IsChanged};
 ghost use Rattle.graphql_server.specs.Ranges.{IsRange};
 
 use crate::messages::ContentChange;
-use graphql_commands::Language;
-use graphql_commands::language::read_as;
+use graphql_texts::Language;
+use graphql_texts::language::read_as;
 use std::alloc::{AllocError, Global};
 use std::collections::BTreeMap;
 use text_edits::{Document, Encoding, Position, Range};
