@@ -9,9 +9,8 @@ mod runs;
 mod spellings;
 mod strings;
 
-use graphql_texts::language::read_as;
 use graphql_report::Language;
-pub use listings::judge_listings;
+use graphql_texts::language::read_as;
 use rows::pair;
 pub use runs::judge_runs;
 use std::alloc::Global;
