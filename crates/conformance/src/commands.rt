@@ -11,7 +11,6 @@ mod strings;
 
 use graphql_report::Language;
 use graphql_texts::language::read_as;
-pub use listings::judge_listings;
 use rows::pair;
 pub use runs::judge_runs;
 use std::alloc::Global;

@@ -3,9 +3,10 @@
 //! the programs `gql` and `gqlparse` do. The answers were worked out by hand from the rules of `docs/GRAMMAR.md`, and never
 //! taken from what the crates print.
 //!
-//! The tables are the files of `data/tables`, in the notation of the crate `rows`; the runs of `gql` are the file `data/runs`, over
-//! the files that `data/sources` lists, and those of `gqlparse` the file `data/listings`. The program prints how many rows each table has, and the rows that do not hold:
-//! the file `stdout` has the counts, and no such row. So a new row is a line of a table, and counts there.
+//! The tables are the files of `data/tables`, in the notation of the crate `rows`, and the runs of `gql` and `gqlparse` are the
+//! files of `data/runs`, those of `gql` over the files that `data/sources` lists. The program prints how many rows each has, and
+//! the rows that do not hold: the file `stdout` has the counts, and no such row. So a new row is a line of a table, and counts
+//! there.
 #![tactic(auto)]
 
 mod commands;
@@ -20,10 +21,10 @@ mod reports;
 mod rewritten;
 mod seeds;
 
-use commands::{judge_listings, judge_runs};
+use commands::judge_runs;
 use parser::Parser;
 use rewritten::Rewriting;
-use rows::{Subject, ended, is_asked_for, judge};
+use rows::{Subject, ended, judge};
 use std::alloc::Global;
 use std::fs;
 use std::test::Fail;
@@ -67,12 +68,6 @@ fn main(rt: HostRuntime) -> Result<(), Fail> {
     let calls = Calls {
         sources: fs::read_to_string(&rt, "sources")?,
     };
-    let mut wrong = judge(&rt, &calls)?;
-    if is_asked_for(&rt, "runs")? {
-        wrong = wrong.saturating_add(judge_runs(&rt, calls.sources.as_str())?);
-    }
-    if is_asked_for(&rt, "listings")? {
-        wrong = wrong.saturating_add(judge_listings(&rt)?);
-    }
-    ended(wrong)
+    let wrong = judge(&rt, &calls)?;
+    ended(wrong.saturating_add(judge_runs(&rt, calls.sources.as_str())?))
 }

@@ -1,12 +1,13 @@
-//! Runs of the program: what each prints, and the status that it ends with.
+//! Runs of the programs `gql` and `gqlparse`: what each prints, and the status that it ends with.
 //!
-//! The file `runs` has them, with an empty line between two, in the notation of the crate `rows`. The first line of a run has its
-//! arguments, with blanks between them, after `$`, or after `%` where reports have colours. Then come the lines that it writes to
-//! standard output, after `> `, those that it writes to standard error, after `! `, after `+ ` the name of each file that it
-//! writes, with the lines of that file after `| `, and after `= ` its status.
+//! The files of the folder `runs` have them, with an empty line between two. The first line of a run has its arguments, with blanks
+//! between them, after `$`, or after `%` where reports have colours. Then come the lines that it writes to standard output, after
+//! `> `, those that it writes to standard error, after `! `, after `+ ` the name of each file that it writes, with the lines of that
+//! file after `| `, and after `= ` its status. The runs of `gql` are in the notation of the crate `rows`.
 use super::fakes::{Files, Sheet};
+use super::listings;
 use graphql_commands::{Style, run};
-use rows::meant;
+use rows::{files_in, meant};
 use std::alloc::{AllocError, Global};
 use std::io::ErrorKind;
 use std::test::Fail;
@@ -36,27 +37,43 @@ pub fn ended(
     Ok(run(alloc, words, style, files, out, err))
 }
 
-/// Prints how many runs the file has, and before that those that make something else, each with its line and what it makes. Returns
-/// how many these are. The runs are over the files that `listed` has.
+/// Judges the files in the folder `runs`, those that the program's arguments name, if there are any: prints of each how many runs it
+/// has, and before that each run that makes something else, with its line. The answer is how many do. `gql` runs over the files
+/// that `listed` has.
 pub fn judge_runs(rt: &HostRuntime, listed: &str) -> Result<usize, Fail> {
-    let alloc = rt.alloc();
-    let runs = fs::read_to_string(rt, "runs")?;
-    let mut line = 1usize;
-    let mut count = 0usize;
     let mut wrong = 0usize;
-    for row in runs.as_str().trim_ascii_end().split("\n\n") {
-        let wanted = meant(alloc, row)?;
-        let made = made(alloc, listed, wanted.as_str())?;
-        if made.as_str() != wanted.as_str() {
-            println!(rt; "runs:{line}:\n{row}\n  found:\n{made}")?;
+    for file in &files_in(rt, "runs")? {
+        wrong = wrong.saturating_add(judge_file(rt, listed, file.as_str())?);
+    }
+    Ok(wrong)
+}
+
+fn judge_file(rt: &HostRuntime, listed: &str, file: &str) -> Result<usize, Fail> {
+    let alloc = rt.alloc();
+    let text = fs::read_to_string(rt, file)?;
+    let mut wrong = 0usize;
+    let mut count = 0usize;
+    let mut line = 1usize;
+    for row in text.as_str().trim_ascii_end().split("\n\n") {
+        let wanted = if file.ends_with("/gql") {
+            meant(alloc, row)?
+        } else {
+            String::from_str(alloc, row)?
+        };
+        let wanted = wanted.as_str();
+        let made = if file.ends_with("/gql") {
+            made(alloc, listed, wanted)?
+        } else {
+            listings::made(alloc, wanted)?
+        };
+        if made.as_str() != wanted {
+            println!(rt; "{file}:{line}: expected:\n{wanted}\n  found:\n{made}")?;
             wrong = wrong.saturating_add(1);
         }
         count = count.saturating_add(1);
-        line = line
-            .saturating_add(row.split('\n').count())
-            .saturating_add(1);
+        line = line.saturating_add(row.lines().count()).saturating_add(1);
     }
-    println!(rt; "runs: {count} rows")?;
+    println!(rt; "{file}: {count} rows")?;
     Ok(wrong)
 }
 
