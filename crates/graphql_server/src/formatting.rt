@@ -3,13 +3,12 @@
 
 use crate::diagnostics::range_of;
 use crate::messages::TextEdit;
-use graphql_texts::Language;
-use graphql_texts::check::error_of;
-use graphql_texts::errors::Source;
-use graphql_texts::rewriting::laid_out;
-use graphql_texts::errors::Names;
 use graphql_editor::{Span, Structure};
 use graphql_parser::{Limits, Memory};
+use graphql_texts::Language;
+use graphql_texts::check::error_of;
+use graphql_texts::errors::{Names, Source};
+use graphql_texts::rewriting::laid_out;
 use std::alloc::{AllocError, Global};
 use text_edits::{Document, Encoding, Range};
 
