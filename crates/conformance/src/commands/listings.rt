@@ -1,17 +1,16 @@
-//! Runs of the program `gqlparse`: what each prints, and the status that it ends with.
+//! Runs of the program `gqlparse`.
 //!
-//! The file `listings` has them, with an empty line between two. The first line of a run has its arguments, with blanks between
-//! them, after `$`. Then comes its input, after `< ` in the notation of the crate `rows`, or after `x ` as bytes in
-//! hexadecimal; then what is written and the status, as in the file `runs`. Where `*` stands for `$`, each read, each
-//! write and each flush is made to fail in turn, too.
+//! After its arguments a run has its input, after `< ` in the notation of the crate `rows`, or after `x ` as bytes in hexadecimal.
+//! Where `*` stands before the arguments, each read, each write and each flush is made to fail in turn, too, and the last line has
+//! the number of all these runs.
 use super::fakes::Sheet;
 use super::runs::push_lines;
 use graphql_listing::run;
 use rows::{meant, pair};
 use std::alloc::Global;
 use std::io::{Error, ErrorKind, Read, Result as IoResult};
+use std::str;
 use std::test::Fail;
-use std::{fs, str};
 
 const MANY: usize = 1_000_000;
 
@@ -145,60 +144,33 @@ fn written(text: &str, calls: usize) -> &str {
     }
 }
 
-/// Prints how many rows the file has, how many runs were made of them, and the rows that do not hold.
-pub fn judge_listings(rt: &HostRuntime) -> Result<(), Fail> {
-    let alloc = rt.alloc();
-    let listings = fs::read_to_string(rt, "listings")?;
-    let mut failures = String::new(alloc);
-    let mut count = 0usize;
-    let mut runs = 0usize;
-    for text in listings.as_str().trim_ascii().split("\n\n") {
-        let (mut row, wanted) = read_row(alloc, text)?;
-        judge_row(alloc, text, wanted, &mut row, &mut failures)?;
-        count = count.saturating_add(1);
-        runs = runs.saturating_add(row.runs);
-    }
-    println!(rt; "listings: {count} rows, {runs} runs{failures}")?;
-    Ok(())
-}
-
-// The arguments and the input of a row, and what comes after them.
-fn read_row(alloc: Global, text: &str) -> Result<(Row, &str), Fail> {
-    let (head, mut wanted) = pair(text, "\n")?;
+// The arguments and the input of a row.
+fn given(alloc: Global, head: &str, line: &str) -> Result<Row, Fail> {
     let mut words = Vec::new(alloc);
     for word in head.split_ascii_whitespace().skip(1) {
         words.push(meant(alloc, word)?)?;
     }
     let mut input = Vec::new(alloc);
-    if let Some((line, after)) = wanted.split_once('\n') {
-        if let Some(bytes) = line.strip_prefix("x ") {
-            for byte in bytes.split_ascii_whitespace() {
-                input.push(u8::from_str_radix(byte, 16)?)?;
-            }
-            wanted = after;
-        } else if let Some(text) = line.strip_prefix('<') {
-            let text = meant(alloc, text.strip_prefix(' ').unwrap_or(""))?;
-            input.extend_from_slice(text.as_str().as_bytes())?;
-            wanted = after;
+    if let Some(bytes) = line.strip_prefix("x ") {
+        for byte in bytes.split_ascii_whitespace() {
+            input.push(u8::from_str_radix(byte, 16)?)?;
         }
+    } else if let Some(text) = line.strip_prefix("< ") {
+        input.extend_from_slice(meant(alloc, text)?.as_str().as_bytes())?;
     }
-    let row = Row {
+    Ok(Row {
         words,
         input,
         runs: 0,
         failed: 0,
-    };
-    Ok((row, wanted))
+    })
 }
 
-// Makes the runs of a row, and adds it to `failures` where one of them ends otherwise.
-fn judge_row(
-    alloc: Global,
-    text: &str,
-    wanted: &str,
-    row: &mut Row,
-    failures: &mut String,
-) -> Result<(), Fail> {
+/// The row that is made by the runs whose arguments and input are those of this one.
+pub fn made(alloc: Global, row: &str) -> Result<String, Fail> {
+    let (head, rest) = pair(row, "\n")?;
+    let line = rest.lines().next().unwrap_or("");
+    let mut row = given(alloc, head, line)?;
     let mut out = sheet(alloc, MANY);
     let mut err = sheet(alloc, MANY);
     let status = row.run(alloc, MANY, &mut out, &mut err);
@@ -207,18 +179,22 @@ fn judge_row(
         out: str::from_utf8(out.held.as_slice())?,
         err: str::from_utf8(err.held.as_slice())?,
     };
-    let mut made = String::new(alloc);
+    let mut made = String::from_str(alloc, head)?;
+    made.push('\n')?;
+    if line.starts_with('<') || line.starts_with('x') {
+        made.push_str(line)?;
+        made.push('\n')?;
+    }
     push_lines(&mut made, "> ", ended.out)?;
     push_lines(&mut made, "! ", ended.err)?;
     write!(made, "= {status}")?;
-    if made.as_str() != wanted {
-        write!(failures, "\n{text}\n  found:\n{made}")?;
-    } else if text.starts_with('*') {
+    if head.starts_with('*') {
         row.calls_fail_in_turn(alloc, ended);
-        if row.failed > 0 {
-            let failed = row.failed;
-            write!(failures, "\n{text}\n  found: {failed} other ends")?;
+        let (runs, failed) = (row.runs, row.failed);
+        write!(made, "\n{runs} runs")?;
+        if failed > 0 {
+            write!(made, ", of which {failed} end otherwise")?;
         }
     }
-    Ok(())
+    Ok(made)
 }
