@@ -18,8 +18,8 @@ cd "$crate"
 refuse() {
     rt try --fail-alloc "$1" --cases "$cases" >"$log" 2>&1 || true
     rows=$(ls "$cases" | wc -l)
-    answered=$(grep -c '^row [0-9]*: answered$' "$log" || true)
-    refused=$(grep -c ': out of memory$' "$log" || true)
+    answered=$(grep -c '^answered$' "$log" || true)
+    refused=$(grep -c '^out of memory$' "$log" || true)
     if [ $((answered + refused)) -ne "$rows" ] ||
         ! grep -q "^cases=$rows ended=$rows fault=0 differs=0 no-answer=0 " "$log"; then
         cat "$log" >&2
@@ -27,12 +27,11 @@ refuse() {
     fi
 }
 
-# A row has a number of its own, which stands on standard input; how many rows there are stands in the file stdout.
-row=0
-while [ "$row" -lt "$(cut -d" " -f1 stdout)" ]; do
-    echo "$row" >"$cases/$row"
-    row=$((row + 1))
-done
+# What stands on standard input for a row is the name of its table, and the row.
+awk -v cases="$cases" '
+    /^== / { call = substr($0, 4); next }
+    /^$/ || /^-- / { next }
+    { file = cases "/" count++; print call >file; print >file; close(file) }' data/tables/*.rows
 refuse 1000000
 echo "none refused: $answered rows answered, $refused out of memory"
 [ "$refused" -eq 0 ]

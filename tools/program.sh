@@ -1,7 +1,8 @@
 # How the scripts `gqlparse` and `gql` at the top run their programs: read by them, with `.`.
 #
-# Where the program isn't built, or a source of its crates is newer, the libraries below it are proved and built first, and
-# then the program. What is said meanwhile goes to standard error, a line for each library.
+# If the program isn't built, or a source of its crates is newer, it is proved and built first, with the libraries below it, by
+# `rt ci` in a copy of these crates alone: what that proves is kept on the machine, so that a later `rt ci`, or the other program,
+# doesn't prove it again, and the other way round. Each crate that is proved is reported on standard error.
 
 root=$(dirname -- "$(readlink -f -- "$0")")
 
@@ -20,31 +21,35 @@ is_built() {
     [ -z "$(find "$root/crates.txt" "$@" -newer "$program" | head -n 1)" ]
 }
 
-# Proves and builds the libraries below this program, one after another: each is proved in as many jobs as it gains from.
-build_libraries() {
-    libraries=$(crates_of "$1" | sed '$d')
-    left=$(echo "$libraries" | wc -l)
-    echo "$1: its $left libraries are proved first, which takes some minutes" >&2
-    for library in $libraries; do
-        echo "$1: proving $library ($left left)" >&2
-        mkdir -p "$root/crates/$library/out"
-        if ! (cd "$root/crates/$library" && rt lib >out/build.log 2>&1); then
-            cat "$root/crates/$library/out/build.log" >&2
-            return 1
-        fi
-        left=$((left - 1))
+# Copies the crates of this program, without what earlier runs left and without wrong bodies, which the program doesn't need.
+copy_crates() {
+    cp "$root/HANDLES" "$copy"
+    mkdir "$copy/crates"
+    for crate in $(crates_of "$1"); do
+        grep -E "^$crate( |:)" "$root/crates.txt" >>"$copy/crates.txt"
+        mkdir "$copy/crates/$crate"
+        find "$root/crates/$crate" -mindepth 1 -maxdepth 1 ! -name out ! -name must-fail \
+            -exec cp -R {} "$copy/crates/$crate" \;
     done
 }
 
-# Proves and builds a program, which reads a small request with this word.
-build_program() {
-    echo "$1: proving the program" >&2
+# Proves and builds a program. All that is said is kept in out/build.log of its crate.
+build() {
+    count=$(crates_of "$1" | wc -l)
+    echo "$1: proving it and the $((count - 1)) libraries below it (README says how long that takes)" >&2
     mkdir -p "$root/crates/$1/out"
-    # `rt run` leaves the program in out/. What it prints of this small request is not wanted.
-    if ! (cd "$root/crates/$1" && printf '{a}' | rt run -- "$2" >/dev/null 2>out/build.log); then
-        cat "$root/crates/$1/out/build.log" >&2
+    log=$root/crates/$1/out/build.log
+    copy=$(mktemp -d)
+    trap 'rm -rf "$copy"' EXIT
+    trap 'exit 2' HUP INT TERM
+    copy_crates "$1"
+    (cd "$copy" && rt ci) 2>&1 | tee "$log" | sed -n "s/^rt: \([a-z_0-9]* \(proved\|is kept\)\).*/$1: \1/p" >&2
+    if ! cp "$copy/crates/$1/out/$1" "$program"; then
+        tail -n 30 "$log" >&2
         return 1
     fi
+    rm -rf "$copy"
+    trap - EXIT HUP INT TERM
 }
 
 # Runs a program: its name, a word with which it reads a small request, and then what it is called with.
@@ -55,7 +60,7 @@ run_program() {
     shift 2
     if ! is_built "$name"; then
         echo "$name: for an answer in half a minute, without proofs: cd crates/$name && rt try -- $sample" >&2
-        if ! { build_libraries "$name" && build_program "$name" "$sample"; }; then
+        if ! build "$name"; then
             echo "$name: cannot build the program" >&2
             exit 2
         fi

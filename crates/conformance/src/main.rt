@@ -1,10 +1,12 @@
 //! Tables of cases with expected answers: requests and schema files, what the calls of their trees and of their errors give,
-//! their JSON, what they are minified and formatted to, the reports of refused texts, and what the program `gql` does. The answers were
-//! worked out by hand from the rules of `docs/GRAMMAR.md`, and never taken from what the crates print.
+//! their JSON, what they are minified and formatted to, what their trees are printed as, the reports of refused texts, and what
+//! the programs `gql` and `gqlparse` do. The answers were worked out by hand from the rules of `docs/GRAMMAR.md`, and never
+//! taken from what the crates print.
 //!
-//! The tables are the files of `data/tables`, in the notation of the crate `rows`, and the runs of `gql` are the file
-//! `data/runs`. The program prints how many rows each table has, and the rows that do not hold: the file `stdout` has the
-//! counts, and no such row. So a new row is a line of a table, and counts there.
+//! The tables are the files of `data/tables`, in the notation of the crate `rows`, and the runs of `gql` and `gqlparse` are the
+//! files of `data/runs`, those of `gql` over the files that `data/sources` lists. The program prints how many rows each has, and
+//! the rows that do not hold: the file `stdout` has the counts, and no such row. So a new row is a line of a table, and counts
+//! there.
 #![tactic(auto)]
 
 mod commands;
@@ -13,6 +15,7 @@ mod json;
 mod kept;
 mod made;
 mod parser;
+mod printed;
 mod readme;
 mod reports;
 mod rewritten;
@@ -21,12 +24,17 @@ mod seeds;
 use commands::judge_runs;
 use parser::Parser;
 use rewritten::Rewriting;
-use rows::{Subject, judge};
+use rows::{Subject, ended, judge};
 use std::alloc::Global;
+use std::fs;
 use std::test::Fail;
 
 /// The calls that the tables are about.
-struct Calls;
+#[derive(Drop)]
+struct Calls {
+    /// The files that `gql` is run on: the file `sources`.
+    sources: String,
+}
 
 impl Subject for Calls {
     fn answer(&self, alloc: Global, call: &str, text: &str) -> Result<String, Fail> {
@@ -37,6 +45,7 @@ impl Subject for Calls {
             Some(("formatted", asked)) => {
                 rewritten::answer(alloc, Rewriting::Formatted, asked, text)
             }
+            Some(("printed", what)) => printed::answer(alloc, what, text),
             Some(("query", asked)) => parser::answer(alloc, Parser::Query, asked, text),
             Some(("schema", "kept")) => kept::of_file(alloc, text),
             Some(("schema", "long")) => kept::of_long_file(alloc, text),
@@ -49,13 +58,16 @@ impl Subject for Calls {
             Some(("made", what)) => made::answer(alloc, what, text),
             Some(("seeds", what)) => seeds::answer(alloc, what, text),
             Some(("readme", example)) => readme::answer(alloc, example, text),
-            Some(("gql", part)) => commands::answer(alloc, part, text),
+            Some(("gql", part)) => commands::answer(alloc, self.sources.as_str(), part, text),
             _ => Err(Fail::new("no such call")),
         }
     }
 }
 
 fn main(rt: HostRuntime) -> Result<(), Fail> {
-    judge(&rt, &Calls)?;
-    judge_runs(&rt)
+    let calls = Calls {
+        sources: fs::read_to_string(&rt, "sources")?,
+    };
+    let wrong = judge(&rt, &calls)?;
+    ended(wrong.saturating_add(judge_runs(&rt, calls.sources.as_str())?))
 }

@@ -1,12 +1,17 @@
-//! Tables of cases with expected answers: tokens, places, names, numbers, what strings mean, types and values, and the readers
-//! of values at a third type of values. The answers were worked out by hand from the rules of `docs/GRAMMAR.md`, and never
-//! taken from what the crates print.
+//! Tables of cases with expected answers: tokens, places, names, numbers, what strings mean, types and values, the readers of
+//! values at a third type of values, block strings, positions of editors and edits, and what an editor asks of a text. The
+//! answers were worked out by hand from the rules of `docs/GRAMMAR.md`, or come from where a table says, and were never taken
+//! from what the crates print.
 //!
 //! The tables are the files of `data/tables`, in the notation of the crate `rows`. The program prints how many rows each table
 //! has, and the rows that do not hold: the file `stdout` has the counts, and no such row. So a new row is a line of a table,
 //! and counts there.
 #![tactic(auto)]
 
+mod blocks;
+mod cuts;
+mod editor;
+mod edits;
 mod literals_made;
 mod literals_read;
 mod names;
@@ -21,7 +26,7 @@ use graphql_syntax::types::{BaseType, OperationType, Type};
 use graphql_syntax::value::Name;
 use graphql_tokens::pos::Pos;
 use graphql_tokens::text::{block_string_value, string_value};
-use rows::{Subject, judge};
+use rows::{Subject, ended, judge};
 use std::alloc::Global;
 use std::test::Fail;
 
@@ -59,11 +64,19 @@ impl Subject for Calls {
             "name as JSON" => written::read_back::<Name>(alloc, text),
             "type as JSON" => written::read_back::<Type>(alloc, text),
             "base type as JSON" => written::read_back::<BaseType>(alloc, text),
-            call => literals_read::answer(alloc, call, text),
+            "block string written" => blocks::written(alloc, text),
+            "sheet" => blocks::on_sheet(alloc, text),
+            "cuts" => Ok(cuts::in_order(alloc, text)?),
+            call => match call.split_once(' ') {
+                Some(("text", what)) => edits::answer(alloc, what, text),
+                Some(("editor", what)) => editor::listed(alloc, what, text),
+                Some(("at", what)) => editor::at_offset(alloc, what, text),
+                _ => literals_read::answer(alloc, call, text),
+            },
         }
     }
 }
 
 fn main(rt: HostRuntime) -> Result<(), Fail> {
-    judge(&rt, &Calls)
+    ended(judge(&rt, &Calls)?)
 }

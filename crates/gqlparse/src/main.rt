@@ -9,13 +9,7 @@
 //! standard output. The lines themselves are tested.
 #![tactic(auto)]
 
-mod listing;
-mod program;
-#[cfg(test)]
-mod tests;
-
-use program::out_of_memory;
-pub use program::run;
+use graphql_listing::{out_of_memory, run};
 use std::io::ErrorKind;
 use std::process::ExitCode;
 use std::{env, io};

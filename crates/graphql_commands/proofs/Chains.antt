@@ -6,7 +6,7 @@ use Rattle.std.specs.declared.alloc.Global.{Global}
 use Rattle.std.specs.declared.string.String.{String}
 use Rattle.graphql_parser.specs.notation.Limits.{Limits}
 use Rattle.graphql_report.specs.declared.fronts.Language.{Language}
-use Rattle.graphql_commands.specs.checked.Good.{IsGood, GiveGoodTexts}
+use Rattle.graphql_commands.specs.checked.Files.{IsGood, GiveGoodTexts}
 use Rattle.graphql_commands.specs.declared.texts.Unread.{Unread}
 
 pub one-more : {T : Type 0} (gives : T → List ℕ → Result (String Global) Unread → T → Type 0) (option : Option Language) (fragments : Bool) (limits : Limits) (here : T) (names : List (List ℕ)) (there : T) (name : List ℕ) (read : Result (String Global) Unread) (next : T)

@@ -1,6 +1,1 @@
 mod Chains
-mod Furthest
-mod Lacking
-mod LineFeeds
-mod PrintedTrees
-mod SameMeaning

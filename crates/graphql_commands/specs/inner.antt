@@ -1,3 +1,2 @@
 -- Inner: what private clauses cite.
-pub mod Begun
 pub mod Words

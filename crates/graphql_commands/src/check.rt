@@ -1,18 +1,17 @@
 //! Checking texts: whether each is good.
-ghost use Rattle.std.specs.Prelude.{◌≡◌, ◌≤◌, ◌<◌, ◌⊎◌, ◌↔◌, IfOk, OnErr, length, map, Ok, None};
-ghost use Rattle.graphql_parser.specs.Refusals.{HeapRefused};
-ghost use Rattle.graphql_parser.specs.answers.Memory.{most_taken};
-ghost use Rattle.graphql_commands.specs.checked.Good.{IsGoodText, IsGood, GiveGoodTexts};
+ghost use Rattle.std.specs.Prelude.{◌≡◌, ◌≤◌, ◌↔◌, IfOk, map, Ok};
+ghost use Rattle.graphql_texts.specs.checked.Good.{IsGoodText};
+ghost use Rattle.graphql_commands.specs.checked.Files.{IsGood, GiveGoodTexts};
 ghost use Rattle.graphql_commands.specs.declared.check.Found.TheVariants.{Good};
 
 use crate::command::{Call, Format};
-use crate::errors::{Refused, Source};
-use crate::language::read_as;
 use crate::output::shown_name;
-use crate::telling::{Names, Teller};
+use crate::telling::Teller;
 use crate::texts::{Texts, Unread};
-use graphql_parser::{Error, Memory, check_query_to, check_schema_to};
-use graphql_report::Language;
+use graphql_parser::Memory;
+use graphql_texts::check::error_of;
+use graphql_texts::errors::{Names, Source};
+use graphql_texts::language::read_as;
 use std::alloc::{AllocError, Global};
 use std::io::Write;
 
@@ -50,42 +49,6 @@ impl Found {
             Found::Refused => 1,
             Found::Unread => 2,
         }
-    }
-}
-
-/// What is wrong with a text within these limits; None where nothing is, or where it lacks an operation and may. An error in
-/// its place says that memory was refused.
-pub fn error_of<'a>(
-    memory: &mut Memory,
-    source: &Source<'a>,
-    takes_fragments: bool,
-) -> Result<Option<Refused<'a>>, AllocError>
-    ensures good { (result ≡ Ok None) →
-        IsGoodText takes_fragments source.now.language source.now.limits source.now.text.now }
-    ensures refused { OnErr result (HeapRefused memory.old memory.new
-        ⊎ (memory.old.left < most_taken (length source.now.text.now))) }
-{
-    let Source { limits, text, .. } = *source;
-    let (error, token) = match source.language {
-        Language::Requests => {
-            let (answer, token) = check_query_to(memory, text, limits);
-            match answer {
-                Ok(_) => return Ok(None),
-                Err(Error::MissingOperation) if takes_fragments => return Ok(None),
-                Err(error) => (error, token),
-            }
-        }
-        Language::Schemas => {
-            let (answer, token) = check_schema_to(memory, text, limits);
-            match answer {
-                Ok(_) => return Ok(None),
-                Err(error) => (error, token),
-            }
-        }
-    };
-    match error {
-        Error::OutOfMemory => Err(AllocError),
-        error => Ok(Some(Refused { error, token })),
     }
 }
 

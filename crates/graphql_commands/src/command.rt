@@ -1,6 +1,6 @@
 //! What the program is asked for.
 ghost use Rattle.std.specs.Prelude.{◌≡◌, ◌≢◌, ◌↔◌, ℕ, List, [], ◌∷◌, true, false, Ok, None, IfOk, IsTrue, is_some, map, drop, codes, string_bytes, Option as Opt};
-ghost use Rattle.graphql_commands.specs.checked.Language.{takes_value, said_after, language_of_options};
+ghost use Rattle.graphql_commands.specs.checked.Options.{takes_value, said_after, language_of_options};
 ghost use Rattle.graphql_report.specs.declared.fronts.Language.{Language as Lang};
 ghost use Rattle.graphql_commands.specs.inner.Words.{said_in_the_end};
 

@@ -3,16 +3,16 @@ ghost use Rattle.std.specs.Prelude.{◌≡◌, ◌≤◌, IfOk};
 
 use crate::check::{check_files, names_of, tell_tally};
 use crate::command::{Asked, Call, Command, Format, Wrong, command_of};
-use crate::errors::Source;
-use crate::language::read_as;
 use crate::listed::token_lines;
 use crate::output::{complain, complain_of_call, put, shown_name};
 use crate::rewriting::{format_files, tell_format_tally, written_anew};
-use crate::telling::{Names, Teller};
+use crate::telling::Teller;
 use crate::texts::Texts;
 use graphql_json::{Places, request_json, schema_json};
 use graphql_parser::{Error, parse_query_limited, parse_schema_limited};
 use graphql_report::{Language, Style};
+use graphql_texts::errors::{Names, Source};
+use graphql_texts::language::read_as;
 use std::alloc::{AllocError, Global};
 use std::io::Write;
 

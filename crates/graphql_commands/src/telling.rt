@@ -2,21 +2,16 @@
 ghost use Rattle.graphql_report.specs.reports.Rests.{BeginsAt};
 
 use crate::command::Format;
-use crate::errors::{MOST_FINDINGS, Mistake, Refused, Source, first_error, next_error};
 use crate::output::complain;
 use crate::texts::{Unread, Unwritten};
 use graphql_parser::{Error, Pos};
 use graphql_report::{Finding, ReadUpTo, Style, explain_from, finding_from};
+use graphql_texts::errors::{
+    MOST_FINDINGS, Mistake, Names, Refused, Source, first_error, next_error,
+};
 use serde::Serialize;
 use std::alloc::{AllocError, Global};
 use std::io::Write;
-
-/// The names of a file: the one that people are told, and the one that programs are told.
-#[derive(Clone, Copy)]
-pub struct Names<'a> {
-    pub shown: &'a str,
-    pub name: &'a str,
-}
 
 /// Tells what is wrong with files: in which form, and what was told so far. Reports go to standard error at once; the lines
 /// for programs are kept until standard output is written.

@@ -21,8 +21,6 @@ mod pieces;
 mod roles;
 mod selection;
 mod structure;
-#[cfg(test)]
-mod tests;
 mod walk;
 
 pub use hover::Hover;

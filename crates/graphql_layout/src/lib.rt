@@ -31,8 +31,6 @@ mod ending;
 mod layout;
 mod scans;
 pub mod sheet;
-#[cfg(test)]
-mod tests;
 
 use blocks::push_shortened;
 use ending::Ending;

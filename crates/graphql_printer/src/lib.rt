@@ -31,11 +31,7 @@ mod parts;
 mod places;
 mod requests;
 mod scans;
-#[cfg(test)]
-mod schema_tests;
 mod schemas;
-#[cfg(test)]
-mod tests;
 mod widths;
 mod writer;
 

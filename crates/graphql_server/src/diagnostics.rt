@@ -1,15 +1,15 @@
 //! What is wrong with a text, as diagnostics (Language Server Protocol 3.17, "Diagnostic").
 
 ghost use Rattle.std.specs.Prelude.{◌≡◌, [], true, All, IfOk};
-ghost use Rattle.graphql_commands.specs.checked.Diagnosed.{IsDiagnosisOf};
-ghost use Rattle.graphql_commands.specs.checked.Good.{IsGoodText};
+ghost use Rattle.graphql_texts.specs.checked.Diagnosed.{IsDiagnosisOf};
+ghost use Rattle.graphql_texts.specs.checked.Good.{IsGoodText};
 ghost use Rattle.graphql_parser.specs.notation.Limits.{default_limits};
 ghost use Rattle.text_edits.specs.Positions.{position_of};
 ghost use Rattle.graphql_server.specs.Ranges.{IsRange, IsDiagnosticOf};
 
 use crate::messages::{Diagnostic, Location, Related};
-use graphql_commands::{Diagnosis, Language, diagnoses_of};
 use graphql_parser::Limits;
+use graphql_texts::{Diagnosis, Language, diagnoses_of};
 use std::alloc::{AllocError, Global};
 use text_edits::{Document, Encoding, Range};
 

@@ -3,7 +3,7 @@
 use crate::diagnostics::{diagnostic_of, found_in, range_of};
 use crate::messages::{write_diagnostics, write_edit};
 use crate::writer::JsonWriter;
-use graphql_commands::{Diagnosis, Fix, Language};
+use graphql_texts::{Diagnosis, Fix, Language};
 use std::alloc::{AllocError, Global};
 use std::slice;
 use text_edits::{Document, Encoding, Range};

@@ -4,13 +4,12 @@
 use crate::diagnostics::range_of;
 use crate::messages::write_edit;
 use crate::writer::JsonWriter;
-use graphql_commands::Language;
-use graphql_commands::check::error_of;
-use graphql_commands::errors::Source;
-use graphql_commands::rewriting::laid_out;
-use graphql_commands::telling::Names;
 use graphql_editor::{Span, Structure};
 use graphql_parser::{Limits, Memory};
+use graphql_texts::Language;
+use graphql_texts::check::error_of;
+use graphql_texts::errors::{Names, Source};
+use graphql_texts::rewriting::laid_out;
 use std::alloc::{AllocError, Global};
 use text_edits::{Document, Encoding, Range};
 

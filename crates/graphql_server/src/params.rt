@@ -6,7 +6,7 @@ use crate::members::Member;
 use crate::methods::Method;
 use crate::reader::{DEEPEST, Fault, JsonReader, line_and_column};
 use crate::texts::{Change, said_by};
-use graphql_commands::Language;
+use graphql_texts::Language;
 use json::{Scratch, Token};
 use std::alloc::{AllocError, Global};
 use text_edits::{Encoding, Position, Range};

@@ -5,8 +5,8 @@ ghost use Rattle.text_edits.specs.Positions.{IsPosition};
 ghost use Rattle.graphql_server.specs.Changes.{AreChanged, IsChanged};
 ghost use Rattle.graphql_server.specs.Ranges.{IsRange};
 
-use graphql_commands::Language;
-use graphql_commands::language::read_as;
+use graphql_texts::Language;
+use graphql_texts::language::read_as;
 use std::alloc::{AllocError, Global};
 use std::collections::BTreeMap;
 use text_edits::{Document, Encoding, Position, Range};

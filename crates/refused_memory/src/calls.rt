@@ -1,10 +1,11 @@
 //! The calls, and how their answers show. Showing takes no memory.
 use crate::free;
 use crate::inputs::{Input, first_field};
+use graphql_listing::run;
 use graphql_parser::lexer::Tokens;
 use graphql_parser::text::{block_string_value, string_value};
 use graphql_parser::types::{ExecutableDocument, Field, Selection, ServiceDocument, Type};
-use graphql_parser::value::{Name, Number};
+use graphql_parser::value::{ConstValue, Name, Number, Value};
 use graphql_parser::{
     Error, Limits, Result as Answer, check_query, check_query_from, check_query_limited,
     check_schema, check_schema_from, check_schema_limited, parse_query, parse_query_from,
@@ -18,230 +19,229 @@ use rows::trees::Written;
 use std::alloc::{AllocError, Global};
 use std::fmt;
 
-/// A call.
-#[derive(Clone, Copy, PartialEq)]
-pub enum Call {
-    Query,
-    /// How deep the sets of a request nest.
-    QueryDepth,
-    QueryLimited,
-    /// Before the text may stand how many tokens are passed first, with ` in ` between them.
-    QueryFrom,
-    Schema,
-    SchemaLimited,
-    /// As `QueryFrom`.
-    SchemaFrom,
-    CheckQuery,
-    CheckQueryLimited,
-    /// As `QueryFrom`.
-    CheckQueryFrom,
-    CheckSchema,
-    CheckSchemaLimited,
-    /// As `QueryFrom`.
-    CheckSchemaFrom,
-    MinifyQuery,
-    MinifySchema,
-    FormatQuery,
-    FormatSchema,
-    PrintQuery,
-    PrintSchema,
-    StringValue,
-    BlockStringValue,
-    NewType,
-    NewNumber,
-    NewName,
-    IntoConst,
-    IntoValue,
-    DirectiveIntoConst,
-    IntoDirective,
-    CloneName,
-    CloneNumber,
-    CloneType,
-    CloneValue,
-    CloneRequest,
-    CloneFile,
-    /// The places of an error as JSON.
-    WritePlaces,
-    /// A type as JSON.
-    WriteType,
-    /// The tokens of a text.
-    Tokens,
-    /// Places, nodes, limits and a set.
-    Places,
-    /// The places of an error.
-    ErrorPlaces,
-    /// What is found in a request by its names.
-    LookUp,
-    /// The operations of a request.
-    Operations,
-    /// The directives of a selection, to be changed.
-    DirectivesMut,
-    /// Equality, order and hash.
-    Compare,
-    /// The constructors of values.
-    Construct,
-    /// Those of values without variables.
-    ConstructConstant,
-}
-
-// Whether the call answered; else memory was refused.
+// Whether a call answered; else memory was refused.
 type Answered = Result<(), AllocError>;
 
-impl Call {
-    /// Makes the call, and shows its answer. Where memory is refused, what may not change then is shown.
-    pub fn make(self, alloc: Global, text: &str, input: &mut Input, shown: &mut Shown) -> Answered {
-        match input {
-            Input::Text => self.of_text(alloc, text, shown)?,
-            Input::Name(name) => shown.item("", &name.clone()?),
-            Input::Number(number) => shown.item("", &number.clone()?),
-            Input::Type(ty) => shown.item("", &ty.clone()?),
-            Input::Values(values) if self == Call::CloneValue => {
-                values.first().ok_or(AllocError)?.clone()?.write(shown);
-            }
-            Input::Values(values) => {
-                let value = values.pop().ok_or(AllocError)?;
-                if self == Call::Construct {
-                    free::show_made(shown, value);
-                    return Ok(());
-                }
-                show_constant(shown, value.into_const(alloc)?);
-            }
-            Input::Constants(values) => {
-                let value = values.pop().ok_or(AllocError)?;
-                if self == Call::ConstructConstant {
-                    free::show_made_constants(shown, value);
-                    return Ok(());
-                }
-                value.into_value(alloc)?.write(shown);
-            }
-            Input::Directives(directives) => {
-                let directive = directives.pop().ok_or(AllocError)?;
-                show_constant(shown, directive.into_const(alloc)?);
-            }
-            Input::ConstDirectives(directives) => {
-                let directive = directives.pop().ok_or(AllocError)?;
-                directive.into_directive(alloc)?.write(shown);
-            }
-            Input::Request(document) => match self {
-                Call::LookUp => free::show_found(shown, document),
-                Call::Operations => free::show_operations(shown, document),
-                Call::DirectivesMut => free::show_changed(shown, document),
-                Call::Compare => free::show_compared(shown, document),
-                Call::PrintQuery => shown.item("", &print_query(alloc, document)?),
-                _ => show_copy(document, shown)?,
-            },
-            Input::Error(error) => free::show_error_places(shown, error),
-            Input::File(document) => match self {
-                Call::PrintSchema => shown.item("", &print_schema(alloc, document)?),
-                _ => show_copy(document, shown)?,
-            },
+/// Makes a call, and shows its answer. Where memory is refused, what may not change then is shown.
+pub fn make(
+    alloc: Global,
+    kind: &str,
+    call: &str,
+    text: &str,
+    input: &mut Input,
+    shown: &mut Shown,
+) -> Answered {
+    match input {
+        Input::Text => match kind {
+            "query text" => of_query(alloc, call, text, shown),
+            "schema text" => of_schema(alloc, call, text, shown),
+            _ => of_text(alloc, call, text, shown),
+        },
+        Input::Values(values) => of_value(alloc, call, values, shown),
+        Input::Constants(values) => of_constant(alloc, call, values, shown),
+        Input::Directives(directives) => {
+            let directive = directives.pop().ok_or(AllocError)?;
+            show_constant(shown, directive.into_const(alloc)?)
         }
-        Ok(())
-    }
-
-    // The same, where the call is given nothing but a text.
-    fn of_text(self, alloc: Global, text: &str, shown: &mut Shown) -> Answered {
-        match self {
-            Call::StringValue => show_option(shown, string_value(alloc, text)?),
-            Call::BlockStringValue => {
-                shown.item("", &block_string_value(alloc, text)?);
-                Ok(())
-            }
-            Call::NewType => show_option(shown, Type::new(alloc, text)?),
-            Call::NewNumber => show_number(shown, Number::new(alloc, text)?),
-            Call::NewName => {
-                shown.item("", &Name::new(alloc, text)?);
-                Ok(())
-            }
-            Call::WritePlaces => show_json_places(alloc, text, shown),
-            Call::WriteType => show_json_type(alloc, text, shown),
-            Call::Places => {
-                free::show_places(alloc, shown, text);
-                Ok(())
-            }
-            Call::Tokens => {
-                free::show_tokens(shown, text);
-                Ok(())
-            }
-            _ => self.of_document(alloc, text, shown),
+        Input::ConstDirectives(directives) => {
+            let directive = directives.pop().ok_or(AllocError)?;
+            directive.into_directive(alloc)?.write(shown);
+            Ok(())
         }
-    }
-
-    // The same, where the text is that of a document.
-    fn of_document(self, alloc: Global, text: &str, shown: &mut Shown) -> Answered {
-        match self {
-            Call::Query => show_tree(shown, parse_query(alloc, text)),
-            Call::QueryDepth => show_depth(shown, parse_query(alloc, text)),
-            Call::QueryLimited => { show_tree(shown, parse_query_limited(alloc, text, narrow())) }
-            Call::Schema => show_tree(shown, parse_schema(alloc, text)),
-            Call::SchemaLimited => { show_tree(shown, parse_schema_limited(alloc, text, narrow())) }
-            Call::CheckQuery => show_checked(shown, check_query(alloc, text)),
-            Call::CheckQueryLimited => {
-                show_checked(shown, check_query_limited(alloc, text, narrow()))
-            }
-            Call::CheckSchema => show_checked(shown, check_schema(alloc, text)),
-            Call::CheckSchemaLimited => {
-                show_checked(shown, check_schema_limited(alloc, text, narrow()))
-            }
-            Call::MinifyQuery => show_text(shown, minify_query(alloc, text, narrow())),
-            Call::MinifySchema => show_text(shown, minify_schema(alloc, text, narrow())),
-            Call::FormatQuery => show_text(shown, format_query(alloc, text, narrow())),
-            Call::FormatSchema => show_text(shown, format_schema(alloc, text, narrow())),
-            _ => self.of_tokens(alloc, text, shown),
+        Input::Request(document) => of_request(alloc, call, document, shown),
+        Input::File(document) => of_file(alloc, call, document, shown),
+        Input::Error(error) => {
+            free::show_error_places(shown, error);
+            Ok(())
         }
-    }
-
-    // The answer over the tokens that are left, and how many are taken; and where memory is refused, whether no more
-    // are taken than there are, and the rest is still to come.
-    fn of_tokens(self, alloc: Global, text: &str, shown: &mut Shown) -> Answered {
-        let (passed, text) = text.split_once(" in ").unwrap_or(("0", text));
-        let passed: usize = passed.parse().ok().ok_or(AllocError)?;
-        let mut tokens = Tokens::new(text);
-        for _ in 0..passed {
-            tokens.next();
+        Input::Outputs(out, err) => {
+            out.clear();
+            err.clear();
+            show_run(alloc, call, text, out, err, shown)
         }
-        self.of_rest(alloc, tokens, count(Tokens::new(text)), shown)
-    }
-
-    // The same over these tokens, the last of so many.
-    fn of_rest(
-        self,
-        alloc: Global,
-        mut tokens: Tokens<'_>,
-        all: usize,
-        shown: &mut Shown,
-    ) -> Answered {
-        if tokens.is_ended() {
-            return Ok(());
-        }
-        let answered = match self {
-            Call::SchemaFrom => show_tree(shown, parse_schema_from(alloc, &mut tokens)),
-            Call::CheckQueryFrom => show_checked(shown, check_query_from(alloc, &mut tokens)),
-            Call::CheckSchemaFrom => show_checked(shown, check_schema_from(alloc, &mut tokens)),
-            _ => show_tree(shown, parse_query_from(alloc, &mut tokens)),
-        };
-        let taken = tokens.taken();
-        if answered.is_ok() {
-            shown.item(", taken ", &taken);
-        } else if taken.checked_add(count(tokens)) == Some(all) {
-            shown.word("taken within");
-        }
-        answered
     }
 }
 
-// How many tokens are left.
-fn count(tokens: Tokens<'_>) -> usize {
-    let mut count = 0usize;
-    for _ in tokens {
-        count = count.wrapping_add(1);
+// A call that is given the text of a request.
+fn of_query(alloc: Global, call: &str, text: &str, shown: &mut Shown) -> Answered {
+    match call {
+        "parse" => show_tree(shown, parse_query(alloc, text)),
+        "depth" => show_depth(shown, parse_query(alloc, text)),
+        "parse limited" => show_tree(shown, parse_query_limited(alloc, text, narrow())),
+        "check" => show_checked(shown, check_query(alloc, text)),
+        "check limited" => show_checked(shown, check_query_limited(alloc, text, narrow())),
+        "minify" => show_text(shown, minify_query(alloc, text, narrow())),
+        "format" => show_text(shown, format_query(alloc, text, narrow())),
+        _ => of_tokens(alloc, call == "parse from", true, text, shown),
     }
-    count
+}
+
+// A call that is given the text of a schema file.
+fn of_schema(alloc: Global, call: &str, text: &str, shown: &mut Shown) -> Answered {
+    match call {
+        "parse" => show_tree(shown, parse_schema(alloc, text)),
+        "parse limited" => show_tree(shown, parse_schema_limited(alloc, text, narrow())),
+        "check" => show_checked(shown, check_schema(alloc, text)),
+        "check limited" => show_checked(shown, check_schema_limited(alloc, text, narrow())),
+        "minify" => show_text(shown, minify_schema(alloc, text, narrow())),
+        "format" => show_text(shown, format_schema(alloc, text, narrow())),
+        _ => of_tokens(alloc, call == "parse from", false, text, shown),
+    }
+}
+
+// The answer over the tokens that are left, and how many are taken; and where memory is refused, whether no more
+// are taken than there are, and the rest is still to come. Before the text may stand how many tokens are passed first, with
+// ` in ` between them.
+fn of_tokens(
+    alloc: Global,
+    is_parser: bool,
+    is_query: bool,
+    text: &str,
+    shown: &mut Shown,
+) -> Answered {
+    let (passed, text) = text.split_once(" in ").unwrap_or(("0", text));
+    let passed: usize = passed.parse().ok().ok_or(AllocError)?;
+    let mut tokens = Tokens::new(text);
+    for _ in 0..passed {
+        tokens.next();
+    }
+    if tokens.is_ended() {
+        return Ok(());
+    }
+    let answered = match (is_parser, is_query) {
+        (true, true) => show_tree(shown, parse_query_from(alloc, &mut tokens)),
+        (true, false) => show_tree(shown, parse_schema_from(alloc, &mut tokens)),
+        (false, true) => show_checked(shown, check_query_from(alloc, &mut tokens)),
+        (false, false) => show_checked(shown, check_schema_from(alloc, &mut tokens)),
+    };
+    let taken = tokens.taken();
+    if answered.is_ok() {
+        shown.item(", taken ", &taken);
+    } else if taken.checked_add(tokens.count()) == Some(Tokens::new(text).count()) {
+        shown.word("taken within ");
+    }
+    answered
 }
 
 // Limits within which little may nest.
 fn narrow() -> Limits {
     Limits::new(1, 1, 1).unwrap_or(Limits::default())
+}
+
+// A call that is given any other text.
+fn of_text(alloc: Global, call: &str, text: &str, shown: &mut Shown) -> Answered {
+    match call {
+        "string value" => show_option(shown, string_value(alloc, text)?),
+        "block string value" => {
+            shown.item("", &block_string_value(alloc, text)?);
+            Ok(())
+        }
+        "type" => show_option(shown, Type::new(alloc, text)?),
+        "type cloned" => {
+            let ty = Type::new(alloc, text)?.ok_or(AllocError)?;
+            shown.item("", &ty.clone()?);
+            Ok(())
+        }
+        "number" => show_number(shown, Number::new(alloc, text)?),
+        "number cloned" => {
+            let number = Number::new(alloc, text)?.ok_or(AllocError)?;
+            shown.item("", &number.clone()?);
+            Ok(())
+        }
+        "name" => {
+            shown.item("", &Name::new(alloc, text)?);
+            Ok(())
+        }
+        "name cloned" => {
+            shown.item("", &Name::new(alloc, text)?.clone()?);
+            Ok(())
+        }
+        "places as JSON" => show_json_places(alloc, text, shown),
+        "type as JSON" => show_json_type(alloc, text, shown),
+        "places" => {
+            free::show_places(alloc, shown, text);
+            Ok(())
+        }
+        _ => {
+            free::show_tokens(shown, text);
+            Ok(())
+        }
+    }
+}
+
+fn of_value(alloc: Global, call: &str, values: &mut Vec<Value>, shown: &mut Shown) -> Answered {
+    if call == "clone" {
+        values.first().ok_or(AllocError)?.clone()?.write(shown);
+        return Ok(());
+    }
+    let value = values.pop().ok_or(AllocError)?;
+    if call == "into const" {
+        return show_constant(shown, value.into_const(alloc)?);
+    }
+    free::show_made(shown, value);
+    Ok(())
+}
+
+fn of_constant(
+    alloc: Global,
+    call: &str,
+    values: &mut Vec<ConstValue>,
+    shown: &mut Shown,
+) -> Answered {
+    let value = values.pop().ok_or(AllocError)?;
+    if call == "into value" {
+        value.into_value(alloc)?.write(shown);
+    } else {
+        free::show_made_constants(shown, value);
+    }
+    Ok(())
+}
+
+fn of_request(
+    alloc: Global,
+    call: &str,
+    document: &mut ExecutableDocument,
+    shown: &mut Shown,
+) -> Answered {
+    match call {
+        "clone" => return show_copy(document, shown),
+        "print" => shown.item("", &print_query(alloc, document)?),
+        "look up" => free::show_found(shown, document),
+        "operations" => free::show_operations(shown, document),
+        "change" => free::show_changed(shown, document),
+        _ => free::show_compared(shown, document),
+    }
+    Ok(())
+}
+
+fn of_file(
+    alloc: Global,
+    call: &str,
+    document: &mut ServiceDocument,
+    shown: &mut Shown,
+) -> Answered {
+    if call == "clone" {
+        return show_copy(document, shown);
+    }
+    shown.item("", &print_schema(alloc, document)?);
+    Ok(())
+}
+
+// What the program `gqlparse` writes to standard output and to standard error, and its status.
+fn show_run(
+    alloc: Global,
+    command: &str,
+    text: &str,
+    out: &mut Vec<u8>,
+    err: &mut Vec<u8>,
+    shown: &mut Shown,
+) -> Answered {
+    let word = String::from_str(alloc, command)?;
+    let status = run(alloc, &[word], &mut text.as_bytes(), out, err);
+    shown.item("> ", &str::from_utf8(out.as_slice()).unwrap_or("no text"));
+    shown.item("! ", &str::from_utf8(err.as_slice()).unwrap_or("no text"));
+    shown.item("= ", &status);
+    Ok(())
 }
 
 fn show_text(shown: &mut Shown, answer: Answer<String>) -> Answered {
@@ -331,11 +331,12 @@ fn show_number(shown: &mut Shown, answer: Option<Number>) -> Answered {
     Ok(())
 }
 
-fn show_constant<T: Written + Drop>(shown: &mut Shown, answer: Option<T>) {
+fn show_constant<T: Written + Drop>(shown: &mut Shown, answer: Option<T>) -> Answered {
     match answer {
         Some(answer) => answer.write(shown),
         None => shown.word("none"),
     }
+    Ok(())
 }
 
 // The tree of a copy, or, where there is no memory for one, that of the document that was copied.

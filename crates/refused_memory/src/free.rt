@@ -10,7 +10,6 @@ use graphql_parser::{Error, Limits, Pos, Positioned};
 use rows::Shown;
 use rows::trees::{Written, write_default_value, write_directives};
 use std::alloc::{AllocError, Global};
-use std::cmp::Ordering;
 use std::hash::{DefaultHasher, Hash, Hasher};
 
 /// The places of a text's tokens, how many were taken, and whether they have ended.
@@ -47,12 +46,11 @@ pub fn show_places(alloc: Global, shown: &mut Shown, text: &str) {
     shown.item(" ", &length);
     shown.item("@", &length.pos);
     let is_default = Limits::new(64, 64, 64) == Some(Limits::default());
-    shown.word(compared(
-        is_default
-            && length.into_inner() == text.len()
-            && SelectionSet::new(alloc).items.is_empty(),
-    ));
-    shown.word(ordered(first.cmp(&last)));
+    let is_made = is_default
+        && length.into_inner() == text.len()
+        && SelectionSet::new(alloc).items.is_empty();
+    shown.item(" ", &is_made);
+    shown.debugged(" ", &first.cmp(&last));
 }
 
 /// How many places a copy of those of an error has; and they in turn, the last first, after each how many are left. How
@@ -73,8 +71,8 @@ pub fn show_error_places(shown: &mut Shown, error: &Error) {
         }
         shown.item(" ", &left.len());
     }
-    shown.word(compared(*error == Error::from(AllocError)));
-    shown.word(compared(error == error));
+    shown.item(" ", &(*error == Error::from(AllocError)));
+    shown.item(" ", &(error == error));
 }
 
 /// How many operations a copy of those of a request has; and they in turn, after each how many are left.
@@ -139,22 +137,10 @@ pub fn show_compared(shown: &mut Shown, document: &ExecutableDocument) {
     if let Some(field) = first_field(document)
         && let [one, other] = field.arguments.as_slice()
     {
-        shown.word(compared(one.1 == one.1));
-        shown.word(compared(one.1.node == other.1.node));
-        shown.word(ordered(one.0.cmp(&other.0)));
-        shown.word(compared(hash_of(&one.0) == hash_of(&one.0.node)));
-    }
-}
-
-fn compared(is_equal: bool) -> &'static str {
-    if is_equal { " equal" } else { " different" }
-}
-
-fn ordered(order: Ordering) -> &'static str {
-    match order {
-        Ordering::Less => " less",
-        Ordering::Equal => " same",
-        Ordering::Greater => " more",
+        shown.item(" ", &(one.1 == one.1));
+        shown.item(" ", &(one.1.node == other.1.node));
+        shown.debugged(" ", &one.0.cmp(&other.0));
+        shown.item(" ", &(hash_of(&one.0) == hash_of(&one.0.node)));
     }
 }
 
@@ -168,8 +154,18 @@ fn hash_of<T: Hash>(value: &T) -> u64 {
 pub fn show_made(shown: &mut Shown, value: Value) {
     if let Value::List(items) = value {
         for item in items {
+            let made = match item {
+                Value::Variable(name) => Value::variable(name).unwrap_or(Value::Null),
+                Value::Null => Value::null(),
+                Value::Number(number) => Value::number(number),
+                Value::String(text) => Value::string(text),
+                Value::Boolean(value) => Value::boolean(value),
+                Value::Enum(name) => Value::enumeration(name),
+                Value::List(items) => Value::list(items),
+                Value::Object(fields) => Value::object(fields),
+            };
             shown.word(" ");
-            made(item).write(shown);
+            made.write(shown);
         }
     }
 }
@@ -178,33 +174,17 @@ pub fn show_made(shown: &mut Shown, value: Value) {
 pub fn show_made_constants(shown: &mut Shown, value: ConstValue) {
     if let ConstValue::List(items) = value {
         for item in items {
+            let made = match item {
+                ConstValue::Null => ConstValue::null(),
+                ConstValue::Number(number) => ConstValue::number(number),
+                ConstValue::String(text) => ConstValue::string(text),
+                ConstValue::Boolean(value) => ConstValue::boolean(value),
+                ConstValue::Enum(name) => ConstValue::enumeration(name),
+                ConstValue::List(items) => ConstValue::list(items),
+                ConstValue::Object(fields) => ConstValue::object(fields),
+            };
             shown.word(" ");
-            made_constant(item).write(shown);
+            made.write(shown);
         }
-    }
-}
-
-fn made(value: Value) -> Value {
-    match value {
-        Value::Variable(name) => Value::variable(name).unwrap_or(Value::Null),
-        Value::Null => Value::null(),
-        Value::Number(number) => Value::number(number),
-        Value::String(text) => Value::string(text),
-        Value::Boolean(value) => Value::boolean(value),
-        Value::Enum(name) => Value::enumeration(name),
-        Value::List(items) => Value::list(items),
-        Value::Object(fields) => Value::object(fields),
-    }
-}
-
-fn made_constant(value: ConstValue) -> ConstValue {
-    match value {
-        ConstValue::Null => ConstValue::null(),
-        ConstValue::Number(number) => ConstValue::number(number),
-        ConstValue::String(text) => ConstValue::string(text),
-        ConstValue::Boolean(value) => ConstValue::boolean(value),
-        ConstValue::Enum(name) => ConstValue::enumeration(name),
-        ConstValue::List(items) => ConstValue::list(items),
-        ConstValue::Object(fields) => ConstValue::object(fields),
     }
 }

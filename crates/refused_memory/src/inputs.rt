@@ -1,9 +1,8 @@
 //! What calls are given besides a text. It is made while there is memory.
-use crate::calls::Call;
 use graphql_parser::types::{
-    ConstDirective, Directive, ExecutableDocument, Field, Selection, ServiceDocument, Type,
+    ConstDirective, Directive, ExecutableDocument, Field, Selection, ServiceDocument,
 };
-use graphql_parser::value::{ConstValue, Name, Number, Value};
+use graphql_parser::value::{ConstValue, Value};
 use graphql_parser::{Error, parse_query, parse_schema};
 use std::alloc::{AllocError, Global};
 
@@ -12,57 +11,42 @@ use std::alloc::{AllocError, Global};
 pub enum Input {
     /// Nothing but the text.
     Text,
-    Name(Name),
-    Number(Number),
-    Type(Type),
     Values(Vec<Value>),
     Constants(Vec<ConstValue>),
     Directives(Vec<Directive>),
     ConstDirectives(Vec<ConstDirective>),
     Request(ExecutableDocument),
-    Error(Error),
     File(ServiceDocument),
+    Error(Error),
+    /// Room for what goes to standard output and to standard error.
+    Outputs(Vec<u8>, Vec<u8>),
 }
 
-impl Call {
-    /// What the call is given where its row has this text, for so many times.
-    pub fn input(self, alloc: Global, text: &str, times: usize) -> Result<Input, AllocError> {
-        Ok(match self {
-            Call::CloneName => Input::Name(Name::new(alloc, text)?),
-            Call::CloneNumber => Input::Number(Number::new(alloc, text)?.ok_or(AllocError)?),
-            Call::CloneType => Input::Type(Type::new(alloc, text)?.ok_or(AllocError)?),
-            Call::CloneValue | Call::IntoConst | Call::Construct => {
-                Input::Values(values(alloc, text, times)?)
-            }
-            Call::IntoValue | Call::ConstructConstant => {
-                Input::Constants(constants(alloc, text, times)?)
-            }
-            Call::DirectiveIntoConst => Input::Directives(directives(alloc, text, times)?),
-            Call::IntoDirective => Input::ConstDirectives(const_directives(alloc, text, times)?),
-            Call::CloneRequest
-            | Call::LookUp
-            | Call::Operations
-            | Call::DirectivesMut
-            | Call::PrintQuery
-            | Call::Compare => Input::Request(request(alloc, text)?),
-            Call::ErrorPlaces => match parse_query(alloc, text) {
-                Ok(_) | Err(Error::OutOfMemory) => return Err(AllocError),
-                Err(error) => Input::Error(error),
-            },
-            Call::CloneFile | Call::PrintSchema => match parse_schema(alloc, text) {
-                Ok(document) => Input::File(document),
-                Err(_) => return Err(AllocError),
-            },
+// How many bytes a run of the program `gqlparse` may write.
+const ROOM: usize = 256;
+
+impl Input {
+    /// What calls of this kind are given where their row has this text, for so many times.
+    pub fn new(alloc: Global, kind: &str, text: &str, times: usize) -> Result<Input, AllocError> {
+        Ok(match kind {
+            "value" => Input::Values(values(alloc, text, times)?),
+            "constant" => Input::Constants(constants(alloc, text, times)?),
+            "directive" => Input::Directives(directives(alloc, text, times)?),
+            "constant directive" => Input::ConstDirectives(const_directives(alloc, text, times)?),
+            "query tree" => Input::Request(request(alloc, text)?),
+            "schema tree" => Input::File(parse_schema(alloc, text).map_err(|_| AllocError)?),
+            "error" => Input::Error(parse_query(alloc, text).err().ok_or(AllocError)?),
+            "listing" => Input::Outputs(
+                Vec::with_capacity(alloc, ROOM)?,
+                Vec::with_capacity(alloc, ROOM)?,
+            ),
             _ => Input::Text,
         })
     }
 }
 
 fn request(alloc: Global, text: &str) -> Result<ExecutableDocument, AllocError> {
-    match parse_query(alloc, text) {
-        Ok(document) => Ok(document),
-        Err(_) => Err(AllocError),
-    }
+    parse_query(alloc, text).map_err(|_| AllocError)
 }
 
 /// The first field of the first operation.
@@ -90,11 +74,9 @@ fn values(alloc: Global, text: &str, times: usize) -> Result<Vec<Value>, AllocEr
 }
 
 fn constants(alloc: Global, text: &str, times: usize) -> Result<Vec<ConstValue>, AllocError> {
-    let mut constants = Vec::new(alloc);
-    for value in values(alloc, text, times)? {
-        constants.push(value.into_const(alloc)?.ok_or(AllocError)?)?;
-    }
-    Ok(constants)
+    let value = values(alloc, text, 1)?.pop().ok_or(AllocError)?;
+    let constant = value.into_const(alloc)?.ok_or(AllocError)?;
+    copies(alloc, &constant, times)
 }
 
 // Copies of the first directive of the first field.
@@ -109,9 +91,7 @@ fn const_directives(
     text: &str,
     times: usize,
 ) -> Result<Vec<ConstDirective>, AllocError> {
-    let mut constants = Vec::new(alloc);
-    for directive in directives(alloc, text, times)? {
-        constants.push(directive.into_const(alloc)?.ok_or(AllocError)?)?;
-    }
-    Ok(constants)
+    let directive = directives(alloc, text, 1)?.pop().ok_or(AllocError)?;
+    let constant = directive.into_const(alloc)?.ok_or(AllocError)?;
+    copies(alloc, &constant, times)
 }

@@ -1,75 +1,155 @@
 //! A row once, and again and again at the end of memory, with a piece more each time.
+use crate::calls::make;
 use crate::inputs::Input;
-use crate::table::{Outcome, ROOM, Row};
 use little_memory::{ATTEMPTS, Attempt, attempts};
-use rows::Shown;
+use rows::{Shown, Subject, meant};
 use std::alloc::{AllocError, Global};
+use std::test::Fail;
 
-// A row whose call is made again and again, and what came of it.
+// Room for the longest answer.
+const ROOM: usize = 4096;
+
+// Stands behind what a call shows that is refused memory.
+const REFUSED: &str = "out of memory";
+
+// What the program `gqlparse` does where memory is refused inside the parser, and outside of it.
+const REFUSED_INSIDE: &str = "> ! error: out of memory\nat []\n= 1";
+
+const REFUSED_OUTSIDE: &str = "> ! error: out of memory\n= 2";
+
+/// The calls of the tables, each made until it has had all the memory that it asks for.
+pub struct AtTheEnd;
+
+impl Subject for AtTheEnd {
+    /// The answer where there is memory, unless the call ends in another way at the end of memory, or not in each way in which
+    /// it may end.
+    fn answer(&self, alloc: Global, call: &str, text: &str) -> Result<String, Fail> {
+        let mut tried = tried_call(alloc, call, text, ATTEMPTS + 1)?;
+        tried.make(alloc);
+        let answer = String::from_str(alloc, tried.shown.whole().unwrap_or("no room"))?;
+        tried.may_end(alloc, answer.as_str())?;
+        if !attempts(alloc, &mut tried)? {
+            return Err(Fail::new("memory has no end"));
+        }
+        if tried.has_other {
+            let other = tried.shown.whole().unwrap_or("no room");
+            return Ok(format!(in alloc; "another end: {other}")?);
+        }
+        for (end, times) in &tried.ends {
+            if *times == 0 {
+                return Ok(format!(in alloc; "never an end: {end}")?);
+            }
+        }
+        Ok(answer)
+    }
+}
+
+/// What comes of the call of a row that is made once; the name of its table stands in the line before it.
+pub fn once(alloc: Global, row: &str) -> Result<&'static str, AllocError> {
+    let (call, row) = row.split_once('\n').ok_or(AllocError)?;
+    let (text, answer) = row.split_once(" ⇒ ").ok_or(AllocError)?;
+    let text = meant(alloc, text)?;
+    let answer = meant(alloc, answer.trim_ascii())?;
+    let mut tried = tried_call(alloc, call, text.as_str(), 1)?;
+    tried.may_end(alloc, answer.as_str())?;
+    tried.attempt(alloc);
+    let is_answered = tried.ends.first().is_some_and(|(_, times)| *times > 0);
+    Ok(if tried.has_other {
+        "another end"
+    } else if is_answered {
+        "answered"
+    } else {
+        REFUSED
+    })
+}
+
+// A call that is made again and again, and how it has ended.
 #[derive(Drop)]
-struct Tried {
-    row: Row,
+struct Tried<'a> {
+    kind: &'a str,
+    call: &'a str,
+    is_free: bool,
+    text: &'a str,
     input: Input,
     shown: Shown,
-    answered: usize,
-    refused: usize,
+    // How the call may end, with its answer first, and how often it has ended so.
+    ends: Vec<(String, usize)>,
     has_other: bool,
 }
 
-impl Attempt for Tried {
-    fn attempt(&mut self, alloc: Global) {
-        if self.has_other {
-            return;
-        }
-        match self.row.outcome(alloc, &mut self.input, &mut self.shown) {
-            Outcome::Answered => self.answered = self.answered.wrapping_add(1),
-            Outcome::Refused => self.refused = self.refused.wrapping_add(1),
-            Outcome::Other => self.has_other = true,
-        }
-    }
-}
-
-/// What comes of the call of a row, once. Fails where memory is refused before it.
-pub fn once(alloc: Global, row: &Row) -> Result<Outcome, AllocError> {
-    let mut shown = Shown::with_room(alloc, true, ROOM)?;
-    let mut input = row.call.input(alloc, row.text.as_str(), 1)?;
-    Ok(row.outcome(alloc, &mut input, &mut shown))
-}
-
-/// What is wrong with a row at the end of memory; None where nothing is. Its call has to answer there, and, unless it
-/// takes no memory, to be refused some as well.
-pub fn failure(alloc: Global, row: Row) -> Result<Option<String>, AllocError> {
-    let mut tried = untried(alloc, row)?;
-    if attempts(alloc, &mut tried)? {
-        return what_is_wrong(alloc, &tried);
-    }
-    let message = String::from_str(alloc, "memory has no end here")?;
-    Ok(Some(message))
-}
-
-fn untried(alloc: Global, row: Row) -> Result<Tried, AllocError> {
-    let input = row.call.input(alloc, row.text.as_str(), ATTEMPTS)?;
-    let shown = Shown::with_room(alloc, true, ROOM)?;
+// A call that can be made so many times.
+fn tried_call<'a>(
+    alloc: Global,
+    call: &'a str,
+    text: &'a str,
+    times: usize,
+) -> Result<Tried<'a>, AllocError> {
+    let named = call.strip_prefix("without memory, ");
+    let (kind, call) = named.unwrap_or(call).split_once(": ").ok_or(AllocError)?;
     Ok(Tried {
-        row,
-        input,
-        shown,
-        answered: 0,
-        refused: 0,
+        kind,
+        call,
+        is_free: named.is_some(),
+        text,
+        input: Input::new(alloc, kind, text, times)?,
+        shown: Shown::with_room(alloc, true, ROOM)?,
+        ends: Vec::new(alloc),
         has_other: false,
     })
 }
 
-fn what_is_wrong(alloc: Global, tried: &Tried) -> Result<Option<String>, AllocError> {
-    let (answered, refused) = (tried.answered, tried.refused);
-    if tried.has_other {
-        let other = tried.shown.whole().unwrap_or("what has no room");
-        let message = format!(in alloc; "another answer: {other}")?;
-        return Ok(Some(message));
+impl Tried<'_> {
+    // Makes the call. Takes no memory for itself.
+    fn make(&mut self, alloc: Global) {
+        self.shown.clear();
+        let made = make(
+            alloc,
+            self.kind,
+            self.call,
+            self.text,
+            &mut self.input,
+            &mut self.shown,
+        );
+        if made.is_err() {
+            self.shown.word(REFUSED);
+        }
     }
-    if answered > 0 && (refused > 0) != tried.row.is_free {
-        return Ok(None);
+
+    // The call may end with this answer, and in its ways to end where memory is refused.
+    fn may_end(&mut self, alloc: Global, answer: &str) -> Result<(), AllocError> {
+        self.ends.push((String::from_str(alloc, answer)?, 0))?;
+        if self.kind == "listing" {
+            self.ends
+                .push((String::from_str(alloc, REFUSED_INSIDE)?, 0))?;
+            self.ends
+                .push((String::from_str(alloc, REFUSED_OUTSIDE)?, 0))?;
+        } else if !self.is_free {
+            // What is cloned is as it was, and tokens of which some were taken go on with the rest.
+            let before = match self.call {
+                "clone" if self.kind != "value" => answer,
+                "parse from" | "check from" => "taken within ",
+                _ => "",
+            };
+            self.ends
+                .push((format!(in alloc; "{before}{REFUSED}")?, 0))?;
+        }
+        Ok(())
     }
-    let message = format!(in alloc; "{answered} answers, {refused} times no memory")?;
-    Ok(Some(message))
+}
+
+impl Attempt for Tried<'_> {
+    fn attempt(&mut self, alloc: Global) {
+        if self.has_other {
+            return;
+        }
+        self.make(alloc);
+        let shown = self.shown.whole().unwrap_or("no room").trim_ascii();
+        for end in &mut self.ends {
+            if end.0.as_str().trim_ascii() == shown {
+                end.1 = end.1.saturating_add(1);
+                return;
+            }
+        }
+        self.has_other = true;
+    }
 }

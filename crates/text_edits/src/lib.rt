@@ -20,8 +20,6 @@ mod edits;
 mod line_index;
 mod lines;
 mod positions;
-#[cfg(test)]
-mod tests;
 
 pub use document::Document;
 pub use edits::{apply, replace};

@@ -1,6 +1,6 @@
 //! What is wrong with a text, as data for an editor, and texts that are mended by it.
-use graphql_commands::{Diagnosis, Fix, Language, diagnoses_of};
 use graphql_parser::Limits;
+use graphql_texts::{Diagnosis, Fix, Language, diagnoses_of};
 use std::alloc::Global;
 use std::test::Fail;
 

@@ -2,15 +2,14 @@
 ghost use Rattle.graphql_report.specs.reports.Rests.{BeginsAt};
 
 use crate::reports::read_as;
-use graphql_commands::check::error_of;
-use graphql_commands::errors::Source;
-use graphql_commands::recovery::rest_at;
-use graphql_commands::telling::Names;
 use graphql_parser::{Error, Memory};
 use graphql_report::{
     Finding, ReadFrom, ReadUpTo, Style, explain, explain_from, finding_from, finding_of,
     refused_token_from,
 };
+use graphql_texts::check::error_of;
+use graphql_texts::errors::{Names, Source};
+use graphql_texts::recovery::rest_at;
 use rows::pair;
 use std::alloc::{AllocError, Global};
 use std::test::Fail;

@@ -1,6 +1,6 @@
 //! Whether nothing closes a block string, and where the one probably begins that isn't closed.
-use graphql_commands::recovery::{probable_opening, unclosed_string};
 use graphql_report::Language;
+use graphql_texts::recovery::{probable_opening, unclosed_string};
 use rows::pair;
 use std::alloc::Global;
 use std::test::Fail;

@@ -2,7 +2,7 @@
 -- Source: this project's choice.
 use Rattle.std.specs.Prelude.{ℕ, true, false, List, Option}
 use Rattle.graphql_report.specs.declared.fronts.Language.{Language}
-use Rattle.graphql_commands.specs.checked.Language.{language_of_options}
+use Rattle.graphql_commands.specs.checked.Options.{language_of_options}
 use Rattle.graphql_commands.specs.declared.command.Next.{Next}
 use Rattle.graphql_commands.specs.declared.command.Next.TheVariants.{Any, Value, File}
 

@@ -1,5 +1,5 @@
 use Rattle.std.proofs.Common.{◌≡◌, ◌≤◌, map, take}
-use Rattle.graphql_commands.specs.checked.Good.{GiveGoodTexts}
+use Rattle.graphql_commands.specs.checked.Files.{GiveGoodTexts}
 use Rattle.graphql_commands.proofs.check.check_files.Given as goal
 
 abbrev pub invariant-loop-name : goal.invariant-loop-name

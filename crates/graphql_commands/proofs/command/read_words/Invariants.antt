@@ -1,5 +1,5 @@
 use Rattle.std.proofs.Common.{◌≡◌, false, map, drop, string_bytes}
-use Rattle.graphql_commands.specs.checked.Language.{language_of_options}
+use Rattle.graphql_commands.specs.checked.Options.{language_of_options}
 use Rattle.graphql_commands.specs.inner.Words.{said_in_the_end}
 use Rattle.graphql_commands.proofs.command.read_words.Given as goal
 

@@ -1,0 +1,21 @@
+-- When files are good that are read one after another.
+-- Source: this project's choice.
+use Rattle.std.specs.Prelude.{◌≡◌, ℕ, Bool, List, [], ◌∷◌, Option, Result, IsOkAnd, string_bytes}
+use Rattle.std.specs.declared.alloc.Global.{Global}
+use Rattle.std.specs.declared.string.String.{String}
+use Rattle.graphql_parser.specs.notation.Limits.{Limits}
+use Rattle.graphql_report.specs.declared.fronts.Language.{Language}
+use Rattle.graphql_texts.specs.checked.Good.{IsGoodText}
+use Rattle.graphql_texts.specs.checked.Language.{IsReadAs}
+use Rattle.graphql_commands.specs.declared.texts.Unread.{Unread}
+
+-- There is a text, and it is good, read as the language that the option or the file's name says, or as one of the two
+-- where neither says one.
+abbrev pub IsGood : Option Language → Bool → Limits → List ℕ → Result (String Global) Unread → Type 0
+IsGood option fragments limits name read = IsOkAnd read (λ text. (language : Language) × IsReadAs option name language × IsGoodText fragments language limits (string_bytes text))
+
+-- Read under these names one after another, from one state of what texts are read from to another, there is a text each
+-- time, and it is good. `gives` says what may be read under a name at a state, and the state after that.
+abbrev pub GiveGoodTexts : {T : Type 0} → (T → List ℕ → Result (String Global) Unread → T → Type 0) → Option Language → Bool → Limits → T → List (List ℕ) → T → Type 0
+GiveGoodTexts gives option fragments limits here [] there = here ≡ there
+GiveGoodTexts {T} gives option fragments limits here (name ∷ names) there = (read : Result (String Global) Unread) × (next : T) × gives here name read next × IsGood option fragments limits name read × GiveGoodTexts gives option fragments limits next names there

@@ -1,0 +1,5 @@
+mod Furthest
+mod Lacking
+mod LineFeeds
+mod PrintedTrees
+mod SameMeaning

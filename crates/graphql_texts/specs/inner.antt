@@ -1,0 +1,2 @@
+-- Inner: what private clauses cite.
+pub mod Begun

@@ -1,0 +1,320 @@
+//! What is wrong with a text, as data: for an editor, which shows it in the text and can mend it there.
+ghost use Rattle.std.specs.Prelude.{◌≡◌, [], true, All, IfOk, IfSome};
+ghost use Rattle.graphql_texts.specs.checked.Diagnosed.{IsWithin, IsDiagnosisOf};
+ghost use Rattle.graphql_texts.specs.checked.Good.{IsGoodText};
+ghost use Rattle.graphql_report.specs.reports.Rests.{BeginsAt};
+
+use crate::check::error_of;
+use crate::closing::closing_of;
+use crate::errors::{MOST_FINDINGS, Mistake, Names, Source, first_error, next_error};
+use crate::recovery::end_of;
+use graphql_parser::lexer::{Token, TokenKind, Tokens};
+use graphql_parser::{Error, Limits, Memory, Pos};
+use graphql_report::{Finding, Language, error_offsets, finding_from};
+use std::alloc::{AllocError, Global};
+
+/// The byte offsets of a text between which something stands: the end is not before the start, and both are where a character
+/// begins, or the end of the text.
+#[derive(Clone, Copy, Debug, PartialEq, Eq)]
+pub struct Span {
+    pub start: usize,
+    pub end: usize,
+}
+
+/// One thing that is wrong with a text. (This project's own type.)
+#[derive(Drop)]
+pub struct Diagnosis {
+    /// Where it is: the refused token, its bad escape, or the words with which a definition begins. It is empty at the end of the
+    /// text.
+    pub span: Span,
+    /// The name of the error's status, as C has it, without `GRAPHQL_PARSER_`.
+    pub status: &'static str,
+    /// What the first line of a report says after the place.
+    pub message: String,
+    /// The other place, of an error that has two.
+    pub other: Option<Other>,
+    /// What mends it, where that is known.
+    pub fix: Option<Fix>,
+}
+
+/// The other place of an error.
+#[derive(Clone, Copy)]
+pub struct Other {
+    /// Where it is.
+    pub span: Span,
+    /// What a report says of it.
+    pub message: &'static str,
+}
+
+/// An edit of a text by which a mistake is mended.
+#[derive(Drop)]
+pub struct Fix {
+    /// What it does, for people.
+    pub title: String,
+    /// What it replaces; where that is empty it is an insertion.
+    pub span: Span,
+    /// What it puts there.
+    pub new: String,
+}
+
+/// All that is wrong with a text that is read as this language within these limits, as `gql check` tells it: in the order of the
+/// text, [`MOST_FINDINGS`] at most. There is nothing only where the text is good; a request may lack an operation. (This project's
+/// own call.)
+///
+/// An error says that memory was refused.
+pub fn diagnoses_of(
+    alloc: Global,
+    language: Language,
+    text: &str,
+    limits: Limits,
+) -> Result<Vec<Diagnosis>, AllocError>
+    ensures good { IfOk result (λ found. found.items ≡ [] → IsGoodText true language limits text.now) }
+    ensures within { IfOk result (λ found. All (IsDiagnosisOf text.now) found.items) }
+{
+    let mut found = Vec::new(alloc);
+    let source = Source {
+        names: Names {
+            shown: "",
+            name: "",
+        },
+        language,
+        limits,
+        text,
+    };
+    let Some(refused) = error_of(&mut Memory::new(alloc), &source, true)? else {
+        return Ok(found);
+    };
+    let mut mistake = first_error(&source, refused);
+    found.push(diagnosis_of(alloc, &source, &mistake)?)?;
+    for _ in 1..MOST_FINDINGS {
+        let Some(next) = next_error(alloc, &source, &mistake)? else {
+            break;
+        };
+        found.push(diagnosis_of(alloc, &source, &next)?)?;
+        mistake = next;
+    }
+    Ok(found)
+}
+
+// What is told of an error of a text.
+fn diagnosis_of(
+    alloc: Global,
+    source: &Source<'_>,
+    mistake: &Mistake<'_>,
+) -> Result<Diagnosis, AllocError>
+    requires { BeginsAt source.now.text.now mistake.now.known.from }
+    ensures { IfOk result (IsDiagnosisOf source.now.text.now) }
+{
+    let (told, read) = mistake.told_in(source);
+    let error = &mistake.error;
+    let finding = finding_from(alloc, told.language, told.text, &read, told.limits, error)?;
+    let marks = marks_of(alloc, source, &told, mistake, finding.place)?;
+    let fix = fix_of(alloc, source, mistake, &finding)?;
+    Ok(Diagnosis {
+        span: marks.span,
+        status: finding.status,
+        message: finding.message,
+        other: marks.other,
+        fix,
+    })
+}
+
+// Where an error is shown.
+#[derive(Clone, Copy)]
+struct Marks {
+    span: Span,
+    other: Option<Other>,
+}
+
+// Where an error of a text is shown that a report tells at this place.
+fn marks_of(
+    alloc: Global,
+    source: &Source<'_>,
+    told: &Source<'_>,
+    mistake: &Mistake<'_>,
+    place: Option<Pos>,
+) -> Result<Marks, AllocError>
+    ensures { IfOk result (λ marks. IsWithin source.now.text.now marks.span
+        × IfSome marks.other (λ other. IsWithin source.now.text.now other.span)) }
+{
+    match mistake.known.token {
+        Some(token) => Ok(Marks {
+            span: span_of_token(source.text, &token, place),
+            other: None,
+        }),
+        None => marks_of_definitions(alloc, source, told, mistake),
+    }
+}
+
+/// What stands between these offsets of a text; its end where they are none.
+pub fn span_at(text: &str, start: usize, end: usize) -> Span
+    ensures { IsWithin text.now result }
+{
+    if start <= end && text.is_char_boundary(start) && text.is_char_boundary(end) {
+        return Span { start, end };
+    }
+    Span {
+        start: text.len(),
+        end: text.len(),
+    }
+}
+
+// ---- definitions
+
+// Where an error about definitions is shown: at the first words of each that it names.
+fn marks_of_definitions(
+    alloc: Global,
+    source: &Source<'_>,
+    told: &Source<'_>,
+    mistake: &Mistake<'_>,
+) -> Result<Marks, AllocError>
+    ensures { IfOk result (λ marks. IsWithin source.now.text.now marks.span
+        × IfSome marks.other (λ other. IsWithin source.now.text.now other.span)) }
+{
+    let offsets = error_offsets(alloc, told.text, &mistake.error)?;
+    let first = span_of_words(source.text, mistake.offset_in_text(offsets.first));
+    let Some((offset, message)) = offsets.second else {
+        return Ok(Marks {
+            span: first,
+            other: None,
+        });
+    };
+    let second = span_of_words(source.text, mistake.offset_in_text(offset));
+    Ok(Marks {
+        span: first,
+        other: Some(Other {
+            span: second,
+            message,
+        }),
+    })
+}
+
+// The token at this offset, and the name after it, if both are names: as `query A`.
+fn span_of_words(text: &str, start: usize) -> Span
+    ensures { IsWithin text.now result }
+{
+    let Some((_, rest)) = text.split_at_checked(start) else {
+        return span_at(text, text.len(), text.len());
+    };
+    let mut tokens = Tokens::new(rest);
+    let mut length = 0usize;
+    if let Some(first) = tokens.next() {
+        length = end_of(&first);
+        if first.kind.is_name()
+            && let Some(second) = tokens.next()
+            && second.kind.is_name()
+        {
+            length = end_of(&second);
+        }
+    }
+    span_at(text, start, start.saturating_add(length))
+}
+
+// ---- tokens
+
+// A refused token, or its bad escape, if that is at the place that is told.
+fn span_of_token(text: &str, token: &Token<'_>, place: Option<Pos>) -> Span
+    ensures { IsWithin text.now result }
+{
+    if !matches!(token.kind, TokenKind::Fault) {
+        return span_at(text, token.start, end_of(token));
+    }
+    let Some((_, rest)) = text.split_at_checked(token.start) else {
+        return span_at(text, text.len(), text.len());
+    };
+    // Both stand in one line, since no bad escape is looked for after the end of the line in which a string begins.
+    let column = place.map_or(0, |place| place.column);
+    let passed = length_of_first(rest, column.saturating_sub(token.pos.column));
+    let start = token.start.saturating_add(passed);
+    let fault = match rest.split_at_checked(passed) {
+        Some((_, fault)) => fault,
+        None => "",
+    };
+    span_at(text, start, start.saturating_add(length_of_fault(fault)))
+}
+
+// How many bytes the first characters of a text take, so many of them.
+fn length_of_first(text: &str, count: usize) -> usize {
+    let mut rest = text.chars();
+    for _ in 0..count {
+        if rest.next().is_none() {
+            break;
+        }
+    }
+    text.len().saturating_sub(rest.as_str().len())
+}
+
+// How many bytes are shown of what begins no token: the quotes of a block string that isn't closed, the rest of the line of a
+// string, an escape, what looks like a number or a spread, or one character.
+fn length_of_fault(fault: &str) -> usize {
+    if fault.starts_with("\"\"\"") {
+        return 3;
+    }
+    if fault.starts_with('"') {
+        return length_before(
+            fault,
+            fault.trim_start_matches(|c: char| c != '\n' && c != '\r'),
+        );
+    }
+    if let Some(digits) = fault.strip_prefix("\\u") {
+        return length_of_escape(digits).saturating_add(2);
+    }
+    if fault.starts_with('\\') {
+        return length_of_first(fault, 2);
+    }
+    let is_in_number = |c: char| c.is_ascii_alphanumeric() || matches!(c, '-' | '+' | '.');
+    length_before(fault, fault.trim_start_matches(is_in_number)).max(length_of_first(fault, 1))
+}
+
+// How many bytes are shown of an escape after its `u`: up to the brace that closes another one, or four digits.
+fn length_of_escape(digits: &str) -> usize {
+    if digits.starts_with('{') {
+        let rest = digits.trim_start_matches(|c: char| c == '{' || c.is_ascii_hexdigit());
+        return length_before(digits, rest).saturating_add(usize::from(rest.starts_with('}')));
+    }
+    length_before(
+        digits,
+        digits.trim_start_matches(|c: char| c.is_ascii_hexdigit()),
+    )
+    .min(4)
+}
+
+// How many bytes of a text stand before this rest of it.
+fn length_before(text: &str, rest: &str) -> usize {
+    text.len().saturating_sub(rest.len())
+}
+
+// ---- fixes
+
+// What mends an error of a refused token: the word that may have been meant, or what closes the brackets that are open.
+fn fix_of(
+    alloc: Global,
+    source: &Source<'_>,
+    mistake: &Mistake<'_>,
+    finding: &Finding,
+) -> Result<Option<Fix>, AllocError>
+    ensures { IfOk result (λ fix. IfSome fix (λ fix. IsWithin source.now.text.now fix.span)) }
+{
+    let Some(token) = &mistake.known.token else {
+        return Ok(None);
+    };
+    if let Some(word) = finding.meant {
+        return Ok(Some(Fix {
+            title: format!(in alloc; "Change to \"{word}\"")?,
+            span: span_at(source.text, token.start, end_of(token)),
+            new: String::from_str(alloc, word)?,
+        }));
+    }
+    if !matches!(mistake.error, Error::Syntax { .. }) {
+        return Ok(None);
+    }
+    let Some(closing) = closing_of(alloc, source, mistake.known.from.offset, token)? else {
+        return Ok(None);
+    };
+    let brackets = closing.brackets.as_str();
+    Ok(Some(Fix {
+        title: format!(in alloc; "Insert \"{brackets}\"")?,
+        span: span_at(source.text, closing.offset, closing.offset),
+        new: closing.new,
+    }))
+}
