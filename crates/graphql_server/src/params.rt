@@ -189,7 +189,7 @@ fn read_text_document(reader: &mut JsonReader<'_>, method: Method, params: &mut 
     for _ in 0..u64::MAX {
         match reader.next_member(&mut members) {
             None => break,
-            Some(Member::LanguageId) => params.said = reader.text_or_null().and_then(said_by),
+            Some(Member::LanguageId) => params.said = read_language(reader),
             Some(Member::Version) => params.version = reader.integer_or_null(),
             Some(Member::Text) => params.text = reader.string(),
             Some(_) => params.uri = reader.string(),
@@ -199,6 +199,11 @@ fn read_text_document(reader: &mut JsonReader<'_>, method: Method, params: &mut 
     if matches!(method, Method::DidOpen) {
         reader.require(&members, Member::Text);
     }
+}
+
+// The language that a text is said to be in, if it is one that the server knows.
+fn read_language(reader: &mut JsonReader<'_>) -> Option<Language> {
+    said_by(reader.text_or_null()?)
 }
 
 // ---- Positions
