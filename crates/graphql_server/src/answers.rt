@@ -108,9 +108,10 @@ pub fn send(alloc: Global, json: JsonWriter, out: &mut Vec<u8>) -> Result<(), Al
     let length = content.len();
     let header = format!(in alloc; "Content-Length: {length}\r\n\r\n")?;
     let before = out.len();
-    let added = out
-        .extend_from_slice(header.as_bytes())
-        .and_then(|()| out.extend_from_slice(content.as_slice()));
+    let added = match out.extend_from_slice(header.as_bytes()) {
+        Ok(()) => out.extend_from_slice(content.as_slice()),
+        Err(error) => Err(error),
+    };
     if added.is_err() {
         out.truncate(before);
     }

@@ -148,8 +148,8 @@ fn same_back(old: &[u8], new: &[u8]) -> usize {
         (new, old)
     };
     let more = long.len().saturating_sub(short.len());
-    match more.checked_sub(1).and_then(|before| long.get(before)) {
-        Some(b'\n') => short.len(),
+    match more.checked_sub(1) {
+        Some(before) if long.get(before) == Some(&b'\n') => short.len(),
         _ => same,
     }
 }

@@ -74,37 +74,37 @@ impl Member {
     }
 }
 
-/// The members of an object that is being read.
+/// Which members of an object are read, and which of them were read already.
 #[derive(Clone, Copy)]
 pub struct Members {
     wanted: &'static [Member],
-    // A list stands for the object.
+    // A list is read in the place of the object.
     is_list: bool,
-    // How many values of the list came.
+    // How many values of the list were read.
     passed: usize,
-    // Those that came, each as a bit.
-    came: u64,
+    // Those that were read, each as a bit.
+    seen: u64,
 }
 
 impl Members {
-    /// No member came yet.
+    /// Of an object of which nothing was read yet.
     pub fn new(wanted: &'static [Member], is_list: bool) -> Members {
         Members {
             wanted,
             is_list,
             passed: 0,
-            came: 0,
+            seen: 0,
         }
     }
 
-    /// Whether a list stands for the object.
+    /// Whether a list is read in the place of the object.
     pub fn is_list(&self) -> bool {
         self.is_list
     }
 
-    /// Whether this member came.
+    /// Whether this member was read.
     pub fn has(&self, member: Member) -> bool {
-        self.came & member.bit() != 0
+        self.seen & member.bit() != 0
     }
 
     /// The member of this name, if it is one of those that are read.
@@ -117,14 +117,14 @@ impl Members {
         None
     }
 
-    /// Notes that a member comes, and returns whether it came before.
+    /// Adds a member to those that were read, and returns whether it was one of them before.
     pub fn note(&mut self, member: Member) -> bool {
         let has = self.has(member);
-        self.came = self.came | member.bit();
+        self.seen = self.seen | member.bit();
         has
     }
 
-    /// The member whose value comes next in a list; None after the last.
+    /// The member whose value is next in the list; None after the last.
     pub fn pass(&mut self) -> Option<Member> {
         let member = *self.wanted.get(self.passed)?;
         self.passed = self.passed.saturating_add(1);

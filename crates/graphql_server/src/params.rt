@@ -11,7 +11,7 @@ use json::{Scratch, Token};
 use std::alloc::{AllocError, Global};
 use text_edits::{Encoding, Position, Range};
 
-/// The parameters of a message. What its method doesn't have, or the client left out, is empty.
+/// The parameters of a message. What the method doesn't have, or the client left out, is empty.
 #[derive(Drop)]
 pub struct Params {
     /// The text that the message is about ("TextDocumentIdentifier").
@@ -64,22 +64,22 @@ impl Params {
 }
 
 /// Reads the parameters of a message.
-pub fn params_of(alloc: Global, method: Method, message: &str) -> Result<Params, Failure> {
+pub fn params_of(alloc: Global, method: Method, content: &str) -> Result<Params, Failure> {
     let mut scratch = Scratch::new(alloc);
-    let mut reader = JsonReader::new(alloc, message, &mut scratch)?;
+    let mut reader = JsonReader::new(alloc, content, &mut scratch)?;
     let params = read_message(&mut reader, method);
     match reader.fault() {
         None => Ok(params),
         Some(Fault::OutOfMemory) => Err(Failure::OutOfMemory),
         Some(fault) => {
-            let place = line_and_column(message, reader.place());
-            Err(Failure::WrongParams(told(alloc, fault, place)?))
+            let place = line_and_column(content, reader.place());
+            Err(Failure::WrongParams(message_for(alloc, fault, place)?))
         }
     }
 }
 
-// What is told of a fault at this line and column.
-fn told(alloc: Global, fault: Fault, place: (usize, usize)) -> Result<String, AllocError> {
+// The message for a fault at this line and column.
+fn message_for(alloc: Global, fault: Fault, place: (usize, usize)) -> Result<String, AllocError> {
     let (line, column) = place;
     let what = match fault {
         Fault::Missing(_) => "missing field",
@@ -90,14 +90,14 @@ fn told(alloc: Global, fault: Fault, place: (usize, usize)) -> Result<String, Al
         Fault::NotObject => "expected an object",
         Fault::NotJson | Fault::OutOfMemory => "invalid JSON",
     };
-    let mut told = String::from_str(alloc, what)?;
+    let mut message = String::from_str(alloc, what)?;
     if let Fault::Missing(member) | Fault::Duplicate(member) = fault {
-        told.push_str(" `")?;
-        push_field(member, &mut told)?;
-        told.push('`')?;
+        message.push_str(" `")?;
+        push_field(member, &mut message)?;
+        message.push('`')?;
     }
-    write!(told, " at line {line} column {column}")?;
-    Ok(told)
+    write!(message, " at line {line} column {column}")?;
+    Ok(message)
 }
 
 // A member's name as the name of a field: `text_document` for `textDocument`.
@@ -189,7 +189,7 @@ fn read_text_document(reader: &mut JsonReader<'_>, method: Method, params: &mut 
     for _ in 0..u64::MAX {
         match reader.next_member(&mut members) {
             None => break,
-            Some(Member::LanguageId) => params.said = reader.text_or_null().and_then(said_by),
+            Some(Member::LanguageId) => params.said = read_language(reader),
             Some(Member::Version) => params.version = reader.integer_or_null(),
             Some(Member::Text) => params.text = reader.string(),
             Some(_) => params.uri = reader.string(),
@@ -199,6 +199,11 @@ fn read_text_document(reader: &mut JsonReader<'_>, method: Method, params: &mut 
     if matches!(method, Method::DidOpen) {
         reader.require(&members, Member::Text);
     }
+}
+
+// The language that a text is said to be in, if it is one that the server knows.
+fn read_language(reader: &mut JsonReader<'_>) -> Option<Language> {
+    said_by(reader.text_or_null()?)
 }
 
 // ---- Positions
@@ -404,7 +409,7 @@ fn read_text_capabilities(reader: &mut JsonReader<'_>, params: &mut Params) {
     reader.require_in_list(&members, Member::Diagnostic);
 }
 
-// Whether an object comes, of which no member is read. Else null comes.
+// Whether the value is an object, of which no member is read, and not null.
 fn read_presence(reader: &mut JsonReader<'_>) -> bool {
     let token = reader.next();
     if let Some(Token::Null) = token {

@@ -4,7 +4,7 @@ use crate::members::{Member, Members};
 use json::{Scratch, Token};
 use std::alloc::{AllocError, Global};
 
-/// So deep may lists and objects nest.
+/// How deep lists and objects may nest.
 pub const DEEPEST: usize = 127;
 
 /// Why a text can't be read.
@@ -15,13 +15,14 @@ pub enum Fault {
     NotObject,
     WrongType,
     WrongNumber,
-    /// A list stands for an object, and has more values than the object has members.
+    /// A list in the place of an object has more values than the object has members.
     WrongLength,
     Missing(Member),
     Duplicate(Member),
 }
 
-/// A text of JSON that is being read. After the first fault nothing more is read: each value is an empty one then.
+/// A text of JSON that is being read. After the first fault nothing more is read: each value is empty or 0 then, and each list and
+/// object has ended.
 #[derive(Drop)]
 pub struct JsonReader<'a> {
     alloc: Global,
@@ -55,12 +56,12 @@ impl<'a> JsonReader<'a> {
         self.fault
     }
 
-    /// At which byte of the text it was found.
+    /// The byte of the text at which the token begins that was read last: where the first fault is, if there was one.
     pub fn place(&self) -> usize {
         self.place
     }
 
-    /// Notes a fault, unless there was one.
+    /// Keeps a fault, unless there was one before.
     pub fn fail(&mut self, fault: Fault) {
         if self.fault.is_none() {
             self.fault = Some(fault);
@@ -82,7 +83,7 @@ impl<'a> JsonReader<'a> {
         }
     }
 
-    /// Sees that nothing comes after the value.
+    /// Checks that nothing comes after the value.
     pub fn end(&mut self) {
         if self.fault.is_none() && self.tokens.next().is_some() {
             self.fail(Fault::NotJson);
@@ -106,7 +107,7 @@ impl<'a> JsonReader<'a> {
         self.text_of(token)
     }
 
-    /// A text; None where null comes.
+    /// A text; None for null.
     pub fn text_or_null(&mut self) -> Option<&'a str> {
         match self.next() {
             Some(Token::Null) => None,
@@ -143,7 +144,7 @@ impl<'a> JsonReader<'a> {
         }
     }
 
-    /// An integer; None where null comes.
+    /// An integer; None for null.
     pub fn integer_or_null(&mut self) -> Option<i64> {
         match self.next() {
             Some(Token::Null) => None,
@@ -171,14 +172,14 @@ impl<'a> JsonReader<'a> {
         }
     }
 
-    /// Passes over a value, in which lists and objects may nest so deep.
+    /// Skips a value, in which lists and objects may nest `levels` deep.
     pub fn skip(&mut self, levels: usize) {
         if self.fault.is_none() && self.tokens.skip_value(levels).is_err() {
             self.fail(Fault::NotJson);
         }
     }
 
-    /// Passes over the rest of a value that begins with this token, with values in it that may nest so deep.
+    /// Skips the rest of a value that begins with this token. Lists and objects in it may nest `levels` deep.
     pub fn skip_rest(&mut self, token: Token<'_>, levels: usize) {
         match token {
             Token::BeginArray => self.skip_items(levels),
@@ -215,7 +216,7 @@ impl<'a> JsonReader<'a> {
         }
     }
 
-    /// Whether an item comes in a list. Else the list has ended.
+    /// Whether the list has another item, which is read next. Else its end has been read.
     pub fn next_item(&mut self) -> bool {
         if self.fault.is_some() {
             return false;
@@ -226,8 +227,8 @@ impl<'a> JsonReader<'a> {
 
     // ---- Objects
 
-    /// Begins an object with its first token, of which these members are read. A list is taken too, of the members' values in this
-    /// order.
+    /// Begins an object with its first token, of which these members are read. A list of the members' values in this order is read as
+    /// the object too.
     pub fn begin(&mut self, token: Option<Token<'_>>, wanted: &'static [Member]) -> Members {
         let is_list = matches!(token, Some(Token::BeginArray));
         if !is_list && !matches!(token, Some(Token::BeginObject)) {
@@ -236,7 +237,7 @@ impl<'a> JsonReader<'a> {
         Members::new(wanted, is_list)
     }
 
-    /// The same, and no list is taken. In another value, lists and objects may nest so deep.
+    /// Begins an object, in whose place no list is read. In another value, which is skipped, lists and objects may nest `levels` deep.
     pub fn begin_object(&mut self, wanted: &'static [Member], levels: usize) -> Members {
         match self.next() {
             Some(Token::BeginObject) | None => {}
@@ -260,7 +261,7 @@ impl<'a> JsonReader<'a> {
         }
     }
 
-    /// The next member that is read, whose value comes next; None at the end of the object. Others are passed over.
+    /// The next of the members that are read, whose value is read next; None at the end of the object. Others are skipped.
     pub fn next_member(&mut self, members: &mut Members) -> Option<Member> {
         if members.is_list() {
             return self.next_of_list(members);
@@ -290,14 +291,14 @@ impl<'a> JsonReader<'a> {
         member
     }
 
-    /// Sees that this member came.
+    /// Checks that this member was there.
     pub fn require(&mut self, members: &Members, member: Member) {
         if !members.has(member) {
             self.fail(Fault::Missing(member));
         }
     }
 
-    /// The same where a list stands for the object, in which no member is left out.
+    /// Checks the same of a list in the place of an object, in which no member may be missing.
     pub fn require_in_list(&mut self, members: &Members, member: Member) {
         if members.is_list() {
             self.require(members, member);
@@ -305,7 +306,7 @@ impl<'a> JsonReader<'a> {
     }
 }
 
-/// The integer that a number of JSON is. `-0` is none.
+/// The integer that a number in JSON is, if it is one and fits. `-0` is none.
 pub fn integer_of(digits: &str) -> Option<i64> {
     if digits == "-0" {
         return None;
@@ -313,7 +314,7 @@ pub fn integer_of(digits: &str) -> Option<i64> {
     digits.parse::<i64>().ok()
 }
 
-/// The line and the column of a byte of a text, both counted from 1, and columns in bytes.
+/// The line and the column of a byte of a text, both counted from 1; columns are bytes.
 pub fn line_and_column(text: &str, offset: usize) -> (usize, usize) {
     let mut line = 1usize;
     let mut column = 1usize;

@@ -21,7 +21,7 @@ use std::alloc::{AllocError, Global};
 use text_edits::{Document, Encoding, Position, Range};
 
 // How far a session is.
-#[derive(Clone, Copy, PartialEq, Eq)]
+#[derive(Clone, Copy)]
 enum Phase {
     // Before `initialize`.
     Fresh,
@@ -360,16 +360,15 @@ impl Session {
         out: &mut Vec<u8>,
     ) -> Result<(), AllocError> {
         if let Method::Exit = method {
-            self.phase = if self.phase == Phase::ShutDown {
-                Phase::Ended
-            } else {
-                Phase::CutShort
+            self.phase = match self.phase {
+                Phase::ShutDown => Phase::Ended,
+                _ => Phase::CutShort,
             };
             return Ok(());
         }
-        if self.phase != Phase::Running {
+        let Phase::Running = self.phase else {
             return Ok(());
-        }
+        };
         let before = out.len();
         let (name, outcome) = match method {
             Method::DidOpen => ("textDocument/didOpen", self.did_open(content, out)),

@@ -2,7 +2,7 @@
 
 use std::alloc::{AllocError, Global};
 
-/// A text of JSON that is being written. Once memory has run out, what is written has no effect, and [`JsonWriter::finish`] fails.
+/// A text of JSON that is being written. Once memory has run out, nothing more is written, and [`JsonWriter::finish`] fails.
 #[derive(Drop)]
 pub struct JsonWriter {
     tokens: json::Writer,
@@ -29,7 +29,7 @@ impl JsonWriter {
         Ok(tokens.into_inner())
     }
 
-    // Notes whether something was written.
+    // Remembers whether memory ran out.
     fn note(&mut self, written: Result<(), AllocError>) {
         self.has_failed = self.has_failed || written.is_err();
     }
@@ -54,7 +54,7 @@ impl JsonWriter {
         self.note(written);
     }
 
-    /// The name of a member, whose value comes next.
+    /// Writes the name of a member, whose value is written next.
     pub fn name(&mut self, name: &str) {
         let written = self.tokens.key(name);
         self.note(written);
