@@ -32,7 +32,7 @@ pub use notation::meant;
 pub use shown::Shown;
 use std::alloc::{AllocError, Global};
 use std::test::Fail;
-pub use tables::{Subject, ended, files_in, is_asked_for, judge};
+pub use tables::{Subject, ended, files_in, judge};
 
 /// The two parts of a text, before and after the first `between`.
 pub fn pair<'a>(text: &'a str, between: &str) -> Result<(&'a str, &'a str), Fail> {

@@ -31,8 +31,8 @@ pub fn ended(wrong: usize) -> Result<(), Fail> {
     Ok(())
 }
 
-/// Whether the program's arguments name this, or there are none.
-pub fn is_asked_for(rt: &HostRuntime, name: &str) -> Result<bool, Fail> {
+// Whether the program's arguments name this, or there are none.
+fn is_asked_for(rt: &HostRuntime, name: &str) -> Result<bool, Fail> {
     let mut words = env::args(rt)?.skip(1);
     let Some(first) = words.next() else {
         return Ok(true);
