@@ -240,5 +240,9 @@ fn refusal(alloc: Global, error: &Error) -> Result<String, AllocError> {
 
 fn push_place(lines: &mut String, place: Pos) -> Result<(), AllocError> {
     let Pos { line, column } = place;
-    write!(lines, "{{\"line\":{line},\"column\":{column}}}")
+    lines.push_str("{\"line\":")?;
+    write!(lines, "{line}")?;
+    lines.push_str(",\"column\":")?;
+    write!(lines, "{column}")?;
+    lines.push_str("}")
 }
