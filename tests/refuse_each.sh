@@ -29,9 +29,20 @@ refuse() {
 
 # What stands on standard input for a row is the name of its table, and the row.
 awk -v cases="$cases" '
+    function finish() {
+        if (row != "") {
+            file = cases "/" count++
+            print call "\n" row >file
+            close(file)
+        }
+        row = ""
+    }
+    /^-- / { next }
+    /^  / { sub(/^ */, " "); row = row $0; next }
+    { finish() }
     /^== / { call = substr($0, 4); next }
-    /^$/ || /^-- / { next }
-    { file = cases "/" count++; print call >file; print >file; close(file) }' data/tables/*.rows
+    { row = $0 }
+    END { finish() }' data/tables/*.rows
 refuse 1000000
 echo "none refused: $answered rows answered, $refused out of memory"
 [ "$refused" -eq 0 ]

@@ -1,6 +1,8 @@
 //! What the program prints of an accepted text: a line for each definition, with the place where it stands.
 use graphql_request_trees::ExecutableDocument;
 use graphql_schema_trees::{ServiceDocument, TypeKind, TypeSystemDefinition};
+use graphql_syntax::types::OperationType;
+use graphql_tokens::pos::Pos;
 use std::alloc::{AllocError, Global};
 
 /// The lines of a request: its operations, and then its fragments, each kind in source order.
@@ -10,16 +12,18 @@ use std::alloc::{AllocError, Global};
 pub fn request_lines(alloc: Global, document: &ExecutableDocument) -> Result<String, AllocError> {
     let mut lines = String::new(alloc);
     for (name, operation) in document.operations.iter() {
-        let kind = operation.node.ty;
-        let place = operation.pos;
+        let keyword = match operation.node.ty {
+            OperationType::Query => "query",
+            OperationType::Mutation => "mutation",
+            OperationType::Subscription => "subscription",
+        };
         match name {
-            Some(name) => writeln!(lines, "{kind} {name} {place}")?,
-            None => writeln!(lines, "{kind} {place}")?,
+            Some(name) => push_line(&mut lines, keyword, " ", name.as_str(), operation.pos)?,
+            None => push_line(&mut lines, keyword, "", "", operation.pos)?,
         }
     }
     for (name, fragment) in document.fragments.iter() {
-        let place = fragment.pos;
-        writeln!(lines, "fragment {name} {place}")?;
+        push_line(&mut lines, "fragment", " ", name.as_str(), fragment.pos)?;
     }
     Ok(lines)
 }
@@ -34,25 +38,36 @@ pub fn schema_lines(alloc: Global, document: &ServiceDocument) -> Result<String,
     for definition in &document.definitions {
         match definition {
             TypeSystemDefinition::Schema(schema) => {
-                let extend = extend_word(schema.node.extend);
-                let place = schema.pos;
-                writeln!(lines, "{extend}schema {place}")?;
+                lines.push_str(extend_word(schema.node.extend))?;
+                push_line(&mut lines, "schema", "", "", schema.pos)?;
             }
             TypeSystemDefinition::TypeDef(definition) => {
-                let extend = extend_word(definition.node.extend);
                 let keyword = keyword(&definition.node.kind);
-                let name = &definition.node.name;
-                let place = definition.pos;
-                writeln!(lines, "{extend}{keyword} {name} {place}")?;
+                let name = definition.node.name.node.as_str();
+                lines.push_str(extend_word(definition.node.extend))?;
+                push_line(&mut lines, keyword, " ", name, definition.pos)?;
             }
             TypeSystemDefinition::Directive(directive) => {
-                let name = &directive.node.name;
-                let place = directive.pos;
-                writeln!(lines, "directive @{name} {place}")?;
+                let name = directive.node.name.node.as_str();
+                push_line(&mut lines, "directive", " @", name, directive.pos)?;
             }
         }
     }
     Ok(lines)
+}
+
+// Adds the line of a definition: its keyword, its name after this mark, and its place.
+fn push_line(
+    lines: &mut String,
+    keyword: &str,
+    mark: &str,
+    name: &str,
+    place: Pos,
+) -> Result<(), AllocError> {
+    lines.push_str(keyword)?;
+    lines.push_str(mark)?;
+    lines.push_str(name)?;
+    writeln!(lines, " {place}")
 }
 
 // What stands before the keyword of an extension.

@@ -8,6 +8,7 @@ use crate::lines::{request_lines, schema_lines};
 use graphql_grammar::error::Error;
 use graphql_requests::parse_query;
 use graphql_schemas::parse_schema;
+use graphql_tokens::pos::Pos;
 use std::alloc::{AllocError, Global};
 use std::io::{ErrorKind, Read, Write};
 
@@ -225,12 +226,23 @@ fn read<R: Read>(alloc: Global, input: &mut R) -> Result<String, Stop>
 // The two lines of a refused text: the error, and the list of its places as JSON.
 fn refusal(alloc: Global, error: &Error) -> Result<String, AllocError> {
     let mut lines = format!(in alloc; "error: {error}\nat [")?;
-    let mut comma = "";
+    let mut is_first = true;
     for place in error.positions() {
-        let (line, column) = (place.line, place.column);
-        write!(lines, "{comma}{{\"line\":{line},\"column\":{column}}}")?;
-        comma = ",";
+        if !is_first {
+            lines.push_str(",")?;
+        }
+        is_first = false;
+        push_place(&mut lines, place)?;
     }
     lines.push_str("]\n")?;
     Ok(lines)
+}
+
+fn push_place(lines: &mut String, place: Pos) -> Result<(), AllocError> {
+    let Pos { line, column } = place;
+    lines.push_str("{\"line\":")?;
+    write!(lines, "{line}")?;
+    lines.push_str(",\"column\":")?;
+    write!(lines, "{column}")?;
+    lines.push_str("}")
 }

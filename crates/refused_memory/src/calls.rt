@@ -1,10 +1,10 @@
 //! The calls, and how their answers show. Showing takes no memory.
 use crate::free;
-use crate::inputs::{Input, first_field};
+use crate::inputs::Input;
 use graphql_listing::run;
 use graphql_parser::lexer::Tokens;
 use graphql_parser::text::{block_string_value, string_value};
-use graphql_parser::types::{ExecutableDocument, Field, Selection, ServiceDocument, Type};
+use graphql_parser::types::{ExecutableDocument, ServiceDocument, Type};
 use graphql_parser::value::{ConstValue, Name, Number, Value};
 use graphql_parser::{
     Error, Limits, Result as Answer, check_query, check_query_from, check_query_limited,
@@ -16,6 +16,7 @@ use graphql_printer::{
 };
 use rows::Shown;
 use rows::trees::Written;
+use serde::Serialize;
 use std::alloc::{AllocError, Global};
 use std::fmt;
 
@@ -51,6 +52,9 @@ pub fn make(
         Input::Request(document) => of_request(alloc, call, document, shown),
         Input::File(document) => of_file(alloc, call, document, shown),
         Input::Error(error) => {
+            if call == "places as JSON" {
+                return show_json(alloc, shown, &error.positions());
+            }
             free::show_error_places(shown, error);
             Ok(())
         }
@@ -66,7 +70,6 @@ pub fn make(
 fn of_query(alloc: Global, call: &str, text: &str, shown: &mut Shown) -> Answered {
     match call {
         "parse" => show_tree(shown, parse_query(alloc, text)),
-        "depth" => show_depth(shown, parse_query(alloc, text)),
         "parse limited" => show_tree(shown, parse_query_limited(alloc, text, narrow())),
         "check" => show_checked(shown, check_query(alloc, text)),
         "check limited" => show_checked(shown, check_query_limited(alloc, text, narrow())),
@@ -131,42 +134,34 @@ fn narrow() -> Limits {
 // A call that is given any other text.
 fn of_text(alloc: Global, call: &str, text: &str, shown: &mut Shown) -> Answered {
     match call {
-        "string value" => show_option(shown, string_value(alloc, text)?),
-        "block string value" => {
-            shown.item("", &block_string_value(alloc, text)?);
-            Ok(())
-        }
-        "type" => show_option(shown, Type::new(alloc, text)?),
-        "type cloned" => {
-            let ty = Type::new(alloc, text)?.ok_or(AllocError)?;
-            shown.item("", &ty.clone()?);
-            Ok(())
-        }
-        "number" => show_number(shown, Number::new(alloc, text)?),
+        "string value" => show_option(shown, "", string_value(alloc, text)?),
+        "block string value" => shown.item("", &block_string_value(alloc, text)?),
+        "name" => shown.item("", &Name::new(alloc, text)?),
+        "name cloned" => shown.item("", &Name::new(alloc, text)?.clone()?),
+        "places" => free::show_places(alloc, shown, text),
+        "tokens" => free::show_tokens(shown, text),
+        "number" => match Number::new(alloc, text)? {
+            Some(number) => {
+                shown.item("", &number);
+                show_option(shown, " ", number.as_i64());
+                show_option(shown, " ", number.as_u64());
+            }
+            None => shown.word("none"),
+        },
         "number cloned" => {
             let number = Number::new(alloc, text)?.ok_or(AllocError)?;
             shown.item("", &number.clone()?);
-            Ok(())
         }
-        "name" => {
-            shown.item("", &Name::new(alloc, text)?);
-            Ok(())
-        }
-        "name cloned" => {
-            shown.item("", &Name::new(alloc, text)?.clone()?);
-            Ok(())
-        }
-        "places as JSON" => show_json_places(alloc, text, shown),
-        "type as JSON" => show_json_type(alloc, text, shown),
-        "places" => {
-            free::show_places(alloc, shown, text);
-            Ok(())
-        }
+        "type" => show_option(shown, "", Type::new(alloc, text)?),
         _ => {
-            free::show_tokens(shown, text);
-            Ok(())
+            let ty = Type::new(alloc, text)?.ok_or(AllocError)?;
+            if call == "type as JSON" {
+                return show_json(alloc, shown, &ty);
+            }
+            shown.item("", &ty.clone()?);
         }
     }
+    Ok(())
 }
 
 fn of_value(alloc: Global, call: &str, values: &mut Vec<Value>, shown: &mut Shown) -> Answered {
@@ -260,31 +255,6 @@ fn show_tree<D: Written + Drop>(shown: &mut Shown, answer: Answer<D>) -> Answere
     Ok(())
 }
 
-// How many fields with a set nest, each alone in its set, and the name of the field in the last.
-fn show_depth(shown: &mut Shown, answer: Answer<ExecutableDocument>) -> Answered {
-    match answer {
-        Ok(document) => {
-            if let Some(field) = first_field(&document) {
-                show_innermost(shown, field, 0);
-            }
-        }
-        Err(error) => show_error(shown, &error)?,
-    }
-    Ok(())
-}
-
-fn show_innermost(shown: &mut Shown, field: &Field, depth: usize) {
-    if field.selection_set.node.items.is_empty() {
-        shown.item("", &depth);
-        shown.item(" ", &field.name);
-    }
-    for selection in &field.selection_set.node.items {
-        if let Selection::Field(inner) = &selection.node {
-            show_innermost(shown, &inner.node, depth.wrapping_add(1));
-        }
-    }
-}
-
 fn show_checked(shown: &mut Shown, answer: Answer<()>) -> Answered {
     match answer {
         Ok(()) => shown.word("accepted"),
@@ -305,30 +275,11 @@ fn show_error(shown: &mut Shown, error: &Error) -> Answered {
     Ok(())
 }
 
-fn show_option<T: fmt::Display + Drop>(shown: &mut Shown, answer: Option<T>) -> Answered {
+fn show_option<T: fmt::Display + Drop>(shown: &mut Shown, before: &str, answer: Option<T>) {
     match answer {
-        Some(answer) => shown.item("", &answer),
-        None => shown.word("none"),
+        Some(answer) => shown.item(before, &answer),
+        None => shown.item(before, &"none"),
     }
-    Ok(())
-}
-
-// A number, and its values as integers.
-fn show_number(shown: &mut Shown, answer: Option<Number>) -> Answered {
-    let Some(number) = answer else {
-        shown.word("none");
-        return Ok(());
-    };
-    shown.item("", &number);
-    match number.as_i64() {
-        Some(value) => shown.item(" ", &value),
-        None => shown.word(" none"),
-    }
-    match number.as_u64() {
-        Some(value) => shown.item(" ", &value),
-        None => shown.word(" none"),
-    }
-    Ok(())
 }
 
 fn show_constant<T: Written + Drop>(shown: &mut Shown, answer: Option<T>) -> Answered {
@@ -353,29 +304,8 @@ fn show_copy<D: Written + Clone + Drop>(document: &D, shown: &mut Shown) -> Answ
     }
 }
 
-// The places of the error of a request as JSON.
-fn show_json_places(alloc: Global, text: &str, shown: &mut Shown) -> Answered {
-    match parse_query(alloc, text) {
-        Ok(_) | Err(Error::OutOfMemory) => Err(AllocError),
-        Err(error) => match serde_json::to_string(alloc, &error.positions()) {
-            Ok(json) => {
-                shown.item("", &json);
-                Ok(())
-            }
-            Err(_) => Err(AllocError),
-        },
-    }
-}
-
-fn show_json_type(alloc: Global, text: &str, shown: &mut Shown) -> Answered {
-    let Some(ty) = Type::new(alloc, text)? else {
-        return Err(AllocError);
-    };
-    match serde_json::to_string(alloc, &ty) {
-        Ok(json) => {
-            shown.item("", &json);
-            Ok(())
-        }
-        Err(_) => Err(AllocError),
-    }
+fn show_json<T: Serialize>(alloc: Global, shown: &mut Shown, item: &T) -> Answered {
+    let json = serde_json::to_string(alloc, item).map_err(|_| AllocError)?;
+    shown.item("", &json);
+    Ok(())
 }

@@ -2,9 +2,7 @@
 use crate::inputs::first_field;
 use graphql_parser::lexer::Tokens;
 use graphql_parser::pos::PositionCalculator;
-use graphql_parser::types::{
-    DocumentOperations, ExecutableDocument, OperationDefinition, SelectionSet,
-};
+use graphql_parser::types::{DocumentOperations, ExecutableDocument, SelectionSet};
 use graphql_parser::value::{ConstValue, Literal, Name, Value};
 use graphql_parser::{Error, Limits, Pos, Positioned};
 use rows::Shown;
@@ -105,18 +103,14 @@ pub fn show_found(shown: &mut Shown, document: &ExecutableDocument) {
     }
     if let Some(operation) = document.operations.get("A") {
         shown.item(" A@", &operation.pos);
-        show_defaults(shown, &operation.node);
+        for variable in &operation.node.variable_definitions {
+            write_default_value(shown, &variable.node);
+        }
     }
     if let Some(fragment) = document.fragment("F") {
         shown.item(" F@", &fragment.pos);
     }
     shown.item(" ", &document.operations.iter().len());
-}
-
-fn show_defaults(shown: &mut Shown, operation: &OperationDefinition) {
-    for variable in &operation.variable_definitions {
-        write_default_value(shown, &variable.node);
-    }
 }
 
 /// The directives of the first selection, after each was put into line 7.

@@ -29,10 +29,6 @@ impl Input {
     /// What calls of this kind are given where their row has this text, for so many times.
     pub fn new(alloc: Global, kind: &str, text: &str, times: usize) -> Result<Input, AllocError> {
         Ok(match kind {
-            "value" => Input::Values(values(alloc, text, times)?),
-            "constant" => Input::Constants(constants(alloc, text, times)?),
-            "directive" => Input::Directives(directives(alloc, text, times)?),
-            "constant directive" => Input::ConstDirectives(const_directives(alloc, text, times)?),
             "query tree" => Input::Request(request(alloc, text)?),
             "schema tree" => Input::File(parse_schema(alloc, text).map_err(|_| AllocError)?),
             "error" => Input::Error(parse_query(alloc, text).err().ok_or(AllocError)?),
@@ -40,8 +36,36 @@ impl Input {
                 Vec::with_capacity(alloc, ROOM)?,
                 Vec::with_capacity(alloc, ROOM)?,
             ),
-            _ => Input::Text,
+            "text" | "query text" | "schema text" => Input::Text,
+            _ => {
+                let document = request(alloc, text)?;
+                let field = first_field(&document).ok_or(AllocError)?;
+                Input::of_field(alloc, kind, field, times)?
+            }
         })
+    }
+
+    // Copies of the first argument of a field, or of its first directive.
+    fn of_field(
+        alloc: Global,
+        kind: &str,
+        field: &Field,
+        times: usize,
+    ) -> Result<Input, AllocError> {
+        if let Some(argument) = field.arguments.first() {
+            let value = &argument.1.node;
+            if kind == "value" {
+                return Ok(Input::Values(copies(alloc, value, times)?));
+            }
+            let constant = value.clone()?.into_const(alloc)?.ok_or(AllocError)?;
+            return Ok(Input::Constants(copies(alloc, &constant, times)?));
+        }
+        let directive = &field.directives.first().ok_or(AllocError)?.node;
+        if kind == "directive" {
+            return Ok(Input::Directives(copies(alloc, directive, times)?));
+        }
+        let constant = directive.clone()?.into_const(alloc)?.ok_or(AllocError)?;
+        Ok(Input::ConstDirectives(copies(alloc, &constant, times)?))
     }
 }
 
@@ -64,34 +88,4 @@ fn copies<T: Clone + Drop>(alloc: Global, item: &T, times: usize) -> Result<Vec<
         copies.push(item.clone()?)?;
     }
     Ok(copies)
-}
-
-// Copies of the first argument of the first field.
-fn values(alloc: Global, text: &str, times: usize) -> Result<Vec<Value>, AllocError> {
-    let document = request(alloc, text)?;
-    let argument = first_field(&document).and_then(|field| field.arguments.first());
-    copies(alloc, &argument.ok_or(AllocError)?.1.node, times)
-}
-
-fn constants(alloc: Global, text: &str, times: usize) -> Result<Vec<ConstValue>, AllocError> {
-    let value = values(alloc, text, 1)?.pop().ok_or(AllocError)?;
-    let constant = value.into_const(alloc)?.ok_or(AllocError)?;
-    copies(alloc, &constant, times)
-}
-
-// Copies of the first directive of the first field.
-fn directives(alloc: Global, text: &str, times: usize) -> Result<Vec<Directive>, AllocError> {
-    let document = request(alloc, text)?;
-    let directive = first_field(&document).and_then(|field| field.directives.first());
-    copies(alloc, &directive.ok_or(AllocError)?.node, times)
-}
-
-fn const_directives(
-    alloc: Global,
-    text: &str,
-    times: usize,
-) -> Result<Vec<ConstDirective>, AllocError> {
-    let directive = directives(alloc, text, 1)?.pop().ok_or(AllocError)?;
-    let constant = directive.into_const(alloc)?.ok_or(AllocError)?;
-    copies(alloc, &constant, times)
 }

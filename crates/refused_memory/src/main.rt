@@ -17,7 +17,7 @@ use little_memory::all_but;
 use rows::{ended, judge};
 use std::io;
 use std::test::Fail;
-use trying::{AtTheEnd, once};
+use trying::{Calls, once};
 
 /// How many bytes are left for the tables, for what the calls are given, and for their answers.
 const ROOM_FOR_ROWS: usize = 1 << 25;
@@ -30,8 +30,12 @@ fn main(rt: HostRuntime) -> Result<(), Fail> {
     {
         // Most of the memory is taken once, for all rows.
         let held = all_but(alloc, ROOM_FOR_ROWS)?;
-        let _held = held.ok_or("memory has no end here")?;
-        return ended(judge(&rt, &AtTheEnd)?);
+        let has_end = held.is_some();
+        let wrong = judge(&rt, &Calls { has_end })?;
+        if held.is_none() {
+            return Err(Fail::new("memory has no end here: each call was made once"));
+        }
+        return ended(wrong);
     }
     let told = match input {
         Ok(row) => once(alloc, row.as_str()).unwrap_or("out of memory"),
