@@ -21,21 +21,22 @@ pub fn digest_of(alloc: Global, file: &str, rounds: u32) -> Result<u64, AllocErr
     for _ in 0..rounds {
         for text in &mut texts {
             text.change(&mut random);
-            read(alloc, text, &mut digest)?;
+            read(alloc, text, &mut digest);
         }
     }
     Ok(digest.number())
 }
 
-fn read(alloc: Global, stamped: &Text, digest: &mut Digest) -> Result<(), AllocError> {
+// Memory that is refused is an answer too, so that nothing here ends early.
+fn read(alloc: Global, stamped: &Text, digest: &mut Digest) {
     let text = stamped.text();
     let language = stamped.language;
     match stamped.way {
         Way::Walk => walk(alloc, language, text, digest),
         Way::Check => check(alloc, language, text, digest),
-        Way::Give => return give(alloc, language, text, digest),
-        Way::Explain => return report(alloc, language, text, digest),
-        Way::Write => return write(alloc, language, text, digest),
+        Way::Give => give(alloc, language, text, digest),
+        Way::Explain => report(alloc, language, text, digest),
+        Way::Write => write(alloc, language, text, digest),
         Way::Cut => {
             add_tokens(text, digest);
             check(alloc, language, text, digest);
@@ -43,7 +44,6 @@ fn read(alloc: Global, stamped: &Text, digest: &mut Digest) -> Result<(), AllocE
         }
         Way::Edit => {}
     }
-    Ok(())
 }
 
 fn walk(alloc: Global, language: Language, text: &str, digest: &mut Digest) {
@@ -73,64 +73,43 @@ fn check(alloc: Global, language: Language, text: &str, digest: &mut Digest) {
     }
 }
 
-fn report(
-    alloc: Global,
-    language: Language,
-    text: &str,
-    digest: &mut Digest,
-) -> Result<(), AllocError> {
+fn report(alloc: Global, language: Language, text: &str, digest: &mut Digest) {
     if let Err(error) = checked(alloc, language, text) {
-        let report = explain(
-            alloc,
-            language,
-            "a.graphql",
-            text,
-            Limits::default(),
-            &error,
-        )?;
-        digest.add_text(report.as_str());
+        let limits = Limits::default();
+        add_text(
+            explain(alloc, language, "a.graphql", text, limits, &error),
+            digest,
+        );
     }
-    Ok(())
 }
 
-fn give(
-    alloc: Global,
-    language: Language,
-    text: &str,
-    digest: &mut Digest,
-) -> Result<(), AllocError> {
+fn give(alloc: Global, language: Language, text: &str, digest: &mut Digest) {
     match language {
         Language::Requests => match parse_query(alloc, text) {
             Ok(document) => {
-                digest.add_bytes(request_json(alloc, &document, Places::Written)?.as_slice());
-                digest.add_bytes(packed_request(alloc, &document)?.as_slice());
+                add_bytes(request_json(alloc, &document, Places::Written), digest);
+                add_bytes(packed_request(alloc, &document), digest);
             }
             Err(error) => digest.add_error(&error),
         },
         Language::Schemas => match parse_schema(alloc, text) {
             Ok(document) => {
-                digest.add_bytes(schema_json(alloc, &document, Places::LeftOut)?.as_slice());
-                digest.add_bytes(packed_schema(alloc, &document)?.as_slice());
+                add_bytes(schema_json(alloc, &document, Places::LeftOut), digest);
+                add_bytes(packed_schema(alloc, &document), digest);
             }
             Err(error) => digest.add_error(&error),
         },
     }
-    Ok(())
 }
 
-fn write(
-    alloc: Global,
-    language: Language,
-    text: &str,
-    digest: &mut Digest,
-) -> Result<(), AllocError> {
+fn write(alloc: Global, language: Language, text: &str, digest: &mut Digest) {
     let limits = Limits::default();
     match language {
         Language::Requests => {
             add_written(format_query(alloc, text, limits), digest);
             add_written(minify_query(alloc, text, limits), digest);
             match parse_query(alloc, text) {
-                Ok(document) => digest.add_text(print_query(alloc, &document)?.as_str()),
+                Ok(document) => add_text(print_query(alloc, &document), digest),
                 Err(error) => digest.add_error(&error),
             }
         }
@@ -138,12 +117,25 @@ fn write(
             add_written(format_schema(alloc, text, limits), digest);
             add_written(minify_schema(alloc, text, limits), digest);
             match parse_schema(alloc, text) {
-                Ok(document) => digest.add_text(print_schema(alloc, &document)?.as_str()),
+                Ok(document) => add_text(print_schema(alloc, &document), digest),
                 Err(error) => digest.add_error(&error),
             }
         }
     }
-    Ok(())
+}
+
+fn add_bytes(given: Result<Vec<u8>, AllocError>, digest: &mut Digest) {
+    match given {
+        Ok(bytes) => digest.add_bytes(bytes.as_slice()),
+        Err(_) => digest.add(78),
+    }
+}
+
+fn add_text(given: Result<String, AllocError>, digest: &mut Digest) {
+    match given {
+        Ok(text) => digest.add_text(text.as_str()),
+        Err(_) => digest.add(78),
+    }
 }
 
 fn add_written(written: Answer<String>, digest: &mut Digest) {

@@ -64,11 +64,12 @@ pub fn texts_of(alloc: Global, file: &str) -> Result<(Random, Vec<Text>), AllocE
             break;
         };
         let mut words = head.split(' ');
-        let way = words.next().and_then(way_named);
+        let Some(way) = way_named(words.next().unwrap_or("")) else {
+            break;
+        };
         let is_schema = words.next() == Some("schema");
-        let length = words.next().and_then(|word| word.parse::<usize>().ok());
-        let parts = length.and_then(|length| after.split_at_checked(length));
-        let (Some(way), Some((text, after))) = (way, parts) else {
+        let length = words.next().unwrap_or("").parse::<usize>().unwrap_or(0);
+        let Some((text, after)) = after.split_at_checked(length) else {
             break;
         };
         let language = if is_schema {
