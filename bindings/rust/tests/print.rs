@@ -12,7 +12,6 @@ use graphql_parser::{
     format_query, format_schema, parse_query, parse_query_limited, parse_schema,
     parse_schema_limited, print_query, print_schema, Error, Limits, Positioned, Result,
 };
-use std::fs;
 use std::thread;
 use support::{random, tables};
 
@@ -160,12 +159,9 @@ fn trees_are_printed_as_graphql_js_prints_them() {
 
 #[test]
 fn trees_are_printed_as_the_library_prints_them() {
-    let pairs_in = |file: &str| {
-        let path = tables::path("crates/graphql_printer/src").join(file);
-        tables::pairs(&fs::read_to_string(path).unwrap())
-    };
-    let (requests, schema_files) = (pairs_in("tests.rt"), pairs_in("schema_tests.rt"));
-    assert!(requests.len() >= 9 && schema_files.len() >= 32);
+    let requests = tables::answers("printed.rows", "printed query");
+    let schema_files = tables::answers("printed.rows", "printed schema");
+    assert!(requests.len() >= 12 && schema_files.len() >= 32);
     for (text, expected) in requests {
         assert_eq!(printed_request(&text), expected, "{text}");
     }

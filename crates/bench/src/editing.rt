@@ -1,8 +1,8 @@
 //! Key strokes: a text is changed, and all that is wrong with it is told, as a language server does it.
 use crate::random::Random;
 use crate::texts::texts_of;
-use graphql_texts::{Diagnosis, Language, diagnoses_of};
 use graphql_parser::Limits;
+use graphql_texts::{Diagnosis, Language, diagnoses_of};
 use std::alloc::{AllocError, Global};
 use text_edits::{Document, Encoding, Position, Range};
 

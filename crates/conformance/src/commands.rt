@@ -17,7 +17,7 @@ use std::alloc::Global;
 use std::io::ErrorKind;
 use std::test::Fail;
 
-/// What a part of the program makes of a text.
+/// What a part of the program makes of a text, over the files that `listed` has.
 ///
 /// - `language`: what the text of a file is read as; the file's name stands before it, with ` | ` between them
 /// - `help`, `cut short`, `closed`, `unheard`, `unheard bytes`: of arguments, the status, and what is written besides
@@ -25,14 +25,14 @@ use std::test::Fail;
 /// - `rest`, `later line`: what is told of a text that is read from a later line on
 /// - `diagnoses`, `mended`: what is wrong with a text as data, and what the first fix makes of it
 /// - `findings`, `made findings`, `many findings`, `spelling`, `made spellings`: whether it is as it was before
-pub fn answer(alloc: Global, part: &str, text: &str) -> Result<String, Fail> {
+pub fn answer(alloc: Global, listed: &str, part: &str, text: &str) -> Result<String, Fail> {
     match part {
         "language" => language(alloc, text),
-        "help" => outputs::help(alloc, text),
-        "cut short" => outputs::cut_short(alloc, ErrorKind::Other, text),
-        "closed" => outputs::cut_short(alloc, ErrorKind::BrokenPipe, text),
-        "unheard" => outputs::unheard(alloc, Some(text)),
-        "unheard bytes" => outputs::unheard(alloc, None),
+        "help" => outputs::help(alloc, listed, text),
+        "cut short" => outputs::cut_short(alloc, listed, ErrorKind::Other, text),
+        "closed" => outputs::cut_short(alloc, listed, ErrorKind::BrokenPipe, text),
+        "unheard" => outputs::unheard(alloc, listed, Some(text)),
+        "unheard bytes" => outputs::unheard(alloc, listed, None),
         "unclosed string" => strings::unclosed(alloc, text),
         "unclosed string from" => strings::unclosed_from(alloc, text),
         "opening" => strings::opening(alloc, text),

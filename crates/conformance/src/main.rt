@@ -4,8 +4,9 @@
 //! taken from what the crates print.
 //!
 //! The tables are the files of `data/tables`, in the notation of the crate `rows`, and the runs of `gql` and `gqlparse` are the
-//! files of `data/runs`. The program prints how many rows each has, and the rows that do not hold: the file `stdout` has the counts,
-//! and no such row. So a new row is a line of a table, and counts there.
+//! files of `data/runs`, those of `gql` over the files that `data/sources` lists. The program prints how many rows each has, and
+//! the rows that do not hold: the file `stdout` has the counts, and no such row. So a new row is a line of a table, and counts
+//! there.
 #![tactic(auto)]
 
 mod commands;
@@ -25,10 +26,15 @@ use parser::Parser;
 use rewritten::Rewriting;
 use rows::{Subject, ended, judge};
 use std::alloc::Global;
+use std::fs;
 use std::test::Fail;
 
 /// The calls that the tables are about.
-struct Calls;
+#[derive(Drop)]
+struct Calls {
+    /// The files that `gql` is run on: the file `sources`.
+    sources: String,
+}
 
 impl Subject for Calls {
     fn answer(&self, alloc: Global, call: &str, text: &str) -> Result<String, Fail> {
@@ -52,13 +58,16 @@ impl Subject for Calls {
             Some(("made", what)) => made::answer(alloc, what, text),
             Some(("seeds", what)) => seeds::answer(alloc, what, text),
             Some(("readme", example)) => readme::answer(alloc, example, text),
-            Some(("gql", part)) => commands::answer(alloc, part, text),
+            Some(("gql", part)) => commands::answer(alloc, self.sources.as_str(), part, text),
             _ => Err(Fail::new("no such call")),
         }
     }
 }
 
 fn main(rt: HostRuntime) -> Result<(), Fail> {
-    let wrong = judge(&rt, &Calls)?;
-    ended(wrong.saturating_add(judge_runs(&rt)?))
+    let calls = Calls {
+        sources: fs::read_to_string(&rt, "sources")?,
+    };
+    let wrong = judge(&rt, &calls)?;
+    ended(wrong.saturating_add(judge_runs(&rt, calls.sources.as_str())?))
 }

@@ -27,14 +27,16 @@ pub fn in_order(alloc: Global, text: &str) -> Result<String, AllocError> {
 // Whether all spans of a text begin and end where characters do, and are in order; with those of the ranges around an offset.
 fn is_in_order(alloc: Global, text: &str, offset: usize) -> Result<bool, AllocError> {
     let structure = Structure::new(alloc, text)?;
-    let selection = selection_at(alloc, text, offset)?;
-    Ok(
-        has_symbols_in_order(&structure, text)
-            && has_names_in_order(&structure, text)
-            && has_definitions_in_order(&structure, text)
-            && structure.folds().iter().all(|fold| is_of(text, fold.span))
-            && selection.iter().all(|span| is_of(text, *span)),
-    )
+    let mut holds = has_symbols_in_order(&structure, text)
+        && has_names_in_order(&structure, text)
+        && has_definitions_in_order(&structure, text);
+    for fold in structure.folds() {
+        holds = holds && is_of(text, fold.span);
+    }
+    for span in &selection_at(alloc, text, offset)? {
+        holds = holds && is_of(text, *span);
+    }
+    Ok(holds)
 }
 
 // Whether a span is of characters of the text.

@@ -4,47 +4,45 @@
 //! A dialogue is a file of `data/dialogues`, in the notation of the module `notation`. Each is played message by message, byte by
 //! byte, and in one piece; those whose file's name begins with `cut_` also in two pieces, cut at each byte after the
 //! first message. The program prints how many messages each dialogue has, and what is not as it has to be: the file `stdout` has
-//! the counts, and nothing else.
+//! the counts, and nothing else. The program's arguments name the files to play, and with none it plays all.
+//!
+//! A file of `data/places` has texts, for the module `places`.
 #![tactic(auto)]
 
-mod frames;
 mod notation;
 mod places;
 mod played;
 
 use notation::dialogue_of;
-use played::judged;
-use std::alloc::Global;
+use places::judge_places;
+use played::judge;
+use rows::{ended, files_in};
 use std::fs;
 use std::test::Fail;
 
 fn main(rt: HostRuntime) -> Result<(), Fail> {
-    let alloc = rt.alloc();
-    let mut files = Vec::new(alloc);
-    for entry in fs::read_dir(&rt, "dialogues")? {
-        files.push(String::from_str(alloc, entry?.path().as_str())?)?;
-    }
-    files.sort()?;
-    for file in &files {
+    let mut wrong = 0usize;
+    for file in &files_in(&rt, "dialogues")? {
         let text = whole_text(&rt, file.as_str())?;
-        let dialogue = dialogue_of(alloc, text.as_str())?;
-        let is_cut = file.contains("/cut_");
-        println!(rt; "{file}: {}", judged(alloc, &dialogue, is_cut)?)?;
+        let dialogue = dialogue_of(rt.alloc(), text.as_str())?;
+        wrong = wrong.saturating_add(judge(&rt, file.as_str(), &dialogue)?);
     }
-    Ok(())
+    for file in &files_in(&rt, "places")? {
+        wrong = wrong.saturating_add(judge_places(&rt, file.as_str())?);
+    }
+    ended(wrong)
 }
 
 // The text of a file, in which a line `+ begin` stands for the lines of the file `parts/begin`.
 fn whole_text(rt: &HostRuntime, file: &str) -> Result<String, Fail> {
-    let alloc: Global = rt.alloc();
+    let alloc = rt.alloc();
     let text = fs::read_to_string(rt, file)?;
     let mut whole = String::new(alloc);
     for line in text.as_str().lines() {
         match line.strip_prefix("+ ") {
             Some(part) => {
                 let path = format!(in alloc; "parts/{part}")?;
-                let part = fs::read_to_string(rt, path.as_str())?;
-                whole.push_str(part.as_str())?;
+                whole.push_str(fs::read_to_string(rt, path.as_str())?.as_str())?;
             }
             None => writeln!(whole, "{line}")?,
         }

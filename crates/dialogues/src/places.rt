@@ -1,56 +1,43 @@
-//! Positions and ranges of the protocol, as dialogues write them.
-use std::alloc::{AllocError, Global};
+//! Positions of a text that are found in two ways: a line of a file is a text, with the signs of the crate `rows`. At each of its
+//! offsets, in each encoding, `Places` of the server has the position that a `Document` has.
+use graphql_server::places::Places;
+use rows::meant;
+use std::fs;
+use std::test::Fail;
+use text_edits::{Document, Encoding};
 
-/// The JSON that a text stands for: each `@0:12` that is in no string is a position, and each `@0:12-1:0` a range.
-pub fn with_places(alloc: Global, text: &str) -> Result<String, AllocError> {
-    let mut out = String::new(alloc);
-    // What is read of a place.
-    let mut place = None;
-    let mut is_in_string = false;
-    let mut is_escaped = false;
-    for c in text.chars() {
-        if let Some(begun) = place {
-            let mut begun: String = begun;
-            if is_of_place(c) {
-                begun.push(c)?;
-                place = Some(begun);
-                continue;
-            }
-            push_place(&mut out, begun.as_str())?;
-            place = None;
-        }
-        if c == '@' && !is_in_string {
-            place = Some(String::new(alloc));
+/// Judges the texts of a file: prints how many they are and how many offsets they have, and before that each offset whose positions
+/// differ. The answer is how many these are.
+pub fn judge_places(rt: &HostRuntime, file: &str) -> Result<usize, Fail> {
+    let mut texts = 0usize;
+    let mut offsets = 0usize;
+    let mut wrong = 0usize;
+    for line in fs::read_to_string(rt, file)?.as_str().lines() {
+        if line.starts_with("-- ") {
             continue;
         }
-        out.push(c)?;
-        if c == '"' && !is_escaped {
-            is_in_string = !is_in_string;
+        let text = meant(rt.alloc(), line)?;
+        texts = texts.saturating_add(1);
+        offsets = offsets.saturating_add(text.len()).saturating_add(1);
+        for encoding in [Encoding::Utf8, Encoding::Utf16, Encoding::Utf32] {
+            wrong = wrong.saturating_add(judge_text(rt, encoding, text.as_str())?);
         }
-        is_escaped = c == '\\' && !is_escaped;
     }
-    Ok(out)
+    println!(rt; "{file}: {texts} texts, {offsets} offsets")?;
+    Ok(wrong)
 }
 
-fn is_of_place(c: char) -> bool {
-    c.is_ascii_digit() || c == ':' || c == '-'
-}
-
-// Adds the JSON of a position or of a range.
-fn push_place(out: &mut String, place: &str) -> Result<(), AllocError> {
-    match place.split_once('-') {
-        Some((start, end)) => {
-            out.push_str("{\"start\": ")?;
-            push_position(out, start)?;
-            out.push_str(", \"end\": ")?;
-            push_position(out, end)?;
-            out.push('}')
+// Prints the offsets of a text whose positions differ. The answer is how many these are.
+fn judge_text(rt: &HostRuntime, encoding: Encoding, text: &str) -> Result<usize, Fail> {
+    let alloc = rt.alloc();
+    let document = Document::new(alloc, String::from_str(alloc, text)?)?;
+    let places = Places::new(alloc, encoding, text)?;
+    let mut wrong = 0usize;
+    for offset in 0..text.len().saturating_add(1) {
+        if places.position_of(offset) != document.position_of(encoding, offset) {
+            println!(rt; "  {encoding:?}: other positions at {offset}")?;
+            wrong = wrong.saturating_add(1);
         }
-        None => push_position(out, place),
     }
-}
-
-fn push_position(out: &mut String, place: &str) -> Result<(), AllocError> {
-    let (line, character) = place.split_once(':').unwrap_or((place, ""));
-    write!(out, "{{\"line\": {line}, \"character\": {character}}}")
+    Ok(wrong)
 }

@@ -1,8 +1,8 @@
 //! What the server writes in a dialogue, beside what it has to write.
-use crate::frames::unframed;
 use crate::notation::{Dialogue, Turn, plain};
 use graphql_server::Server;
 use std::alloc::Global;
+use std::str;
 use std::test::Fail;
 
 // In what pieces the bytes of a turn arrive.
@@ -16,100 +16,91 @@ enum Pieces {
     Cut(usize),
 }
 
-/// Plays a dialogue, also byte by byte and in one piece, and where `is_cut` says so in two pieces, cut at each byte after the first
-/// message. Gives how many messages it has, and what is not as it has to be.
-pub fn judged(alloc: Global, dialogue: &Dialogue, is_cut: bool) -> Result<String, Fail> {
-    let mut told = counted(alloc, dialogue)?;
-    let failures = failures(alloc, dialogue, Pieces::Whole)?;
-    if !failures.is_empty() {
-        told.push_str(failures.as_str())?;
-        return Ok(told);
+/// Plays the dialogue of a file, also byte by byte and in one piece, and where the file's name says so in two pieces, cut at each byte
+/// after the first message. Prints how many messages it has, and what is not as it has to be. The answer is how much that is.
+pub fn judge(rt: &HostRuntime, file: &str, dialogue: &Dialogue) -> Result<usize, Fail> {
+    let turns = dialogue.turns.as_slice();
+    let wanted = dialogue.wanted.len();
+    println!(rt; "{file}: {} in, {wanted} out", given_in(turns))?;
+    let wrong = play(rt, "message by message", dialogue, turns, Pieces::Whole)?;
+    if wrong > 0 {
+        return Ok(wrong);
     }
-    push_as(&mut told, "byte by byte", dialogue, Pieces::Bytes)?;
-    let joined = joined(alloc, dialogue)?;
-    push_as(&mut told, "in one piece", &joined, Pieces::Whole)?;
-    if is_cut && let Some(whole) = joined.turns.first() {
-        for place in length_of_first(dialogue)..whole.given.len() {
-            push_as(&mut told, "in two pieces", &joined, Pieces::Cut(place))?;
-        }
-    }
-    Ok(told)
-}
-
-// How many bytes the first message has.
-fn length_of_first(dialogue: &Dialogue) -> usize {
-    match dialogue.turns.first() {
-        Some(turn) => turn.given.len(),
-        None => 0,
-    }
-}
-
-// How many messages a dialogue has.
-fn counted(alloc: Global, dialogue: &Dialogue) -> Result<String, Fail> {
-    let mut given = 0usize;
-    let mut wanted = 0usize;
-    for turn in &dialogue.turns {
-        if !turn.given.is_empty() {
-            given = given.saturating_add(1);
-        }
-        wanted = wanted.saturating_add(turn.wanted.len());
-    }
-    Ok(format!(in alloc; "{given} in, {wanted} out")?)
-}
-
-// Adds what is not as it has to be where the bytes arrive so.
-fn push_as(told: &mut String, how: &str, dialogue: &Dialogue, pieces: Pieces) -> Result<(), Fail> {
-    let failures = failures(*told.allocator(), dialogue, pieces)?;
-    if !failures.is_empty() {
-        write!(told, "\n  {how}:{failures}")?;
-    }
-    Ok(())
-}
-
-// The dialogue with all that is given in one turn, and what is wanted then.
-fn joined(alloc: Global, dialogue: &Dialogue) -> Result<Dialogue, Fail> {
-    let mut given = Vec::new(alloc);
-    let mut wanted = Vec::new(alloc);
-    let mut is_last = false;
-    for turn in &dialogue.turns {
-        given.extend_from_slice(turn.given.as_slice())?;
-        for message in &turn.wanted {
-            wanted.push(message.clone()?)?;
-        }
-        is_last = is_last || turn.is_last;
-    }
-    let mut turns = Vec::new(alloc);
-    turns.push(Turn {
-        given,
-        is_last,
+    let wrong = play(rt, "byte by byte", dialogue, turns, Pieces::Bytes)?;
+    let joined = [Turn {
+        given: dialogue.given.len(),
         wanted,
-    })?;
-    Ok(Dialogue {
-        turns,
-        status: dialogue.status,
-    })
+        is_last: turns.last().is_some_and(|turn| turn.is_last),
+    }];
+    let mut wrong = wrong.saturating_add(play(
+        rt,
+        "in one piece",
+        dialogue,
+        &joined,
+        Pieces::Whole,
+    )?);
+    if file.contains("/cut_") {
+        let first = turns.first().map_or(0, |turn| turn.given);
+        for place in first..dialogue.given.len() {
+            let pieces = Pieces::Cut(place);
+            wrong = wrong.saturating_add(play(rt, "in two pieces", dialogue, &joined, pieces)?);
+        }
+    }
+    Ok(wrong)
 }
 
-// What is not as it has to be where the bytes of each turn arrive in these pieces.
-fn failures(alloc: Global, dialogue: &Dialogue, pieces: Pieces) -> Result<String, Fail> {
-    let mut failures = String::new(alloc);
+// How many messages are given.
+fn given_in(turns: &[Turn]) -> usize {
+    let mut count = 0usize;
+    let mut before = 0;
+    for turn in turns {
+        if turn.given > before {
+            count = count.saturating_add(1);
+        }
+        before = turn.given;
+    }
+    count
+}
+
+// Plays a dialogue in these turns, whose bytes arrive in these pieces. Prints what is not as it has to be.
+fn play(
+    rt: &HostRuntime,
+    how: &str,
+    dialogue: &Dialogue,
+    turns: &[Turn],
+    pieces: Pieces,
+) -> Result<usize, Fail> {
+    let alloc = rt.alloc();
     let mut server = Server::new(alloc);
-    for (index, turn) in dialogue.turns.iter().enumerate() {
+    let mut wrong = 0usize;
+    let (mut given, mut wanted) = (0, 0);
+    for turn in turns {
+        let bytes = dialogue
+            .given
+            .get(given..turn.given)
+            .ok_or("no such bytes")?;
+        let messages = dialogue
+            .wanted
+            .get(wanted..turn.wanted)
+            .ok_or("no such messages")?;
         let mut written = Vec::new(alloc);
-        give(&mut server, turn.given.as_slice(), pieces, &mut written)?;
+        give(&mut server, bytes, pieces, &mut written)?;
         if turn.is_last {
             server.end();
         }
-        let found = differing(alloc, turn, written.as_slice())?;
-        if !found.is_empty() {
-            write!(failures, "\n  turn {index}:{found}")?;
+        if !is_as_wanted(alloc, written.as_slice(), messages)? {
+            let written = str::from_utf8(written.as_slice()).unwrap_or("what is no text");
+            println!(rt; "  {how}, after byte {}: {written}", turn.given)?;
+            wrong = wrong.saturating_add(1);
         }
+        given = turn.given;
+        wanted = turn.wanted;
     }
-    let status = server.has_ended();
-    if status != dialogue.status {
-        write!(failures, "\n  ended with {status:?}")?;
+    if server.has_ended() != dialogue.status {
+        println!(rt; "  {how}: ended with {:?}", server.has_ended())?;
+        wrong = wrong.saturating_add(1);
     }
-    Ok(failures)
+    Ok(wrong)
 }
 
 fn give(
@@ -134,46 +125,45 @@ fn give(
     Ok(())
 }
 
-// The messages that were written, if they are not those that were to be.
-fn differing(alloc: Global, turn: &Turn, written: &[u8]) -> Result<String, Fail> {
-    let mut found = String::new(alloc);
-    let mut is_as_wanted = true;
-    let mut wanted = turn.wanted.iter();
+// Whether these messages were written, and nothing else.
+fn is_as_wanted(alloc: Global, written: &[u8], wanted: &[String]) -> Result<bool, Fail> {
     let mut rest = written;
-    // Each message has a byte at least.
-    for _ in 0..written.len() {
-        if rest.is_empty() {
-            break;
+    for message in wanted {
+        let Some((content, after)) = unframed(rest) else {
+            return Ok(false);
+        };
+        if !is_like(plain(alloc, content)?.as_str(), message.as_str()) {
+            return Ok(false);
         }
-        let (content, after) = unframed(rest).ok_or("the server wrote no message")?;
         rest = after;
-        let message = plain(alloc, content)?;
-        match wanted.next() {
-            Some(wanted) if is_like(message.as_str(), wanted.as_str()) => (),
-            _ => is_as_wanted = false,
-        }
-        write!(found, "\n    {message}")?;
     }
-    if is_as_wanted && wanted.next().is_none() {
-        found.clear();
-    } else if found.is_empty() {
-        found.push_str(" nothing was written")?;
-    }
-    Ok(found)
+    Ok(rest.is_empty())
+}
+
+// The content of the first message of these bytes, and the bytes after it; None where they begin with none.
+fn unframed(bytes: &[u8]) -> Option<(&[u8], &[u8])> {
+    let text = str::from_utf8(bytes).ok()?;
+    let (length, content) = text
+        .strip_prefix("Content-Length: ")?
+        .split_once("\r\n\r\n")?;
+    content
+        .as_bytes()
+        .split_at_checked(length.parse::<usize>().ok()?)
 }
 
 // Whether a text of JSON is this one, in which `…` at the end of a string stands for any rest of it.
 fn is_like(found: &str, wanted: &str) -> bool {
-    let mut passed = 0usize;
+    let mut rest = found;
     for (index, part) in wanted.split('…').enumerate() {
-        let rest = found.get(passed..).unwrap_or("");
-        let rest = if index == 0 { rest } else { after_string(rest) };
+        if index > 0 {
+            rest = after_string(rest);
+        }
         let Some(after) = rest.strip_prefix(part) else {
             return false;
         };
-        passed = found.len().saturating_sub(after.len());
+        rest = after;
     }
-    passed == found.len()
+    rest.is_empty()
 }
 
 // What stands after the rest of a string, from its closing quotes on.

@@ -35,7 +35,7 @@ impl<'a> Word<'a> {
 }
 
 /// What a bracket holds.
-#[derive(Clone, Copy, PartialEq, Eq)]
+#[derive(Clone, Copy)]
 pub(crate) enum Bracket {
     /// The definitions of the text. It is the text itself.
     Definitions,
@@ -103,7 +103,7 @@ impl Bracket {
 }
 
 /// What a name is in a member of a bracket.
-#[derive(Clone, Copy, PartialEq, Eq)]
+#[derive(Clone, Copy)]
 pub(crate) enum Place {
     /// The name of the member, or of what the walk doesn't tell.
     Plain,
@@ -114,7 +114,7 @@ pub(crate) enum Place {
 }
 
 /// What the token before was, as far as it decides what the next one is.
-#[derive(Clone, Copy, PartialEq, Eq)]
+#[derive(Clone, Copy)]
 pub(crate) enum Last {
     /// There is none.
     Start,

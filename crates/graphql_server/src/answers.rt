@@ -1,11 +1,8 @@
 //! Messages put into the bytes that are sent.
 
-use crate::messages::{Answer, Id, LogParams, Notice, Object, Refusal, ResponseError, WithParams};
-use serde::{Deserialize, Serialize};
-use serde_json::Category;
+use crate::messages::Id;
+use crate::writer::JsonWriter;
 use std::alloc::{AllocError, AllocFailed, Global};
-
-const JSONRPC: &str = "2.0";
 
 /// Why a message is refused, or has no effect.
 #[derive(Drop)]
@@ -78,80 +75,66 @@ impl<T: Drop> From<AllocFailed<T>> for Failure {
     }
 }
 
-/// What the parameters of a message say.
-pub fn params_of<'a, P: Deserialize<'a>>(alloc: Global, message: &'a str) -> Result<P, Failure> {
-    match serde_json::from_str::<WithParams<P>>(alloc, message) {
-        Ok(with) => {
-            let WithParams { params } = with;
-            let Object(params) = params;
-            Ok(params)
-        }
-        Err(error) if error.classify() == Category::Memory => Err(Failure::OutOfMemory),
-        Err(error) => Err(Failure::WrongParams(format!(in alloc; "{error}")?)),
-    }
+// The beginning of a message.
+fn begin(alloc: Global) -> JsonWriter {
+    let mut json = JsonWriter::new(alloc);
+    json.begin_object();
+    json.text_member("jsonrpc", "2.0");
+    json
 }
 
-/// Adds a message with its header part. Where memory runs out, nothing is added.
-pub fn push<M: Serialize>(alloc: Global, message: &M, out: &mut Vec<u8>) -> Result<(), AllocError> {
-    let content = serde_json::to_vec(alloc, message).map_err(|_| AllocError)?;
+/// The beginning of the answer to a request, whose result comes next ("Response Message").
+pub fn begin_answer(alloc: Global, id: &Id) -> JsonWriter {
+    let mut json = begin(alloc);
+    json.name("id");
+    id.write(&mut json);
+    json.name("result");
+    json
+}
+
+/// The beginning of a notification, whose parameters come next ("Notification Message").
+pub fn begin_notice(alloc: Global, method: &'static str) -> JsonWriter {
+    let mut json = begin(alloc);
+    json.text_member("method", method);
+    json.name("params");
+    json
+}
+
+/// Ends a message, and adds it with its header part. Where memory runs out, nothing is added.
+pub fn send(alloc: Global, json: JsonWriter, out: &mut Vec<u8>) -> Result<(), AllocError> {
+    let mut json = json;
+    json.end_object();
+    let content = json.finish()?;
     let length = content.len();
     let header = format!(in alloc; "Content-Length: {length}\r\n\r\n")?;
     let before = out.len();
-    let added = out
-        .extend_from_slice(header.as_bytes())
-        .and_then(|()| out.extend_from_slice(content.as_slice()));
+    let added = match out.extend_from_slice(header.as_bytes()) {
+        Ok(()) => out.extend_from_slice(content.as_slice()),
+        Err(error) => Err(error),
+    };
     if added.is_err() {
         out.truncate(before);
     }
     added
 }
 
-/// Adds the answer to a request.
-pub fn answer<R: Serialize + Drop>(
-    alloc: Global,
-    id: &Id<'_>,
-    result_: R,
-    out: &mut Vec<u8>,
-) -> Result<(), AllocError> {
-    let answer = Answer {
-        jsonrpc: JSONRPC,
-        id,
-        result: result_,
-    };
-    push(alloc, &answer, out)
-}
-
-/// Adds the answer to a request that fails.
+/// Adds the answer to a request that fails ("ResponseError").
 pub fn refuse(
     alloc: Global,
-    id: &Id<'_>,
+    id: &Id,
     failure: &Failure,
     out: &mut Vec<u8>,
 ) -> Result<(), AllocError> {
-    let refusal = Refusal {
-        jsonrpc: JSONRPC,
-        id,
-        error: ResponseError {
-            code: failure.code(),
-            message: failure.message(),
-        },
-    };
-    push(alloc, &refusal, out)
-}
-
-/// Adds a notification.
-pub fn notify<P: Serialize + Drop>(
-    alloc: Global,
-    method: &'static str,
-    params: P,
-    out: &mut Vec<u8>,
-) -> Result<(), AllocError> {
-    let notice = Notice {
-        jsonrpc: JSONRPC,
-        method,
-        params,
-    };
-    push(alloc, &notice, out)
+    let mut json = begin(alloc);
+    json.name("id");
+    id.write(&mut json);
+    json.name("error");
+    json.begin_object();
+    json.name("code");
+    json.integer(failure.code());
+    json.text_member("message", failure.message());
+    json.end_object();
+    send(alloc, json, out)
 }
 
 /// How much a message of the log matters (Language Server Protocol 3.17, "MessageType").
@@ -173,9 +156,10 @@ pub fn log(
         Weight::Warning => 2,
     };
     let message = format!(in alloc; "gql: {message}")?;
-    let params = LogParams {
-        kind,
-        message: message.as_str(),
-    };
-    notify(alloc, "window/logMessage", params, out)
+    let mut json = begin_notice(alloc, "window/logMessage");
+    json.begin_object();
+    json.size_member("type", kind);
+    json.text_member("message", message.as_str());
+    json.end_object();
+    send(alloc, json, out)
 }

@@ -1,98 +1,54 @@
-//! What the server tells at the beginning, and what it learns of the client (Language Server Protocol 3.17, "Initialize Request").
+//! What the server tells at the beginning (Language Server Protocol 3.17, "Initialize Request").
 
-use crate::messages::ClientCapabilities;
-use serde::Serialize;
+use crate::fixes::QUICK_FIX;
+use crate::writer::JsonWriter;
 use text_edits::Encoding;
 
-/// "InitializeResult".
-#[derive(Clone, Copy, Serialize)]
-#[serde(rename_all = "camelCase")]
-pub struct InitializeAnswer {
-    pub capabilities: ServerCapabilities,
-    pub server_info: ServerInfo,
+/// Writes what the server can do, and its name ("InitializeResult").
+pub fn write_initialized(encoding: Encoding, json: &mut JsonWriter) {
+    json.begin_object();
+    json.name("capabilities");
+    json.begin_object();
+    json.text_member("positionEncoding", name_of(encoding));
+    write_options(json);
+    json.boolean_member("documentSymbolProvider", true);
+    json.boolean_member("foldingRangeProvider", true);
+    json.boolean_member("selectionRangeProvider", true);
+    json.boolean_member("documentFormattingProvider", true);
+    json.boolean_member("documentRangeFormattingProvider", true);
+    json.boolean_member("definitionProvider", true);
+    json.boolean_member("referencesProvider", true);
+    json.boolean_member("hoverProvider", true);
+    json.end_object();
+    json.name("serverInfo");
+    json.begin_object();
+    json.text_member("name", "gql");
+    json.text_member("version", "1.0.0");
+    json.end_object();
+    json.end_object();
 }
 
-/// The name and the version of the server.
-#[derive(Clone, Copy, Serialize)]
-pub struct ServerInfo {
-    pub name: &'static str,
-    pub version: &'static str,
-}
-
-/// "ServerCapabilities".
-#[derive(Clone, Copy, Serialize)]
-#[serde(rename_all = "camelCase")]
-pub struct ServerCapabilities {
-    pub position_encoding: &'static str,
-    pub text_document_sync: SyncOptions,
-    pub diagnostic_provider: DiagnosticOptions,
-    pub code_action_provider: ActionOptions,
-    pub document_symbol_provider: bool,
-    pub folding_range_provider: bool,
-    pub selection_range_provider: bool,
-    pub document_formatting_provider: bool,
-    pub document_range_formatting_provider: bool,
-    pub definition_provider: bool,
-    pub references_provider: bool,
-    pub hover_provider: bool,
-}
-
-/// "TextDocumentSyncOptions".
-#[derive(Clone, Copy, Serialize)]
-#[serde(rename_all = "camelCase")]
-pub struct SyncOptions {
-    pub open_close: bool,
-    /// 2: changes come by their ranges.
-    pub change: u8,
-}
-
-/// "DiagnosticOptions".
-#[derive(Clone, Copy, Serialize)]
-#[serde(rename_all = "camelCase")]
-pub struct DiagnosticOptions {
-    pub identifier: &'static str,
-    pub inter_file_dependencies: bool,
-    pub workspace_diagnostics: bool,
-}
-
-/// "CodeActionOptions".
-#[derive(Clone, Copy, Serialize)]
-#[serde(rename_all = "camelCase")]
-pub struct ActionOptions {
-    pub code_action_kinds: [&'static str; 1],
-}
-
-/// What the server can do, for a session in which columns are counted so.
-pub fn initialize_answer(encoding: Encoding) -> InitializeAnswer {
-    InitializeAnswer {
-        capabilities: ServerCapabilities {
-            position_encoding: name_of(encoding),
-            text_document_sync: SyncOptions {
-                open_close: true,
-                change: 2,
-            },
-            diagnostic_provider: DiagnosticOptions {
-                identifier: "gql",
-                inter_file_dependencies: false,
-                workspace_diagnostics: false,
-            },
-            code_action_provider: ActionOptions {
-                code_action_kinds: [crate::fixes::QUICK_FIX],
-            },
-            document_symbol_provider: true,
-            folding_range_provider: true,
-            selection_range_provider: true,
-            document_formatting_provider: true,
-            document_range_formatting_provider: true,
-            definition_provider: true,
-            references_provider: true,
-            hover_provider: true,
-        },
-        server_info: ServerInfo {
-            name: "gql",
-            version: "1.0.0",
-        },
-    }
+// Writes those of "ServerCapabilities" that have options.
+fn write_options(json: &mut JsonWriter) {
+    json.name("textDocumentSync");
+    json.begin_object();
+    json.boolean_member("openClose", true);
+    // Changes come by their ranges.
+    json.size_member("change", 2);
+    json.end_object();
+    json.name("diagnosticProvider");
+    json.begin_object();
+    json.text_member("identifier", "gql");
+    json.boolean_member("interFileDependencies", false);
+    json.boolean_member("workspaceDiagnostics", false);
+    json.end_object();
+    json.name("codeActionProvider");
+    json.begin_object();
+    json.name("codeActionKinds");
+    json.begin_list();
+    json.text(QUICK_FIX);
+    json.end_list();
+    json.end_object();
 }
 
 fn name_of(encoding: Encoding) -> &'static str {
@@ -100,34 +56,5 @@ fn name_of(encoding: Encoding) -> &'static str {
         Encoding::Utf8 => "utf-8",
         Encoding::Utf16 => "utf-16",
         Encoding::Utf32 => "utf-32",
-    }
-}
-
-/// The encoding in which columns are counted: the first of the client's that the server knows, and UTF-16 where the client names none
-/// ("PositionEncodingKind").
-pub fn encoding_of(client: &ClientCapabilities<'_>) -> Encoding {
-    let Some(general) = &client.general else {
-        return Encoding::Utf16;
-    };
-    let Some(names) = &general.position_encodings else {
-        return Encoding::Utf16;
-    };
-    for name in names {
-        match name.as_str() {
-            "utf-8" => return Encoding::Utf8,
-            "utf-16" => return Encoding::Utf16,
-            "utf-32" => return Encoding::Utf32,
-            _ => {}
-        }
-    }
-    Encoding::Utf16
-}
-
-/// Whether the client asks for diagnostics itself. Then they aren't published too, since it would show each of them twice (this
-/// project's choice).
-pub fn asks_for_diagnostics(client: &ClientCapabilities<'_>) -> bool {
-    match &client.text_document {
-        Some(text_document) => text_document.diagnostic.is_some(),
-        None => false,
     }
 }

@@ -8,8 +8,8 @@ ghost use Rattle.text_edits.specs.Positions.{position_of};
 ghost use Rattle.graphql_server.specs.Ranges.{IsRange, IsDiagnosticOf};
 
 use crate::messages::{Diagnostic, Location, Related};
-use graphql_texts::{Diagnosis, Language, diagnoses_of};
 use graphql_parser::Limits;
+use graphql_texts::{Diagnosis, Language, diagnoses_of};
 use std::alloc::{AllocError, Global};
 use text_edits::{Document, Encoding, Range};
 

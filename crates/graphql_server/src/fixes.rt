@@ -1,77 +1,76 @@
 //! What mends a text (Language Server Protocol 3.17, "Code Action Request").
 
 use crate::diagnostics::{diagnostic_of, found_in, range_of};
-use crate::messages::{CodeAction, TextEdit, WorkspaceEdit};
+use crate::messages::{write_diagnostics, write_edit};
+use crate::writer::JsonWriter;
 use graphql_texts::{Diagnosis, Fix, Language};
 use std::alloc::{AllocError, Global};
-use std::borrow::CowStr;
+use std::slice;
 use text_edits::{Document, Encoding, Range};
 
 /// The kind of all actions ("CodeActionKind").
 pub const QUICK_FIX: &str = "quickfix";
 
-/// Whether quick fixes are asked for, where these kinds are: a kind stands for those below it too.
-pub fn are_wanted(only: &Option<Vec<CowStr<'_>>>) -> bool {
-    let Some(kinds) = only else {
-        return true;
-    };
-    for kind in kinds {
-        let kind = kind.as_str();
-        if kind.is_empty() || kind == QUICK_FIX {
-            return true;
-        }
-    }
-    false
+/// Whether quick fixes are among the actions of this kind: a kind stands for those below it too.
+pub fn has_fixes(kind: &str) -> bool {
+    kind.is_empty() || kind == QUICK_FIX
 }
 
-/// The quick fixes of the diagnostics that touch this range of the text.
+/// Writes the quick fixes of the diagnostics that touch this range of the text.
 ///
 /// It fails only where memory runs out.
-pub fn fixes_in<'a>(
+pub fn write_fixes(
     alloc: Global,
-    uri: &'a str,
+    uri: &str,
     language: Language,
     encoding: Encoding,
     document: &Document,
     asked: Range,
-) -> Result<Vec<CodeAction<'a>>, AllocError> {
+    json: &mut JsonWriter,
+) -> Result<(), AllocError> {
     let start = document.offset_of(encoding, asked.start);
     let end = document.offset_of(encoding, asked.end);
-    let mut fixes = Vec::new(alloc);
+    json.begin_list();
     for diagnosis in found_in(alloc, language, document)? {
         if diagnosis.span.start > end || diagnosis.span.end < start {
             continue;
         }
         let mut diagnosis = diagnosis;
         if let Some(fix) = diagnosis.fix.take() {
-            fixes.push(action_of(alloc, uri, encoding, document, diagnosis, fix)?)?;
+            write_action(alloc, uri, encoding, document, diagnosis, &fix, json)?;
         }
     }
-    Ok(fixes)
+    json.end_list();
+    Ok(())
 }
 
-fn action_of<'a>(
+// Writes a "CodeAction", whose "WorkspaceEdit" is of one text.
+fn write_action(
     alloc: Global,
-    uri: &'a str,
+    uri: &str,
     encoding: Encoding,
     document: &Document,
     diagnosis: Diagnosis,
-    fix: Fix,
-) -> Result<CodeAction<'a>, AllocError> {
-    let Fix { title, span, new } = fix;
-    let mut diagnostics = Vec::new(alloc);
-    diagnostics.push(diagnostic_of(alloc, uri, encoding, document, diagnosis)?)?;
-    Ok(CodeAction {
-        title,
-        kind: QUICK_FIX,
-        diagnostics,
-        is_preferred: true,
-        edit: WorkspaceEdit {
-            uri,
-            edit: TextEdit {
-                range: range_of(encoding, document, span.start, span.end),
-                new_text: new,
-            },
-        },
-    })
+    fix: &Fix,
+    json: &mut JsonWriter,
+) -> Result<(), AllocError> {
+    let diagnostic = diagnostic_of(alloc, uri, encoding, document, diagnosis)?;
+    let range = range_of(encoding, document, fix.span.start, fix.span.end);
+    json.begin_object();
+    json.text_member("title", fix.title.as_str());
+    json.text_member("kind", QUICK_FIX);
+    write_diagnostics("diagnostics", slice::from_ref(&diagnostic), json);
+    json.boolean_member("isPreferred", true);
+    json.name("edit");
+    json.begin_object();
+    json.name("changes");
+    json.begin_object();
+    json.name(uri);
+    json.begin_list();
+    write_edit(range, fix.new.as_str(), json);
+    json.end_list();
+    json.end_object();
+    json.end_object();
+    json.end_object();
+    Ok(())
 }

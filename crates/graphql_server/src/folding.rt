@@ -1,34 +1,36 @@
 //! What can be folded away (Language Server Protocol 3.17, "Folding Range Request").
 
-use crate::messages::FoldingRange;
 use crate::places::Places;
+use crate::writer::JsonWriter;
 use graphql_editor::{FoldKind, Structure};
 use std::alloc::{AllocError, Global};
 use text_edits::Encoding;
 
-/// The folds of a text: from its first line to its last one, or, where a bracket stands last, to the line before that, so that the
-/// bracket stays in view.
+/// Writes the folds of a text: from its first line to its last one, or, where a bracket stands last, to the line before that, so that
+/// the bracket stays in view.
 ///
 /// It fails only where memory runs out.
-pub fn folds_of(alloc: Global, text: &str) -> Result<Vec<FoldingRange>, AllocError> {
+pub fn write_folds(alloc: Global, text: &str, json: &mut JsonWriter) -> Result<(), AllocError> {
     let structure = Structure::new(alloc, text)?;
     let places = Places::new(alloc, Encoding::Utf8, text)?;
-    let mut folds = Vec::new(alloc);
+    json.begin_list();
     for fold in structure.folds() {
-        let start_line = places.position_of(fold.span.start).line;
+        let first = places.position_of(fold.span.start).line;
         let last = places.position_of(fold.span.end).line;
-        let (end_line, kind) = match fold.kind {
-            FoldKind::Brackets => (last.saturating_sub(1), None),
-            FoldKind::BlockString => (last, None),
-            FoldKind::Comments => (last, Some("comment")),
+        let last = match fold.kind {
+            FoldKind::Brackets => last.saturating_sub(1),
+            FoldKind::BlockString | FoldKind::Comments => last,
         };
-        if start_line < end_line {
-            folds.push(FoldingRange {
-                start_line,
-                end_line,
-                kind,
-            })?;
+        if first < last {
+            json.begin_object();
+            json.size_member("startLine", first);
+            json.size_member("endLine", last);
+            if matches!(fold.kind, FoldKind::Comments) {
+                json.text_member("kind", "comment");
+            }
+            json.end_object();
         }
     }
-    Ok(folds)
+    json.end_list();
+    Ok(())
 }

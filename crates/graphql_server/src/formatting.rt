@@ -2,51 +2,57 @@
 //! Formatting Request").
 
 use crate::diagnostics::range_of;
-use crate::messages::TextEdit;
-use graphql_texts::Language;
-use graphql_texts::check::error_of;
-use graphql_texts::errors::Source;
-use graphql_texts::rewriting::laid_out;
-use graphql_texts::errors::Names;
+use crate::messages::write_edit;
+use crate::writer::JsonWriter;
 use graphql_editor::{Span, Structure};
 use graphql_parser::{Limits, Memory};
+use graphql_texts::Language;
+use graphql_texts::check::error_of;
+use graphql_texts::errors::{Names, Source};
+use graphql_texts::rewriting::laid_out;
 use std::alloc::{AllocError, Global};
 use text_edits::{Document, Encoding, Range};
 
-/// What changes a text into what `gql format` makes of it: nothing where it is so already, else one edit of the lines that change.
-/// None where the text has an error.
+/// Writes what changes a text into what `gql format` makes of it: nothing where it is so already, else one edit of the lines that
+/// change. Null where the text has an error.
 ///
 /// It fails only where memory runs out.
-pub fn edits_of(
+pub fn write_formatted(
     alloc: Global,
     language: Language,
     encoding: Encoding,
     document: &Document,
-) -> Result<Option<Vec<TextEdit>>, AllocError> {
+    json: &mut JsonWriter,
+) -> Result<(), AllocError> {
     let text = document.text();
-    let Some(new) = formatted(alloc, language, text)? else {
-        return Ok(None);
-    };
-    let mut edits = Vec::new(alloc);
-    push_edit(alloc, encoding, document, 0, text, new.as_str(), &mut edits)?;
-    Ok(Some(edits))
+    match formatted(alloc, language, text)? {
+        None => json.null(),
+        Some(new) => {
+            json.begin_list();
+            write_difference(encoding, document, 0, text, new.as_str(), json);
+            json.end_list();
+        }
+    }
+    Ok(())
 }
 
-/// The same of each definition that touches the range, which is laid out as if it stood alone; one that has an error stays as it is.
+/// Writes the same of each definition that touches the range, which is laid out as if it stood alone; one that has an error stays as
+/// it is.
 ///
 /// It fails only where memory runs out.
-pub fn edits_in(
+pub fn write_formatted_range(
     alloc: Global,
     language: Language,
     encoding: Encoding,
     document: &Document,
     asked: Range,
-) -> Result<Vec<TextEdit>, AllocError> {
+    json: &mut JsonWriter,
+) -> Result<(), AllocError> {
     let text = document.text();
     let start = document.offset_of(encoding, asked.start);
     let end = document.offset_of(encoding, asked.end);
     let structure = Structure::new(alloc, text)?;
-    let mut edits = Vec::new(alloc);
+    json.begin_list();
     for definition in structure.definitions() {
         let Span {
             start: first,
@@ -60,10 +66,11 @@ pub fn edits_in(
         };
         if let Some(new) = formatted(alloc, language, old)? {
             let new = new.as_str().trim_end_matches('\n');
-            push_edit(alloc, encoding, document, first, old, new, &mut edits)?;
+            write_difference(encoding, document, first, old, new, json);
         }
     }
-    Ok(edits)
+    json.end_list();
+    Ok(())
 }
 
 // The text laid out anew, if it is good.
@@ -83,19 +90,18 @@ fn formatted(alloc: Global, language: Language, text: &str) -> Result<Option<Str
     }
 }
 
-// Adds what changes `old`, which stands at that offset of the text, into `new`: the lines between the first and the last one that
-// differ.
-fn push_edit(
-    alloc: Global,
+// Writes the edit that changes `old`, which stands at that offset of the text, into `new`: the lines between the first and the last
+// one that differ. Where they are the same, nothing is written.
+fn write_difference(
     encoding: Encoding,
     document: &Document,
     offset: usize,
     old: &str,
     new: &str,
-    edits: &mut Vec<TextEdit>,
-) -> Result<(), AllocError> {
+    json: &mut JsonWriter,
+) {
     if old == new {
-        return Ok(());
+        return;
     }
     let front = same_front(old.as_bytes(), new.as_bytes());
     let back = same_back(
@@ -104,14 +110,10 @@ fn push_edit(
     );
     let old_end = old.len().saturating_sub(back);
     let new_end = new.len().saturating_sub(back);
-    let replacement = new.get(front..new_end).unwrap_or("");
     let start = offset.saturating_add(front);
     let end = offset.saturating_add(old_end);
-    edits.push(TextEdit {
-        range: range_of(encoding, document, start, end),
-        new_text: String::from_str(alloc, replacement)?,
-    })?;
-    Ok(())
+    let range = range_of(encoding, document, start, end);
+    write_edit(range, new.get(front..new_end).unwrap_or(""), json);
 }
 
 // How many bytes the lines have with which both texts begin, each with its line feed.
@@ -146,8 +148,8 @@ fn same_back(old: &[u8], new: &[u8]) -> usize {
         (new, old)
     };
     let more = long.len().saturating_sub(short.len());
-    match more.checked_sub(1).and_then(|before| long.get(before)) {
-        Some(b'\n') => short.len(),
+    match more.checked_sub(1) {
+        Some(before) if long.get(before) == Some(&b'\n') => short.len(),
         _ => same,
     }
 }

@@ -2,86 +2,91 @@
 //! Request", "Hover Request").
 
 use crate::diagnostics::range_of;
-use crate::messages::{HoverAnswer, Location, Markdown};
+use crate::messages::{Location, write_location, write_range};
 use crate::places::Places;
-use graphql_editor::{Hover, Role, Structure};
+use crate::writer::JsonWriter;
+use graphql_editor::{Role, Structure};
 use std::alloc::{AllocError, Global};
 use text_edits::{Document, Encoding, Position};
 
-/// Where the name at a position is defined, if the text defines it.
+/// Writes where the name at a position is defined, if the text defines it.
 ///
 /// It fails only where memory runs out.
-pub fn definitions_at<'a>(
+pub fn write_definitions(
     alloc: Global,
-    uri: &'a str,
+    uri: &str,
     encoding: Encoding,
     document: &Document,
     position: Position,
-) -> Result<Vec<Location<'a>>, AllocError> {
+    json: &mut JsonWriter,
+) -> Result<(), AllocError> {
     let text = document.text();
     let structure = Structure::new(alloc, text)?;
-    let mut locations = Vec::new(alloc);
+    json.begin_list();
     if let Some(name) = structure.name_at(document.offset_of(encoding, position))
         && let Some(span) = structure.definition_of(text, name)
     {
-        locations.push(Location {
-            uri,
-            range: range_of(encoding, document, span.start, span.end),
-        })?;
+        let range = range_of(encoding, document, span.start, span.end);
+        write_location(Location { uri, range }, json);
     }
-    Ok(locations)
+    json.end_list();
+    Ok(())
 }
 
-/// Where the text has the name at a position, with its definitions or without.
+/// Writes where the text has the name at a position, with its definitions or without.
 ///
 /// It fails only where memory runs out.
-pub fn references_at<'a>(
+pub fn write_references(
     alloc: Global,
-    uri: &'a str,
+    uri: &str,
     encoding: Encoding,
     document: &Document,
     position: Position,
     takes_definitions: bool,
-) -> Result<Vec<Location<'a>>, AllocError> {
+    json: &mut JsonWriter,
+) -> Result<(), AllocError> {
     let text = document.text();
     let structure = Structure::new(alloc, text)?;
     let places = Places::new(alloc, encoding, text)?;
-    let mut locations = Vec::new(alloc);
+    json.begin_list();
     if let Some(name) = structure.name_at(document.offset_of(encoding, position)) {
         for occurrence in structure.occurrences_of(alloc, text, name)? {
             if takes_definitions || occurrence.role != Role::Definition {
-                let span = occurrence.span;
-                locations.push(Location {
-                    uri,
-                    range: places.range_of(span.start, span.end),
-                })?;
+                let range = places.range_of(occurrence.span.start, occurrence.span.end);
+                write_location(Location { uri, range }, json);
             }
         }
     }
-    Ok(locations)
+    json.end_list();
+    Ok(())
 }
 
-/// What the name at a position names: its first lines and its description.
+/// Writes what the name at a position names, its first lines and its description; null where there is no name.
 ///
 /// It fails only where memory runs out.
-pub fn hover_at(
+pub fn write_hover(
     alloc: Global,
     encoding: Encoding,
     document: &Document,
     position: Position,
-) -> Result<Option<HoverAnswer>, AllocError> {
+    json: &mut JsonWriter,
+) -> Result<(), AllocError> {
     let text = document.text();
     let structure = Structure::new(alloc, text)?;
     let offset = document.offset_of(encoding, position);
-    let Some(hover) = structure.hover_at(alloc, text, offset)? else {
-        return Ok(None);
-    };
-    let Hover { markdown, span } = hover;
-    Ok(Some(HoverAnswer {
-        contents: Markdown {
-            kind: "markdown",
-            value: markdown,
-        },
-        range: range_of(encoding, document, span.start, span.end),
-    }))
+    match structure.hover_at(alloc, text, offset)? {
+        None => json.null(),
+        Some(hover) => {
+            json.begin_object();
+            json.name("contents");
+            json.begin_object();
+            json.text_member("kind", "markdown");
+            json.text_member("value", hover.markdown.as_str());
+            json.end_object();
+            let range = range_of(encoding, document, hover.span.start, hover.span.end);
+            write_range("range", range, json);
+            json.end_object();
+        }
+    }
+    Ok(())
 }

@@ -1,75 +1,70 @@
 //! The outline of a text (Language Server Protocol 3.17, "Document Symbols Request").
 
-use crate::messages::DocumentSymbol;
+use crate::messages::write_range;
 use crate::places::Places;
+use crate::writer::JsonWriter;
 use graphql_editor::{Span, Structure, Symbol, SymbolKind};
 use std::alloc::{AllocError, Global};
 use text_edits::Encoding;
 
-/// The symbols of a text, each with those inside of it.
+/// Writes the symbols of a text, each with those inside of it.
 ///
 /// It fails only where memory runs out.
-pub fn outline_of<'a>(
+pub fn write_outline(
     alloc: Global,
     encoding: Encoding,
-    text: &'a str,
-) -> Result<Vec<DocumentSymbol<'a>>, AllocError> {
+    text: &str,
+    json: &mut JsonWriter,
+) -> Result<(), AllocError> {
     let structure = Structure::new(alloc, text)?;
     let places = Places::new(alloc, encoding, text)?;
-    let mut roots = Vec::new(alloc);
-    // The symbol that was met last, and those around it, the outermost first.
-    let mut open: Vec<DocumentSymbol<'a>> = Vec::new(alloc);
+    json.begin_list();
+    // How many symbols are open: the one that was met last, and those around it.
+    let mut open = 0usize;
     for symbol in structure.symbols() {
-        close_to(symbol.depth, &mut open, &mut roots)?;
-        open.push(symbol_of(alloc, text, &places, symbol))?;
+        close_to(symbol.depth, open, json);
+        begin_symbol(text, &places, symbol, json);
+        open = open.min(symbol.depth).saturating_add(1);
     }
-    close_to(0, &mut open, &mut roots)?;
-    Ok(roots)
-}
-
-// Puts each symbol that is open and not around this depth into the one around it.
-fn close_to<'a>(
-    depth: usize,
-    open: &mut Vec<DocumentSymbol<'a>>,
-    roots: &mut Vec<DocumentSymbol<'a>>,
-) -> Result<(), AllocError> {
-    for _ in depth..open.len() {
-        let Some(symbol) = open.pop() else {
-            break;
-        };
-        match open.last_mut() {
-            Some(around) => around.children.push(symbol)?,
-            None => roots.push(symbol)?,
-        }
-    }
+    close_to(0, open, json);
+    json.end_list();
     Ok(())
 }
 
-fn symbol_of<'a>(
-    alloc: Global,
-    text: &'a str,
-    places: &Places<'a>,
-    symbol: &Symbol,
-) -> DocumentSymbol<'a> {
-    let Span { start, end } = symbol.whole;
-    let name = symbol.name;
-    DocumentSymbol {
-        name: slice_of(text, name),
-        detail: symbol.detail.map(|span| slice_of(text, span)),
-        kind: kind_of(symbol.kind),
-        range: places.range_of(start, end),
-        selection_range: places.range_of(name.start, name.end),
-        children: Vec::new(alloc),
+// Ends each symbol that is open and not around this depth.
+fn close_to(depth: usize, open: usize, json: &mut JsonWriter) {
+    for _ in depth..open {
+        json.end_list();
+        json.end_object();
     }
 }
 
-/// The part of a text between two offsets; nothing where they aren't offsets of characters.
-pub fn slice_of(text: &str, span: Span) -> &str {
+// Writes a "DocumentSymbol" up to those inside of it.
+fn begin_symbol(text: &str, places: &Places<'_>, symbol: &Symbol, json: &mut JsonWriter) {
+    let (whole, name) = (symbol.whole, symbol.name);
+    json.begin_object();
+    json.text_member("name", slice_of(text, name));
+    if let Some(detail) = symbol.detail {
+        json.text_member("detail", slice_of(text, detail));
+    }
+    json.size_member("kind", kind_of(symbol.kind));
+    write_range("range", places.range_of(whole.start, whole.end), json);
+    write_range(
+        "selectionRange",
+        places.range_of(name.start, name.end),
+        json,
+    );
+    json.name("children");
+    json.begin_list();
+}
+
+// The part of a text between two offsets; nothing where they aren't offsets of characters.
+fn slice_of(text: &str, span: Span) -> &str {
     text.get(span.start..span.end).unwrap_or("")
 }
 
 // What editors show for a symbol ("SymbolKind"; which one for what is this project's choice).
-fn kind_of(kind: SymbolKind) -> u8 {
+fn kind_of(kind: SymbolKind) -> usize {
     match kind {
         SymbolKind::Query | SymbolKind::Mutation | SymbolKind::Subscription => FUNCTION,
         SymbolKind::Fragment => CLASS,
@@ -90,28 +85,28 @@ fn kind_of(kind: SymbolKind) -> u8 {
     }
 }
 
-const MODULE: u8 = 2;
+const MODULE: usize = 2;
 
-const CLASS: u8 = 5;
+const CLASS: usize = 5;
 
-const PROPERTY: u8 = 7;
+const PROPERTY: usize = 7;
 
-const FIELD: u8 = 8;
+const FIELD: usize = 8;
 
-const ENUM: u8 = 10;
+const ENUM: usize = 10;
 
-const INTERFACE: u8 = 11;
+const INTERFACE: usize = 11;
 
-const FUNCTION: u8 = 12;
+const FUNCTION: usize = 12;
 
-const VARIABLE: u8 = 13;
+const VARIABLE: usize = 13;
 
-const OBJECT: u8 = 19;
+const OBJECT: usize = 19;
 
-const ENUM_MEMBER: u8 = 22;
+const ENUM_MEMBER: usize = 22;
 
-const STRUCT: u8 = 23;
+const STRUCT: usize = 23;
 
-const EVENT: u8 = 24;
+const EVENT: usize = 24;
 
-const TYPE_PARAMETER: u8 = 26;
+const TYPE_PARAMETER: usize = 26;

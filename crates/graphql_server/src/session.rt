@@ -2,28 +2,26 @@
 
 ghost use Rattle.std.specs.Prelude.{◌≤◌, IfSome};
 
-use crate::answers::{Failure, Weight, answer, log, notify, params_of, refuse};
-use crate::capabilities::{asks_for_diagnostics, encoding_of, initialize_answer};
+use crate::answers::{Failure, Weight, begin_answer, begin_notice, log, refuse, send};
+use crate::capabilities::write_initialized;
 use crate::diagnostics::diagnostics_of;
-use crate::fixes::{are_wanted, fixes_in};
-use crate::folding::folds_of;
-use crate::formatting::{edits_in, edits_of};
-use crate::messages::{
-    ActionParams, ChangeParams, ChangedText, Diagnostic, DiagnosticReport, Envelope, Id,
-    InitializeParams, Member, Object, OpenParams, OpenedText, PositionParams, PublishParams,
-    RangeParams, ReferenceParams, SelectionParams, TextParams,
-};
-use crate::navigation::{definitions_at, hover_at, references_at};
-use crate::outline::outline_of;
-use crate::places::Places;
-use crate::selection::{are_too_many, selection_of};
-use crate::texts::{Change, OpenText, Texts, change_all, is_position, is_range, said_by};
-use serde_json::Category;
+use crate::envelope::{Message, message_of};
+use crate::fixes::write_fixes;
+use crate::folding::write_folds;
+use crate::formatting::{write_formatted, write_formatted_range};
+use crate::messages::{Diagnostic, Id, write_diagnostics};
+use crate::methods::Method;
+use crate::navigation::{write_definitions, write_hover, write_references};
+use crate::outline::write_outline;
+use crate::params::{Params, params_of};
+use crate::selection::{are_too_many, write_selections};
+use crate::texts::{OpenText, Texts, change_all, is_position, is_range};
+use crate::writer::JsonWriter;
 use std::alloc::{AllocError, Global};
 use text_edits::{Document, Encoding, Position, Range};
 
 // How far a session is.
-#[derive(Clone, Copy, PartialEq, Eq)]
+#[derive(Clone, Copy)]
 enum Phase {
     // Before `initialize`.
     Fresh,
@@ -46,6 +44,15 @@ pub struct Session {
     publishes: bool,
     texts: Texts,
 }
+
+// What is logged of a text.
+const NOT_OPEN: &str = "the text isn't open";
+
+const OPEN_BEFORE: &str = "the text was open before";
+
+const POSITION_CLIPPED: &str = "a position is outside of the text, or inside of a character";
+
+const RANGE_CLIPPED: &str = "a range is outside of the text, or ends inside of a character";
 
 // What is done with a request: its answer is added, or it fails.
 type Outcome = Result<(), Failure>;
@@ -99,86 +106,48 @@ impl Session {
     }
 
     fn take_content(&mut self, content: &[u8], out: &mut Vec<u8>) -> Result<(), AllocError> {
-        let Ok(message) = std::str::from_utf8(content) else {
-            return self.refuse_message(Failure::NotUtf8, out);
+        let Ok(content) = std::str::from_utf8(content) else {
+            return self.refuse_message(Id::Null, Failure::NotUtf8, out);
         };
-        let envelope = match serde_json::from_str::<Object<Envelope<'_>>>(self.alloc, message) {
-            Ok(Object(envelope)) => envelope,
-            Err(error) => {
-                let failure = match error.classify() {
-                    Category::Memory => Failure::OutOfMemory,
-                    Category::Data => Failure::NotMessage,
-                    _ => Failure::NotJson,
-                };
+        match message_of(self.alloc, content) {
+            Ok(Message::Request(id, method)) => self.answer_request(content, method, &id, out),
+            Ok(Message::Notice(method)) => self.take_notice(content, method, out),
+            Ok(Message::Answer) => Ok(()),
+            Ok(Message::Wrong(id)) => self.refuse_message(id, Failure::NotMessage, out),
+            Err(failure) => {
                 if failure.is_of_memory() {
                     self.forget();
                 }
-                return self.refuse_message(failure, out);
-            }
-        };
-        self.take_envelope(message, envelope, out)
-    }
-
-    // Answers a message that is none by an error without id, and logs it.
-    fn refuse_message(&self, failure: Failure, out: &mut Vec<u8>) -> Result<(), AllocError> {
-        log(self.alloc, Weight::Error, failure.message(), out)?;
-        refuse(self.alloc, &Id::Null, &failure, out)
-    }
-
-    fn take_envelope(
-        &mut self,
-        message: &str,
-        envelope: Envelope<'_>,
-        out: &mut Vec<u8>,
-    ) -> Result<(), AllocError> {
-        let Envelope {
-            jsonrpc,
-            id,
-            method,
-            result: given,
-            error,
-        } = envelope;
-        let is_answer = !matches!((&given, &error), (Member::Absent, Member::Absent));
-        let is_version = matches!(&jsonrpc, Member::Text(version) if version.as_str() == "2.0");
-        let id = match id {
-            Member::Absent => None,
-            Member::Number(number) => Some(Id::Number(number)),
-            Member::Text(text) => Some(Id::Text(text)),
-            Member::Null | Member::Other => {
-                return self.refuse_message(Failure::NoId, out);
-            }
-        };
-        match (method, id) {
-            (Member::Text(method), Some(id)) if is_version => {
-                self.answer_request(message, method.as_str(), &id, out)
-            }
-            (Member::Text(method), None) if is_version => {
-                self.take_notification(message, method.as_str(), out)
-            }
-            // The server asks for nothing, so an answer is for no request of its.
-            (Member::Absent, Some(_)) if is_version && is_answer => Ok(()),
-            (_, id) => {
-                let failure = Failure::NotMessage;
-                log(self.alloc, Weight::Error, failure.message(), out)?;
-                refuse(self.alloc, &id.unwrap_or(Id::Null), &failure, out)
+                self.refuse_message(Id::Null, failure, out)
             }
         }
+    }
+
+    // Answers a message that is none by an error, and logs it.
+    fn refuse_message(
+        &self,
+        id: Id,
+        failure: Failure,
+        out: &mut Vec<u8>,
+    ) -> Result<(), AllocError> {
+        log(self.alloc, Weight::Error, failure.message(), out)?;
+        refuse(self.alloc, &id, &failure, out)
     }
 
     // ---- Requests
 
     fn answer_request(
         &mut self,
-        message: &str,
-        method: &str,
-        id: &Id<'_>,
+        content: &str,
+        method: Method,
+        id: &Id,
         out: &mut Vec<u8>,
     ) -> Result<(), AllocError> {
         let before = out.len();
         let outcome = match (self.phase, method) {
-            (Phase::Fresh, "initialize") => self.initialize(message, id, out),
+            (Phase::Fresh, Method::Initialize) => self.initialize(content, id, out),
             (Phase::Fresh, _) => Err(Failure::NotInitialized),
-            (Phase::Running, _) => self.answer_running(message, method, id, out),
+            (Phase::Running, _) => self.answer_running(content, method, id, out),
             (Phase::ShutDown | Phase::Ended | Phase::CutShort, _) => Err(Failure::ShutDown),
         };
         match outcome {
@@ -192,62 +161,160 @@ impl Session {
         }
     }
 
-    fn initialize(&mut self, message: &str, id: &Id<'_>, out: &mut Vec<u8>) -> Outcome {
-        let params: InitializeParams<'_> = params_of(self.alloc, message)?;
-        let encoding = encoding_of(&params.capabilities);
-        answer(self.alloc, id, initialize_answer(encoding), out)?;
-        self.encoding = encoding;
-        self.publishes = !asks_for_diagnostics(&params.capabilities);
+    fn initialize(&mut self, content: &str, id: &Id, out: &mut Vec<u8>) -> Outcome {
+        let params = params_of(self.alloc, Method::Initialize, content)?;
+        let mut answer = begin_answer(self.alloc, id);
+        write_initialized(params.encoding, &mut answer);
+        send(self.alloc, answer, out)?;
+        self.encoding = params.encoding;
+        self.publishes = !params.asks_for_diagnostics;
         self.phase = Phase::Running;
         Ok(())
     }
 
     fn answer_running(
         &mut self,
-        message: &str,
-        method: &str,
-        id: &Id<'_>,
+        content: &str,
+        method: Method,
+        id: &Id,
         out: &mut Vec<u8>,
     ) -> Outcome {
         match method {
-            "shutdown" => {
-                answer(self.alloc, id, (), out)?;
+            Method::Shutdown => {
+                let mut answer = begin_answer(self.alloc, id);
+                answer.null();
+                send(self.alloc, answer, out)?;
                 self.phase = Phase::ShutDown;
                 self.forget();
                 Ok(())
             }
-            "textDocument/diagnostic" => self.diagnostic(message, id, out),
-            "textDocument/codeAction" => self.code_action(message, id, out),
-            "textDocument/documentSymbol" => self.document_symbol(message, id, out),
-            "textDocument/foldingRange" => self.folding_range(message, id, out),
-            "textDocument/selectionRange" => self.selection_range(message, id, out),
-            "textDocument/formatting" => self.formatting(message, id, out),
-            "textDocument/rangeFormatting" => self.range_formatting(message, id, out),
-            "textDocument/definition" => self.definition(message, id, out),
-            "textDocument/references" => self.references(message, id, out),
-            "textDocument/hover" => self.hover(message, id, out),
-            "initialize" => Err(Failure::InitializedTwice),
-            _ => Err(Failure::NoSuchRequest),
+            Method::Initialize => Err(Failure::InitializedTwice),
+            Method::Exit | Method::DidOpen | Method::DidChange | Method::DidClose | Method::Other =>
+                Err(Failure::NoSuchRequest),
+            _ => self.answer_about_text(content, method, id, out),
         }
+    }
+
+    // Answers a request that is about one text.
+    fn answer_about_text(
+        &self,
+        content: &str,
+        method: Method,
+        id: &Id,
+        out: &mut Vec<u8>,
+    ) -> Outcome {
+        let params = params_of(self.alloc, method, content)?;
+        let text = self.text(params.uri.as_str(), out)?;
+        self.log_places(method, &params, &text.document, out)?;
+        let mut answer = begin_answer(self.alloc, id);
+        self.write_result(method, &params, text, &mut answer)?;
+        Ok(send(self.alloc, answer, out)?)
+    }
+
+    // Writes the result of a request that is about this text.
+    fn write_result(
+        &self,
+        method: Method,
+        params: &Params,
+        text: &OpenText,
+        json: &mut JsonWriter,
+    ) -> Result<(), AllocError> {
+        let (alloc, encoding, document) = (self.alloc, self.encoding, &text.document);
+        let (uri, position, range) = (params.uri.as_str(), params.position, params.range);
+        match method {
+            Method::CodeAction if params.wants_fixes => {
+                let language = text.language(alloc, uri)?;
+                write_fixes(alloc, uri, language, encoding, document, range, json)
+            }
+            Method::DocumentSymbol => write_outline(alloc, encoding, document.text(), json),
+            Method::FoldingRange => write_folds(alloc, document.text(), json),
+            Method::SelectionRange => {
+                write_selections(alloc, encoding, document, params.positions.as_slice(), json)
+            }
+            Method::Formatting => {
+                let language = text.language(alloc, uri)?;
+                write_formatted(alloc, language, encoding, document, json)
+            }
+            Method::RangeFormatting => {
+                let language = text.language(alloc, uri)?;
+                write_formatted_range(alloc, language, encoding, document, range, json)
+            }
+            Method::Definition => {
+                write_definitions(alloc, uri, encoding, document, position, json)
+            }
+            Method::References => {
+                let all = params.takes_definitions;
+                write_references(alloc, uri, encoding, document, position, all, json)
+            }
+            Method::Hover => write_hover(alloc, encoding, document, position, json),
+            Method::Diagnostic => self.write_report(uri, text, json),
+            _ => {
+                // No action is asked for that the server has.
+                json.begin_list();
+                json.end_list();
+                Ok(())
+            }
+        }
+    }
+
+    // Writes what is wrong with a text ("FullDocumentDiagnosticReport").
+    fn write_report(
+        &self,
+        uri: &str,
+        text: &OpenText,
+        json: &mut JsonWriter,
+    ) -> Result<(), AllocError> {
+        let diagnostics = self.diagnostics(uri, text)?;
+        json.begin_object();
+        json.text_member("kind", "full");
+        write_diagnostics("items", diagnostics.as_slice(), json);
+        json.end_object();
+        Ok(())
     }
 
     // The text that a request speaks of.
     fn text(&self, uri: &str, out: &mut Vec<u8>) -> Result<&OpenText, Failure> {
         match self.texts.get(uri) {
             Some(text) => Ok(text),
-            None => Err(Failure::NotOpen(self.log_not_open(uri, out)?)),
+            None => Err(Failure::NotOpen(self.warn(NOT_OPEN, uri, out)?)),
         }
     }
 
-    // Logs that a text isn't open, and gives what is logged.
-    fn log_not_open(&self, uri: &str, out: &mut Vec<u8>) -> Result<String, AllocError> {
-        let alloc = self.alloc;
-        let message = format!(in alloc; "the text isn't open: {uri}")?;
-        log(alloc, Weight::Warning, message.as_str(), out)?;
-        Ok(message)
+    // Logs the places that a request speaks of and that are none of the text: they are clipped.
+    fn log_places(
+        &self,
+        method: Method,
+        params: &Params,
+        document: &Document,
+        out: &mut Vec<u8>,
+    ) -> Outcome {
+        let uri = params.uri.as_str();
+        match method {
+            Method::SelectionRange => {
+                if are_too_many(params.positions.len(), document.text()) {
+                    return Err(Failure::TooManyPositions);
+                }
+                for position in &params.positions {
+                    self.log_position(uri, document, *position, out)?;
+                }
+            }
+            Method::Definition | Method::References | Method::Hover => self.log_position(
+                uri,
+                document,
+                params.position,
+                out,
+            )?,
+            Method::CodeAction | Method::RangeFormatting => self.log_range(
+                uri,
+                document,
+                params.range,
+                out,
+            )?,
+            _ => {}
+        }
+        Ok(())
     }
 
-    // Logs a position that is none of the text, and is clipped.
     fn log_position(
         &self,
         uri: &str,
@@ -255,17 +322,12 @@ impl Session {
         position: Position,
         out: &mut Vec<u8>,
     ) -> Result<(), AllocError> {
-        if is_position(document, self.encoding, position) {
-            return Ok(());
+        if !is_position(document, self.encoding, position) {
+            let _ = self.warn(POSITION_CLIPPED, uri, out)?;
         }
-        let alloc = self.alloc;
-        let message = format!(in alloc;
-            "a position is outside of the text, or inside of a character: {uri}"
-        )?;
-        log(alloc, Weight::Warning, message.as_str(), out)
+        Ok(())
     }
 
-    // The same of a range.
     fn log_range(
         &self,
         uri: &str,
@@ -273,162 +335,46 @@ impl Session {
         range: Range,
         out: &mut Vec<u8>,
     ) -> Result<(), AllocError> {
-        if is_range(document, self.encoding, range) {
-            return Ok(());
+        if !is_range(document, self.encoding, range) {
+            let _ = self.warn(RANGE_CLIPPED, uri, out)?;
         }
-        self.log_clipped(uri, out)
+        Ok(())
     }
 
-    // Logs that a range is clipped.
-    fn log_clipped(&self, uri: &str, out: &mut Vec<u8>) -> Result<(), AllocError> {
+    // Logs what is odd about a text, and returns what is logged.
+    fn warn(&self, what: &str, uri: &str, out: &mut Vec<u8>) -> Result<String, AllocError> {
         let alloc = self.alloc;
-        let message = format!(in alloc;
-            "a range is outside of the text, or ends inside of a character: {uri}"
-        )?;
-        log(alloc, Weight::Warning, message.as_str(), out)
-    }
-
-    fn diagnostic(&self, message: &str, id: &Id<'_>, out: &mut Vec<u8>) -> Outcome {
-        let params: TextParams<'_> = params_of(self.alloc, message)?;
-        let uri = params.text_document.uri.as_str();
-        let text = self.text(uri, out)?;
-        let diagnostics = self.diagnostics(uri, text)?;
-        let report = DiagnosticReport {
-            kind: "full",
-            items: diagnostics.as_slice(),
-        };
-        Ok(answer(self.alloc, id, report, out)?)
-    }
-
-    fn code_action(&self, message: &str, id: &Id<'_>, out: &mut Vec<u8>) -> Outcome {
-        let params: ActionParams<'_> = params_of(self.alloc, message)?;
-        let uri = params.text_document.uri.as_str();
-        let text = self.text(uri, out)?;
-        let range = params.range.into();
-        self.log_range(uri, &text.document, range, out)?;
-        if !are_wanted(&params.context.only) {
-            let none: [u8; 0] = [];
-            return Ok(answer(self.alloc, id, none, out)?);
-        }
-        let language = text.language(self.alloc, uri)?;
-        let document = &text.document;
-        let fixes = fixes_in(self.alloc, uri, language, self.encoding, document, range)?;
-        Ok(answer(self.alloc, id, fixes, out)?)
-    }
-
-    fn document_symbol(&self, message: &str, id: &Id<'_>, out: &mut Vec<u8>) -> Outcome {
-        let params: TextParams<'_> = params_of(self.alloc, message)?;
-        let text = self.text(params.text_document.uri.as_str(), out)?;
-        let outline = outline_of(self.alloc, self.encoding, text.document.text())?;
-        Ok(answer(self.alloc, id, outline, out)?)
-    }
-
-    fn folding_range(&self, message: &str, id: &Id<'_>, out: &mut Vec<u8>) -> Outcome {
-        let params: TextParams<'_> = params_of(self.alloc, message)?;
-        let text = self.text(params.text_document.uri.as_str(), out)?;
-        let folds = folds_of(self.alloc, text.document.text())?;
-        Ok(answer(self.alloc, id, folds, out)?)
-    }
-
-    fn selection_range(&self, message: &str, id: &Id<'_>, out: &mut Vec<u8>) -> Outcome {
-        let params: SelectionParams<'_> = params_of(self.alloc, message)?;
-        let uri = params.text_document.uri.as_str();
-        let document = &self.text(uri, out)?.document;
-        let text = document.text();
-        if are_too_many(params.positions.len(), text) {
-            return Err(Failure::TooManyPositions);
-        }
-        let places = Places::new(self.alloc, self.encoding, text)?;
-        let mut ranges = Vec::new(self.alloc);
-        for position in &params.positions {
-            let position = Position::from(*position);
-            self.log_position(uri, document, position, out)?;
-            let offset = document.offset_of(self.encoding, position);
-            ranges.push(selection_of(self.alloc, text, &places, offset)?)?;
-        }
-        Ok(answer(self.alloc, id, ranges, out)?)
-    }
-
-    fn formatting(&self, message: &str, id: &Id<'_>, out: &mut Vec<u8>) -> Outcome {
-        let params: TextParams<'_> = params_of(self.alloc, message)?;
-        let uri = params.text_document.uri.as_str();
-        let text = self.text(uri, out)?;
-        let language = text.language(self.alloc, uri)?;
-        let edits = edits_of(self.alloc, language, self.encoding, &text.document)?;
-        Ok(answer(self.alloc, id, edits, out)?)
-    }
-
-    fn range_formatting(&self, message: &str, id: &Id<'_>, out: &mut Vec<u8>) -> Outcome {
-        let params: RangeParams<'_> = params_of(self.alloc, message)?;
-        let uri = params.text_document.uri.as_str();
-        let text = self.text(uri, out)?;
-        let range = params.range.into();
-        self.log_range(uri, &text.document, range, out)?;
-        let language = text.language(self.alloc, uri)?;
-        let document = &text.document;
-        let edits = edits_in(self.alloc, language, self.encoding, document, range)?;
-        Ok(answer(self.alloc, id, edits, out)?)
-    }
-
-    fn definition(&self, message: &str, id: &Id<'_>, out: &mut Vec<u8>) -> Outcome {
-        let params: PositionParams<'_> = params_of(self.alloc, message)?;
-        let uri = params.text_document.uri.as_str();
-        let document = &self.text(uri, out)?.document;
-        let position = params.position.into();
-        self.log_position(uri, document, position, out)?;
-        let locations = definitions_at(self.alloc, uri, self.encoding, document, position)?;
-        Ok(answer(self.alloc, id, locations, out)?)
-    }
-
-    fn references(&self, message: &str, id: &Id<'_>, out: &mut Vec<u8>) -> Outcome {
-        let params: ReferenceParams<'_> = params_of(self.alloc, message)?;
-        let uri = params.text_document.uri.as_str();
-        let document = &self.text(uri, out)?.document;
-        let position = params.position.into();
-        self.log_position(uri, document, position, out)?;
-        let takes_definitions = params.context.include_declaration;
-        let (alloc, encoding) = (self.alloc, self.encoding);
-        let locations = references_at(alloc, uri, encoding, document, position, takes_definitions)?;
-        Ok(answer(alloc, id, locations, out)?)
-    }
-
-    fn hover(&self, message: &str, id: &Id<'_>, out: &mut Vec<u8>) -> Outcome {
-        let params: PositionParams<'_> = params_of(self.alloc, message)?;
-        let uri = params.text_document.uri.as_str();
-        let document = &self.text(uri, out)?.document;
-        let position = params.position.into();
-        self.log_position(uri, document, position, out)?;
-        let hover = hover_at(self.alloc, self.encoding, document, position)?;
-        Ok(answer(self.alloc, id, hover, out)?)
+        let message = format!(in alloc; "{what}: {uri}")?;
+        log(alloc, Weight::Warning, message.as_str(), out)?;
+        Ok(message)
     }
 
     // ---- Notifications
 
     // Those that the server doesn't know have no effect, and neither has `$/cancelRequest`, since each request is answered before the
     // next message is read.
-    fn take_notification(
+    fn take_notice(
         &mut self,
-        message: &str,
-        method: &str,
+        content: &str,
+        method: Method,
         out: &mut Vec<u8>,
     ) -> Result<(), AllocError> {
-        if method == "exit" {
-            self.phase = if self.phase == Phase::ShutDown {
-                Phase::Ended
-            } else {
-                Phase::CutShort
+        if let Method::Exit = method {
+            self.phase = match self.phase {
+                Phase::ShutDown => Phase::Ended,
+                _ => Phase::CutShort,
             };
             return Ok(());
         }
-        if self.phase != Phase::Running {
+        let Phase::Running = self.phase else {
             return Ok(());
-        }
+        };
         let before = out.len();
-        let outcome = match method {
-            "textDocument/didOpen" => self.did_open(message, out),
-            "textDocument/didChange" => self.did_change(message, out),
-            "textDocument/didClose" => self.did_close(message, out),
-            _ => Ok(()),
+        let (name, outcome) = match method {
+            Method::DidOpen => ("textDocument/didOpen", self.did_open(content, out)),
+            Method::DidChange => ("textDocument/didChange", self.did_change(content, out)),
+            Method::DidClose => ("textDocument/didClose", self.did_close(content, out)),
+            _ => return Ok(()),
         };
         match outcome {
             Ok(()) => Ok(()),
@@ -438,62 +384,51 @@ impl Session {
                 }
                 let alloc = self.alloc;
                 let why = failure.message();
-                let message = format!(in alloc; "{method}: {why}")?;
+                let message = format!(in alloc; "{name}: {why}")?;
                 log(alloc, Weight::Error, message.as_str(), out)
             }
         }
     }
 
-    fn did_open(&mut self, message: &str, out: &mut Vec<u8>) -> Outcome {
-        let alloc = self.alloc;
-        let params: OpenParams<'_> = params_of(alloc, message)?;
-        let OpenParams { text_document } = params;
-        let OpenedText {
+    fn did_open(&mut self, content: &str, out: &mut Vec<u8>) -> Outcome {
+        let params = params_of(self.alloc, Method::DidOpen, content)?;
+        let Params {
             uri,
-            language_id,
             version,
+            said,
             text,
-        } = text_document;
-        let said = match &language_id {
-            Some(name) => said_by(name.as_str()),
-            None => None,
-        };
+            ..
+        } = params;
         let opened = OpenText {
             said,
             version,
-            document: Document::new(alloc, text)?,
+            document: Document::new(self.alloc, text)?,
         };
-        let name = uri.clone()?;
-        if self.texts.open(uri, opened)? {
-            let name = name.as_str();
-            let message = format!(in alloc; "the text was open before: {name}")?;
-            log(alloc, Weight::Warning, message.as_str(), out)?;
+        if self.texts.open(uri.clone()?, opened)? {
+            let _ = self.warn(OPEN_BEFORE, uri.as_str(), out)?;
         }
-        self.publish(name.as_str(), out)
+        self.publish(uri.as_str(), out)
     }
 
-    fn did_change(&mut self, message: &str, out: &mut Vec<u8>) -> Outcome {
+    fn did_change(&mut self, content: &str, out: &mut Vec<u8>) -> Outcome {
         let (alloc, encoding) = (self.alloc, self.encoding);
-        let params = params_of::<ChangeParams<'_>>(alloc, message);
+        let params = params_of(alloc, Method::DidChange, content);
         if let Err(failure) = &params
             && failure.is_of_memory()
         {
             self.forget();
         }
-        let ChangeParams {
-            text_document,
-            content_changes,
+        let Params {
+            uri,
+            version,
+            changes,
+            ..
         } = params?;
-        let ChangedText { uri, version } = text_document;
         let uri = uri.as_str();
         let Some(text) = self.texts.get_mut(uri) else {
-            let _ = self.log_not_open(uri, out)?;
+            let _ = self.warn(NOT_OPEN, uri, out)?;
             return Ok(());
         };
-        let mut changes = Vec::new(alloc);
-        for change in content_changes {
-            changes.push(Change::from(change))?;
-        }
         let changed = change_all(alloc, encoding, &mut text.document, changes);
         text.version = version;
         if changed.is_err() {
@@ -501,22 +436,18 @@ impl Session {
             let _ = self.texts.close(uri);
         }
         for _ in 0..changed? {
-            self.log_clipped(uri, out)?;
+            let _ = self.warn(RANGE_CLIPPED, uri, out)?;
         }
         self.publish(uri, out)
     }
 
-    fn did_close(&mut self, message: &str, out: &mut Vec<u8>) -> Outcome {
-        let alloc = self.alloc;
-        let params: TextParams<'_> = params_of(alloc, message)?;
-        let uri = params.text_document.uri.as_str();
+    fn did_close(&mut self, content: &str, out: &mut Vec<u8>) -> Outcome {
+        let params = params_of(self.alloc, Method::DidClose, content)?;
+        let uri = params.uri.as_str();
         if !self.texts.close(uri) {
-            let _ = self.log_not_open(uri, out)?;
-            return Ok(());
-        }
-        if self.publishes {
-            let none: [Diagnostic<'_>; 0] = [];
-            self.publish_list(uri, None, none.as_slice(), out)?;
+            let _ = self.warn(NOT_OPEN, uri, out)?;
+        } else if self.publishes {
+            self.publish_list(uri, None, &[], out)?;
         }
         Ok(())
     }
@@ -544,6 +475,7 @@ impl Session {
         Ok(self.publish_list(uri, text.version, diagnostics.as_slice(), out)?)
     }
 
+    // Publishes these diagnostics ("PublishDiagnosticsParams").
     fn publish_list(
         &self,
         uri: &str,
@@ -551,11 +483,15 @@ impl Session {
         diagnostics: &[Diagnostic<'_>],
         out: &mut Vec<u8>,
     ) -> Result<(), AllocError> {
-        let params = PublishParams {
-            uri,
-            version,
-            diagnostics,
-        };
-        notify(self.alloc, "textDocument/publishDiagnostics", params, out)
+        let mut notice = begin_notice(self.alloc, "textDocument/publishDiagnostics");
+        notice.begin_object();
+        notice.text_member("uri", uri);
+        if let Some(version) = version {
+            notice.name("version");
+            notice.integer(version);
+        }
+        write_diagnostics("diagnostics", diagnostics, &mut notice);
+        notice.end_object();
+        send(self.alloc, notice, out)
     }
 }

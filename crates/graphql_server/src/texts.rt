@@ -5,7 +5,6 @@ ghost use Rattle.text_edits.specs.Positions.{IsPosition};
 ghost use Rattle.graphql_server.specs.Changes.{AreChanged, IsChanged};
 ghost use Rattle.graphql_server.specs.Ranges.{IsRange};
 
-use crate::messages::ContentChange;
 use graphql_texts::Language;
 use graphql_texts::language::read_as;
 use std::alloc::{AllocError, Global};
@@ -80,23 +79,13 @@ impl Texts {
     }
 }
 
-/// What is put in the place of a range of a text, or of the whole text.
+/// What is put in the place of a range of a text, or of the whole text ("TextDocumentContentChangeEvent").
 #[derive(Drop)]
 pub struct Change {
     /// What is replaced, in units of the session's encoding; None for the whole text.
     pub range: Option<Range>,
     /// What is put there.
     pub text: String,
-}
-
-impl From<ContentChange> for Change {
-    fn from(change: ContentChange) -> Change {
-        let ContentChange { range, text } = change;
-        Change {
-            range: range.map(Range::from),
-            text,
-        }
-    }
 }
 
 /// Changes a text by one change after another, each of which speaks of the text as the one before it left it ("DidChangeTextDocument

@@ -31,26 +31,29 @@ pub fn ended(wrong: usize) -> Result<(), Fail> {
     Ok(())
 }
 
+// Whether the program's arguments name this, or there are none.
+fn is_asked_for(rt: &HostRuntime, name: &str) -> Result<bool, Fail> {
+    let mut words = env::args(rt)?.skip(1);
+    let Some(first) = words.next() else {
+        return Ok(true);
+    };
+    Ok(first.as_str() == name || words.any(|word| word.as_str() == name))
+}
+
 /// The files in a folder that the program's arguments name, in order: a name stands for the file with the ending `.rows` too. With
 /// no arguments they are all the files in the folder.
 pub fn files_in(rt: &HostRuntime, folder: &str) -> Result<Vec<String>, Fail> {
     let alloc = rt.alloc();
-    let words: Vec<String> = env::args(rt)?.skip(1).collect(alloc)?;
     let mut files = Vec::new(alloc);
     for entry in fs::read_dir(rt, folder)? {
         let file = String::from_str(alloc, entry?.path().as_str())?;
-        if words.is_empty() || is_named(words.as_slice(), file.as_str()) {
+        let name = file.as_str().rsplit('/').next().unwrap_or("");
+        if is_asked_for(rt, name.strip_suffix(".rows").unwrap_or(name))? {
             files.push(file)?;
         }
     }
     files.sort()?;
     Ok(files)
-}
-
-fn is_named(words: &[String], file: &str) -> bool {
-    let name = file.rsplit('/').next().unwrap_or(file);
-    let name = name.strip_suffix(".rows").unwrap_or(name);
-    words.iter().any(|word| word.as_str() == name)
 }
 
 // Judges a file, and gives how many of its rows don't hold.

@@ -62,44 +62,20 @@ pub fn raw_strings(source: &str) -> Vec<&str> {
     found
 }
 
-/// The pairs of texts in the first array of a source: its strings in quotes, two by two.
-pub fn pairs(source: &str) -> Vec<(String, String)> {
-    let (_, rest) = source.split_once(" = [\n").unwrap();
-    let (array, _) = rest.split_once("\n];").unwrap();
-    let is_code = |line: &&str| !line.trim_start().starts_with("//");
-    let lines: Vec<&str> = array.lines().filter(is_code).collect();
-    let strings = quoted_strings(&lines.join("\n"));
-    strings
-        .chunks(2)
-        .map(|pair| (pair[0].clone(), pair[1].clone()))
-        .collect()
-}
-
-fn quoted_strings(code: &str) -> Vec<String> {
-    let mut found = Vec::new();
-    let mut rest = code.chars();
-    while rest.by_ref().any(|c| c == '"') {
-        let mut text = String::new();
-        while let Some(c) = rest.next().filter(|c| *c != '"') {
-            text.push(if c == '\\' { escaped(&mut rest) } else { c });
-        }
-        found.push(text);
-    }
-    found
-}
-
-// The character that stands after a backslash.
-fn escaped(rest: &mut impl Iterator<Item = char>) -> char {
-    match rest.next().unwrap() {
-        'n' => '\n',
-        'r' => '\r',
-        't' => '\t',
-        'u' => {
-            let digits: String = rest.skip(1).take_while(|c| *c != '}').collect();
-            char::from_u32(u32::from_str_radix(&digits, 16).unwrap()).unwrap()
-        }
-        other => other,
-    }
+/// The rows of a table whose answers stand between quotes: each text, and its answer.
+pub fn answers(file: &str, call: &str) -> Vec<(String, String)> {
+    let path = path("crates/conformance/data/tables").join(file);
+    let source = fs::read_to_string(path).unwrap();
+    let (_, rest) = source.split_once(&format!("== {call}\n")).unwrap();
+    let (table, _) = rest.split_once("\n== ").unwrap_or((rest, ""));
+    let table = table.replace("\n  ", " ");
+    let rows = table.lines().filter(|line| !line.starts_with("-- "));
+    rows.filter_map(|line| {
+        let (text, answer) = line.split_once(" ⇒ '")?;
+        let answer = answer.strip_suffix('\'').unwrap();
+        Some((meant(text), meant(answer)))
+    })
+    .collect()
 }
 
 // The texts before the arrows of a table.

@@ -1,5 +1,5 @@
 //! Help, and output that can't be written.
-use super::fakes::Sheet;
+use super::fakes::{Files, Sheet};
 use super::runs::{ended, patient};
 use graphql_commands::Style;
 use rows::pair;
@@ -30,10 +30,11 @@ const TOLD: [&str; 17] = [
 ];
 
 /// The status of a call for help that may write nothing to standard error, and what its help doesn't speak of.
-pub fn help(alloc: Global, words: &str) -> Result<String, Fail> {
+pub fn help(alloc: Global, listed: &str, words: &str) -> Result<String, Fail> {
     let mut out = patient(alloc);
     let mut err = Sheet::new(alloc, 0, ErrorKind::Other);
-    let status = ended(alloc, Some(words), Style::Plain, &mut out, &mut err)?;
+    let files = &mut Files::new(alloc, listed);
+    let status = ended(alloc, files, Some(words), Style::Plain, &mut out, &mut err)?;
     let help = str::from_utf8(out.held.as_slice())?;
     let mut answer = format!(in alloc; "{status}")?;
     for word in TOLD {
@@ -46,19 +47,21 @@ pub fn help(alloc: Global, words: &str) -> Result<String, Fail> {
 
 /// The status of a call whose standard output fails so after a number of writes and flushes, and what is told on standard
 /// error. The number stands before the words.
-pub fn cut_short(alloc: Global, kind: ErrorKind, row: &str) -> Result<String, Fail> {
+pub fn cut_short(alloc: Global, listed: &str, kind: ErrorKind, row: &str) -> Result<String, Fail> {
     let (calls, words) = pair(row, " ")?;
     let mut out = Sheet::new(alloc, calls.parse()?, kind);
     let mut err = patient(alloc);
-    let status = ended(alloc, Some(words), Style::Plain, &mut out, &mut err)?;
+    let files = &mut Files::new(alloc, listed);
+    let status = ended(alloc, files, Some(words), Style::Plain, &mut out, &mut err)?;
     let told = str::from_utf8(err.held.as_slice())?;
     Ok(format!(in alloc; "{status} {told}")?)
 }
 
 /// The status of a call that can't write to standard error; its words are no text where they are None.
-pub fn unheard(alloc: Global, words: Option<&str>) -> Result<String, Fail> {
+pub fn unheard(alloc: Global, listed: &str, words: Option<&str>) -> Result<String, Fail> {
     let mut out = patient(alloc);
     let mut err = Sheet::new(alloc, 0, ErrorKind::Other);
-    let status = ended(alloc, words, Style::Plain, &mut out, &mut err)?;
+    let files = &mut Files::new(alloc, listed);
+    let status = ended(alloc, files, words, Style::Plain, &mut out, &mut err)?;
     Ok(format!(in alloc; "{status}")?)
 }

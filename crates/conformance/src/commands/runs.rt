@@ -20,26 +20,12 @@ pub fn patient(alloc: Global) -> Sheet {
     Sheet::new(alloc, MANY, ErrorKind::Other)
 }
 
-/// Runs the program on these words, which have blanks between them; there are none that are text where it is None.
+/// Runs the program over these files on these words, which have blanks between them; if they are None, they are no text.
 pub fn ended(
     alloc: Global,
+    files: &mut Files<'_>,
     words: Option<&str>,
     style: Style,
-    out: &mut Sheet,
-    err: &mut Sheet,
-) -> Result<u8, AllocError> {
-    let mut files = Files {
-        written: Vec::new(alloc),
-    };
-    ended_over(alloc, words, style, &mut files, out, err)
-}
-
-// The same over these files.
-fn ended_over(
-    alloc: Global,
-    words: Option<&str>,
-    style: Style,
-    files: &mut Files,
     out: &mut Sheet,
     err: &mut Sheet,
 ) -> Result<u8, AllocError> {
@@ -52,22 +38,23 @@ fn ended_over(
 }
 
 /// Judges the files in the folder `runs`, those that the program's arguments name, if there are any: prints of each how many runs it
-/// has, and before that each run that makes something else, with its line. The answer is how many do.
-pub fn judge_runs(rt: &HostRuntime) -> Result<usize, Fail> {
+/// has, and before that each run that makes something else, with its line. The answer is how many do. `gql` runs over the files
+/// that `listed` has.
+pub fn judge_runs(rt: &HostRuntime, listed: &str) -> Result<usize, Fail> {
     let mut wrong = 0usize;
     for file in &files_in(rt, "runs")? {
-        wrong = wrong.saturating_add(judge_file(rt, file.as_str())?);
+        wrong = wrong.saturating_add(judge_file(rt, listed, file.as_str())?);
     }
     Ok(wrong)
 }
 
-fn judge_file(rt: &HostRuntime, file: &str) -> Result<usize, Fail> {
+fn judge_file(rt: &HostRuntime, listed: &str, file: &str) -> Result<usize, Fail> {
     let alloc = rt.alloc();
     let text = fs::read_to_string(rt, file)?;
     let mut wrong = 0usize;
     let mut count = 0usize;
     let mut line = 1usize;
-    for row in text.as_str().trim_ascii().split("\n\n") {
+    for row in text.as_str().trim_ascii_end().split("\n\n") {
         let wanted = if file.ends_with("/gql") {
             meant(alloc, row)?
         } else {
@@ -75,7 +62,7 @@ fn judge_file(rt: &HostRuntime, file: &str) -> Result<usize, Fail> {
         };
         let wanted = wanted.as_str();
         let made = if file.ends_with("/gql") {
-            made(alloc, wanted)?
+            made(alloc, listed, wanted)?
         } else {
             listings::made(alloc, wanted)?
         };
@@ -91,7 +78,7 @@ fn judge_file(rt: &HostRuntime, file: &str) -> Result<usize, Fail> {
 }
 
 // The row that a run makes whose first line is that of this one.
-fn made(alloc: Global, row: &str) -> Result<String, Fail> {
+fn made(alloc: Global, listed: &str, row: &str) -> Result<String, Fail> {
     let head = row.lines().next().unwrap_or("");
     let (words, style) = match head.strip_prefix('%') {
         Some(words) => (words, Style::Coloured),
@@ -99,17 +86,15 @@ fn made(alloc: Global, row: &str) -> Result<String, Fail> {
     };
     let mut out = patient(alloc);
     let mut err = patient(alloc);
-    let mut files = Files {
-        written: Vec::new(alloc),
-    };
-    let status = ended_over(alloc, Some(words), style, &mut files, &mut out, &mut err)?;
+    let mut files = Files::new(alloc, listed);
+    let status = ended(alloc, &mut files, Some(words), style, &mut out, &mut err)?;
     let mut made = String::from_str(alloc, head)?;
     made.push('\n')?;
     push_lines(&mut made, "> ", str::from_utf8(out.held.as_slice())?)?;
     push_lines(&mut made, "! ", str::from_utf8(err.held.as_slice())?)?;
     for written in &files.written {
-        let name = written.name.as_str();
-        writeln!(made, "+ {name}")?;
+        push_lines(&mut made, "+ ", written.name.as_str())?;
+        made.push('\n')?;
         push_lines(&mut made, "| ", written.text.as_str())?;
     }
     write!(made, "= {status}")?;

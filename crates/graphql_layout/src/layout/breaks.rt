@@ -13,7 +13,7 @@ use std::simd::prelude::*;
 const LONGEST_CALL: usize = 80;
 
 /// The tokens of a text up to one of them, and what is known of those after it.
-#[derive(Debug, Drop)]
+#[derive(Drop)]
 pub struct Planner {
     alloc: Global,
     walk: Walk,
@@ -33,7 +33,7 @@ pub struct Planner {
 }
 
 // A bracket that is open where it reads ahead.
-#[derive(Clone, Copy, Debug)]
+#[derive(Clone, Copy)]
 struct Open {
     bracket: Bracket,
     // Which one it is.

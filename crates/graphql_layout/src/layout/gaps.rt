@@ -5,7 +5,7 @@ use graphql_tokens::lexer::TokenKind;
 use std::alloc::{AllocError, Global};
 
 /// What stands before a token.
-#[derive(Clone, Copy, Debug, PartialEq, Eq)]
+#[derive(Clone, Copy, PartialEq)]
 pub enum Gap {
     /// Nothing: it begins the text.
     Start,
@@ -24,7 +24,7 @@ pub enum Gap {
 }
 
 /// Where a token stands.
-#[derive(Clone, Copy, Debug)]
+#[derive(Clone, Copy)]
 pub struct Place {
     /// What stands before it.
     pub gap: Gap,
@@ -39,7 +39,7 @@ pub struct Place {
 }
 
 /// A text up to one of its tokens.
-#[derive(Debug, Drop)]
+#[derive(Drop)]
 pub struct Layout {
     planner: Planner,
     // Whether each open bracket is broken, whether the innermost is, and how many are.

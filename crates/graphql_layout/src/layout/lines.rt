@@ -10,7 +10,7 @@ use crate::sheet::Sheet;
 use std::alloc::AllocError;
 
 /// What was written of the ignored text before a token.
-#[derive(Clone, Copy, Debug)]
+#[derive(Clone, Copy)]
 pub struct Before {
     // Whether there is a comment, and whether one is on a line of its own.
     is_commented: bool,

@@ -4,7 +4,7 @@ use graphql_tokens::lexer::TokenKind;
 use std::alloc::{AllocError, Global};
 
 /// What an open bracket holds.
-#[derive(Clone, Copy, Debug, PartialEq, Eq)]
+#[derive(Clone, Copy, PartialEq)]
 pub enum Bracket {
     /// Selections, fields, enum values or root operations.
     Set,
@@ -35,7 +35,7 @@ impl Bracket {
 }
 
 /// What a token is among those before it.
-#[derive(Clone, Copy, Debug, PartialEq, Eq)]
+#[derive(Clone, Copy, PartialEq)]
 pub enum Role {
     /// It begins a definition.
     Definition,
@@ -56,7 +56,7 @@ pub enum Role {
 }
 
 /// A token among those before it.
-#[derive(Clone, Copy, Debug)]
+#[derive(Clone, Copy)]
 pub struct Step {
     /// What it is.
     pub role: Role,
@@ -69,7 +69,7 @@ pub struct Step {
 }
 
 // What the token before was, as far as it decides what the next one is.
-#[derive(Clone, Copy, Debug, PartialEq, Eq)]
+#[derive(Clone, Copy, PartialEq)]
 enum Last {
     // There is none.
     Start,
@@ -92,7 +92,7 @@ enum Last {
 }
 
 /// The tokens of a text up to one of them.
-#[derive(Debug, Drop)]
+#[derive(Drop)]
 pub struct Walk {
     // The open brackets, and the innermost of them.
     open: Vec<Bracket>,

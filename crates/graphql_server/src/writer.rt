@@ -1,0 +1,104 @@
+//! JSON that is written value by value.
+
+use std::alloc::{AllocError, Global};
+
+/// A text of JSON that is being written. Once memory has run out, nothing more is written, and [`JsonWriter::finish`] fails.
+#[derive(Drop)]
+pub struct JsonWriter {
+    tokens: json::Writer,
+    has_failed: bool,
+}
+
+impl JsonWriter {
+    /// A text to which nothing was written. It takes no memory.
+    pub fn new(alloc: Global) -> JsonWriter {
+        JsonWriter {
+            tokens: json::Writer::new(Vec::new(alloc)),
+            has_failed: false,
+        }
+    }
+
+    /// The text.
+    ///
+    /// It fails only where memory has run out.
+    pub fn finish(self) -> Result<Vec<u8>, AllocError> {
+        let JsonWriter { tokens, has_failed } = self;
+        if has_failed {
+            return Err(AllocError);
+        }
+        Ok(tokens.into_inner())
+    }
+
+    // Remembers whether memory ran out.
+    fn note(&mut self, written: Result<(), AllocError>) {
+        self.has_failed = self.has_failed || written.is_err();
+    }
+
+    pub fn begin_object(&mut self) {
+        let written = self.tokens.begin_object();
+        self.note(written);
+    }
+
+    pub fn end_object(&mut self) {
+        let written = self.tokens.end_object();
+        self.note(written);
+    }
+
+    pub fn begin_list(&mut self) {
+        let written = self.tokens.begin_array();
+        self.note(written);
+    }
+
+    pub fn end_list(&mut self) {
+        let written = self.tokens.end_array();
+        self.note(written);
+    }
+
+    /// Writes the name of a member, whose value is written next.
+    pub fn name(&mut self, name: &str) {
+        let written = self.tokens.key(name);
+        self.note(written);
+    }
+
+    pub fn text(&mut self, text: &str) {
+        let written = self.tokens.string(text);
+        self.note(written);
+    }
+
+    pub fn integer(&mut self, number: i64) {
+        let written = self.tokens.i64(number);
+        self.note(written);
+    }
+
+    pub fn size(&mut self, number: usize) {
+        let written = self.tokens.u64(number as u64);
+        self.note(written);
+    }
+
+    pub fn boolean(&mut self, value: bool) {
+        let written = self.tokens.boolean(value);
+        self.note(written);
+    }
+
+    pub fn null(&mut self) {
+        let written = self.tokens.null();
+        self.note(written);
+    }
+
+    // ---- Members of an object
+
+    pub fn text_member(&mut self, name: &str, text: &str) {
+        self.name(name);
+        self.text(text);
+    }
+
+    pub fn size_member(&mut self, name: &str, number: usize) {
+        self.name(name);
+        self.size(number);
+    }
+
+    pub fn boolean_member(&mut self, name: &str, value: bool) {
+        self.name(name);
+        self.boolean(value);
+    }
+}
