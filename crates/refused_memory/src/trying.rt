@@ -98,7 +98,7 @@ fn tried_call<'a>(
         call,
         is_free: named.is_some(),
         text,
-        input: Input::new(alloc, kind, text, times)?,
+        input: Input::new(alloc, kind, call, text, times)?,
         shown: Shown::with_room(alloc, true, ROOM)?,
         ends: Vec::new(alloc),
         has_other: false,
