@@ -58,10 +58,9 @@ pub fn make(
             free::show_error_places(shown, error);
             Ok(())
         }
-        Input::Outputs(out, err) => {
-            out.clear();
-            err.clear();
-            show_run(alloc, call, text, out, err, shown)
+        Input::Run(words, out, err) => {
+            show_run(alloc, words.as_slice(), text, out, err, shown);
+            Ok(())
         }
     }
 }
@@ -225,18 +224,18 @@ fn of_file(
 // What the program `gqlparse` writes to standard output and to standard error, and its status.
 fn show_run(
     alloc: Global,
-    command: &str,
+    words: &[String],
     text: &str,
     out: &mut Vec<u8>,
     err: &mut Vec<u8>,
     shown: &mut Shown,
-) -> Answered {
-    let word = String::from_str(alloc, command)?;
-    let status = run(alloc, &[word], &mut text.as_bytes(), out, err);
+) {
+    out.clear();
+    err.clear();
+    let status = run(alloc, words, &mut text.as_bytes(), out, err);
     shown.item("> ", &str::from_utf8(out.as_slice()).unwrap_or("no text"));
     shown.item("! ", &str::from_utf8(err.as_slice()).unwrap_or("no text"));
     shown.item("= ", &status);
-    Ok(())
 }
 
 fn show_text(shown: &mut Shown, answer: Answer<String>) -> Answered {

@@ -18,24 +18,35 @@ pub enum Input {
     Request(ExecutableDocument),
     File(ServiceDocument),
     Error(Error),
-    /// Room for what goes to standard output and to standard error.
-    Outputs(Vec<u8>, Vec<u8>),
+    /// The arguments of a run, and room for what goes to standard output and to standard error.
+    Run(Vec<String>, Vec<u8>, Vec<u8>),
 }
 
 // How many bytes a run of the program `gqlparse` may write.
 const ROOM: usize = 256;
 
 impl Input {
-    /// What calls of this kind are given where their row has this text, for so many times.
-    pub fn new(alloc: Global, kind: &str, text: &str, times: usize) -> Result<Input, AllocError> {
+    /// What a call of this kind is given where its row has this text, for so many times.
+    pub fn new(
+        alloc: Global,
+        kind: &str,
+        call: &str,
+        text: &str,
+        times: usize,
+    ) -> Result<Input, AllocError> {
         Ok(match kind {
             "query tree" => Input::Request(request(alloc, text)?),
             "schema tree" => Input::File(parse_schema(alloc, text).map_err(|_| AllocError)?),
             "error" => Input::Error(parse_query(alloc, text).err().ok_or(AllocError)?),
-            "listing" => Input::Outputs(
-                Vec::with_capacity(alloc, ROOM)?,
-                Vec::with_capacity(alloc, ROOM)?,
-            ),
+            "listing" => {
+                let mut words = Vec::new(alloc);
+                words.push(String::from_str(alloc, call)?)?;
+                Input::Run(
+                    words,
+                    Vec::with_capacity(alloc, ROOM)?,
+                    Vec::with_capacity(alloc, ROOM)?,
+                )
+            }
             "text" | "query text" | "schema text" => Input::Text,
             _ => {
                 let document = request(alloc, text)?;

@@ -18,6 +18,7 @@ const REFUSED_INSIDE: &str = "> ! error: out of memory\nat []\n= 1";
 const REFUSED_OUTSIDE: &str = "> ! error: out of memory\n= 2";
 
 /// The calls of the tables, each made again and again at the end of memory.
+#[derive(Drop)]
 pub struct Calls {
     /// Whether memory has an end, as it hasn't in `rt try`; without one each call is made once.
     pub has_end: bool,
@@ -97,7 +98,7 @@ fn tried_call<'a>(
         call,
         is_free: named.is_some(),
         text,
-        input: Input::new(alloc, kind, text, times)?,
+        input: Input::new(alloc, kind, call, text, times)?,
         shown: Shown::with_room(alloc, true, ROOM)?,
         ends: Vec::new(alloc),
         has_other: false,
