@@ -104,16 +104,16 @@ fn write_difference(
         return;
     }
     let front = same_front(old.as_bytes(), new.as_bytes());
-    let back = same_back(
-        old.as_bytes().get(front..).unwrap_or(&[]),
-        new.as_bytes().get(front..).unwrap_or(&[]),
-    );
+    let old_rest = old.as_bytes().get(front..).unwrap_or(&[]);
+    let new_rest = new.as_bytes().get(front..).unwrap_or(&[]);
+    let back = same_back(old_rest, new_rest);
     let old_end = old.len().saturating_sub(back);
     let new_end = new.len().saturating_sub(back);
     let start = offset.saturating_add(front);
     let end = offset.saturating_add(old_end);
     let range = range_of(encoding, document, start, end);
-    write_edit(range, new.get(front..new_end).unwrap_or(""), json);
+    let replacement = new.get(front..new_end).unwrap_or("");
+    write_edit(range, replacement, json);
 }
 
 // How many bytes the lines have with which both texts begin, each with its line feed.
