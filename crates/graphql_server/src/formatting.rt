@@ -3,6 +3,7 @@
 
 use crate::diagnostics::range_of;
 use crate::messages::write_edit;
+use crate::outline::slice_of;
 use crate::writer::JsonWriter;
 use graphql_editor::{Span, Structure};
 use graphql_parser::{Limits, Memory};
@@ -104,15 +105,20 @@ fn write_difference(
         return;
     }
     let front = same_front(old.as_bytes(), new.as_bytes());
-    let old_rest = old.as_bytes().get(front..).unwrap_or(&[]);
-    let new_rest = new.as_bytes().get(front..).unwrap_or(&[]);
-    let back = same_back(old_rest, new_rest);
+    let back = same_back(
+        old.as_bytes().get(front..).unwrap_or(&[]),
+        new.as_bytes().get(front..).unwrap_or(&[]),
+    );
     let old_end = old.len().saturating_sub(back);
     let new_end = new.len().saturating_sub(back);
     let start = offset.saturating_add(front);
     let end = offset.saturating_add(old_end);
     let range = range_of(encoding, document, start, end);
-    let replacement = new.get(front..new_end).unwrap_or("");
+    let changed = Span {
+        start: front,
+        end: new_end,
+    };
+    let replacement = slice_of(new, changed);
     write_edit(range, replacement, json);
 }
 
