@@ -42,7 +42,8 @@ fn whole_text(rt: &HostRuntime, file: &str) -> Result<String, Fail> {
         match line.strip_prefix("+ ") {
             Some(part) => {
                 let path = format!(in alloc; "parts/{part}")?;
-                whole.push_str(fs::read_to_string(rt, path.as_str())?.as_str())?;
+                let part = fs::read_to_string(rt, path.as_str())?;
+                whole.push_str(part.as_str())?;
             }
             None => writeln!(whole, "{line}")?,
         }

@@ -88,8 +88,14 @@ impl Dialogue {
         let (sign, rest) = line.split_once(' ').ok_or("no such line")?;
         let rest = meant(alloc, rest)?;
         match sign {
-            ">" => self.give(alloc, whole_message(alloc, rest.as_str())?.as_str()),
-            ">=" => self.give(alloc, with_places(alloc, rest.as_str())?.as_str()),
+            ">" => {
+                let message = whole_message(alloc, rest.as_str())?;
+                self.give(alloc, message.as_str())
+            }
+            ">=" => {
+                let content = with_places(alloc, rest.as_str())?;
+                self.give(alloc, content.as_str())
+            }
             ">>" => {
                 self.given.extend_from_slice(rest.as_bytes())?;
                 self.end_turn(false)
@@ -173,8 +179,8 @@ fn push_part(out: &mut String, part: &str) -> Result<(), AllocError> {
             let rest = piece.trim_start_matches(|c: char| c.is_ascii_digit()
                 || c == ':'
                 || c == '-');
-            let place = piece.len().saturating_sub(rest.len());
-            push_place(out, piece.get(..place).unwrap_or(""))?;
+            let place = piece.strip_suffix(rest).unwrap_or(piece);
+            push_place(out, place)?;
             out.push_str(rest)?;
         }
     }

@@ -89,8 +89,9 @@ fn play(
             server.end();
         }
         if !is_as_wanted(alloc, written.as_slice(), messages)? {
-            let written = str::from_utf8(written.as_slice()).unwrap_or("what is no text");
-            println!(rt; "  {how}, after byte {}: {written}", turn.given)?;
+            if let Ok(written) = str::from_utf8(written.as_slice()) {
+                println!(rt; "  {how}, after byte {}: {written}", turn.given)?;
+            }
             wrong = wrong.saturating_add(1);
         }
         given = turn.given;
@@ -132,7 +133,8 @@ fn is_as_wanted(alloc: Global, written: &[u8], wanted: &[String]) -> Result<bool
         let Some((content, after)) = unframed(rest) else {
             return Ok(false);
         };
-        if !is_like(plain(alloc, content)?.as_str(), message.as_str()) {
+        let found = plain(alloc, content)?;
+        if !is_like(found.as_str(), message.as_str()) {
             return Ok(false);
         }
         rest = after;

@@ -1,25 +1,26 @@
-//! What the server tells at the beginning (Language Server Protocol 3.17, "Initialize Request").
+//! What the server reports at the beginning (Language Server Protocol 3.17, "Initialize Request").
 
 use crate::fixes::QUICK_FIX;
 use crate::writer::JsonWriter;
 use text_edits::Encoding;
 
+// Those of "ServerCapabilities" that have no options.
+const PROVIDERS: [&str; 8] = [
+    "documentSymbolProvider",
+    "foldingRangeProvider",
+    "selectionRangeProvider",
+    "documentFormattingProvider",
+    "documentRangeFormattingProvider",
+    "definitionProvider",
+    "referencesProvider",
+    "hoverProvider",
+];
+
 /// Writes what the server can do, and its name ("InitializeResult").
 pub fn write_initialized(encoding: Encoding, json: &mut JsonWriter) {
     json.begin_object();
     json.name("capabilities");
-    json.begin_object();
-    json.text_member("positionEncoding", name_of(encoding));
-    write_options(json);
-    json.boolean_member("documentSymbolProvider", true);
-    json.boolean_member("foldingRangeProvider", true);
-    json.boolean_member("selectionRangeProvider", true);
-    json.boolean_member("documentFormattingProvider", true);
-    json.boolean_member("documentRangeFormattingProvider", true);
-    json.boolean_member("definitionProvider", true);
-    json.boolean_member("referencesProvider", true);
-    json.boolean_member("hoverProvider", true);
-    json.end_object();
+    write_capabilities(encoding, json);
     json.name("serverInfo");
     json.begin_object();
     json.text_member("name", "gql");
@@ -28,20 +29,37 @@ pub fn write_initialized(encoding: Encoding, json: &mut JsonWriter) {
     json.end_object();
 }
 
-// Writes those of "ServerCapabilities" that have options.
-fn write_options(json: &mut JsonWriter) {
+fn write_capabilities(encoding: Encoding, json: &mut JsonWriter) {
+    json.begin_object();
+    json.text_member("positionEncoding", name_of(encoding));
+    write_sync_options(json);
+    write_diagnostic_options(json);
+    write_action_options(json);
+    for provider in PROVIDERS {
+        json.boolean_member(provider, true);
+    }
+    json.end_object();
+}
+
+fn write_sync_options(json: &mut JsonWriter) {
     json.name("textDocumentSync");
     json.begin_object();
     json.boolean_member("openClose", true);
     // Changes come by their ranges.
     json.size_member("change", 2);
     json.end_object();
+}
+
+fn write_diagnostic_options(json: &mut JsonWriter) {
     json.name("diagnosticProvider");
     json.begin_object();
     json.text_member("identifier", "gql");
     json.boolean_member("interFileDependencies", false);
     json.boolean_member("workspaceDiagnostics", false);
     json.end_object();
+}
+
+fn write_action_options(json: &mut JsonWriter) {
     json.name("codeActionProvider");
     json.begin_object();
     json.name("codeActionKinds");

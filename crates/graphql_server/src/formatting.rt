@@ -3,6 +3,7 @@
 
 use crate::diagnostics::range_of;
 use crate::messages::write_edit;
+use crate::outline::slice_of;
 use crate::writer::JsonWriter;
 use graphql_editor::{Span, Structure};
 use graphql_parser::{Limits, Memory};
@@ -113,7 +114,12 @@ fn write_difference(
     let start = offset.saturating_add(front);
     let end = offset.saturating_add(old_end);
     let range = range_of(encoding, document, start, end);
-    write_edit(range, new.get(front..new_end).unwrap_or(""), json);
+    let changed = Span {
+        start: front,
+        end: new_end,
+    };
+    let replacement = slice_of(new, changed);
+    write_edit(range, replacement, json);
 }
 
 // How many bytes the lines have with which both texts begin, each with its line feed.

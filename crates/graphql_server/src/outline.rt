@@ -58,8 +58,8 @@ fn begin_symbol(text: &str, places: &Places<'_>, symbol: &Symbol, json: &mut Jso
     json.begin_list();
 }
 
-// The part of a text between two offsets; nothing where they aren't offsets of characters.
-fn slice_of(text: &str, span: Span) -> &str {
+/// The part of a text between two offsets; nothing where they aren't offsets of characters.
+pub fn slice_of(text: &str, span: Span) -> &str {
     text.get(span.start..span.end).unwrap_or("")
 }
 
