@@ -107,22 +107,71 @@ fn of_tokens(
     for _ in 0..passed {
         tokens.next();
     }
+    let all = count(Tokens::new(text));
+    if is_parser {
+        parse_rest(alloc, is_query, tokens, all, shown)
+    } else {
+        check_rest(alloc, is_query, tokens, all, shown)
+    }
+}
+
+// The answer of a parse over these tokens, the last of so many.
+fn parse_rest(
+    alloc: Global,
+    is_query: bool,
+    mut tokens: Tokens<'_>,
+    all: usize,
+    shown: &mut Shown,
+) -> Answered {
     if tokens.is_ended() {
         return Ok(());
     }
-    let answered = match (is_parser, is_query) {
-        (true, true) => show_tree(shown, parse_query_from(alloc, &mut tokens)),
-        (true, false) => show_tree(shown, parse_schema_from(alloc, &mut tokens)),
-        (false, true) => show_checked(shown, check_query_from(alloc, &mut tokens)),
-        (false, false) => show_checked(shown, check_schema_from(alloc, &mut tokens)),
+    let answered = if is_query {
+        show_tree(shown, parse_query_from(alloc, &mut tokens))
+    } else {
+        show_tree(shown, parse_schema_from(alloc, &mut tokens))
     };
+    show_taken(shown, &answered, tokens, all);
+    answered
+}
+
+// The same of a check.
+fn check_rest(
+    alloc: Global,
+    is_query: bool,
+    mut tokens: Tokens<'_>,
+    all: usize,
+    shown: &mut Shown,
+) -> Answered {
+    if tokens.is_ended() {
+        return Ok(());
+    }
+    let answered = if is_query {
+        show_checked(shown, check_query_from(alloc, &mut tokens))
+    } else {
+        show_checked(shown, check_schema_from(alloc, &mut tokens))
+    };
+    show_taken(shown, &answered, tokens, all);
+    answered
+}
+
+// How many tokens were taken, or that no more were than there are.
+fn show_taken(shown: &mut Shown, answered: &Answered, tokens: Tokens<'_>, all: usize) {
     let taken = tokens.taken();
     if answered.is_ok() {
         shown.item(", taken ", &taken);
-    } else if taken.checked_add(tokens.count()) == Some(Tokens::new(text).count()) {
+    } else if taken.checked_add(count(tokens)) == Some(all) {
         shown.word("taken within ");
     }
-    answered
+}
+
+// How many tokens are left.
+fn count(tokens: Tokens<'_>) -> usize {
+    let mut count = 0usize;
+    for _ in tokens {
+        count = count.wrapping_add(1);
+    }
+    count
 }
 
 // Limits within which little may nest.
