@@ -29,25 +29,7 @@ impl Subject for Calls {
     /// it may end.
     fn answer(&self, alloc: Global, call: &str, text: &str) -> Result<String, Fail> {
         let mut tried = tried_call(alloc, call, text, ATTEMPTS + 1)?;
-        tried.make(alloc);
-        let answer = String::from_str(alloc, tried.shown.whole().unwrap_or("no room"))?;
-        tried.may_end(alloc, answer.as_str())?;
-        if !self.has_end {
-            return Ok(answer);
-        }
-        if !attempts(alloc, &mut tried)? {
-            return Err(Fail::new("memory has no end here"));
-        }
-        if tried.has_other {
-            let other = tried.shown.whole().unwrap_or("no room");
-            return Ok(format!(in alloc; "another end: {other}")?);
-        }
-        for (end, times) in &tried.ends {
-            if *times == 0 {
-                return Ok(format!(in alloc; "never an end: {end}")?);
-            }
-        }
-        Ok(answer)
+        tried.answer(alloc, self.has_end)
     }
 }
 
@@ -106,6 +88,37 @@ fn tried_call<'a>(
 }
 
 impl Tried<'_> {
+    // The answer where there is memory, or the other end that the call has at the end of memory.
+    fn answer(&mut self, alloc: Global, has_end: bool) -> Result<String, Fail> {
+        self.make(alloc);
+        let answer = String::from_str(alloc, self.shown.whole().unwrap_or("no room"))?;
+        self.may_end(alloc, answer.as_str())?;
+        if !has_end {
+            return Ok(answer);
+        }
+        if !attempts(alloc, self)? {
+            return Err(Fail::new("memory has no end here"));
+        }
+        match self.other_end(alloc)? {
+            Some(other) => Ok(other),
+            None => Ok(answer),
+        }
+    }
+
+    // Another end that the call had, or one that it never had.
+    fn other_end(&self, alloc: Global) -> Result<Option<String>, AllocError> {
+        if self.has_other {
+            let other = self.shown.whole().unwrap_or("no room");
+            return Ok(Some(format!(in alloc; "another end: {other}")?));
+        }
+        for (end, times) in &self.ends {
+            if *times == 0 {
+                return Ok(Some(format!(in alloc; "never an end: {end}")?));
+            }
+        }
+        Ok(None)
+    }
+
     // Makes the call. Takes no memory for itself.
     fn make(&mut self, alloc: Global) {
         self.shown.clear();
