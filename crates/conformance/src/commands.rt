@@ -4,6 +4,7 @@ mod fakes;
 mod findings;
 mod listings;
 mod outputs;
+mod pieces;
 mod rests;
 mod runs;
 mod spellings;
@@ -11,11 +12,9 @@ mod strings;
 
 use graphql_report::Language;
 use graphql_texts::language::read_as;
-use rows::pair;
+use rows::{Shown, pair};
 pub use runs::judge_runs;
-use std::alloc::Global;
 use std::io::ErrorKind;
-use std::test::Fail;
 
 /// What a part of the program makes of a text, over the files that `listed` has.
 ///
@@ -25,37 +24,37 @@ use std::test::Fail;
 /// - `rest`, `later line`: what is told of a text that is read from a later line on
 /// - `diagnoses`, `mended`: what is wrong with a text as data, and what the first fix makes of it
 /// - `findings`, `made findings`, `many findings`, `spelling`, `made spellings`: whether it is as it was before
-pub fn answer(alloc: Global, listed: &str, part: &str, text: &str) -> Result<String, Fail> {
+pub fn answer(shown: &mut Shown, listed: &str, part: &str, text: &str) {
     match part {
-        "language" => language(alloc, text),
-        "help" => outputs::help(alloc, listed, text),
-        "cut short" => outputs::cut_short(alloc, listed, ErrorKind::Other, text),
-        "closed" => outputs::cut_short(alloc, listed, ErrorKind::BrokenPipe, text),
-        "unheard" => outputs::unheard(alloc, listed, Some(text)),
-        "unheard bytes" => outputs::unheard(alloc, listed, None),
-        "unclosed string" => strings::unclosed(alloc, text),
-        "unclosed string from" => strings::unclosed_from(alloc, text),
-        "opening" => strings::opening(alloc, text),
-        "later line" => rests::later_line(alloc, text),
-        "spelling" => spellings::spelled(alloc, text),
-        "made spellings" => spellings::made_spelled(alloc, text),
-        "made findings" => findings::made_told(alloc, text),
-        "many findings" => findings::many_told(alloc, text),
-        part => match pair(part, " ")? {
-            ("rest", reading) => rests::told(alloc, reading, text),
-            ("findings", language) => findings::told_alike(alloc, language, text),
-            ("diagnoses", language) => diagnoses::told(alloc, language, text),
-            ("mended", language) => diagnoses::mended(alloc, language, text),
-            _ => Err(Fail::new("no such part of the program")),
+        "language" => write_language(shown, text),
+        "help" => outputs::help(shown, listed, text),
+        "cut short" => outputs::cut_short(shown, listed, ErrorKind::Other, text),
+        "closed" => outputs::cut_short(shown, listed, ErrorKind::BrokenPipe, text),
+        "unheard" => outputs::unheard(shown, listed, Some(text)),
+        "unheard bytes" => outputs::unheard(shown, listed, None),
+        "unclosed string" => strings::unclosed(shown, text),
+        "unclosed string from" => strings::unclosed_from(shown, text),
+        "opening" => strings::opening(shown, text),
+        "later line" => rests::later_line(shown, text),
+        "spelling" => spellings::spelled(shown, text),
+        "made spellings" => spellings::made_spelled(shown, text),
+        "made findings" => findings::made_told(shown, text),
+        "many findings" => findings::many_told(shown, text),
+        part => match pair(part, " ") {
+            ("rest", reading) => rests::told(shown, reading, text),
+            ("findings", language) => findings::told_alike(shown, language, text),
+            ("diagnoses", language) => diagnoses::told(shown, language, text),
+            ("mended", language) => diagnoses::mended(shown, language, text),
+            _ => shown.word("no such part of the program"),
         },
     }
 }
 
-fn language(alloc: Global, row: &str) -> Result<String, Fail> {
-    let (file, text) = pair(row, " | ")?;
-    let found = match read_as(alloc, None, file, text)? {
-        Language::Requests => "request",
-        Language::Schemas => "schema",
-    };
-    Ok(String::from_str(alloc, found)?)
+fn write_language(shown: &mut Shown, row: &str) {
+    let (file, text) = pair(row, " | ");
+    match read_as(shown.alloc(), None, file, text) {
+        Ok(Language::Requests) => shown.word("request"),
+        Ok(Language::Schemas) => shown.word("schema"),
+        Err(_) => shown.leave_out(),
+    }
 }

@@ -1,11 +1,10 @@
 //! Errors: what they print, and the places that they name.
-use crate::parser::shown;
+use crate::parser::write_error;
 use graphql_parser::types::OperationType;
 use graphql_parser::value::Name;
 use graphql_parser::{Error, ErrorPositions, Pos};
-use rows::{Shown, compared, pair};
+use rows::{Shown, pair};
 use std::alloc::{AllocError, Global};
-use std::test::Fail;
 
 const A: Pos = Pos { line: 1, column: 2 };
 
@@ -18,61 +17,46 @@ const FAR: Pos = Pos {
     column: 0,
 };
 
-/// What is said of the errors that a row names.
+/// Writes what is said of the errors that a row names.
 ///
 /// - `printed`: what an error prints, and its places as JSON; and whether a copy is equal and shown as the error is
 /// - `equality`: how two errors compare
 /// - `places`: what the places of an error give when they are taken from the front, by `next`, and from the back, by
 ///   `back`: after each place those that are left
-pub fn answer(alloc: Global, part: &str, row: &str) -> Result<String, Fail> {
-    Ok(match part {
-        "printed" => with_places(alloc, &made(alloc, row)?)?,
-        "equality" => {
-            let (one, other) = pair(row, " and ")?;
-            compared(alloc, &made(alloc, one)?, &made(alloc, other)?)?
-        }
-        "places" => {
-            let (error, steps) = pair(row, ": ")?;
-            stepped(alloc, made(alloc, error)?.positions(), steps)?
-        }
-        _ => return Err(Fail::new("no such part")),
-    })
+pub fn write_part(shown: &mut Shown, part: &str, row: &str) {
+    let (what, rest) = match part {
+        "equality" => pair(row, " and "),
+        "places" => pair(row, ": "),
+        _ => (row, ""),
+    };
+    match named(shown.alloc(), what) {
+        Some(error) => write_part_of(shown, part, &error, rest),
+        None => shown.word("no such error"),
+    }
+}
+
+fn write_part_of(shown: &mut Shown, part: &str, error: &Error, rest: &str) {
+    match part {
+        "printed" => write_printed(shown, error),
+        "equality" => match named(shown.alloc(), rest) {
+            Some(other) => shown.word(if *error == other {
+                "equal"
+            } else {
+                "different"
+            }),
+            None => shown.word("no such error"),
+        },
+        "places" => write_steps(shown, error.positions(), rest),
+        _ => shown.word("no such part"),
+    }
 }
 
 /// The error of this name.
-pub fn made(alloc: Global, what: &str) -> Result<Error, Fail> {
-    let (message, end) = match what {
-        "syntax" => ("syntax error at 1:2", None),
-        "syntax with an end" => ("syntax error at 1:2", Some(B)),
-        "syntax with another end" => ("syntax error at 1:2", Some(C)),
-        "syntax with a far end" => ("no \"a\"\nbut a \\", Some(FAR)),
-        "syntax with a message" => ("no\n\u{e9}", None),
-        "syntax without a message" => ("", None),
-        other => return of_rule(alloc, other),
-    };
-    Ok(Error::Syntax {
-        message: String::from_str(alloc, message)?,
-        start: A,
-        end,
-    })
-}
-
-fn of_rule(alloc: Global, what: &str) -> Result<Error, Fail> {
-    let root = match what {
-        "queries" => OperationType::Query,
-        "mutations" => OperationType::Mutation,
-        "subscriptions" => OperationType::Subscription,
-        other => return of_request(alloc, other),
-    };
-    Ok(Error::MultipleRoots {
-        root,
-        schema: A,
-        pos: B,
-    })
-}
-
-fn of_request(alloc: Global, what: &str) -> Result<Error, Fail> {
-    Ok(match what {
+pub fn named(alloc: Global, what: &str) -> Option<Error> {
+    Some(match what {
+        "queries" => several_roots(OperationType::Query),
+        "mutations" => several_roots(OperationType::Mutation),
+        "subscriptions" => several_roots(OperationType::Subscription),
         "no query" => Error::MissingQueryRoot { pos: A },
         "no query elsewhere" => Error::MissingQueryRoot { pos: B },
         "limit" => Error::RecursionLimitExceeded,
@@ -83,69 +67,107 @@ fn of_request(alloc: Global, what: &str) -> Result<Error, Fail> {
             operation: B,
         },
         "operation twice" => Error::OperationDuplicated {
-            operation: Name::new(alloc, "Q_1")?,
+            operation: Name::new(alloc, "Q_1").ok()?,
             first: A,
             second: B,
         },
         "fragment twice" => Error::FragmentDuplicated {
-            fragment: Name::new(alloc, "F")?,
+            fragment: Name::new(alloc, "F").ok()?,
             first: A,
             second: B,
         },
         "no operation" => Error::MissingOperation,
-        _ => return Err(Fail::new("no such error")),
+        other => return syntax_named(alloc, other),
+    })
+}
+
+fn several_roots(root: OperationType) -> Error {
+    Error::MultipleRoots {
+        root,
+        schema: A,
+        pos: B,
+    }
+}
+
+fn syntax_named(alloc: Global, what: &str) -> Option<Error> {
+    let (message, end) = match what {
+        "syntax" => ("syntax error at 1:2", None),
+        "syntax with an end" => ("syntax error at 1:2", Some(B)),
+        "syntax with another end" => ("syntax error at 1:2", Some(C)),
+        "syntax with a far end" => ("no \"a\"\nbut a \\", Some(FAR)),
+        "syntax with a message" => ("no\n\u{e9}", None),
+        "syntax without a message" => ("", None),
+        _ => return None,
+    };
+    Some(Error::Syntax {
+        message: String::from_str(alloc, message).ok()?,
+        start: A,
+        end,
     })
 }
 
 // What an error prints, and its places as JSON.
-fn with_places(alloc: Global, error: &Error) -> Result<String, Fail> {
-    let places = serde_json::to_string(alloc, &error.positions())?;
-    let of_copy = if equals_its_copy(alloc, error)? {
-        ""
-    } else {
-        " with another copy"
-    };
-    Ok(format!(in alloc; "{error} {places}{of_copy}")?)
+fn write_printed(shown: &mut Shown, error: &Error) {
+    shown.item("", error);
+    match serde_json::to_string(shown.alloc(), &error.positions()) {
+        Ok(places) => shown.item(" ", &places),
+        Err(_) => shown.leave_out(),
+    }
+    match error.clone() {
+        Ok(copy) if copy == *error => write_unless_alike(shown, error, &copy),
+        Ok(_) => shown.word(" with another copy"),
+        Err(_) => shown.leave_out(),
+    }
 }
 
-fn equals_its_copy(alloc: Global, error: &Error) -> Result<bool, AllocError> {
-    let copy = error.clone()?;
-    let shown_error = shown(alloc, true, error)?;
-    let shown_copy = shown(alloc, true, &copy)?;
-    Ok(copy == *error && shown_copy == shown_error)
+fn write_unless_alike(shown: &mut Shown, error: &Error, copy: &Error) {
+    let mut one = Shown::new(shown.alloc(), true);
+    write_error(&mut one, error);
+    let mut other = Shown::new(shown.alloc(), true);
+    write_error(&mut other, copy);
+    if one.whole() != other.whole() {
+        shown.word(" with a copy that is shown otherwise");
+    }
 }
 
 // What places give when they are taken from both ends, and what is left after each.
-fn stepped(alloc: Global, mut places: ErrorPositions, steps: &str) -> Result<String, AllocError> {
-    let mut shown = Shown::new(alloc, true);
+fn write_steps(shown: &mut Shown, mut places: ErrorPositions, steps: &str) {
     shown.word("all");
-    write_left(&mut shown, &places)?;
+    write_left(shown, &places);
     for step in steps.split_whitespace() {
-        let place = if step == "back" {
-            places.next_back()
-        } else {
-            places.next()
+        let place = match step {
+            "back" => places.next_back(),
+            _ => places.next(),
         };
         match place {
             Some(place) => shown.place(" ", &place),
             None => shown.word(" none"),
         }
-        write_left(&mut shown, &places)?;
+        write_left(shown, &places);
     }
-    shown.finish()
 }
 
 // What is left, by a copy, and whether its number is told.
-fn write_left(shown: &mut Shown, places: &ErrorPositions) -> Result<(), AllocError> {
+fn write_left(shown: &mut Shown, left: &ErrorPositions) {
+    match left.clone() {
+        Ok(copy) => {
+            let count = write_each(shown, copy);
+            if left.len() != count || left.size_hint() != (count, Some(count)) {
+                shown.word(" (not counted)");
+            }
+        }
+        Err(_) => shown.leave_out(),
+    }
+}
+
+// Writes the places that are left, and gives how many there are.
+fn write_each(shown: &mut Shown, places: ErrorPositions) -> usize {
     let mut count = 0usize;
     shown.word(" [");
-    for place in places.clone()? {
+    for place in places {
         shown.place(" ", &place);
         count = count.saturating_add(1);
     }
     shown.word(" ]");
-    if places.len() != count || places.size_hint() != (count, Some(count)) {
-        shown.word(" (not counted)");
-    }
-    Ok(())
+    count
 }

@@ -6,14 +6,15 @@
 mod inside;
 mod paths;
 
-use crate::errors::made;
+use crate::errors::named;
 use crate::made::lone_type;
-use crate::parser::{Document, OTHERWISE, are_alike};
-use graphql_json::{Places, error_json, schema_json};
-use graphql_parser::types::{ExecutableDocument, ServiceDocument};
-use inside::Inside;
-use std::alloc::{AllocError, Global};
-use std::test::Fail;
+use crate::parser::{OTHERWISE, are_alike};
+use graphql_json::{Places, error_json, request_json, schema_json};
+use graphql_parser::{check_query, check_schema, parse_query, parse_schema};
+use inside::{Inside, WHOLE, between};
+use rows::Shown;
+use std::alloc::AllocError;
+use std::str;
 
 /// The JSON that is asked for so.
 ///
@@ -22,77 +23,125 @@ use std::test::Fail;
 /// - `error`: the error of this name
 /// - `built`: the definitions of a tree that a program built
 /// - any other: a part of a request
-pub fn answer(alloc: Global, part: &str, text: &str) -> Result<String, Fail> {
-    let json = match part {
-        "query" => json_of::<ExecutableDocument>(alloc, text, Places::LeftOut)?,
-        "query with places" => json_of::<ExecutableDocument>(alloc, text, Places::Written)?,
-        "query at paths" => return paths::answer::<ExecutableDocument>(alloc, text),
-        "schema" => json_of::<ServiceDocument>(alloc, text, Places::LeftOut)?,
-        "schema with places" => json_of::<ServiceDocument>(alloc, text, Places::Written)?,
-        "schema at paths" => return paths::answer::<ServiceDocument>(alloc, text),
-        "error" => text_of(error_json(alloc, &made(alloc, text)?)?)?,
-        "built" => text_of(schema_json(alloc, &lone_type(alloc, text)?, Places::Written)?)?,
-        part => {
-            let around = Inside::of_part(part).ok_or("no such part")?;
-            let text = around.text(alloc, text)?;
-            let json = json_of::<ExecutableDocument>(alloc, text.as_str(), Places::LeftOut)?;
-            return in_rows(alloc, around.part_of(definitions(json.as_str())));
-        }
-    };
-    in_rows(alloc, definitions(json.as_str()))
+pub fn answer(shown: &mut Shown, part: &str, text: &str) {
+    match part {
+        "query" => write_request(shown, &WHOLE, text, Places::LeftOut),
+        "query with places" => write_request(shown, &WHOLE, text, Places::Written),
+        "query at paths" => paths::of_request(shown, text),
+        "schema" => write_file(shown, text, Places::LeftOut),
+        "schema with places" => write_file(shown, text, Places::Written),
+        "schema at paths" => paths::of_file(shown, text),
+        "error" => write_named(shown, text),
+        "built" => write_built(shown, text),
+        part => write_part(shown, part, text),
+    }
 }
 
-// The JSON of a document, or of its error.
-fn json_of<D: Document>(alloc: Global, text: &str, places: Places) -> Result<String, Fail> {
-    let answer = D::parsed(alloc, text);
-    let checked = D::checked(alloc, text);
-    if !are_alike(&answer, &checked) {
-        return Ok(String::from_str(alloc, OTHERWISE)?);
+fn write_named(shown: &mut Shown, name: &str) {
+    let alloc = shown.alloc();
+    match named(alloc, name) {
+        Some(error) => write_json(shown, &WHOLE, error_json(alloc, &error)),
+        None => shown.word("no such error"),
     }
-    text_of(match &answer {
-        Ok(document) => document.json(alloc, places)?,
-        Err(error) => error_json(alloc, error)?,
-    })
+}
+
+fn write_built(shown: &mut Shown, name: &str) {
+    let alloc = shown.alloc();
+    match lone_type(alloc, name) {
+        Some(file) => write_json(shown, &WHOLE, schema_json(alloc, &file, Places::Written)),
+        None => shown.leave_out(),
+    }
+}
+
+// Writes the JSON of a part of a request.
+fn write_part(shown: &mut Shown, part: &str, text: &str) {
+    let Some(around) = Inside::of_part(part) else {
+        shown.word("no such part");
+        return;
+    };
+    let mut request = Shown::new(shown.alloc(), true);
+    request.word(around.before);
+    request.word(text);
+    request.word(around.after);
+    write_request(
+        shown,
+        &around,
+        request.whole().unwrap_or(""),
+        Places::LeftOut,
+    );
+}
+
+// Writes the JSON of a request, but for what stands around a part of it, or that of its error.
+fn write_request(shown: &mut Shown, around: &Inside, text: &str, places: Places) {
+    let alloc = shown.alloc();
+    let answer = parse_query(alloc, text);
+    if !are_alike(&answer, &check_query(alloc, text)) {
+        shown.word(OTHERWISE);
+    } else {
+        match &answer {
+            Ok(document) => write_json(shown, around, request_json(alloc, document, places)),
+            Err(error) => write_json(shown, around, error_json(alloc, error)),
+        }
+    }
+}
+
+// Writes the JSON of a schema file, or that of its error.
+fn write_file(shown: &mut Shown, text: &str, places: Places) {
+    let alloc = shown.alloc();
+    let answer = parse_schema(alloc, text);
+    if !are_alike(&answer, &check_schema(alloc, text)) {
+        shown.word(OTHERWISE);
+    } else {
+        match &answer {
+            Ok(file) => write_json(shown, &WHOLE, schema_json(alloc, file, places)),
+            Err(error) => write_json(shown, &WHOLE, error_json(alloc, error)),
+        }
+    }
+}
+
+// Writes the definitions in this JSON as the rows do, but for what stands around a part of them.
+fn write_json(shown: &mut Shown, around: &Inside, json: Result<Vec<u8>, AllocError>) {
+    match json {
+        Ok(json) => {
+            let json = text_of(&json);
+            let json = between(json, "{\"kind\":\"Document\",\"definitions\":[", "]}");
+            let json = between(json, around.json_before, around.json_after);
+            let mut spaced = Shown::new(shown.alloc(), true);
+            write_spaced(&mut spaced, json);
+            write_places(shown, spaced.whole().unwrap_or(""));
+        }
+        Err(_) => shown.leave_out(),
+    }
 }
 
 // The JSON as text.
-fn text_of(json: Vec<u8>) -> Result<String, Fail> {
-    Ok(String::from_utf8(json).ok().ok_or("no UTF-8")?)
+fn text_of(json: &Vec<u8>) -> &str {
+    str::from_utf8(json.as_slice()).unwrap_or("no UTF-8")
 }
 
-fn definitions(json: &str) -> &str {
-    between(json, "{\"kind\":\"Document\",\"definitions\":[", "]}")
-}
-
-// What stands between these two; all of the text where they don't stand at its ends.
-fn between<'a>(text: &'a str, before: &str, after: &str) -> &'a str {
-    let inside = text
-        .strip_prefix(before)
-        .and_then(|rest| rest.strip_suffix(after));
-    inside.unwrap_or(text)
-}
-
-// The JSON as the rows write it: with a blank after each comma and each colon that stands in no string, and then with each
-// line and column as `@1:2`.
-fn in_rows(alloc: Global, json: &str) -> Result<String, Fail> {
-    let json = spaced(alloc, json)?;
-    let json = json.as_str().replace(alloc, "\"line\": ", "@")?;
-    Ok(json.as_str().replace(alloc, ", \"column\": ", ":")?)
-}
-
-fn spaced(alloc: Global, json: &str) -> Result<String, AllocError> {
-    let mut out = String::new(alloc);
+// Writes JSON with a blank after each comma and each colon that stands in no string.
+fn write_spaced(shown: &mut Shown, json: &str) {
     let mut is_in_string = false;
     let mut is_escaped = false;
     for c in json.chars() {
-        out.push(c)?;
+        shown.letter(c);
         if c == '"' && !is_escaped {
             is_in_string = !is_in_string;
         }
         is_escaped = c == '\\' && !is_escaped;
         if !is_in_string && (c == ',' || c == ':') {
-            out.push(' ')?;
+            shown.word(" ");
         }
     }
-    Ok(out)
+}
+
+// Writes each line and column of this JSON as `@1:2`, and the rest as it is.
+fn write_places(shown: &mut Shown, json: &str) {
+    for (index, part) in json.split("\"line\": ").enumerate() {
+        shown.word(if index > 0 { "@" } else { "" });
+        for (index, part) in part.split(", \"column\": ").enumerate() {
+            shown.word(if index > 0 { ":" } else { "" });
+            shown.word(part);
+        }
+    }
 }

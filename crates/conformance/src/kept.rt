@@ -3,60 +3,84 @@ use graphql_parser::types::{ServiceDocument, TypeSystemDefinition};
 use graphql_parser::{check_schema, parse_schema};
 use rows::trees::{Written, keyword};
 use rows::{Shown, meant, pair};
-use std::alloc::Global;
-use std::test::Fail;
 
-/// The definitions of a file, and those of the parts that are not in its tree. The parts stand after the file, a line each.
-pub fn of_file(alloc: Global, row: &str) -> Result<String, Fail> {
-    let (text, parts) = pair(row, "\n⇒\n")?;
-    let document = read(alloc, text)?;
-    let mut tree = Shown::new(alloc, true);
+/// Writes the definitions of a file, and those of the parts that are not in its tree. The parts stand after the file, a line
+/// each.
+pub fn write_file(shown: &mut Shown, row: &str) {
+    let (text, parts) = pair(row, "\n⇒\n");
+    if check_schema(shown.alloc(), text).is_err() {
+        shown.word("refused by the check ");
+    }
+    match parse_schema(shown.alloc(), text) {
+        Ok(document) => {
+            write_definitions(shown, &document);
+            write_missing(shown, &document, parts);
+        }
+        Err(_) => shown.word("refused"),
+    }
+}
+
+// Of the parts, a line each, those that are not in the tree of a file.
+fn write_missing(shown: &mut Shown, document: &ServiceDocument, parts: &str) {
+    let mut tree = Shown::new(shown.alloc(), true);
     document.write(&mut tree);
-    let tree = tree.finish()?;
-    let mut shown = Shown::new(alloc, true);
-    write_definitions(&mut shown, &document);
     for part in parts.lines() {
-        if !tree.as_str().contains(meant(alloc, part)?.as_str()) {
-            shown.item(" not in the tree: ", &part);
+        match meant(shown.alloc(), part) {
+            Ok(part) if tree.whole().unwrap_or("").contains(part.as_str()) => {}
+            _ => shown.item(" not in the tree: ", &part),
         }
     }
-    Ok(shown.finish()?)
 }
 
-/// How many definitions a file has of so many types and enums in turn, if each of them is read; and else those that are.
-pub fn of_long_file(alloc: Global, count: &str) -> Result<String, Fail> {
-    let (mut text, mut wanted) = (String::new(alloc), Shown::new(alloc, true));
-    let mut line = 0usize;
-    for index in 0..count.parse::<usize>()? {
-        writeln!(
-            text,
-            "  type T{index}{{a(b:Int={index}):[T{index}!]}}
-\"Of {index}.\" enum E{index}{{A B}}"
-        )?;
-        wanted.item("type T", &index);
-        line = line.saturating_add(1);
-        wanted.item(" ", &line);
-        wanted.item(":3 enum E", &index);
-        line = line.saturating_add(1);
-        wanted.item(" ", &line);
-        wanted.word(":1 ");
+/// Writes how many definitions a file has of so many types and enums in turn, if each of them is read; and else those that
+/// are.
+pub fn write_long_file(shown: &mut Shown, count: &str) {
+    let mut text = Shown::new(shown.alloc(), true);
+    let mut wanted = Shown::new(shown.alloc(), true);
+    for index in 0..count.parse::<usize>().unwrap_or(0) {
+        write_two(&mut text, index);
+        write_two_wanted(&mut wanted, index);
     }
-    let document = read(alloc, text.as_str())?;
-    let mut shown = Shown::new(alloc, true);
-    write_definitions(&mut shown, &document);
-    let found = shown.finish()?;
-    if found != wanted.finish()? {
-        return Ok(found);
+    let text = text.whole().unwrap_or("");
+    if check_schema(shown.alloc(), text).is_err() {
+        shown.word("refused by the check ");
     }
-    let length = document.definitions.len();
-    Ok(format!(in alloc; "{length} definitions")?)
+    match parse_schema(shown.alloc(), text) {
+        Ok(document) => write_unless_wanted(shown, &document, &wanted),
+        Err(_) => shown.word("refused"),
+    }
 }
 
-fn read(alloc: Global, text: &str) -> Result<ServiceDocument, Fail> {
-    check_schema(alloc, text)
-        .ok()
-        .ok_or("refused by the check")?;
-    Ok(parse_schema(alloc, text).ok().ok_or("refused")?)
+// A type and an enum, a line each.
+fn write_two(text: &mut Shown, index: usize) {
+    text.item("  type T", &index);
+    text.item("{a(b:Int=", &index);
+    text.item("):[T", &index);
+    text.item("!]}\n\"Of ", &index);
+    text.item(".\" enum E", &index);
+    text.word("{A B}\n");
+}
+
+// What is seen of them.
+fn write_two_wanted(wanted: &mut Shown, index: usize) {
+    let line = index.wrapping_mul(2).wrapping_add(1);
+    wanted.item("type T", &index);
+    wanted.item(" ", &line);
+    wanted.item(":3 enum E", &index);
+    wanted.item(" ", &line.wrapping_add(1));
+    wanted.word(":1 ");
+}
+
+fn write_unless_wanted(shown: &mut Shown, document: &ServiceDocument, wanted: &Shown) {
+    let mut found = Shown::new(shown.alloc(), true);
+    write_definitions(&mut found, document);
+    match (found.whole(), wanted.whole()) {
+        (Some(found), Some(wanted)) if found == wanted => {
+            shown.item("", &document.definitions.len());
+            shown.word(" definitions");
+        }
+        (found, _) => shown.word(found.unwrap_or("out of memory")),
+    }
 }
 
 // Of each definition `extend` before an extension, the keyword, the name where it has one, and the place.

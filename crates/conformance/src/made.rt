@@ -8,31 +8,30 @@ use graphql_parser::value::Name;
 use graphql_parser::{Limits, Pos, Positioned};
 use rows::Shown;
 use std::alloc::Global;
-use std::test::Fail;
 
-/// What is said of a value that a program makes.
+/// Writes what is said of a value that a program makes.
 ///
 /// - `limits`: whether three numbers are limits, and whether they are the default
 /// - `limits shown`: what limits print, and their numbers; and whether a copy is equal
 /// - `set`: how many selections a new set has
 /// - `locations`: the places where directives may stand, each as it is called and as it prints
-pub fn answer(alloc: Global, what: &str, text: &str) -> Result<String, Fail> {
-    let mut shown = Shown::new(alloc, true);
+pub fn write_made(shown: &mut Shown, what: &str, text: &str) {
     match (what, limits_of(text)) {
         ("limits", None) => shown.word("none"),
         ("limits", Some(limits)) if limits == Limits::default() => shown.word("the default"),
         ("limits", Some(_)) => shown.word("some"),
-        ("limits shown", Some(limits)) => write_limits(&mut shown, limits),
-        ("set", _) => shown.item("", &SelectionSet::new(alloc).items.len()),
-        ("locations", _) => {
-            for location in LOCATIONS {
-                shown.item(" ", &location);
-                shown.item("=", &location.as_str());
-            }
-        }
-        _ => return Err(Fail::new("nothing to make")),
+        ("limits shown", Some(limits)) => write_limits(shown, limits),
+        ("set", _) => shown.item("", &SelectionSet::new(shown.alloc()).items.len()),
+        ("locations", _) => write_locations(shown),
+        _ => shown.word("nothing to make"),
     }
-    Ok(shown.finish()?)
+}
+
+fn write_locations(shown: &mut Shown) {
+    for location in LOCATIONS {
+        shown.item(" ", &location);
+        shown.item("=", &location.as_str());
+    }
 }
 
 fn write_limits(shown: &mut Shown, limits: Limits) {
@@ -47,18 +46,20 @@ fn write_limits(shown: &mut Shown, limits: Limits) {
 }
 
 /// A file of one scalar with this name, which stands somewhere, and its name nowhere.
-pub fn lone_type(alloc: Global, name: &str) -> Result<ServiceDocument, Fail> {
+pub fn lone_type(alloc: Global, name: &str) -> Option<ServiceDocument> {
     let definition = TypeDefinition {
         extend: false,
         description: None,
-        name: Positioned::new(Name::new(alloc, name)?, Pos::default()),
+        name: Positioned::new(Name::new(alloc, name).ok()?, Pos::default()),
         directives: Vec::new(alloc),
         kind: TypeKind::Scalar,
     };
     let place = Pos { line: 0, column: 1 };
     let mut definitions = Vec::new(alloc);
-    definitions.push(TypeSystemDefinition::TypeDef(Positioned::new(definition, place)))?;
-    Ok(ServiceDocument { definitions })
+    definitions
+        .push(TypeSystemDefinition::TypeDef(Positioned::new(definition, place)))
+        .ok()?;
+    Some(ServiceDocument { definitions })
 }
 
 /// The places where directives may stand, in requests and then in schema files.

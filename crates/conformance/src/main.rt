@@ -24,8 +24,7 @@ mod seeds;
 use commands::judge_runs;
 use parser::Parser;
 use rewritten::Rewriting;
-use rows::{Subject, ended, judge};
-use std::alloc::Global;
+use rows::{Shown, Subject, ended, judge, pair};
 use std::fs;
 use std::test::Fail;
 
@@ -37,29 +36,25 @@ struct Calls {
 }
 
 impl Subject for Calls {
-    fn answer(&self, alloc: Global, call: &str, text: &str) -> Result<String, Fail> {
-        match call.split_once(' ') {
-            Some(("minified", asked)) => {
-                rewritten::answer(alloc, Rewriting::Minified, asked, text)
-            }
-            Some(("formatted", asked)) => {
-                rewritten::answer(alloc, Rewriting::Formatted, asked, text)
-            }
-            Some(("printed", what)) => printed::answer(alloc, what, text),
-            Some(("query", asked)) => parser::answer(alloc, Parser::Query, asked, text),
-            Some(("schema", "kept")) => kept::of_file(alloc, text),
-            Some(("schema", "long")) => kept::of_long_file(alloc, text),
-            Some(("schema", asked)) => parser::answer(alloc, Parser::Schema, asked, text),
-            Some(("error", part)) => errors::answer(alloc, part, text),
-            Some(("json", part)) => json::answer(alloc, part, text),
-            Some(("report", limits)) => reports::of_text(alloc, limits, text),
-            Some(("front", limits)) => reports::front(alloc, limits, text),
-            Some(("exact", what)) => reports::exact(alloc, what, text),
-            Some(("made", what)) => made::answer(alloc, what, text),
-            Some(("seeds", what)) => seeds::answer(alloc, what, text),
-            Some(("readme", example)) => readme::answer(alloc, example, text),
-            Some(("gql", part)) => commands::answer(alloc, self.sources.as_str(), part, text),
-            _ => Err(Fail::new("no such call")),
+    fn answer(&self, shown: &mut Shown, call: &str, text: &str) {
+        match pair(call, " ") {
+            ("minified", asked) => rewritten::answer(shown, Rewriting::Minified, asked, text),
+            ("formatted", asked) => rewritten::answer(shown, Rewriting::Formatted, asked, text),
+            ("printed", what) => printed::answer(shown, what, text),
+            ("query", asked) => parser::write_asked(shown, Parser::Query, asked, text),
+            ("schema", "kept") => kept::write_file(shown, text),
+            ("schema", "long") => kept::write_long_file(shown, text),
+            ("schema", asked) => parser::write_asked(shown, Parser::Schema, asked, text),
+            ("error", part) => errors::write_part(shown, part, text),
+            ("json", part) => json::answer(shown, part, text),
+            ("report", limits) => reports::of_text(shown, limits, text),
+            ("front", limits) => reports::front(shown, limits, text),
+            ("exact", what) => reports::exact(shown, what, text),
+            ("made", what) => made::write_made(shown, what, text),
+            ("seeds", what) => seeds::write_seeds(shown, what, text),
+            ("readme", example) => readme::write_example(shown, example, text),
+            ("gql", part) => commands::answer(shown, self.sources.as_str(), part, text),
+            _ => shown.word("no such call"),
         }
     }
 }

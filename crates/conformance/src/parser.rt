@@ -3,7 +3,6 @@
 mod answers;
 mod asked;
 mod budgets;
-mod documents;
 mod errors;
 mod hostile;
 mod sizes;
@@ -11,6 +10,5 @@ mod taken;
 mod views;
 
 pub use answers::{OTHERWISE, Parser, are_alike};
-pub use asked::{answer, limits_of};
-pub use documents::Document;
-pub use errors::shown;
+pub use asked::{limits_of, write_asked};
+pub use errors::write_error;

@@ -1,18 +1,27 @@
 //! The example of README.md, as it stands there, and the one that docs/USING.md names.
 use graphql_parser::types::{Selection, TypeKind, TypeSystemDefinition};
 use graphql_parser::{Error, parse_query, parse_schema};
+use rows::Shown;
 use std::alloc::Global;
-use std::test::Fail;
 
-/// What an example makes of a text, in one line: the outline of a request, or the types of a schema file that implement `Node`.
-pub fn answer(alloc: Global, example: &str, text: &str) -> Result<String, Fail> {
+/// Writes what an example makes of a text, in one line: the outline of a request, or the types of a schema file that implement
+/// `Node`.
+pub fn write_example(shown: &mut Shown, example: &str, text: &str) {
     let lines = match example {
-        "outline" => outline(alloc, text),
-        "implementors" => implementors(alloc, text, "Node"),
-        _ => return Err(Fail::new("no such example")),
+        "outline" => outline(shown.alloc(), text),
+        "implementors" => implementors(shown.alloc(), text, "Node"),
+        _ => return shown.word("no such example"),
     };
-    let lines = lines.ok().ok_or("refused")?;
-    Ok(lines.as_str().replace(alloc, "\n", " ")?)
+    match lines {
+        Ok(lines) => write_lines(shown, lines.as_str()),
+        Err(_) => shown.word("refused"),
+    }
+}
+
+fn write_lines(shown: &mut Shown, lines: &str) {
+    for line in lines.lines() {
+        shown.item(line, &' ');
+    }
 }
 
 /// What a request selects at the top, a line for each, with its place.

@@ -2,40 +2,44 @@
 //!
 //! In a row the lines of a report stand one after another, and in a line that begins with a blank, as those with a line of
 //! the text and with the caret do, a `·` stands for each blank. The file is called `f`.
-use crate::parser::{OTHERWISE, limits_of};
+use crate::parser::{OTHERWISE, are_alike, limits_of};
 use graphql_parser::{
-    Error, Limits, check_query_limited, check_schema_limited, parse_query_limited,
-    parse_schema_limited,
+    Error, Limits, Result as Answer, check_query_limited, check_schema_limited,
+    parse_query_limited, parse_schema_limited,
 };
 use graphql_report::{Language, explain, finding_of, is_front};
-use rows::pair;
+use rows::{Shown, pair};
 use std::alloc::{AllocError, Global};
-use std::test::Fail;
 
 /// The report of a text that is read in a language and at limits, as `query 64 64 64`, whose first line is told by the
 /// finding too. The check of the text gives the same error, or accepts it as well.
-pub fn of_text(alloc: Global, reading: &str, text: &str) -> Result<String, Fail> {
-    let (language, limits) = read_as(reading)?;
-    let error = error_of(alloc, language, text, limits);
-    if error_of_check(alloc, language, text, limits) != error {
-        return Ok(String::from_str(alloc, OTHERWISE)?);
-    }
-    let Some(error) = error else {
-        return Ok(String::from_str(alloc, "accepted")?);
+pub fn of_text(shown: &mut Shown, reading: &str, text: &str) {
+    let Some((language, limits)) = read_as(reading) else {
+        shown.word("no such reading");
+        return;
     };
-    let report = explain(alloc, language, "f", text, limits, &error)?;
-    let first_line = told_in_parts(alloc, language, text, limits, &error)?;
-    if report.as_str().lines().next() != Some(first_line.as_str()) {
-        return Ok(first_line);
+    let alloc = shown.alloc();
+    let answer = parsed(alloc, language, text, limits);
+    if !are_alike(&answer, &checked(alloc, language, text, limits)) {
+        shown.word(OTHERWISE);
+    } else if let Err(error) = &answer {
+        write_report(shown, language, text, limits, error);
+    } else {
+        shown.word("accepted");
     }
-    Ok(in_rows(alloc, report.as_str())?)
 }
 
 /// Whether some document goes on from a text, in a language and within limits.
-pub fn front(alloc: Global, reading: &str, text: &str) -> Result<String, Fail> {
-    let (language, limits) = read_as(reading)?;
-    let is = is_viable(alloc, language, text, limits)?;
-    Ok(String::from_str(alloc, if is { "a front" } else { "none" })?)
+pub fn front(shown: &mut Shown, reading: &str, text: &str) {
+    let Some((language, limits)) = read_as(reading) else {
+        shown.word("no such reading");
+        return;
+    };
+    match is_viable(shown.alloc(), language, text, limits) {
+        Ok(true) => shown.word("a front"),
+        Ok(false) => shown.word("none"),
+        Err(_) => shown.leave_out(),
+    }
 }
 
 fn is_viable(
@@ -51,75 +55,104 @@ fn is_viable(
 
 /// The report as it is, between `'`: of a text that is read so, or else that there was no memory for it. The file's name
 /// stands before the text, with ` in ` between them.
-pub fn exact(alloc: Global, reading: &str, row: &str) -> Result<String, Fail> {
-    let (file, text) = pair(row, " in ")?;
-    let (language, error) = match reading {
-        "no memory" => (Language::Schemas, Error::OutOfMemory),
-        reading => {
-            let (language, limits) = read_as(reading)?;
-            let error = error_of(alloc, language, text, limits);
-            (language, error.ok_or("accepted")?)
-        }
-    };
-    let report = explain(alloc, language, file, text, Limits::default(), &error)?;
-    Ok(format!(in alloc; "'{report}'")?)
+pub fn exact(shown: &mut Shown, reading: &str, row: &str) {
+    let (file, text) = pair(row, " in ");
+    let alloc = shown.alloc();
+    if reading == "no memory" {
+        write_exact(shown, Language::Schemas, file, text, &Error::OutOfMemory);
+    } else if let Some((language, limits)) = read_as(reading)
+        && let Err(error) = parsed(alloc, language, text, limits)
+    {
+        write_exact(shown, language, file, text, &error);
+    } else {
+        shown.word("accepted");
+    }
+}
+
+fn write_exact(shown: &mut Shown, language: Language, file: &str, text: &str, error: &Error) {
+    let alloc = shown.alloc();
+    let report = explain(alloc, language, file, text, Limits::default(), error);
+    shown.made("'", report);
+    shown.word("'");
 }
 
 /// The language and the limits at which a text is read, as `query 64 64 64`.
-pub fn read_as(reading: &str) -> Result<(Language, Limits), Fail> {
-    let (language, limits) = pair(reading, " ")?;
+pub fn read_as(reading: &str) -> Option<(Language, Limits)> {
+    let (language, limits) = pair(reading, " ");
     let language = match language {
         "query" => Language::Requests,
         "schema" => Language::Schemas,
-        _ => return Err(Fail::new("no such language")),
+        _ => return None,
     };
-    Ok((language, limits_of(limits).ok_or("no such limits")?))
+    Some((language, limits_of(limits)?))
 }
 
-// The error of a text, if it has one.
-fn error_of(alloc: Global, language: Language, text: &str, limits: Limits) -> Option<Error> {
+// The answer of the parser to a text, without the tree.
+fn parsed(alloc: Global, language: Language, text: &str, limits: Limits) -> Answer<()> {
     match language {
-        Language::Requests => parse_query_limited(alloc, text, limits).err(),
-        Language::Schemas => parse_schema_limited(alloc, text, limits).err(),
+        Language::Requests => match parse_query_limited(alloc, text, limits) {
+            Ok(_) => Ok(()),
+            Err(error) => Err(error),
+        },
+        Language::Schemas => match parse_schema_limited(alloc, text, limits) {
+            Ok(_) => Ok(()),
+            Err(error) => Err(error),
+        },
     }
 }
 
-// The same of its check.
-fn error_of_check(alloc: Global, language: Language, text: &str, limits: Limits) -> Option<Error> {
+// The answer of its check.
+fn checked(alloc: Global, language: Language, text: &str, limits: Limits) -> Answer<()> {
     match language {
-        Language::Requests => check_query_limited(alloc, text, limits).err(),
-        Language::Schemas => check_schema_limited(alloc, text, limits).err(),
+        Language::Requests => check_query_limited(alloc, text, limits),
+        Language::Schemas => check_schema_limited(alloc, text, limits),
     }
 }
 
-// The lines of a report in the form of the tables.
-fn in_rows(alloc: Global, report: &str) -> Result<String, AllocError> {
-    let mut out = String::new(alloc);
-    for line in report.lines() {
-        if line.starts_with(' ') {
-            out.push_str(line.replace(alloc, " ", "·")?.as_str())?;
-        } else {
-            out.push_str(line)?;
-        }
-        out.push(' ')?;
+// Writes the report in the form of the tables, unless its first line is not that of the finding.
+fn write_report(shown: &mut Shown, language: Language, text: &str, limits: Limits, error: &Error) {
+    let alloc = shown.alloc();
+    let mut line = Shown::new(alloc, true);
+    write_first_line(&mut line, language, text, limits, error);
+    match explain(alloc, language, "f", text, limits, error) {
+        Ok(report) => write_lines(shown, report.as_str(), line.whole().unwrap_or("")),
+        Err(_) => shown.leave_out(),
     }
-    Ok(out)
 }
 
 // The first line of a report, made of the finding.
-fn told_in_parts(
-    alloc: Global,
+fn write_first_line(
+    shown: &mut Shown,
     language: Language,
     text: &str,
     limits: Limits,
     error: &Error,
-) -> Result<String, AllocError> {
-    let finding = finding_of(alloc, language, text, limits, error)?;
-    let mut line = String::from_str(alloc, "f:")?;
-    if let Some(place) = finding.place {
-        write!(line, "{place}:")?;
+) {
+    match finding_of(shown.alloc(), language, text, limits, error) {
+        Ok(finding) => {
+            shown.word("f:");
+            if let Some(place) = finding.place {
+                shown.place("", &place);
+                shown.word(":");
+            }
+            shown.item(" ", &finding.message);
+        }
+        Err(_) => shown.leave_out(),
     }
-    line.push(' ')?;
-    line.push_str(finding.message.as_str())?;
-    Ok(line)
+}
+
+// Writes the lines of a report in the form of the tables, unless its first line is not this one.
+fn write_lines(shown: &mut Shown, report: &str, first: &str) {
+    if report.lines().next() != Some(first) {
+        shown.word(first);
+        return;
+    }
+    for line in report.lines() {
+        let blank = if line.starts_with(' ') { "·" } else { " " };
+        for (index, word) in line.split(' ').enumerate() {
+            shown.word(if index > 0 { blank } else { "" });
+            shown.word(word);
+        }
+        shown.word(" ");
+    }
 }

@@ -1,10 +1,9 @@
 //! Texts written anew: without what is ignored in them and isn't needed, and laid out.
-use crate::parser::{Parser, limits_of, shown};
+use crate::parser::{Parser, limits_of, write_error};
 use graphql_parser::{Limits, Result as Answer};
 use graphql_printer::{format_query, format_schema, minify_query, minify_schema};
-use rows::pair;
+use rows::{Shown, pair};
 use std::alloc::Global;
-use std::test::Fail;
 
 /// What is done to a text.
 #[derive(Clone, Copy)]
@@ -17,43 +16,51 @@ pub enum Rewriting {
 ///
 /// - `whole`: at the default limits
 /// - `limited`: within limits. They stand before the text, with ` in ` between them.
-pub fn answer(
-    alloc: Global,
-    rewriting: Rewriting,
-    asked: &str,
-    text: &str,
-) -> Result<String, Fail> {
-    let (language, asked) = match asked.split_once(' ') {
-        Some(("query", asked)) => (Parser::Query, asked),
-        Some(("schema", asked)) => (Parser::Schema, asked),
-        _ => return Err(Fail::new("no such language")),
-    };
+pub fn answer(shown: &mut Shown, rewriting: Rewriting, asked: &str, text: &str) {
     let (limits, text) = match asked {
-        "whole" => (Limits::default(), text),
-        "limited" => {
-            let (limits, text) = pair(text, " in ")?;
-            (limits_of(limits).ok_or("no such limits")?, text)
+        "query whole" | "schema whole" => (Some(Limits::default()), text),
+        "query limited" | "schema limited" => {
+            let (limits, text) = pair(text, " in ");
+            (limits_of(limits), text)
         }
-        _ => return Err(Fail::new("nothing to write anew")),
+        _ => (None, text),
     };
-    match rewritten(alloc, rewriting, language, text, limits) {
-        Ok(written) if stays(alloc, rewriting, language, &written, limits) => Ok(written),
-        Ok(_) => Err(Fail::new("written anew again it differs")),
-        Err(error) => Ok(shown(alloc, true, &error)?),
+    let language = if asked.starts_with("query") {
+        Parser::Query
+    } else {
+        Parser::Schema
+    };
+    match limits {
+        Some(limits) => write_anew(shown, rewriting, language, text, limits),
+        None => shown.word("nothing to write anew"),
     }
 }
 
-// Whether a text is written anew as itself.
-fn stays(
-    alloc: Global,
+// Writes what a text becomes, and whether it's written anew again as something else.
+fn write_anew(
+    shown: &mut Shown,
     rewriting: Rewriting,
     language: Parser,
-    written: &String,
+    text: &str,
     limits: Limits,
-) -> bool {
-    match rewritten(alloc, rewriting, language, written.as_str(), limits) {
-        Ok(again) => again == *written,
-        Err(_error) => false,
+) {
+    let alloc = shown.alloc();
+    match rewritten(alloc, rewriting, language, text, limits) {
+        Ok(written) => {
+            let again = rewritten(alloc, rewriting, language, written.as_str(), limits);
+            shown.item("", &written);
+            if !is_text(&again, written.as_str()) {
+                shown.word(", but written anew again it differs");
+            }
+        }
+        Err(error) => write_error(shown, &error),
+    }
+}
+
+fn is_text(written: &Answer<String>, text: &str) -> bool {
+    match written {
+        Ok(written) => written.as_str() == text,
+        Err(_) => false,
     }
 }
 

@@ -2,31 +2,37 @@
 use graphql_layout::blocks::{may_be_block, push_block};
 use graphql_layout::sheet::Sheet;
 use graphql_tokens::lexer::TokenKind;
-use rows::pair;
-use std::alloc::{AllocError, Global};
-use std::test::Fail;
+use rows::{Shown, pair};
+use std::alloc::AllocError;
 
-/// The block string that is written of a value; before it the word `kept` if it has the value, and else `lost`. The number of
-/// blanks before each of its lines stands before the value, with ` in ` between them.
-pub fn written(alloc: Global, row: &str) -> Result<String, Fail> {
-    let (indent, value) = pair(row, " in ")?;
-    let word = if may_be_block(value) {
+/// Writes the block string of a value; before it the word `kept` if it has the value, and else `lost`. The number of blanks before
+/// each of its lines stands before the value, with ` in ` between them.
+pub fn write_block(shown: &mut Shown, row: &str) {
+    let (indent, value) = pair(row, " in ");
+    let Ok(indent) = indent.parse::<usize>() else {
+        return shown.word("no number");
+    };
+    shown.word(if may_be_block(value) {
         "kept "
     } else {
         "lost "
-    };
-    let mut out = String::from_str(alloc, word)?;
-    push_block(&mut out, value, indent.parse()?)?;
-    Ok(out)
+    });
+    let mut block = String::new(shown.alloc());
+    match push_block(&mut block, value, indent) {
+        Ok(()) => shown.word(block.as_str()),
+        Err(_) => shown.leave_out(),
+    }
 }
 
-/// The sheet on which these are written in turn: a `line` feed, a `blank`, a `comma`, the `comment` `# b`, and the `name` `a`.
-pub fn on_sheet(alloc: Global, items: &str) -> Result<String, Fail> {
-    let mut sheet = Sheet::new(alloc);
+/// Writes the sheet on which these are written in turn: a `line` feed, a `blank`, a `comma`, the `comment` `# b`, and the `name` `a`.
+pub fn write_sheet(shown: &mut Shown, items: &str) {
+    let mut sheet = Sheet::new(shown.alloc());
     for item in items.split_whitespace() {
-        write_item(&mut sheet, item)?;
+        if write_item(&mut sheet, item).is_err() {
+            shown.leave_out();
+        }
     }
-    Ok(sheet.finish())
+    shown.word(sheet.finish().as_str());
 }
 
 fn write_item(sheet: &mut Sheet, item: &str) -> Result<(), AllocError> {

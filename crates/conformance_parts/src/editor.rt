@@ -1,27 +1,25 @@
 //! What an editor asks of a text.
 use graphql_editor::{Occurrence, Span, Structure, Symbol, selection_at};
 use rows::{Shown, pair};
-use std::alloc::{AllocError, Global};
-use std::test::Fail;
 
-/// What there is in a text, in turn, or the word `nothing`.
+/// Writes what there is in a text, in turn, or the word `nothing`.
 ///
 /// - `outline`: of each symbol its depth, its kind with a plus if it extends something, its name, and its detail after a colon
 /// - `symbols`: all of each symbol
 /// - `definitions`: each definition
 /// - `folds`: of each fold its kind and all of it
 /// - `names`: of each name what it is of, its role, its spelling, and its definition
-pub fn listed(alloc: Global, what: &str, text: &str) -> Result<String, Fail> {
-    let mut shown = Shown::new(alloc, true);
-    write_list(alloc, &mut shown, what, text)?;
+pub fn write_listed(shown: &mut Shown, what: &str, text: &str) {
+    match Structure::new(shown.alloc(), text) {
+        Ok(structure) => write_list(shown, what, text, &structure),
+        Err(_) => shown.leave_out(),
+    }
     if shown.whole() == Some("") {
         shown.word("nothing");
     }
-    Ok(shown.finish()?)
 }
 
-fn write_list(alloc: Global, shown: &mut Shown, what: &str, text: &str) -> Result<(), Fail> {
-    let structure = Structure::new(alloc, text)?;
+fn write_list(shown: &mut Shown, what: &str, text: &str, structure: &Structure) {
     match what {
         "outline" => write_outline(shown, text, structure.symbols()),
         "symbols" => {
@@ -37,38 +35,42 @@ fn write_list(alloc: Global, shown: &mut Shown, what: &str, text: &str) -> Resul
             }
         }
         "names" => write_names(shown, text, structure.names()),
-        _ => return Err(Fail::new("no such list")),
+        _ => shown.word("no such list"),
     }
-    Ok(())
 }
 
-/// What there is at an offset, which stands before the text, with ` in ` between them.
+/// Writes what there is at an offset, which stands before the text, with ` in ` between them.
 ///
 /// - `name`: where what the name there names is defined, and all the places where it is named
 /// - `hover`: where the name there begins, the name, and what is shown of it
 /// - `selection`: the ranges around it
 /// - `ranges`: how many ranges are around it, and where the last one begins and ends
 /// - `sizes`: how many symbols the text has, if the ranges around it are at most 200
-pub fn at_offset(alloc: Global, what: &str, row: &str) -> Result<String, Fail> {
-    let (offset, text) = pair(row, " in ")?;
-    let mut shown = Shown::new(alloc, true);
-    write_at(alloc, &mut shown, what, text, offset.parse()?)?;
-    Ok(shown.finish()?)
+pub fn write_at_offset(shown: &mut Shown, what: &str, row: &str) {
+    let (offset, text) = pair(row, " in ");
+    let Ok(offset) = offset.parse::<usize>() else {
+        return shown.word("no offset");
+    };
+    if what != "name" && what != "hover" {
+        match selection_at(shown.alloc(), text, offset) {
+            Ok(selection) => write_selection(shown, what, text, &selection),
+            Err(_) => shown.leave_out(),
+        }
+    }
+    match Structure::new(shown.alloc(), text) {
+        Ok(structure) => match what {
+            "name" => write_name(shown, text, offset, &structure),
+            "hover" => write_hover(shown, text, offset, &structure),
+            "sizes" => shown.item("", &structure.symbols().len()),
+            _ => {}
+        },
+        Err(_) => shown.leave_out(),
+    }
 }
 
-fn write_at(
-    alloc: Global,
-    shown: &mut Shown,
-    what: &str,
-    text: &str,
-    offset: usize,
-) -> Result<(), Fail> {
-    let structure = Structure::new(alloc, text)?;
-    let selection = selection_at(alloc, text, offset)?;
+fn write_selection(shown: &mut Shown, what: &str, text: &str, selection: &[Span]) {
     match what {
-        "name" => write_name(alloc, shown, text, offset, &structure)?,
-        "hover" => write_hover(alloc, shown, text, offset, &structure)?,
-        "selection" => write_spans(shown, text, &selection),
+        "selection" => write_spans(shown, text, selection),
         "ranges" => {
             shown.item("", &selection.len());
             if let Some(last) = selection.last() {
@@ -76,19 +78,19 @@ fn write_at(
                 shown.item(" ", &last.end);
             }
         }
-        "sizes" if selection.len() <= 200 => shown.item("", &structure.symbols().len()),
-        _ => return Err(Fail::new("too much, or nothing to ask")),
+        "sizes" if selection.len() <= 200 => {}
+        _ => shown.word("too much, or nothing to ask"),
     }
-    Ok(())
 }
 
-// What a span is of, or `?` if it is of no characters of the text.
-fn cut(text: &str, span: Span) -> &str {
-    text.get(span.start..span.end).unwrap_or("?")
+/// What a span is of; None if it is of no characters of the text.
+pub fn cut(text: &str, span: Span) -> Option<&str> {
+    text.get(span.start..span.end)
 }
 
 fn write_span(shown: &mut Shown, text: &str, span: Span) {
-    shown.item(" '", &cut(text, span));
+    shown.word(" '");
+    shown.word(cut(text, span).unwrap_or("?"));
     shown.word("'");
 }
 
@@ -122,43 +124,34 @@ fn write_names(shown: &mut Shown, text: &str, names: &[Occurrence]) {
     }
 }
 
-fn write_name(
-    alloc: Global,
-    shown: &mut Shown,
-    text: &str,
-    offset: usize,
-    structure: &Structure,
-) -> Result<(), AllocError> {
+fn write_name(shown: &mut Shown, text: &str, offset: usize, structure: &Structure) {
     let Some(name) = structure.name_at(offset) else {
-        shown.word("none");
-        return Ok(());
+        return shown.word("none");
     };
     match structure.definition_of(text, name) {
         Some(span) => shown.item("defined at ", &span.start),
         None => shown.word("not defined"),
     }
     shown.word(", named at");
-    for other in &structure.occurrences_of(alloc, text, name)? {
-        shown.item(" ", &other.span.start);
+    match structure.occurrences_of(shown.alloc(), text, name) {
+        Ok(others) => {
+            for other in &others {
+                shown.item(" ", &other.span.start);
+            }
+        }
+        Err(_) => shown.leave_out(),
     }
-    Ok(())
 }
 
-fn write_hover(
-    alloc: Global,
-    shown: &mut Shown,
-    text: &str,
-    offset: usize,
-    structure: &Structure,
-) -> Result<(), AllocError> {
-    match structure.hover_at(alloc, text, offset)? {
-        Some(hover) => {
+fn write_hover(shown: &mut Shown, text: &str, offset: usize, structure: &Structure) {
+    match structure.hover_at(shown.alloc(), text, offset) {
+        Ok(Some(hover)) => {
             shown.item("", &hover.span.start);
             write_span(shown, text, hover.span);
             shown.item(" '", &hover.markdown);
             shown.word("'");
         }
-        None => shown.word("nothing"),
+        Ok(None) => shown.word("nothing"),
+        Err(_) => shown.leave_out(),
     }
-    Ok(())
 }

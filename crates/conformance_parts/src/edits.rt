@@ -1,111 +1,144 @@
 //! Positions as editors count them, the offsets of them, and texts of which a part is replaced.
-use rows::pair;
+use rows::{Shown, pair};
 use std::alloc::{AllocError, Global};
-use std::test::Fail;
+use std::fmt::Debug;
 use text_edits::{
     Document, Encoding, LineIndex, Position, Range, apply, offset_of, position_of, replace,
 };
 
-/// What is asked of a text, with the name of the encoding after it where that matters. Before the text stands, with ` in `
+/// Writes what is asked of a text, with the name of the encoding after it where that matters. Before the text stands, with ` in `
 /// between them:
 ///
 /// - `offset`: a position, as `0:3`
 /// - `position`: an offset
 /// - `applied`: the positions where the part begins and where it ends, and what is put there
 /// - `replaced`: the offsets where the part begins and where it ends, and what is put there
-pub fn answer(alloc: Global, what: &str, row: &str) -> Result<String, Fail> {
-    let (asked, text) = pair(row, " in ")?;
-    let (what, name) = what.split_once(' ').unwrap_or((what, "utf-8"));
-    let encoding = encoding_named(name).ok_or("no such encoding")?;
-    if what == "offset" {
-        return Ok(shown_offset(alloc, text, encoding, position_in(asked)?)?);
+pub fn write_answer(shown: &mut Shown, what: &str, row: &str) {
+    let (asked, text) = pair(row, " in ");
+    match what.split_once(' ') {
+        Some((what, "utf-8")) => write_edit(shown, what, asked, Encoding::Utf8, text),
+        Some((what, "utf-16")) => write_edit(shown, what, asked, Encoding::Utf16, text),
+        Some((what, "utf-32")) => write_edit(shown, what, asked, Encoding::Utf32, text),
+        Some(_) => shown.word("no such encoding"),
+        None => write_replaced(shown, asked, text),
     }
-    if what == "position" {
-        return Ok(shown_position(alloc, text, encoding, asked.parse()?)?);
-    }
-    let (start, asked) = pair(asked, " ")?;
-    let (end, new) = pair(asked, " ")?;
-    if what == "replaced" {
-        let replaced = replace(alloc, text, start.parse()?, end.parse()?, new)?;
-        return Ok(format!(in alloc; "'{replaced}'")?);
-    }
-    let start = position_in(start)?;
-    let end = position_in(end)?;
-    Ok(shown_edit(alloc, text, encoding, Range { start, end }, new)?)
 }
 
-fn encoding_named(name: &str) -> Option<Encoding> {
-    match name {
-        "utf-8" => Some(Encoding::Utf8),
-        "utf-16" => Some(Encoding::Utf16),
-        "utf-32" => Some(Encoding::Utf32),
-        _ => None,
+fn write_edit(shown: &mut Shown, what: &str, asked: &str, encoding: Encoding, text: &str) {
+    match what {
+        "offset" | "position" => write_place(shown, asked, encoding, text),
+        "applied" => write_applied(shown, asked, encoding, text),
+        _ => shown.word("nothing to ask"),
     }
+}
+
+// The number that is written here. What is no number is beyond each text.
+fn number_in(word: &str) -> usize {
+    word.parse().unwrap_or(usize::MAX)
 }
 
 // The position that is written as its line and its column, with a colon between them.
-fn position_in(word: &str) -> Result<Position, Fail> {
-    let (line, character) = pair(word, ":")?;
-    Ok(Position {
-        line: line.parse()?,
-        character: character.parse()?,
-    })
-}
-
-// The offset of a position, if the text, its index and a document of it give the same.
-fn shown_offset(
-    alloc: Global,
-    text: &str,
-    encoding: Encoding,
-    position: Position,
-) -> Result<String, AllocError> {
-    let index = LineIndex::new(alloc, text)?;
-    let document = Document::new(alloc, String::from_str(alloc, text)?)?;
-    let found = offset_of(text, encoding, position);
-    let by_index = index.offset_of(text, encoding, position);
-    let of_document = document.offset_of(encoding, position);
-    if by_index != found || of_document != found {
-        return format!(in alloc; "{found}, by the index {by_index}, of a document {of_document}");
+fn position_in(word: &str) -> Position {
+    let (line, character) = pair(word, ":");
+    Position {
+        line: number_in(line),
+        character: number_in(character),
     }
-    format!(in alloc; "{found}")
 }
 
-// The position of an offset, if the text, its index and a document of it give the same.
-fn shown_position(
-    alloc: Global,
-    text: &str,
-    encoding: Encoding,
-    offset: usize,
-) -> Result<String, AllocError> {
-    let index = LineIndex::new(alloc, text)?;
-    let document = Document::new(alloc, String::from_str(alloc, text)?)?;
-    let found = position_of(text, encoding, offset);
-    let by_index = index.position_of(text, encoding, offset);
-    let of_document = document.position_of(encoding, offset);
-    let line = found.line;
-    let character = found.character;
-    if by_index != found || of_document != found {
-        return format!(in alloc;
-            "{found:?}, by the index {by_index:?}, of a document {of_document:?}"
-        );
+fn document_of(alloc: Global, text: &str) -> Result<Document, AllocError> {
+    Document::new(alloc, String::from_str(alloc, text)?)
+}
+
+// Writes the offset of a position, which has a colon, or the position of an offset.
+fn write_place(shown: &mut Shown, asked: &str, encoding: Encoding, text: &str) {
+    match LineIndex::new(shown.alloc(), text) {
+        Ok(index) => match document_of(shown.alloc(), text) {
+            Ok(document) => {
+                if asked.contains(':') {
+                    let position = position_in(asked);
+                    let found = offset_of(text, encoding, position);
+                    let by_index = index.offset_of(text, encoding, position);
+                    shown.item("", &found);
+                    write_others(
+                        shown,
+                        found,
+                        by_index,
+                        document.offset_of(encoding, position),
+                    );
+                } else {
+                    let offset = number_in(asked);
+                    let found = position_of(text, encoding, offset);
+                    let by_index = index.position_of(text, encoding, offset);
+                    shown.item("", &found.line);
+                    shown.item(":", &found.character);
+                    write_others(
+                        shown,
+                        found,
+                        by_index,
+                        document.position_of(encoding, offset),
+                    );
+                }
+            }
+            Err(_) => shown.leave_out(),
+        },
+        Err(_) => shown.leave_out(),
     }
-    format!(in alloc; "{line}:{character}")
 }
 
-// The text with something else in the range, if a document of it becomes the same.
-fn shown_edit(
+// Writes what the index of a text and a document of it have, unless that is what the text has.
+fn write_others<T: Copy + PartialEq + Debug>(
+    shown: &mut Shown,
+    found: T,
+    by_index: T,
+    of_document: T,
+) {
+    if by_index != found || of_document != found {
+        shown.debugged(", by the index ", &by_index);
+        shown.debugged(", of a document ", &of_document);
+    }
+}
+
+// Writes the text with something else in a range, and what a document of it becomes, if that is another text.
+fn write_applied(shown: &mut Shown, asked: &str, encoding: Encoding, text: &str) {
+    let (start, asked) = pair(asked, " ");
+    let (end, new) = pair(asked, " ");
+    let range = Range {
+        start: position_in(start),
+        end: position_in(end),
+    };
+    match changed(shown.alloc(), text, encoding, range, new) {
+        Ok(document) => match apply(shown.alloc(), text, encoding, range, new) {
+            Ok(found) => {
+                shown.item("'", &found);
+                if found.as_str() != document.text() {
+                    shown.item("', of a document '", &document.text());
+                }
+                shown.word("'");
+            }
+            Err(_) => shown.leave_out(),
+        },
+        Err(_) => shown.leave_out(),
+    }
+}
+
+// A document of a text, with something else in a range.
+fn changed(
     alloc: Global,
     text: &str,
     encoding: Encoding,
     range: Range,
     new: &str,
-) -> Result<String, AllocError> {
-    let mut document = Document::new(alloc, String::from_str(alloc, text)?)?;
+) -> Result<Document, AllocError> {
+    let mut document = document_of(alloc, text)?;
     document.apply(alloc, encoding, range, new)?;
-    let found = apply(alloc, text, encoding, range, new)?;
-    let of_document = document.text();
-    if of_document != found.as_str() {
-        return format!(in alloc; "'{found}', of a document '{of_document}'");
-    }
-    format!(in alloc; "'{found}'")
+    Ok(document)
+}
+
+fn write_replaced(shown: &mut Shown, asked: &str, text: &str) {
+    let (start, asked) = pair(asked, " ");
+    let (end, new) = pair(asked, " ");
+    let replaced = replace(shown.alloc(), text, number_in(start), number_in(end), new);
+    shown.made("'", replaced);
+    shown.word("'");
 }

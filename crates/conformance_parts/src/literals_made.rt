@@ -3,11 +3,10 @@ ghost use Rattle.std.specs.Prelude.{◌≡◌, ◌∷◌, [], IsTrue, IfOk};
 ghost use Rattle.graphql_syntax.specs.trees.ValueTree.{null, boolean, list, object, trees_of, fields_of};
 
 use graphql_syntax::value::{ConstValue, Literal, Name, Value};
-use rows::Shown;
 use rows::trees::Written;
 use rows::trees::plain::Plain;
+use rows::{Shown, pair};
 use std::alloc::{AllocError, Global};
-use std::test::Fail;
 
 // `{name: [boolean, null]}`, at any type of values.
 fn example<V: Literal>(alloc: Global, name: Name, b: bool) -> Result<V, AllocError>
@@ -50,23 +49,30 @@ fn value_of<V: Literal>(alloc: Global, what: &str) -> Result<V, AllocError> {
     }
 }
 
-fn shown<V: Literal + Written>(alloc: Global, what: &str) -> Result<String, Fail> {
-    let value: V = value_of(alloc, what)?;
-    let mut shown = Shown::new(alloc, true);
-    value.write(&mut shown);
-    Ok(shown.finish()?)
+fn write_made<V: Literal + Written>(shown: &mut Shown, what: &str) {
+    match value_of::<V>(shown.alloc(), what) {
+        Ok(value) => value.write(shown),
+        Err(_) => shown.leave_out(),
+    }
 }
 
-/// The value of a name, at the type after ` of `; and whether a clone of it is equal.
-pub fn made(alloc: Global, text: &str) -> Result<String, Fail> {
-    match text.split_once(" of ") {
-        Some((what, "Value")) => shown::<Value>(alloc, what),
-        Some((what, "ConstValue")) => shown::<ConstValue>(alloc, what),
-        Some((what, "Plain")) => shown::<Plain>(alloc, what),
-        Some((what, "ConstValue and a clone")) => {
-            let is_equal = equals_its_clone(&value_of(alloc, what)?)?;
-            Ok(format!(in alloc; "equal {is_equal}")?)
-        }
-        _ => Err(Fail::new("no such value")),
+fn write_equal(shown: &mut Shown, what: &str) {
+    match value_of(shown.alloc(), what) {
+        Ok(value) => match equals_its_clone(&value) {
+            Ok(is_equal) => shown.item("equal ", &is_equal),
+            Err(_) => shown.leave_out(),
+        },
+        Err(_) => shown.leave_out(),
+    }
+}
+
+/// Writes the value of a name, at the type after ` of `; and whether a clone of it is equal.
+pub fn write_value(shown: &mut Shown, text: &str) {
+    match pair(text, " of ") {
+        (what, "Value") => write_made::<Value>(shown, what),
+        (what, "ConstValue") => write_made::<ConstValue>(shown, what),
+        (what, "Plain") => write_made::<Plain>(shown, what),
+        (what, "ConstValue and a clone") => write_equal(shown, what),
+        _ => shown.word("no such value"),
     }
 }

@@ -22,58 +22,58 @@ mod tokens;
 mod type_texts;
 mod written;
 
-use graphql_syntax::types::{BaseType, OperationType, Type};
-use graphql_syntax::value::Name;
-use graphql_tokens::pos::Pos;
 use graphql_tokens::text::{block_string_value, string_value};
-use rows::{Subject, ended, judge};
-use std::alloc::Global;
+use rows::{Shown, Subject, ended, judge};
 use std::test::Fail;
 
 /// The calls that the tables are about.
 struct Calls;
 
 impl Subject for Calls {
-    fn answer(&self, alloc: Global, call: &str, text: &str) -> Result<String, Fail> {
+    fn answer(&self, shown: &mut Shown, call: &str, text: &str) {
         match call {
-            "tokens" => tokens::shown(alloc, text),
-            "tokens for developers" => tokens::debugged(alloc, text),
-            "string value" => Ok(match string_value(alloc, text)? {
-                Some(value) => format!(in alloc; "'{value}'")?,
-                None => String::from_str(alloc, "none")?,
-            }),
+            "tokens" => tokens::write_tokens(shown, text),
+            "tokens for developers" => tokens::write_debugged(shown, text),
+            "string value" => write_string(shown, text),
             "block string value" => {
-                let value = block_string_value(alloc, text)?;
-                Ok(format!(in alloc; "'{value}'")?)
+                shown.made("'", block_string_value(shown.alloc(), text));
+                shown.word("'");
             }
-            "number" => numbers::shown(alloc, text),
-            "numbers compared" => numbers::two_compared(alloc, text),
-            "name" => names::shown(alloc, text),
-            "names ordered" => names::two_ordered(alloc, text),
-            "places of offsets" => places::of_row(alloc, text),
-            "calculator for developers" => places::debugged(alloc, text),
-            "place" => nodes::shown(alloc, text),
-            "places ordered" => nodes::two_ordered(alloc, text),
-            "nodes compared" => nodes::two_compared(alloc, text),
-            "node of a text" => nodes::of_text(alloc, text),
-            "type" => type_texts::shown(alloc, text),
-            "types compared" => type_texts::two_compared(alloc, text),
-            "value made" => literals_made::made(alloc, text),
-            "place as JSON" => written::read_back::<Pos>(alloc, text),
-            "operation as JSON" => written::read_back::<OperationType>(alloc, text),
-            "name as JSON" => written::read_back::<Name>(alloc, text),
-            "type as JSON" => written::read_back::<Type>(alloc, text),
-            "base type as JSON" => written::read_back::<BaseType>(alloc, text),
-            "block string written" => blocks::written(alloc, text),
-            "sheet" => blocks::on_sheet(alloc, text),
-            "cuts" => Ok(cuts::in_order(alloc, text)?),
+            "number" => numbers::write_number(shown, text),
+            "numbers compared" => numbers::write_comparison(shown, text),
+            "name" => names::write_name(shown, text),
+            "names ordered" => names::write_order(shown, text),
+            "places of offsets" => places::write_places(shown, text),
+            "calculator for developers" => places::write_debugged(shown, text),
+            "place" => nodes::write_place(shown, text),
+            "places ordered" => nodes::write_order(shown, text),
+            "nodes compared" => nodes::write_comparison(shown, text),
+            "node of a text" => nodes::write_text(shown, text),
+            "type" => type_texts::write_read(shown, text),
+            "types compared" => type_texts::write_comparison(shown, text),
+            "value made" => literals_made::write_value(shown, text),
+            "block string written" => blocks::write_block(shown, text),
+            "sheet" => blocks::write_sheet(shown, text),
+            "cuts" => cuts::write_cuts(shown, text),
             call => match call.split_once(' ') {
-                Some(("text", what)) => edits::answer(alloc, what, text),
-                Some(("editor", what)) => editor::listed(alloc, what, text),
-                Some(("at", what)) => editor::at_offset(alloc, what, text),
-                _ => literals_read::answer(alloc, call, text),
+                Some(("text", what)) => edits::write_answer(shown, what, text),
+                Some(("editor", what)) => editor::write_listed(shown, what, text),
+                Some(("at", what)) => editor::write_at_offset(shown, what, text),
+                Some(("value", what)) => literals_read::write_read(shown, what, text),
+                _ => written::write_read_back(shown, call, text),
             },
         }
+    }
+}
+
+fn write_string(shown: &mut Shown, text: &str) {
+    match string_value(shown.alloc(), text) {
+        Ok(Some(value)) => {
+            shown.item("'", &value);
+            shown.word("'");
+        }
+        Ok(None) => shown.word("none"),
+        Err(_) => shown.leave_out(),
     }
 }
 

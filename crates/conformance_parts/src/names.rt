@@ -1,10 +1,8 @@
 //! Names: their texts, copies, hashes and order.
 use graphql_tokens::name::Name;
-use rows::pair;
-use std::alloc::{AllocError, Global};
+use rows::{Shown, pair};
 use std::cmp::Ordering;
 use std::hash::{DefaultHasher, Hash, Hasher};
-use std::test::Fail;
 
 /// The hash of a value, by the default hasher.
 pub fn hash_of<T: Hash>(value: &T) -> u64 {
@@ -13,44 +11,51 @@ pub fn hash_of<T: Hash>(value: &T) -> u64 {
     state.finish()
 }
 
-/// Whether a name of the same text takes no memory.
-fn in_place(name: &Name) -> &'static str {
-    match Name::in_place(name.as_str()) {
-        Some(short) if short == *name => " in place",
-        Some(_) => " with another in place",
-        None => "",
+/// Writes what the name of a text has as text, and prints plain, after blanks and for a developer; whether it takes no memory;
+/// and whether a copy is equal and has one hash with it.
+pub fn write_name(shown: &mut Shown, text: &str) {
+    match Name::new(shown.alloc(), text) {
+        Ok(name) => {
+            write_texts(shown, &name);
+            write_copy(shown, &name);
+        }
+        Err(_) => shown.leave_out(),
     }
 }
 
-/// What the name of a text gives as text, and prints plain, after blanks and for a developer; whether it takes no memory;
-/// and whether a copy is equal and has one hash with it.
-pub fn shown(alloc: Global, text: &str) -> Result<String, Fail> {
-    let name = Name::new(alloc, text)?;
-    Ok(printed(alloc, &name)?)
+fn write_texts(shown: &mut Shown, name: &Name) {
+    shown.item("'", &name.as_str());
+    shown.item("' '", name);
+    shown.made("' '", format!(in shown.alloc(); "{name:>6}"));
+    shown.debugged("' ", name);
+    match Name::in_place(name.as_str()) {
+        Some(short) if short == *name => shown.word(" in place"),
+        Some(_) => shown.word(" with another in place"),
+        None => {}
+    }
 }
 
-fn printed(alloc: Global, name: &Name) -> Result<String, AllocError> {
-    let of_copy = if equals_its_copy(name)? {
-        ""
-    } else {
-        " with another copy"
-    };
-    let text = name.as_str();
-    let in_place = in_place(name);
-    format!(in alloc; "'{text}' '{name}' '{name:>6}' {name:?}{in_place}{of_copy}")
+fn write_copy(shown: &mut Shown, name: &Name) {
+    match name.clone() {
+        Ok(copy) => {
+            if copy != *name || hash_of(&copy) != hash_of(name) {
+                shown.word(" with another copy");
+            }
+        }
+        Err(_) => shown.leave_out(),
+    }
 }
 
-fn equals_its_copy(name: &Name) -> Result<bool, AllocError> {
-    let copy = name.clone()?;
-    Ok(copy == *name && hash_of(&copy) == hash_of(name))
-}
-
-/// How the names of two texts are ordered.
-pub fn two_ordered(alloc: Global, text: &str) -> Result<String, Fail> {
-    let (one, other) = pair(text, " and ")?;
-    let one = Name::new(alloc, one)?;
-    let word = order(&one, &Name::new(alloc, other)?);
-    Ok(String::from_str(alloc, word)?)
+/// Writes how the names of two texts are ordered.
+pub fn write_order(shown: &mut Shown, row: &str) {
+    let (one, other) = pair(row, " and ");
+    match Name::new(shown.alloc(), one) {
+        Ok(one) => match Name::new(shown.alloc(), other) {
+            Ok(other) => shown.word(order(&one, &other)),
+            Err(_) => shown.leave_out(),
+        },
+        Err(_) => shown.leave_out(),
+    }
 }
 
 // The word for how two names are ordered.

@@ -3,10 +3,8 @@ ghost use Rattle.std.specs.Prelude.{◌≡◌, ◌<◌, ◌⊎◌, ◌↔◌, Is
 
 use super::names::hash_of;
 use graphql_tokens::pos::{Pos, Positioned};
-use rows::pair;
-use std::alloc::Global;
+use rows::{Shown, pair};
 use std::cmp::Ordering;
-use std::test::Fail;
 
 // The default place is 0:0.
 fn zero() -> Pos
@@ -64,62 +62,82 @@ fn length_at(text: Positioned<&str>) -> Positioned<usize>
     text.map(|t| t.len())
 }
 
-// The place that a row names.
-fn place_of(text: &str) -> Result<Pos, Fail> {
+// The place that a row names. What is no number is 0.
+fn place_of(text: &str) -> Pos {
     if text == "default" {
-        return Ok(zero());
+        return zero();
     }
-    let (line, column) = pair(text, ":")?;
-    Ok(Pos::from((line.parse()?, column.parse()?)))
+    let (line, column) = pair(text, ":");
+    Pos::from((line.parse().unwrap_or(0), column.parse().unwrap_or(0)))
 }
 
-/// What a place prints, plain and for a developer; and of `default node` the node and its place.
-pub fn shown(alloc: Global, text: &str) -> Result<String, Fail> {
+/// Writes what a place prints, plain and for a developer; and of `default node` the node and its place.
+pub fn write_place(shown: &mut Shown, text: &str) {
     if text == "default node" {
         let none: Positioned<u8> = default_place();
-        let place = none.pos;
-        return Ok(format!(in alloc; "{none} at {place}")?);
+        shown.item("", &none);
+        shown.item(" at ", &none.pos);
+    } else {
+        let place = place_of(text);
+        shown.item("", &place);
+        shown.debugged(" ", &place);
     }
-    let place = place_of(text)?;
-    Ok(format!(in alloc; "{place} {place:?}")?)
 }
 
-/// How two places are ordered, and whether copies are equal and have one hash.
-pub fn two_ordered(alloc: Global, row: &str) -> Result<String, Fail> {
-    let (one, other) = pair(row, " and ")?;
-    let (one, other) = (place_of(one)?, place_of(other)?);
-    let (copy, again) = copied(&one);
+/// Writes how two places are ordered, and whether copies are equal and have one hash.
+pub fn write_order(shown: &mut Shown, row: &str) {
+    let (one, other) = pair(row, " and ");
+    let other = place_of(other);
+    let (copy, again) = copied(&place_of(one));
+    shown.item("less ", &is_before(copy, other));
+    shown.item(", more ", &is_before(other, again));
+    shown.item(", equal ", &is_same(copy, other));
     let is_copied = is_same(copy, again) && hash_of(&copy) == hash_of(&again);
-    let is_less = is_before(copy, other);
-    let is_more = is_before(other, again);
-    let is_equal = is_same(copy, other);
-    Ok(format!(in alloc; "less {is_less}, more {is_more}, equal {is_equal}, copied {is_copied}")?)
+    shown.item(", copied ", &is_copied);
 }
 
-/// How nodes of two numbers compare, the first at 9:9 and the other at 1:1; whether each has the hash of its number; and
+/// Writes how nodes of two numbers compare, the first at 9:9 and the other at 1:1; whether each has the hash of its number; and
 /// what they print, the second at the place of the first.
-pub fn two_compared(alloc: Global, row: &str) -> Result<String, Fail> {
-    let (one, other) = pair(row, " and ")?;
-    let (one, other): (u8, u8) = (one.parse()?, other.parse()?);
+pub fn write_comparison(shown: &mut Shown, row: &str) {
+    let (one, other) = pair(row, " and ");
+    let (one, other) = (number_in(one), number_in(other));
     let here = Positioned::new(one, Pos::from((9, 9)));
     let there = Positioned::new(other, Pos::from((1, 1)));
-    let is_equal = is_equal_anywhere(&here, &there);
-    let order = order_anywhere(&here, &there);
-    let is_hashed = hash_of(&here) == hash_of(&one) && hash_of(&there) == hash_of(&other);
+    shown.item("equal ", &is_equal_anywhere(&here, &there));
+    shown.debugged(", ", &order_anywhere(&here, &there));
     let moved = here.position_node(other);
-    let (is_less, place) = (here < moved, moved.pos);
-    let number = moved.into_inner();
-    Ok(format!(in alloc;
-        "equal {is_equal}, {order:?}, less {is_less}, hashed {is_hashed}; '{here}' '{here:>3}' {number} at {place}"
-    )?)
+    shown.item(", less ", &(here < moved));
+    let is_hashed = hash_of(&here) == hash_of(&one) && hash_of(&there) == hash_of(&other);
+    shown.item(", hashed ", &is_hashed);
+    write_node(shown, &here);
+    let place = moved.pos;
+    shown.item(" ", &moved.into_inner());
+    shown.item(" at ", &place);
 }
 
-/// What a node of a text prints, and its own text; and the node of its length, with its place.
-pub fn of_text(alloc: Global, text: &str) -> Result<String, Fail> {
+fn number_in(text: &str) -> u8 {
+    text.parse().unwrap_or(0)
+}
+
+// Writes a node as it prints, plain and after blanks.
+fn write_node(shown: &mut Shown, node: &Positioned<u8>) {
+    shown.item("; '", node);
+    shown.item("' '", &format_args!("{node:>3}"));
+    shown.word("'");
+}
+
+/// Writes what a node of a text prints, and its own text; and the node of its length, with its place.
+pub fn write_text(shown: &mut Shown, text: &str) {
     let place = Pos::from((9, 9));
+    match String::from_str(shown.alloc(), text) {
+        Ok(own) => {
+            let node = Positioned::new(own, place);
+            shown.item("", &node);
+            shown.item(" ", &node.as_str());
+        }
+        Err(_) => shown.leave_out(),
+    }
     let length = length_at(Positioned::new(text, place));
-    let there = length.pos;
-    let node = Positioned::new(String::from_str(alloc, text)?, place);
-    let own = node.as_str();
-    Ok(format!(in alloc; "{node} {own} {length} at {there}")?)
+    shown.item(" ", &length);
+    shown.item(" at ", &length.pos);
 }

@@ -1,57 +1,64 @@
-//! Places: what a calculator gives for offsets that never fall.
+//! Places: what a calculator returns for offsets that never fall.
 use graphql_tokens::pos::PositionCalculator;
 use rows::{Shown, pair};
-use std::alloc::Global;
-use std::test::Fail;
 
-/// The places of the offsets that stand before a text, with ` in ` between them; and without offsets how many characters are
-/// gone over.
-pub fn of_row(alloc: Global, row: &str) -> Result<String, Fail> {
-    let (offsets, text) = pair(row, " in ")?;
-    shown(alloc, offsets, text)
-}
-
-// The places of offsets that never fall, and after each how many characters were gone over for it.
-fn shown(alloc: Global, offsets: &str, text: &str) -> Result<String, Fail> {
-    let mut shown = Shown::new(alloc, true);
+/// Writes the places of the offsets that stand before a text, with ` in ` between them, and after each how many characters were gone
+/// over for it; and without offsets how many are gone over.
+pub fn write_places(shown: &mut Shown, row: &str) {
+    let (offsets, text) = pair(row, " in ");
     let mut calculator = PositionCalculator::new(text);
     let mut last = 0usize;
     for word in offsets.split_whitespace() {
-        let offset: usize = word.parse()?;
+        let offset = offset_in(word);
         if offset < last || !text.is_char_boundary(offset) {
-            return Err(Fail::new("no offset to step to"));
+            return shown.word("no offset to step to");
         }
         shown.place(" ", &calculator.step(offset));
-        let debug = format!(in alloc; "{calculator:?}")?;
-        if debug != debug_at(alloc, text, offset)? {
-            return Err(Fail::new("Debug shows something else"));
-        }
         shown.item(" after ", &calculator.stepped());
+        if !is_shown_at(shown, &calculator, text, offset) {
+            shown.word(" (shown as another to developers)");
+        }
         last = offset;
     }
     if offsets.is_empty() {
         shown.item("after ", &calculator.stepped());
     }
-    Ok(shown.finish()?)
 }
 
-/// What a calculator shows to a developer that has stepped to the offset before the text.
-pub fn debugged(alloc: Global, row: &str) -> Result<String, Fail> {
-    let (offset, text) = pair(row, " in ")?;
-    let offset: usize = offset.parse()?;
+// The offset that is written here. What is no number is beyond each text.
+fn offset_in(word: &str) -> usize {
+    word.parse().unwrap_or(usize::MAX)
+}
+
+/// Writes what a calculator shows to a developer that has stepped to the offset before the text.
+pub fn write_debugged(shown: &mut Shown, row: &str) {
+    let (offset, text) = pair(row, " in ");
+    let offset = offset_in(offset);
     if !text.is_char_boundary(offset) {
-        return Err(Fail::new("no offset to step to"));
+        return shown.word("no offset to step to");
     }
     let mut calculator = PositionCalculator::new(text);
     let _place = calculator.step(offset);
-    Ok(format!(in alloc; "{calculator:?}")?)
+    shown.debugged("", &calculator);
 }
 
-// What `Debug` shows of a calculator at an offset: with the characters before it, and those before its columns begin.
-fn debug_at(alloc: Global, text: &str, offset: usize) -> Result<String, Fail> {
-    let Some((front, _)) = text.split_at_checked(offset) else {
-        return Err(Fail::new("no character begins there"));
-    };
+// Whether a calculator shows to a developer what it has to at an offset.
+fn is_shown_at(
+    shown: &Shown,
+    calculator: &PositionCalculator<'_>,
+    text: &str,
+    offset: usize,
+) -> bool {
+    let mut found = Shown::new(shown.alloc(), true);
+    found.debugged("", calculator);
+    let mut wanted = Shown::new(shown.alloc(), true);
+    write_at(&mut wanted, text, offset);
+    found.whole() == wanted.whole()
+}
+
+// Writes what `Debug` has to show of a calculator at an offset: with the characters before it, and those before its columns begin.
+fn write_at(shown: &mut Shown, text: &str, offset: usize) {
+    let (front, _) = text.split_at_checked(offset).unwrap_or(("", text));
     let mut passed = 0usize;
     let mut line = 1usize;
     let mut before = 0usize;
@@ -64,13 +71,13 @@ fn debug_at(alloc: Global, text: &str, offset: usize) -> Result<String, Fail> {
             before = passed;
         }
     }
-    let walk = format!(in alloc;
-        "TextWalk {{ text: {text:?}, offset: {offset}, count: {passed} }}"
-    )?;
-    let place = format!(in alloc;
-        "RunningPlace {{ walk: {walk}, line: {line}, before: {before} }}"
-    )?;
-    Ok(format!(in alloc;
-        "PositionCalculator {{ counted: CountedPlace {{ place: {place}, number: WalkNumber }} }}"
-    )?)
+    shown.word(
+        "PositionCalculator { counted: CountedPlace { place: RunningPlace { walk: TextWalk {",
+    );
+    shown.debugged(" text: ", &text);
+    shown.item(", offset: ", &offset);
+    shown.item(", count: ", &passed);
+    shown.item(" }, line: ", &line);
+    shown.item(", before: ", &before);
+    shown.word(" }, number: WalkNumber } }");
 }

@@ -1,30 +1,19 @@
 //! Types that are read from a text, and shown again.
 use graphql_syntax::types::{BaseType, Type};
-use rows::{Shown, compared, pair};
-use std::alloc::{AllocError, Global};
-use std::test::Fail;
+use rows::{Shown, pair};
 
-/// What `Type::new` gives: a name between `'`, a list in brackets, and after each whether null may stand; or
-/// `none`. That the type prints as its text, and that a copy is equal, is looked at too.
-pub fn shown(alloc: Global, text: &str) -> Result<String, Fail> {
-    Ok(match Type::new(alloc, text)? {
-        Some(ty) => described(alloc, &ty, text)?,
-        None => String::from_str(alloc, "none")?,
-    })
-}
-
-fn described(alloc: Global, ty: &Type, text: &str) -> Result<String, AllocError> {
-    let printed = format!(in alloc; "{ty}")?;
-    let copy = ty.clone()?;
-    let mut shown = Shown::new(alloc, true);
-    write_type(&mut shown, ty);
-    if copy != *ty {
-        shown.word(" with another copy");
+/// Writes what `Type::new` returns: a name between `'`, a list in brackets, and after each whether null may stand; or `none`. That
+/// the type prints as its text, and that a copy is equal, is looked at too.
+pub fn write_read(shown: &mut Shown, text: &str) {
+    match Type::new(shown.alloc(), text) {
+        Ok(Some(ty)) => {
+            write_type(shown, &ty);
+            write_copy(shown, &ty);
+            write_text(shown, &ty, text);
+        }
+        Ok(None) => shown.word("none"),
+        Err(_) => shown.leave_out(),
     }
-    if printed.as_str() != text {
-        shown.word(" as another text");
-    }
-    shown.finish()
 }
 
 fn write_type(shown: &mut Shown, ty: &Type) {
@@ -42,9 +31,33 @@ fn write_type(shown: &mut Shown, ty: &Type) {
     shown.word(if ty.nullable { "?" } else { "!" });
 }
 
-/// How two types compare.
-pub fn two_compared(alloc: Global, text: &str) -> Result<String, Fail> {
-    let (one, other) = pair(text, " and ")?;
-    let one = Type::new(alloc, one)?;
-    Ok(compared(alloc, &one, &Type::new(alloc, other)?)?)
+fn write_copy(shown: &mut Shown, ty: &Type) {
+    match ty.clone() {
+        Ok(copy) => {
+            if copy != *ty {
+                shown.word(" with another copy");
+            }
+        }
+        Err(_) => shown.leave_out(),
+    }
+}
+
+fn write_text(shown: &mut Shown, ty: &Type, text: &str) {
+    let mut printed = Shown::new(shown.alloc(), true);
+    printed.item("", ty);
+    if printed.whole() != Some(text) {
+        shown.word(" as another text");
+    }
+}
+
+/// Writes how two types compare.
+pub fn write_comparison(shown: &mut Shown, row: &str) {
+    let (one, other) = pair(row, " and ");
+    match Type::new(shown.alloc(), one) {
+        Ok(one) => match Type::new(shown.alloc(), other) {
+            Ok(other) => shown.word(if one == other { "equal" } else { "different" }),
+            Err(_) => shown.leave_out(),
+        },
+        Err(_) => shown.leave_out(),
+    }
 }

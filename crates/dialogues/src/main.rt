@@ -13,40 +13,79 @@ mod notation;
 mod places;
 mod played;
 
-use notation::dialogue_of;
-use places::judge_places;
-use played::judge;
-use rows::{ended, files_in};
+use notation::Dialogue;
+use places::write_judged;
+use played::write_played;
+use rows::{Shown, ended, files_in};
+use std::alloc::AllocError;
 use std::fs;
 use std::test::Fail;
 
 fn main(rt: HostRuntime) -> Result<(), Fail> {
     let mut wrong = 0usize;
+    let mut shown = Shown::new(rt.alloc(), true);
     for file in &files_in(&rt, "dialogues")? {
-        let text = whole_text(&rt, file.as_str())?;
-        let dialogue = dialogue_of(rt.alloc(), text.as_str())?;
-        wrong = wrong.saturating_add(judge(&rt, file.as_str(), &dialogue)?);
+        wrong = wrong.saturating_add(judge_dialogue(&rt, &mut shown, file.as_str()));
     }
     for file in &files_in(&rt, "places")? {
-        wrong = wrong.saturating_add(judge_places(&rt, file.as_str())?);
+        wrong = wrong.saturating_add(judge_places(&rt, &mut shown, file.as_str()));
     }
+    print!(rt; "{}", shown.whole().ok_or(AllocError)?)?;
     ended(wrong)
 }
 
-// The text of a file, in which a line `+ begin` stands for the lines of the file `parts/begin`.
-fn whole_text(rt: &HostRuntime, file: &str) -> Result<String, Fail> {
-    let alloc = rt.alloc();
-    let text = fs::read_to_string(rt, file)?;
-    let mut whole = String::new(alloc);
-    for line in text.as_str().lines() {
+// Writes what there is to say of the dialogue of a file. The answer is how much of it is wrong.
+fn judge_dialogue(rt: &HostRuntime, shown: &mut Shown, file: &str) -> usize {
+    let mut text = Shown::new(rt.alloc(), true);
+    write_file(rt, &mut text, file);
+    let mut whole = Shown::new(rt.alloc(), true);
+    match text.whole() {
+        Some(text) => write_lines(rt, &mut whole, text),
+        None => whole.leave_out(),
+    }
+    match whole.whole() {
+        Some(text) => write_played(shown, file, &Dialogue::new(rt.alloc(), text)),
+        None => write_unread(shown, file),
+    }
+}
+
+fn judge_places(rt: &HostRuntime, shown: &mut Shown, file: &str) -> usize {
+    let mut text = Shown::new(rt.alloc(), true);
+    write_file(rt, &mut text, file);
+    match text.whole() {
+        Some(lines) => write_judged(shown, file, lines),
+        None => write_unread(shown, file),
+    }
+}
+
+fn write_unread(shown: &mut Shown, file: &str) -> usize {
+    shown.word(file);
+    shown.word(": it can't be read\n");
+    1
+}
+
+// Writes the text of a file, or leaves it out if it can't be read.
+fn write_file(rt: &HostRuntime, shown: &mut Shown, path: &str) {
+    match fs::read_to_string(rt, path) {
+        Ok(text) => shown.word(text.as_str()),
+        Err(_) => shown.leave_out(),
+    }
+}
+
+// Writes lines, of which `+ begin` stands for the lines of the file `parts/begin`.
+fn write_lines(rt: &HostRuntime, shown: &mut Shown, text: &str) {
+    let mut path = Shown::new(rt.alloc(), true);
+    for line in text.lines() {
         match line.strip_prefix("+ ") {
             Some(part) => {
-                let path = format!(in alloc; "parts/{part}")?;
-                let part = fs::read_to_string(rt, path.as_str())?;
-                whole.push_str(part.as_str())?;
+                path.clear();
+                path.item("parts/", &part);
+                write_file(rt, shown, path.whole().unwrap_or(""));
             }
-            None => writeln!(whole, "{line}")?,
+            None => {
+                shown.word(line);
+                shown.word("\n");
+            }
         }
     }
-    Ok(whole)
 }

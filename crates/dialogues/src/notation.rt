@@ -23,145 +23,190 @@
 //! writes a string that ends in `…` is any that begins so: the protocol leaves the words of most messages to the server. All else
 //! has to be the same value: the order of members doesn't count, and each counts. The signs of the crate `rows` for characters that
 //! are not seen, and for many of them, stand here too.
-use rows::meant;
+use rows::{Shown, meant, pair};
 use serde_json::Value;
-use std::alloc::{AllocError, Global};
-use std::test::Fail;
+use std::alloc::Global;
 
 /// A dialogue.
 #[derive(Drop)]
 pub struct Dialogue {
-    /// The bytes that arrive.
-    pub given: Vec<u8>,
-    /// Each message that the server has to write, as `plain` returns it.
-    pub wanted: Vec<String>,
-    pub turns: Vec<Turn>,
-    /// The status with which the server has ended after it; None where it goes on.
-    pub status: Option<u8>,
+    // What arrives.
+    given: Shown,
+    // Each message that the server has to write, as `write_plain` writes it, and a line feed after it.
+    wanted: Shown,
+    turns: Vec<Turn>,
+    status: Option<u8>,
 }
 
 /// A part of a dialogue: what the server is given, and what it has to write then. It goes on from where the one before it ends.
 #[derive(Clone, Copy)]
 pub struct Turn {
-    /// Where the bytes end that arrive.
+    /// Where the text ends that arrives.
     pub given: usize,
-    /// Where the messages end that the server has to write.
+    /// Where the text of the messages ends that the server has to write.
     pub wanted: usize,
     /// Whether the input ends then.
     pub is_last: bool,
 }
 
 impl Dialogue {
-    // Ends a turn.
-    fn end_turn(&mut self, is_last: bool) -> Result<(), Fail> {
-        Ok(
-            self.turns.push(Turn {
-                given: self.given.len(),
-                wanted: self.wanted.len(),
-                is_last,
-            })?,
-        )
+    /// The dialogue that a text in this notation stands for. What is in no notation isn't in it, and neither is what there is no
+    /// memory for, and then it isn't whole.
+    pub fn new(alloc: Global, text: &str) -> Dialogue {
+        let mut dialogue = Dialogue {
+            given: Shown::new(alloc, true),
+            wanted: Shown::new(alloc, true),
+            turns: Vec::new(alloc),
+            status: None,
+        };
+        match text.replace(alloc, "\n  ", " ") {
+            Ok(text) => dialogue.take_lines(text.as_str()),
+            Err(_) => dialogue.given.leave_out(),
+        }
+        dialogue
     }
 
-    // Adds a message of the editor, with its header.
-    fn give(&mut self, alloc: Global, content: &str) -> Result<(), Fail> {
-        let length = content.len();
-        let header = format!(in alloc; "Content-Length: {length}\r\n\r\n")?;
-        self.given.extend_from_slice(header.as_bytes())?;
-        self.given.extend_from_slice(content.as_bytes())?;
-        self.end_turn(false)
+    /// Whether nothing was left out of it.
+    pub fn is_whole(&self) -> bool {
+        self.given.whole().is_some() && self.wanted.whole().is_some()
     }
 
-    // Adds a message of the server to what it has to write in the last turn.
-    fn expect(&mut self, message: String) -> Result<(), Fail> {
-        self.wanted.push(message)?;
-        let turn = self.turns.last_mut().ok_or("nothing was given")?;
-        turn.wanted = self.wanted.len();
-        Ok(())
+    /// The text that arrives.
+    pub fn given(&self) -> &str {
+        self.given.whole().unwrap_or("")
+    }
+
+    /// Each message that the server has to write, as `write_plain` writes it, and a line feed after it.
+    pub fn wanted(&self) -> &str {
+        self.wanted.whole().unwrap_or("")
+    }
+
+    /// Its turns.
+    pub fn turns(&self) -> &[Turn] {
+        self.turns.as_slice()
+    }
+
+    /// The status with which the server has ended after it; None where it goes on.
+    pub fn status(&self) -> Option<u8> {
+        self.status
+    }
+
+    fn take_lines(&mut self, text: &str) {
+        for line in text.lines() {
+            if line == "$" {
+                self.end_turn(true);
+            } else if !line.is_empty() && !line.starts_with("-- ") {
+                self.take_line(line);
+            }
+        }
     }
 
     // Adds what a line says.
-    fn take_line(&mut self, alloc: Global, line: &str) -> Result<(), Fail> {
-        if line == "$" {
-            return self.end_turn(true);
+    fn take_line(&mut self, line: &str) {
+        let (sign, rest) = pair(line, " ");
+        match meant(self.given.alloc(), rest) {
+            Ok(rest) => self.take(sign, rest.as_str()),
+            Err(_) => self.given.leave_out(),
         }
-        let (sign, rest) = line.split_once(' ').ok_or("no such line")?;
-        let rest = meant(alloc, rest)?;
+    }
+
+    // Adds what a line with this sign says.
+    fn take(&mut self, sign: &str, rest: &str) {
         match sign {
-            ">" => {
-                let message = whole_message(alloc, rest.as_str())?;
-                self.give(alloc, message.as_str())
-            }
-            ">=" => {
-                let content = with_places(alloc, rest.as_str())?;
-                self.give(alloc, content.as_str())
-            }
+            ">" | ">=" => self.give(rest, sign == ">"),
             ">>" => {
-                self.given.extend_from_slice(rest.as_bytes())?;
-                self.end_turn(false)
+                self.given.word(rest);
+                self.end_turn(false);
             }
-            "<" => {
-                let message = whole_message(alloc, rest.as_str())?;
-                self.expect(plain(alloc, message.as_bytes())?)
+            "<" => self.expect(rest),
+            "=" => self.status = rest.parse::<u8>().ok(),
+            _ => self.given.leave_out(),
+        }
+    }
+
+    // Ends a turn.
+    fn end_turn(&mut self, is_last: bool) {
+        let turn = Turn {
+            given: self.given().len(),
+            wanted: self.wanted().len(),
+            is_last,
+        };
+        if self.turns.push(turn).is_err() {
+            self.given.leave_out();
+        }
+    }
+
+    // Adds a message of the editor, with its header, and with the member that each has, if that isn't written.
+    fn give(&mut self, text: &str, is_short: bool) {
+        let mut message = Shown::new(self.given.alloc(), true);
+        if is_short {
+            write_message(&mut message, text);
+        } else {
+            write_with_places(&mut message, text);
+        }
+        match message.whole() {
+            Some(message) => {
+                self.given.item("Content-Length: ", &message.len());
+                self.given.word("\r\n\r\n");
+                self.given.word(message);
             }
-            "=" => {
-                self.status = rest.parse::<u8>().ok();
-                Ok(())
-            }
-            _ => Err(Fail::new("no such line")),
+            None => self.given.leave_out(),
+        }
+        self.end_turn(false);
+    }
+
+    // Adds a message of the server to what it has to write in the last turn.
+    fn expect(&mut self, text: &str) {
+        let mut message = Shown::new(self.given.alloc(), true);
+        write_message(&mut message, text);
+        write_plain(&mut self.wanted, message.whole().unwrap_or(""));
+        self.wanted.word("\n");
+        let end = self.wanted().len();
+        match self.turns.last_mut() {
+            Some(turn) => turn.wanted = end,
+            None => self.wanted.leave_out(),
         }
     }
 }
 
-/// The dialogue that a text in this notation stands for.
-pub fn dialogue_of(alloc: Global, text: &str) -> Result<Dialogue, Fail> {
-    let text = text.replace(alloc, "\n  ", " ")?;
-    let mut dialogue = Dialogue {
-        given: Vec::new(alloc),
-        wanted: Vec::new(alloc),
-        turns: Vec::new(alloc),
-        status: None,
-    };
-    for line in text.as_str().lines() {
-        if !line.is_empty() && !line.starts_with("-- ") {
-            dialogue.take_line(alloc, line)?;
+// Writes a message with the member that each has.
+fn write_message(shown: &mut Shown, text: &str) {
+    match text.strip_prefix('{') {
+        Some(rest) => {
+            shown.word("{\"jsonrpc\": \"2.0\", ");
+            write_with_places(shown, rest);
         }
+        None => shown.leave_out(),
     }
-    Ok(dialogue)
 }
 
-// A message with the member that each has.
-fn whole_message(alloc: Global, text: &str) -> Result<String, Fail> {
-    let rest = text.strip_prefix('{').ok_or("no object")?;
-    let rest = with_places(alloc, rest)?;
-    Ok(format!(in alloc; "{{\"jsonrpc\": \"2.0\", {rest}")?)
-}
-
-/// A value of JSON as text with its members by their names, so that two texts of one value are the same.
-pub fn plain(alloc: Global, json: &[u8]) -> Result<String, Fail> {
-    Ok(Value::from_slice(alloc, json)?.to_string(alloc)?)
+/// Writes a value of JSON as text with its members by their names, so that two texts of one value are the same. What is no JSON is
+/// left out.
+pub fn write_plain(shown: &mut Shown, json: &str) {
+    match Value::from_str(shown.alloc(), json) {
+        Ok(value) => shown.made("", value.to_string(shown.alloc())),
+        Err(_) => shown.leave_out(),
+    }
 }
 
 // ---- Positions and ranges
 
-// The JSON that a text stands for: each `@0:12` that is in no string is a position, and each `@0:12-1:0` a range.
-fn with_places(alloc: Global, text: &str) -> Result<String, AllocError> {
-    let mut out = String::new(alloc);
+// Writes the JSON that a text stands for: each `@0:12` that is in no string is a position, and each `@0:12-1:0` a range.
+fn write_with_places(shown: &mut Shown, text: &str) {
     let mut is_in_string = false;
     let mut is_escaped = false;
     for (index, part) in text.split('"').enumerate() {
         if index > 0 {
-            out.push('"')?;
+            shown.word("\"");
             is_in_string = is_in_string == is_escaped;
         }
         if is_in_string {
-            out.push_str(part)?;
+            shown.word(part);
         } else {
-            push_part(&mut out, part)?;
+            write_part(shown, part);
         }
         is_escaped = is_in_string && ends_in_escape(part);
     }
-    Ok(out)
 }
 
 // Whether what stands after this in a string is escaped.
@@ -170,38 +215,37 @@ fn ends_in_escape(part: &str) -> bool {
     part.len().saturating_sub(before.len()) % 2 == 1
 }
 
-// Adds a part in which no string stands.
-fn push_part(out: &mut String, part: &str) -> Result<(), AllocError> {
+// Writes a part in which no string stands.
+fn write_part(shown: &mut Shown, part: &str) {
     for (index, piece) in part.split('@').enumerate() {
         if index == 0 {
-            out.push_str(piece)?;
+            shown.word(piece);
         } else {
-            let rest = piece.trim_start_matches(|c: char| c.is_ascii_digit()
-                || c == ':'
-                || c == '-');
-            let place = piece.strip_suffix(rest).unwrap_or(piece);
-            push_place(out, place)?;
-            out.push_str(rest)?;
+            write_place(shown, piece);
         }
     }
-    Ok(())
 }
 
-// Adds the JSON of a position or of a range.
-fn push_place(out: &mut String, place: &str) -> Result<(), AllocError> {
+// Writes a piece that begins with a position or a range.
+fn write_place(shown: &mut Shown, piece: &str) {
+    let signs = ['0', '1', '2', '3', '4', '5', '6', '7', '8', '9', ':', '-'];
+    let rest = piece.trim_start_matches(signs);
+    let place = piece.strip_suffix(rest).unwrap_or(piece);
     match place.split_once('-') {
         Some((start, end)) => {
-            out.push_str("{\"start\": ")?;
-            push_position(out, start)?;
-            out.push_str(", \"end\": ")?;
-            push_position(out, end)?;
-            out.push('}')
+            write_position(shown, "{\"start\": ", start);
+            write_position(shown, ", \"end\": ", end);
+            shown.word("}");
         }
-        None => push_position(out, place),
+        None => write_position(shown, "", place),
     }
+    shown.word(rest);
 }
 
-fn push_position(out: &mut String, place: &str) -> Result<(), AllocError> {
+fn write_position(shown: &mut Shown, before: &str, place: &str) {
     let (line, character) = place.split_once(':').unwrap_or((place, ""));
-    write!(out, "{{\"line\": {line}, \"character\": {character}}}")
+    shown.word(before);
+    shown.item("{\"line\": ", &line);
+    shown.item(", \"character\": ", &character);
+    shown.word("}");
 }

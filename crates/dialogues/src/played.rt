@@ -1,9 +1,9 @@
 //! What the server writes in a dialogue, beside what it has to write.
-use crate::notation::{Dialogue, Turn, plain};
+use crate::notation::{Dialogue, Turn, write_plain};
 use graphql_server::Server;
-use std::alloc::Global;
+use rows::Shown;
+use std::alloc::{AllocError, Global};
 use std::str;
-use std::test::Fail;
 
 // In what pieces the bytes of a turn arrive.
 #[derive(Clone, Copy)]
@@ -16,37 +16,73 @@ enum Pieces {
     Cut(usize),
 }
 
+// A way to play a dialogue.
+#[derive(Clone, Copy)]
+struct Way<'a> {
+    name: &'a str,
+    turns: &'a [Turn],
+    pieces: Pieces,
+}
+
 /// Plays the dialogue of a file, also byte by byte and in one piece, and where the file's name says so in two pieces, cut at each byte
-/// after the first message. Prints how many messages it has, and what is not as it has to be. The answer is how much that is.
-pub fn judge(rt: &HostRuntime, file: &str, dialogue: &Dialogue) -> Result<usize, Fail> {
-    let turns = dialogue.turns.as_slice();
-    let wanted = dialogue.wanted.len();
-    println!(rt; "{file}: {} in, {wanted} out", given_in(turns))?;
-    let wrong = play(rt, "message by message", dialogue, turns, Pieces::Whole)?;
-    if wrong > 0 {
-        return Ok(wrong);
+/// after the first message. Writes how many messages it has, and what is not as it has to be. The answer is how much that is.
+pub fn write_played(shown: &mut Shown, file: &str, dialogue: &Dialogue) -> usize {
+    shown.item("", &file);
+    shown.item(": ", &given_in(dialogue.turns()));
+    shown.item(" in, ", &dialogue.wanted().lines().count());
+    shown.word(" out\n");
+    if !dialogue.is_whole() {
+        shown.word("  a line is in no notation\n");
+        return 1;
     }
-    let wrong = play(rt, "byte by byte", dialogue, turns, Pieces::Bytes)?;
+    let by_turns = Way {
+        name: "message by message",
+        turns: dialogue.turns(),
+        pieces: Pieces::Whole,
+    };
+    let wrong = play(shown, dialogue, by_turns);
+    if wrong > 0 {
+        return wrong;
+    }
+    let by_bytes = Way {
+        name: "byte by byte",
+        pieces: Pieces::Bytes,
+        ..by_turns
+    };
+    let wrong = play(shown, dialogue, by_bytes);
+    wrong.saturating_add(play_joined(shown, file, dialogue))
+}
+
+// Plays a dialogue in one piece, and where the file's name says so in two.
+fn play_joined(shown: &mut Shown, file: &str, dialogue: &Dialogue) -> usize {
+    let (first, is_last) = match dialogue.turns() {
+        [first, .., last] => (first.given, last.is_last),
+        [only] => (only.given, only.is_last),
+        [] => (0, false),
+    };
+    let end = dialogue.given().len();
     let joined = [Turn {
-        given: dialogue.given.len(),
-        wanted,
-        is_last: turns.last().is_some_and(|turn| turn.is_last),
+        given: end,
+        wanted: dialogue.wanted().len(),
+        is_last,
     }];
-    let mut wrong = wrong.saturating_add(play(
-        rt,
-        "in one piece",
-        dialogue,
-        &joined,
-        Pieces::Whole,
-    )?);
+    let at_once = Way {
+        name: "in one piece",
+        turns: &joined,
+        pieces: Pieces::Whole,
+    };
+    let mut wrong = play(shown, dialogue, at_once);
     if file.contains("/cut_") {
-        let first = turns.first().map_or(0, |turn| turn.given);
-        for place in first..dialogue.given.len() {
-            let pieces = Pieces::Cut(place);
-            wrong = wrong.saturating_add(play(rt, "in two pieces", dialogue, &joined, pieces)?);
+        for place in first..end {
+            let cut = Way {
+                name: "in two pieces",
+                pieces: Pieces::Cut(place),
+                ..at_once
+            };
+            wrong = wrong.saturating_add(play(shown, dialogue, cut));
         }
     }
-    Ok(wrong)
+    wrong
 }
 
 // How many messages are given.
@@ -62,46 +98,67 @@ fn given_in(turns: &[Turn]) -> usize {
     count
 }
 
-// Plays a dialogue in these turns, whose bytes arrive in these pieces. Prints what is not as it has to be.
-fn play(
-    rt: &HostRuntime,
-    how: &str,
-    dialogue: &Dialogue,
-    turns: &[Turn],
-    pieces: Pieces,
-) -> Result<usize, Fail> {
-    let alloc = rt.alloc();
-    let mut server = Server::new(alloc);
+// Plays a dialogue in this way. Writes what is not as it has to be, and the answer is how much that is.
+fn play(shown: &mut Shown, dialogue: &Dialogue, way: Way<'_>) -> usize {
+    let mut server = Server::new(shown.alloc());
     let mut wrong = 0usize;
-    let (mut given, mut wanted) = (0, 0);
-    for turn in turns {
-        let bytes = dialogue
-            .given
-            .get(given..turn.given)
-            .ok_or("no such bytes")?;
-        let messages = dialogue
-            .wanted
-            .get(wanted..turn.wanted)
-            .ok_or("no such messages")?;
-        let mut written = Vec::new(alloc);
-        give(&mut server, bytes, pieces, &mut written)?;
-        if turn.is_last {
-            server.end();
-        }
-        if !is_as_wanted(alloc, written.as_slice(), messages)? {
-            if let Ok(written) = str::from_utf8(written.as_slice()) {
-                println!(rt; "  {how}, after byte {}: {written}", turn.given)?;
+    let mut bytes = dialogue.given().as_bytes();
+    let (mut given, mut wanted) = (0usize, 0usize);
+    for turn in way.turns {
+        let now = bytes.split_at_checked(turn.given.saturating_sub(given));
+        match (now, part_of(dialogue.wanted(), wanted, turn.wanted)) {
+            (Some((now, later)), Some(messages)) => {
+                if !play_turn(shown, &mut server, way, *turn, now, messages) {
+                    wrong = wrong.saturating_add(1);
+                }
+                bytes = later;
             }
-            wrong = wrong.saturating_add(1);
+            _ => wrong = wrong.saturating_add(1),
         }
         given = turn.given;
         wanted = turn.wanted;
     }
-    if server.has_ended() != dialogue.status {
-        println!(rt; "  {how}: ended with {:?}", server.has_ended())?;
+    if server.has_ended() != dialogue.status() {
+        shown.item("  ", &way.name);
+        shown.debugged(": ended with ", &server.has_ended());
+        shown.word("\n");
         wrong = wrong.saturating_add(1);
     }
-    Ok(wrong)
+    wrong
+}
+
+// A part of a text, if it begins and ends where characters do.
+fn part_of(text: &str, start: usize, end: usize) -> Option<&str> {
+    let (front, _) = text.split_at_checked(end)?;
+    let (_, part) = front.split_at_checked(start)?;
+    Some(part)
+}
+
+// Plays a turn. Writes what the server wrote, unless it wrote these messages.
+fn play_turn(
+    shown: &mut Shown,
+    server: &mut Server,
+    way: Way<'_>,
+    turn: Turn,
+    bytes: &[u8],
+    messages: &str,
+) -> bool {
+    let mut written = Vec::new(shown.alloc());
+    if give(server, bytes, way.pieces, &mut written).is_err() {
+        shown.leave_out();
+    }
+    if turn.is_last {
+        server.end();
+    }
+    let found = str::from_utf8(written.as_slice()).unwrap_or("not text");
+    let holds = is_as_wanted(shown.alloc(), found, messages);
+    if !holds {
+        shown.item("  ", &way.name);
+        shown.item(", after byte ", &turn.given);
+        shown.item(": ", &found);
+        shown.word("\n");
+    }
+    holds
 }
 
 fn give(
@@ -109,48 +166,47 @@ fn give(
     bytes: &[u8],
     pieces: Pieces,
     written: &mut Vec<u8>,
-) -> Result<(), Fail> {
+) -> Result<(), AllocError> {
     match pieces {
-        Pieces::Whole => server.receive(bytes, written)?,
+        Pieces::Whole => server.receive(bytes, written),
         Pieces::Bytes => {
             for byte in bytes {
                 server.receive(&[*byte], written)?;
             }
+            Ok(())
         }
         Pieces::Cut(place) => {
-            let (first, second) = bytes.split_at_checked(place).ok_or("no such byte")?;
+            let (first, second) = bytes.split_at_checked(place).unwrap_or((bytes, &[]));
             server.receive(first, written)?;
-            server.receive(second, written)?;
+            server.receive(second, written)
         }
     }
-    Ok(())
 }
 
 // Whether these messages were written, and nothing else.
-fn is_as_wanted(alloc: Global, written: &[u8], wanted: &[String]) -> Result<bool, Fail> {
+fn is_as_wanted(alloc: Global, written: &str, wanted: &str) -> bool {
+    let mut found = Shown::new(alloc, true);
     let mut rest = written;
-    for message in wanted {
+    for message in wanted.lines() {
         let Some((content, after)) = unframed(rest) else {
-            return Ok(false);
+            return false;
         };
-        let found = plain(alloc, content)?;
-        if !is_like(found.as_str(), message.as_str()) {
-            return Ok(false);
+        found.clear();
+        write_plain(&mut found, content);
+        match found.whole() {
+            Some(found) if is_like(found, message) => rest = after,
+            _ => return false,
         }
-        rest = after;
     }
-    Ok(rest.is_empty())
+    rest.is_empty()
 }
 
-// The content of the first message of these bytes, and the bytes after it; None where they begin with none.
-fn unframed(bytes: &[u8]) -> Option<(&[u8], &[u8])> {
-    let text = str::from_utf8(bytes).ok()?;
+// The content of the first message of a text, and what stands after it; None where the text begins with none.
+fn unframed(text: &str) -> Option<(&str, &str)> {
     let (length, content) = text
         .strip_prefix("Content-Length: ")?
         .split_once("\r\n\r\n")?;
-    content
-        .as_bytes()
-        .split_at_checked(length.parse::<usize>().ok()?)
+    content.split_at_checked(length.parse::<usize>().ok()?)
 }
 
 // Whether a text of JSON is this one, in which `…` at the end of a string stands for any rest of it.
@@ -173,7 +229,8 @@ fn after_string(rest: &str) -> &str {
     let mut is_escaped = false;
     for (offset, c) in rest.char_indices() {
         if c == '"' && !is_escaped {
-            return rest.get(offset..).unwrap_or("");
+            let (_, after) = rest.split_at_checked(offset).unwrap_or((rest, ""));
+            return after;
         }
         is_escaped = c == '\\' && !is_escaped;
     }

@@ -3,15 +3,15 @@ use crate::inputs::first_field;
 use graphql_parser::lexer::Tokens;
 use graphql_parser::pos::PositionCalculator;
 use graphql_parser::types::{DocumentOperations, ExecutableDocument, SelectionSet};
-use graphql_parser::value::{ConstValue, Literal, Name, Value};
+use graphql_parser::value::{ConstValue, Literal, Value};
 use graphql_parser::{Error, Limits, Pos, Positioned};
 use rows::Shown;
 use rows::trees::{Written, write_default_value, write_directives};
-use std::alloc::{AllocError, Global};
+use std::alloc::AllocError;
 use std::hash::{DefaultHasher, Hash, Hasher};
 
 /// The places of a text's tokens, how many were taken, and whether they have ended.
-pub fn show_tokens(shown: &mut Shown, text: &str) {
+pub fn show_tokens(shown: &mut Shown, text: &str) -> bool {
     let mut tokens = Tokens::new(text);
     for _ in 0..=text.len() {
         if let Some(token) = tokens.next() {
@@ -21,14 +21,15 @@ pub fn show_tokens(shown: &mut Shown, text: &str) {
     }
     shown.item("taken ", &tokens.taken());
     shown.word(if tokens.is_ended() { " ended" } else { "" });
+    true
 }
 
 /// The places where a text begins and ends, after each how many characters were gone over for it; and what is made of
 /// places, of nodes, of limits and of a set.
-pub fn show_places(alloc: Global, shown: &mut Shown, text: &str) {
+pub fn show_places(shown: &mut Shown, text: &str) -> bool {
     let mut calculator = PositionCalculator::new(text);
     if !text.is_char_boundary(0) || !text.is_char_boundary(text.len()) {
-        return;
+        return true;
     }
     let first = calculator.step(0);
     shown.item("", &first);
@@ -36,6 +37,13 @@ pub fn show_places(alloc: Global, shown: &mut Shown, text: &str) {
     let last = calculator.step(text.len());
     shown.item(" ", &last);
     shown.item(" ", &calculator.stepped());
+    show_nodes(shown, text);
+    shown.debugged(" ", &first.cmp(&last));
+    true
+}
+
+// A node, another in its place, and whether they are made as they have to be, with the limits and an empty set.
+fn show_nodes(shown: &mut Shown, text: &str) {
     let node = Positioned::new(text, Pos::from((1, 2)));
     let other = node.position_node(9usize);
     shown.item(" ", &other);
@@ -43,12 +51,10 @@ pub fn show_places(alloc: Global, shown: &mut Shown, text: &str) {
     let length = node.map(|text| text.len());
     shown.item(" ", &length);
     shown.item("@", &length.pos);
-    let is_default = Limits::new(64, 64, 64) == Some(Limits::default());
-    let is_made = is_default
+    let is_made = Limits::new(64, 64, 64) == Some(Limits::default())
         && length.into_inner() == text.len()
-        && SelectionSet::new(alloc).items.is_empty();
+        && SelectionSet::new(shown.alloc()).items.is_empty();
     shown.item(" ", &is_made);
-    shown.debugged(" ", &first.cmp(&last));
 }
 
 /// How many places a copy of those of an error has; and they in turn, the last first, after each how many are left. How
@@ -82,8 +88,10 @@ pub fn show_operations(shown: &mut Shown, document: &ExecutableDocument) {
     for _ in 0..3 {
         match left.next() {
             Some((name, operation)) => {
-                shown.word(" ");
-                shown.word(name.map(Name::as_str).unwrap_or("unnamed"));
+                match name {
+                    Some(name) => shown.item(" ", name),
+                    None => shown.word(" unnamed"),
+                }
                 shown.item("@", &operation.pos);
             }
             None => shown.word(" none"),
@@ -148,19 +156,22 @@ fn hash_of<T: Hash>(value: &T) -> u64 {
 pub fn show_made(shown: &mut Shown, value: Value) {
     if let Value::List(items) = value {
         for item in items {
-            let made = match item {
-                Value::Variable(name) => Value::variable(name).unwrap_or(Value::Null),
-                Value::Null => Value::null(),
-                Value::Number(number) => Value::number(number),
-                Value::String(text) => Value::string(text),
-                Value::Boolean(value) => Value::boolean(value),
-                Value::Enum(name) => Value::enumeration(name),
-                Value::List(items) => Value::list(items),
-                Value::Object(fields) => Value::object(fields),
-            };
             shown.word(" ");
-            made.write(shown);
+            made_again(item).write(shown);
         }
+    }
+}
+
+fn made_again(value: Value) -> Value {
+    match value {
+        Value::Variable(name) => Value::variable(name).unwrap_or(Value::Null),
+        Value::Null => Value::null(),
+        Value::Number(number) => Value::number(number),
+        Value::String(text) => Value::string(text),
+        Value::Boolean(value) => Value::boolean(value),
+        Value::Enum(name) => Value::enumeration(name),
+        Value::List(items) => Value::list(items),
+        Value::Object(fields) => Value::object(fields),
     }
 }
 
@@ -168,17 +179,20 @@ pub fn show_made(shown: &mut Shown, value: Value) {
 pub fn show_made_constants(shown: &mut Shown, value: ConstValue) {
     if let ConstValue::List(items) = value {
         for item in items {
-            let made = match item {
-                ConstValue::Null => ConstValue::null(),
-                ConstValue::Number(number) => ConstValue::number(number),
-                ConstValue::String(text) => ConstValue::string(text),
-                ConstValue::Boolean(value) => ConstValue::boolean(value),
-                ConstValue::Enum(name) => ConstValue::enumeration(name),
-                ConstValue::List(items) => ConstValue::list(items),
-                ConstValue::Object(fields) => ConstValue::object(fields),
-            };
             shown.word(" ");
-            made.write(shown);
+            constant_made_again(item).write(shown);
         }
+    }
+}
+
+fn constant_made_again(value: ConstValue) -> ConstValue {
+    match value {
+        ConstValue::Null => ConstValue::null(),
+        ConstValue::Number(number) => ConstValue::number(number),
+        ConstValue::String(text) => ConstValue::string(text),
+        ConstValue::Boolean(value) => ConstValue::boolean(value),
+        ConstValue::Enum(name) => ConstValue::enumeration(name),
+        ConstValue::List(items) => ConstValue::list(items),
+        ConstValue::Object(fields) => ConstValue::object(fields),
     }
 }

@@ -1,87 +1,127 @@
 //! What calls are given besides a text. It is made while there is memory.
-use graphql_parser::types::{
-    ConstDirective, Directive, ExecutableDocument, Field, Selection, ServiceDocument,
-};
+use crate::calls::Text;
+use crate::listing::try_listing;
+use crate::row::Row;
+use crate::trying::try_call;
+use graphql_parser::types::{ConstDirective, Directive, ExecutableDocument, Field, Selection};
 use graphql_parser::value::{ConstValue, Value};
 use graphql_parser::{Error, parse_query, parse_schema};
+use rows::Shown;
 use std::alloc::{AllocError, Global};
 
-/// What a call is given. A conversion lets its value go, so there is one for each time that the call is made.
-#[derive(Drop)]
-pub enum Input {
-    /// Nothing but the text.
-    Text,
-    Values(Vec<Value>),
-    Constants(Vec<ConstValue>),
-    Directives(Vec<Directive>),
-    ConstDirectives(Vec<ConstDirective>),
-    Request(ExecutableDocument),
-    File(ServiceDocument),
-    Error(Error),
-    /// The arguments of a run, and room for what goes to standard output and to standard error.
-    Run(Vec<String>, Vec<u8>, Vec<u8>),
+/// What a call is given besides the text of its row.
+pub trait Input: Drop {
+    /// Makes the call of a row, and shows its answer. Where memory is refused, what may not change then is shown, and the
+    /// result is false.
+    fn make(&mut self, row: &Row<'_>, shown: &mut Shown) -> bool;
 }
 
-// How many bytes a run of the program `gqlparse` may write.
-const ROOM: usize = 256;
-
-impl Input {
-    /// What a call of this kind is given where its row has this text, for so many times.
-    pub fn new(
-        alloc: Global,
-        kind: &str,
-        call: &str,
-        text: &str,
-        times: usize,
-    ) -> Result<Input, AllocError> {
-        Ok(match kind {
-            "query tree" => Input::Request(request(alloc, text)?),
-            "schema tree" => Input::File(parse_schema(alloc, text).map_err(|_| AllocError)?),
-            "error" => Input::Error(parse_query(alloc, text).err().ok_or(AllocError)?),
-            "listing" => {
-                let mut words = Vec::new(alloc);
-                words.push(String::from_str(alloc, call)?)?;
-                Input::Run(
-                    words,
-                    Vec::with_capacity(alloc, ROOM)?,
-                    Vec::with_capacity(alloc, ROOM)?,
-                )
-            }
-            "text" | "query text" | "schema text" => Input::Text,
-            _ => {
-                let document = request(alloc, text)?;
-                let field = first_field(&document).ok_or(AllocError)?;
-                Input::of_field(alloc, kind, field, times)?
-            }
-        })
-    }
-
-    // Copies of the first argument of a field, or of its first directive.
-    fn of_field(
-        alloc: Global,
-        kind: &str,
-        field: &Field,
-        times: usize,
-    ) -> Result<Input, AllocError> {
-        if let Some(argument) = field.arguments.first() {
-            let value = &argument.1.node;
-            if kind == "value" {
-                return Ok(Input::Values(copies(alloc, value, times)?));
-            }
-            let constant = value.clone()?.into_const(alloc)?.ok_or(AllocError)?;
-            return Ok(Input::Constants(copies(alloc, &constant, times)?));
+/// Tries the call of a row. False where there is no memory for what it is given.
+pub fn try_row(row: &Row<'_>, shown: &mut Shown) -> bool {
+    match row.kind {
+        "text" | "query text" | "schema text" => {
+            try_call(row, Text, shown);
+            true
         }
-        let directive = &field.directives.first().ok_or(AllocError)?.node;
-        if kind == "directive" {
-            return Ok(Input::Directives(copies(alloc, directive, times)?));
-        }
-        let constant = directive.clone()?.into_const(alloc)?.ok_or(AllocError)?;
-        Ok(Input::ConstDirectives(copies(alloc, &constant, times)?))
+        "schema tree" => try_schema(row, shown),
+        "listing" => try_listing(row, shown),
+        _ => try_query(row, shown),
     }
 }
 
-fn request(alloc: Global, text: &str) -> Result<ExecutableDocument, AllocError> {
-    parse_query(alloc, text).map_err(|_| AllocError)
+fn try_schema(row: &Row<'_>, shown: &mut Shown) -> bool {
+    let Some(document) = parse_schema(shown.alloc(), row.text).ok() else {
+        return false;
+    };
+    try_call(row, document, shown);
+    true
+}
+
+// A call that is given a request, a part of one, or the error of a text that is none.
+fn try_query(row: &Row<'_>, shown: &mut Shown) -> bool {
+    match parse_query(shown.alloc(), row.text) {
+        Ok(document) => {
+            if row.kind == "query tree" {
+                try_call(row, document, shown);
+                return true;
+            }
+            try_field(row, &document, shown)
+        }
+        Err(Error::OutOfMemory) => false,
+        Err(error) => {
+            try_call(row, error, shown);
+            true
+        }
+    }
+}
+
+// A call that is given the first argument of the first field, or its first directive.
+fn try_field(row: &Row<'_>, document: &ExecutableDocument, shown: &mut Shown) -> bool {
+    let Some(field) = first_field(document) else {
+        return false;
+    };
+    if let Some(argument) = field.arguments.first() {
+        try_argument(row, &argument.1.node, shown)
+    } else if let Some(directive) = field.directives.first() {
+        try_directive(row, &directive.node, shown)
+    } else {
+        false
+    }
+}
+
+fn try_argument(row: &Row<'_>, value: &Value, shown: &mut Shown) -> bool {
+    if row.kind == "value" {
+        return try_copies(row, value, shown);
+    }
+    match constant_of(shown.alloc(), value) {
+        Ok(Some(constant)) => try_copies(row, &constant, shown),
+        _ => false,
+    }
+}
+
+fn try_directive(row: &Row<'_>, directive: &Directive, shown: &mut Shown) -> bool {
+    if row.kind == "directive" {
+        return try_copies(row, directive, shown);
+    }
+    match constant_directive_of(shown.alloc(), directive) {
+        Ok(Some(constant)) => try_copies(row, &constant, shown),
+        _ => false,
+    }
+}
+
+fn constant_of(alloc: Global, value: &Value) -> Result<Option<ConstValue>, AllocError> {
+    value.clone()?.into_const(alloc)
+}
+
+fn constant_directive_of(
+    alloc: Global,
+    directive: &Directive,
+) -> Result<Option<ConstDirective>, AllocError> {
+    directive.clone()?.into_const(alloc)
+}
+
+// A conversion lets its value go, so there is a copy for each time that the call is made.
+fn try_copies<T: Clone + Drop>(row: &Row<'_>, item: &T, shown: &mut Shown) -> bool
+where
+    Vec<T>: Input,
+{
+    let mut copies = Vec::new(shown.alloc());
+    if copy_times(&mut copies, item, row.times()).is_err() {
+        return false;
+    }
+    try_call(row, copies, shown);
+    true
+}
+
+fn copy_times<T: Clone + Drop>(
+    copies: &mut Vec<T>,
+    item: &T,
+    times: usize,
+) -> Result<(), AllocError> {
+    for _ in 0..times {
+        copies.push(item.clone()?)?;
+    }
+    Ok(())
 }
 
 /// The first field of the first operation.
@@ -91,12 +131,4 @@ pub fn first_field(document: &ExecutableDocument) -> Option<&Field> {
         Selection::Field(field) => Some(&field.node),
         _ => None,
     }
-}
-
-fn copies<T: Clone + Drop>(alloc: Global, item: &T, times: usize) -> Result<Vec<T>, AllocError> {
-    let mut copies = Vec::new(alloc);
-    for _ in 0..times {
-        copies.push(item.clone()?)?;
-    }
-    Ok(copies)
 }

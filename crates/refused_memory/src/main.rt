@@ -8,9 +8,13 @@
 //! printed: the script `tests/refuse_each.sh` has its requests for memory refused, one after the other.
 #![tactic(auto)]
 
+mod answers;
 mod calls;
 mod free;
 mod inputs;
+mod listing;
+mod row;
+mod trees;
 mod trying;
 
 use little_memory::all_but;
@@ -23,24 +27,22 @@ use trying::{Calls, once};
 const ROOM_FOR_ROWS: usize = 1 << 25;
 
 fn main(rt: HostRuntime) -> Result<(), Fail> {
-    let alloc = rt.alloc();
-    let input = io::read_to_string(alloc, rt.stdin());
-    if let Ok(row) = &input
-        && row.is_empty()
-    {
-        // Most of the memory is taken once, for all rows.
-        let held = all_but(alloc, ROOM_FOR_ROWS)?;
-        let has_end = held.is_some();
-        let wrong = judge(&rt, &Calls { has_end })?;
-        if held.is_none() {
-            return Err(Fail::new("memory has no end here: each call was made once"));
-        }
-        return ended(wrong);
-    }
-    let told = match input {
-        Ok(row) => once(alloc, row.as_str()).unwrap_or("out of memory"),
+    let told = match io::read_to_string(rt.alloc(), rt.stdin()) {
+        Ok(row) if row.is_empty() => return judge_rows(&rt),
+        Ok(row) => once(rt.alloc(), row.as_str()),
         Err(_) => "out of memory",
     };
     println!(rt; "{told}")?;
     Ok(())
+}
+
+// Judges all tables. Most of the memory is taken once, for all rows.
+fn judge_rows(rt: &HostRuntime) -> Result<(), Fail> {
+    let Some(held) = all_but(rt.alloc(), ROOM_FOR_ROWS)? else {
+        judge(rt, &Calls { has_end: false })?;
+        return Err(Fail::new("memory has no end here: each call was made once"));
+    };
+    let wrong = judge(rt, &Calls { has_end: true });
+    drop(held);
+    ended(wrong?)
 }

@@ -1,21 +1,12 @@
 //! A row once, and again and again at the end of memory, with a piece more each time.
-use crate::calls::make;
-use crate::inputs::Input;
-use little_memory::{ATTEMPTS, Attempt, attempts};
-use rows::{Shown, Subject, meant};
-use std::alloc::{AllocError, Global};
-use std::test::Fail;
+use crate::inputs::{Input, try_row};
+use crate::row::{End, REFUSED, Row};
+use little_memory::{Attempt, attempts};
+use rows::{Shown, Subject, meant, pair};
+use std::alloc::Global;
 
 // Room for the longest answer.
 const ROOM: usize = 4096;
-
-// Stands behind what a call shows that is refused memory.
-const REFUSED: &str = "out of memory";
-
-// What the program `gqlparse` does where memory is refused inside the parser, and outside of it.
-const REFUSED_INSIDE: &str = "> ! error: out of memory\nat []\n= 1";
-
-const REFUSED_OUTSIDE: &str = "> ! error: out of memory\n= 2";
 
 /// The calls of the tables, each made again and again at the end of memory.
 #[derive(Drop)]
@@ -25,151 +16,143 @@ pub struct Calls {
 }
 
 impl Subject for Calls {
-    /// The answer where there is memory, unless the call ends in another way at the end of memory, or not in each way in which
-    /// it may end.
-    fn answer(&self, alloc: Global, call: &str, text: &str) -> Result<String, Fail> {
-        let mut tried = tried_call(alloc, call, text, ATTEMPTS + 1)?;
-        tried.answer(alloc, self.has_end)
+    /// Writes the answer where there is memory, unless the call ends in another way at the end of memory, or not in each way in
+    /// which it may end.
+    fn answer(&self, shown: &mut Shown, call: &str, text: &str) {
+        if !try_row(&Row::new(call, text, self.has_end), shown) {
+            shown.leave_out();
+        }
     }
 }
 
 /// What comes of the call of a row that is made once; the name of its table stands in the line before it.
-pub fn once(alloc: Global, row: &str) -> Result<&'static str, AllocError> {
-    let (call, row) = row.split_once('\n').ok_or(AllocError)?;
-    let (text, answer) = row.split_once(" ⇒ ").ok_or(AllocError)?;
-    let text = meant(alloc, text)?;
-    let answer = meant(alloc, answer.trim_ascii())?;
-    let mut tried = tried_call(alloc, call, text.as_str(), 1)?;
-    tried.may_end(alloc, answer.as_str())?;
-    tried.attempt(alloc);
-    let is_answered = tried.ends.first().is_some_and(|(_, times)| *times > 0);
-    Ok(if tried.has_other {
-        "another end"
-    } else if is_answered {
-        "answered"
-    } else {
-        REFUSED
-    })
+pub fn once(alloc: Global, told: &str) -> &'static str {
+    let (table, row) = pair(told, "\n");
+    let (text, answer) = pair(row, " ⇒ ");
+    match (meant(alloc, text), meant(alloc, answer.trim_ascii())) {
+        (Ok(text), Ok(answer)) => {
+            made_once(
+                alloc,
+                &Row::new(table, text.as_str(), false),
+                answer.as_str(),
+            )
+        }
+        _ => REFUSED,
+    }
 }
 
-// A call that is made again and again, and how it has ended.
+fn made_once(alloc: Global, row: &Row<'_>, answer: &str) -> &'static str {
+    let Ok(mut shown) = Shown::with_room(alloc, true, ROOM) else {
+        return REFUSED;
+    };
+    if !try_row(row, &mut shown) {
+        return REFUSED;
+    }
+    match row.end(answer, shown.whole().unwrap_or("no room")) {
+        End::Answered => "answered",
+        End::Refused | End::RefusedOutside => REFUSED,
+        End::Other => "another end",
+    }
+}
+
+/// Makes the call of a row, and shows its answer. Where memory has an end the call is then made there, and how it must not end
+/// is shown in place of its answer.
+pub fn try_call<I: Input>(row: &Row<'_>, mut input: I, shown: &mut Shown) {
+    make(row, &mut input, shown);
+    if row.has_end {
+        try_at_end(row, input, shown);
+    }
+}
+
+fn make<I: Input>(row: &Row<'_>, input: &mut I, shown: &mut Shown) {
+    if !input.make(row, shown) {
+        shown.word(REFUSED);
+    }
+}
+
+fn try_at_end<I: Input>(row: &Row<'_>, input: I, shown: &mut Shown) {
+    let answer = String::from_str(shown.alloc(), shown.whole().unwrap_or("no room"));
+    match (answer, Shown::with_room(shown.alloc(), true, ROOM)) {
+        (Ok(answer), Ok(room)) => {
+            let tried = Tried {
+                row: *row,
+                input,
+                answer,
+                room,
+                answered: 0,
+                refused: 0,
+                refused_outside: 0,
+                has_other: false,
+            };
+            show_fault(tried, shown);
+        }
+        _ => shown.leave_out(),
+    }
+}
+
+// Makes the attempts, and shows what is wrong with them.
+fn show_fault<I: Input>(mut tried: Tried<'_, I>, shown: &mut Shown) {
+    let fault = match attempts(shown.alloc(), &mut tried) {
+        Ok(true) => tried.fault(),
+        Ok(false) => Some("memory has no end here"),
+        Err(_) => Some(REFUSED),
+    };
+    if let Some(fault) = fault {
+        shown.clear();
+        shown.word(fault);
+        shown.item(": ", &tried.room.whole().unwrap_or("no room"));
+    }
+}
+
+// A call that is made again and again, and how often it has ended in each of its ways.
 #[derive(Drop)]
-struct Tried<'a> {
-    kind: &'a str,
-    call: &'a str,
-    is_free: bool,
-    text: &'a str,
-    input: Input,
-    shown: Shown,
-    // How the call may end, with its answer first, and how often it has ended so.
-    ends: Vec<(String, usize)>,
+struct Tried<'a, I> {
+    row: Row<'a>,
+    input: I,
+    answer: String,
+    room: Shown,
+    answered: usize,
+    refused: usize,
+    refused_outside: usize,
     has_other: bool,
 }
 
-// A call that can be made so many times.
-fn tried_call<'a>(
-    alloc: Global,
-    call: &'a str,
-    text: &'a str,
-    times: usize,
-) -> Result<Tried<'a>, AllocError> {
-    let named = call.strip_prefix("without memory, ");
-    let (kind, call) = named.unwrap_or(call).split_once(": ").ok_or(AllocError)?;
-    Ok(Tried {
-        kind,
-        call,
-        is_free: named.is_some(),
-        text,
-        input: Input::new(alloc, kind, call, text, times)?,
-        shown: Shown::with_room(alloc, true, ROOM)?,
-        ends: Vec::new(alloc),
-        has_other: false,
-    })
-}
-
-impl Tried<'_> {
-    // The answer where there is memory, or the other end that the call has at the end of memory.
-    fn answer(&mut self, alloc: Global, has_end: bool) -> Result<String, Fail> {
-        self.make(alloc);
-        let answer = String::from_str(alloc, self.shown.whole().unwrap_or("no room"))?;
-        self.may_end(alloc, answer.as_str())?;
-        if !has_end {
-            return Ok(answer);
-        }
-        if !attempts(alloc, self)? {
-            return Err(Fail::new("memory has no end here"));
-        }
-        match self.other_end(alloc)? {
-            Some(other) => Ok(other),
-            None => Ok(answer),
-        }
+impl<I: Input> Tried<'_, I> {
+    // How the call ended that was made last.
+    fn end(&self) -> End {
+        let shown = self.room.whole().unwrap_or("no room");
+        self.row.end(self.answer.as_str(), shown)
     }
 
-    // Another end that the call had, or one that it never had.
-    fn other_end(&self, alloc: Global) -> Result<Option<String>, AllocError> {
+    // What is wrong with the ways in which the call has ended.
+    fn fault(&self) -> Option<&'static str> {
         if self.has_other {
-            let other = self.shown.whole().unwrap_or("no room");
-            return Ok(Some(format!(in alloc; "another end: {other}")?));
+            Some("another end")
+        } else if self.answered == 0 {
+            Some("never answered, but")
+        } else if self.row.is_refused() && self.refused == 0 {
+            Some("never refused memory, but")
+        } else if self.row.is_listing() && self.refused_outside == 0 {
+            Some("never refused memory outside of the parser, but")
+        } else {
+            None
         }
-        for (end, times) in &self.ends {
-            if *times == 0 {
-                return Ok(Some(format!(in alloc; "never an end: {end}")?));
-            }
-        }
-        Ok(None)
-    }
-
-    // Makes the call. Takes no memory for itself.
-    fn make(&mut self, alloc: Global) {
-        self.shown.clear();
-        let made = make(
-            alloc,
-            self.kind,
-            self.call,
-            self.text,
-            &mut self.input,
-            &mut self.shown,
-        );
-        if made.is_err() {
-            self.shown.word(REFUSED);
-        }
-    }
-
-    // The call may end with this answer, and in its ways to end where memory is refused.
-    fn may_end(&mut self, alloc: Global, answer: &str) -> Result<(), AllocError> {
-        self.ends.push((String::from_str(alloc, answer)?, 0))?;
-        if self.kind == "listing" {
-            self.ends
-                .push((String::from_str(alloc, REFUSED_INSIDE)?, 0))?;
-            self.ends
-                .push((String::from_str(alloc, REFUSED_OUTSIDE)?, 0))?;
-        } else if !self.is_free {
-            // What is cloned is as it was, and tokens of which some were taken go on with the rest.
-            let before = match self.call {
-                "clone" if self.kind != "value" => answer,
-                "parse from" | "check from" => "taken within ",
-                _ => "",
-            };
-            self.ends
-                .push((format!(in alloc; "{before}{REFUSED}")?, 0))?;
-        }
-        Ok(())
     }
 }
 
-impl Attempt for Tried<'_> {
-    fn attempt(&mut self, alloc: Global) {
+impl<I: Input> Attempt for Tried<'_, I> {
+    // Makes the call, unless it has had another end. Takes no memory for itself.
+    fn attempt(&mut self, _alloc: Global) {
         if self.has_other {
             return;
         }
-        self.make(alloc);
-        let shown = self.shown.whole().unwrap_or("no room").trim_ascii();
-        for end in &mut self.ends {
-            if end.0.as_str().trim_ascii() == shown {
-                end.1 = end.1.saturating_add(1);
-                return;
-            }
+        self.room.clear();
+        make(&self.row, &mut self.input, &mut self.room);
+        match self.end() {
+            End::Answered => self.answered = self.answered.saturating_add(1),
+            End::Refused => self.refused = self.refused.saturating_add(1),
+            End::RefusedOutside => self.refused_outside = self.refused_outside.saturating_add(1),
+            End::Other => self.has_other = true,
         }
-        self.has_other = true;
     }
 }

@@ -1,180 +1,189 @@
 //! The check of one text, and runs over many.
-use crate::grammars;
-use crate::languages::{Form, Kind, Language, Rewriting, Seen, asked};
+use crate::languages::{Calls, Form, Kind, Rewriting, Seen, is_same};
 use crate::texts::Source;
 use graphql_parser::lexer::{TokenKind, Tokens};
 use rows::Shown;
-use std::alloc::{AllocError, Global};
-use std::fmt;
+use std::alloc::Global;
 
 /// How many texts had which answer, up to the first that failed.
-#[derive(Default, Drop)]
+#[derive(Clone, Copy)]
 pub struct Tally {
     pub accepted: u64,
     pub broke_rules: u64,
     pub refused: u64,
-    /// What is wrong with the last text, with both answers.
-    pub failure: Option<String>,
 }
 
-impl fmt::Display for Tally {
-    fn fmt<W: fmt::Write>(&self, f: &mut fmt::Formatter<W>) -> fmt::Result {
-        write!(
-            f,
-            "{} accepted, {} broke a rule, {} refused",
-            self.accepted, self.broke_rules, self.refused
-        )
+/// Checks so many texts of a language from a seed on, up to the first that fails. Then what is wrong with that text is written,
+/// with both answers.
+pub fn run(failure: &mut Shown, calls: Calls, seed: u64, count: u64) -> Tally {
+    let mut tally = Tally {
+        accepted: 0,
+        broke_rules: 0,
+        refused: 0,
+    };
+    let mut source = Source::new(failure.alloc(), seed);
+    let mut trial = Trial::new(failure.alloc(), calls);
+    if source.read(calls.language.grammar()).is_err() {
+        failure.leave_out();
     }
+    for _ in 0..count {
+        if failure.whole() != Some("") {
+            break;
+        }
+        trial.check_next(failure, &mut source, &mut tally);
+    }
+    tally
 }
 
-/// Checks so many texts of a language from a seed on.
-pub fn run<L: Language>(
-    alloc: Global,
-    language: &L,
-    seed: u64,
-    count: u64,
-) -> Result<Tally, AllocError> {
-    let mut source = Source::new(alloc, language.grammar(), grammars::TOKENS, seed)?;
-    let mut tally = Tally::default();
-    for _ in 0..count {
-        let made = source.next_text(alloc)?;
-        let text = made.text.as_str();
-        let seen = asked(alloc, language, Form::Plain, text)?;
-        match seen.kind {
+// A text, and what is compared.
+#[derive(Drop)]
+struct Trial {
+    calls: Calls,
+    text: String,
+    // The answer, and another that has to be the same.
+    seen: Seen,
+    other: Seen,
+    // The text in another form, and once more in that form.
+    written: Shown,
+    again: Shown,
+}
+
+impl Trial {
+    fn new(alloc: Global, calls: Calls) -> Trial {
+        Trial {
+            calls,
+            text: String::new(alloc),
+            seen: Seen::new(alloc),
+            other: Seen::new(alloc),
+            written: Shown::new(alloc, true),
+            again: Shown::new(alloc, true),
+        }
+    }
+
+    // Checks the next text. What is wrong with it is written.
+    fn check_next(&mut self, failure: &mut Shown, source: &mut Source, tally: &mut Tally) {
+        let Ok(is_meant) = source.make(&mut self.text) else {
+            return failure.leave_out();
+        };
+        self.calls
+            .ask(&mut self.seen, Form::Plain, self.text.as_str());
+        match self.seen.kind {
             Kind::Accepted => tally.accepted = tally.accepted.wrapping_add(1),
             Kind::BreaksRule => tally.broke_rules = tally.broke_rules.wrapping_add(1),
             _ => tally.refused = tally.refused.wrapping_add(1),
         }
-        tally.failure = failure(alloc, language, text, made.is_meant, &seen)?;
+        let mut wrong = self.wrong_answer(is_meant);
+        if wrong.is_none() && self.seen.kind == Kind::Accepted {
+            wrong = self.wrong_print();
+        }
         for rewriting in [Rewriting::Minified, Rewriting::Formatted] {
-            if tally.failure.is_none() {
-                tally.failure = rewritten_failure(alloc, language, rewriting, text, &seen)?;
+            if wrong.is_none() {
+                wrong = self.wrong_rewriting(rewriting);
             }
         }
-        if tally.failure.is_some() {
-            break;
+        if let Some(wrong) = wrong {
+            self.write_failure(failure, wrong);
         }
     }
-    Ok(tally)
-}
 
-/// What is wrong with the answer to a text; None where nothing is.
-pub fn failure<L: Language>(
-    alloc: Global,
-    language: &L,
-    text: &str,
-    is_meant: bool,
-    seen: &Seen,
-) -> Result<Option<String>, AllocError> {
-    if seen.kind == Kind::CheckedOtherwise {
-        return told(alloc, "the check differs", text, seen, seen);
+    // Asks for the other answer, to the text itself.
+    fn ask_other(&mut self, form: Form) {
+        self.calls.ask(&mut self.other, form, self.text.as_str());
     }
-    if is_meant && seen.kind != Kind::Accepted && seen.kind != Kind::BreaksRule {
-        return told(alloc, "a text of the grammar is refused", text, seen, seen);
-    }
-    for form in [Form::Limited, Form::FromTokens] {
-        let other = asked(alloc, language, form, text)?;
-        if other.placed != seen.placed {
-            return told(alloc, "two calls differ", text, seen, &other);
+
+    // What is wrong with the answer to the text; None if nothing is.
+    fn wrong_answer(&mut self, is_meant: bool) -> Option<&'static str> {
+        let kind = self.seen.kind;
+        if kind == Kind::CheckedOtherwise {
+            self.ask_other(Form::Plain);
+            return Some("the check differs");
         }
-    }
-    let other = asked(alloc, language, Form::Shallow, text)?;
-    if other.placed != seen.placed && other.kind != Kind::Limit {
-        return told(alloc, "narrow limits differ", text, seen, &other);
-    }
-    let other = asked(
-        alloc,
-        language,
-        Form::Plain,
-        in_lines(alloc, text)?.as_str(),
-    )?;
-    if other.placeless != seen.placeless {
-        return told(alloc, "a token a line differs", text, seen, &other);
-    }
-    if seen.kind != Kind::Accepted {
-        return Ok(None);
-    }
-    let other = asked(alloc, language, Form::Plain, seen.printed.as_str())?;
-    if other.placeless != seen.placeless || other.printed != seen.printed {
-        return told(alloc, "the printed text differs", text, seen, &other);
-    }
-    let is_same = match language.rewritten(alloc, Rewriting::Formatted, seen.printed.as_str()) {
-        Ok(formatted) => formatted == seen.printed,
-        Err(_error) => false,
-    };
-    if is_same {
-        return Ok(None);
-    }
-    told(
-        alloc,
-        "the printed text is formatted otherwise",
-        text,
-        seen,
-        &other,
-    )
-}
-
-// What is wrong with the text written anew, or with the error in its place; None where nothing is.
-fn rewritten_failure<L: Language>(
-    alloc: Global,
-    language: &L,
-    rewriting: Rewriting,
-    text: &str,
-    seen: &Seen,
-) -> Result<Option<String>, AllocError> {
-    let written = match language.rewritten(alloc, rewriting, text) {
-        Ok(written) => written,
-        Err(error) => {
-            let shown = format!(in alloc; "{error:?}")?;
-            if shown == seen.placed {
-                return Ok(None);
+        if is_meant && kind != Kind::Accepted && kind != Kind::BreaksRule {
+            self.ask_other(Form::Plain);
+            return Some("a text of the grammar is refused");
+        }
+        for form in [Form::Limited, Form::FromTokens] {
+            self.ask_other(form);
+            if !is_same(&self.other.placed, &self.seen.placed) {
+                return Some("two calls differ");
             }
-            return told(
-                alloc,
-                "the error of the call that writes anew differs",
-                text,
-                seen,
-                seen,
-            );
         }
-    };
-    let other = asked(alloc, language, Form::Plain, written.as_str())?;
-    if other.placeless != seen.placeless {
-        return told(alloc, "the text written anew differs", text, seen, &other);
+        self.ask_other(Form::Shallow);
+        if !is_same(&self.other.placed, &self.seen.placed) && self.other.kind != Kind::Limit {
+            return Some("narrow limits differ");
+        }
+        write_in_lines(&mut self.written, self.text.as_str());
+        ask_written(self.calls, &mut self.other, &self.written);
+        if !is_same(&self.other.placeless, &self.seen.placeless) {
+            return Some("a token a line differs");
+        }
+        None
     }
-    if rewriting == Rewriting::Minified && written.len() > text.len() {
-        return told(alloc, "the minified text is longer", text, seen, &other);
+
+    // What is wrong with the printed text of a tree; None if nothing is.
+    fn wrong_print(&mut self) -> Option<&'static str> {
+        ask_written(self.calls, &mut self.other, &self.seen.printed);
+        if !is_same(&self.other.placeless, &self.seen.placeless)
+            || !is_same(&self.other.printed, &self.seen.printed)
+        {
+            return Some("the printed text differs");
+        }
+        let rewriting = Rewriting::Formatted;
+        if !is_kept(self.calls, &mut self.again, rewriting, &self.seen.printed) {
+            return Some("the printed text is formatted otherwise");
+        }
+        None
     }
-    if rewriting == Rewriting::Formatted && !has_same_tokens(text, written.as_str()) {
-        return told(alloc, "the formatted tokens differ", text, seen, &other);
+
+    // What is wrong with the text written anew, or with the error in its place; None if nothing is.
+    fn wrong_rewriting(&mut self, rewriting: Rewriting) -> Option<&'static str> {
+        if !self
+            .calls
+            .rewrite(&mut self.written, rewriting, self.text.as_str())
+        {
+            if is_same(&self.written, &self.seen.placed) {
+                return None;
+            }
+            self.ask_other(Form::Plain);
+            return Some("the error of the call that writes anew differs");
+        }
+        ask_written(self.calls, &mut self.other, &self.written);
+        if !is_same(&self.other.placeless, &self.seen.placeless) {
+            return Some("the text written anew differs");
+        }
+        if rewriting == Rewriting::Minified && is_longer(&self.written, self.text.as_str()) {
+            return Some("the minified text is longer");
+        }
+        if rewriting == Rewriting::Formatted
+            && !has_same_tokens(self.text.as_str(), &self.written)
+        {
+            return Some("the formatted tokens differ");
+        }
+        if !is_kept(self.calls, &mut self.again, rewriting, &self.written) {
+            return Some("written anew again it differs");
+        }
+        None
     }
-    let is_same = match language.rewritten(alloc, rewriting, written.as_str()) {
-        Ok(again) => again == written,
-        Err(_error) => false,
-    };
-    if is_same {
-        return Ok(None);
+
+    fn write_failure(&self, failure: &mut Shown, wrong: &str) {
+        failure.word(wrong);
+        failure.item("\n--- text\n", &self.text);
+        for (before, seen) in [
+            ("\n--- answer\n", &self.seen),
+            ("\n--- other answer\n", &self.other),
+        ] {
+            failure.word(before);
+            failure.word(seen.placed.whole().unwrap_or("out of memory"));
+            failure.word("\n--- printed\n");
+            failure.word(seen.printed.whole().unwrap_or("out of memory"));
+        }
+        failure.word("\n");
     }
-    told(alloc, "written anew again it differs", text, seen, &other)
 }
 
-fn told(
-    alloc: Global,
-    what: &str,
-    text: &str,
-    one: &Seen,
-    other: &Seen,
-) -> Result<Option<String>, AllocError> {
-    let message = format!(in alloc;
-        "{what}\n--- text\n{text}\n--- answer\n{}\n--- printed\n{}\n--- other answer\n{}\n--- printed\n{}\n",
-        one.placed, one.printed, other.placed, other.printed
-    )?;
-    Ok(Some(message))
-}
-
-// The text's tokens, a line each; where none begins, a character with which none does.
-fn in_lines(alloc: Global, text: &str) -> Result<String, AllocError> {
-    let mut lines = Shown::new(alloc, false);
+// Writes the text's tokens, a line each; for a place at which none begins, a character with which none does.
+fn write_in_lines(lines: &mut Shown, text: &str) {
+    lines.clear();
     for token in Tokens::new(text) {
         lines.word(if token.kind == TokenKind::Fault {
             "?"
@@ -183,13 +192,26 @@ fn in_lines(alloc: Global, text: &str) -> Result<String, AllocError> {
         });
         lines.word("\n");
     }
-    lines.finish()
+}
+
+// Asks for the answer to a text that was written.
+fn ask_written(calls: Calls, seen: &mut Seen, written: &Shown) {
+    calls.ask(seen, Form::Plain, written.whole().unwrap_or(""));
+}
+
+// Whether a text that was written stays the same if it is written anew so.
+fn is_kept(calls: Calls, again: &mut Shown, rewriting: Rewriting, written: &Shown) -> bool {
+    calls.rewrite(again, rewriting, written.whole().unwrap_or("")) && is_same(again, written)
+}
+
+fn is_longer(written: &Shown, text: &str) -> bool {
+    written.whole().unwrap_or("").len() > text.len()
 }
 
 // Whether two texts have the same tokens, one for one as they are spelled. A block string may be spelled otherwise: that it has
 // the same value is seen in the trees.
-fn has_same_tokens(text: &str, other: &str) -> bool {
-    let mut others = Tokens::new(other);
+fn has_same_tokens(text: &str, other: &Shown) -> bool {
+    let mut others = Tokens::new(other.whole().unwrap_or(""));
     for token in Tokens::new(text) {
         let Some(same) = others.next() else {
             return false;

@@ -1,4 +1,4 @@
-//! The two languages: their grammars, and what their parsers and checks answer.
+//! The two languages: what their parsers and checks answer.
 use crate::grammars;
 use graphql_parser::lexer::Tokens;
 use graphql_parser::types::{ExecutableDocument, ServiceDocument};
@@ -14,6 +14,13 @@ use rows::Shown;
 use rows::trees::Written;
 use std::alloc::{AllocError, Global};
 
+/// The languages of the parser.
+#[derive(Clone, Copy)]
+pub enum Language {
+    Requests,
+    Schemas,
+}
+
 /// A form of a call, of a parser and of its check.
 #[derive(Clone, Copy, PartialEq)]
 pub enum Form {
@@ -27,18 +34,8 @@ pub enum Form {
     Shallow,
 }
 
-impl Form {
-    // The limits of a form that has some.
-    fn limits(self) -> Limits {
-        if self == Form::Shallow {
-            return Limits::new(1, 1, 1).unwrap_or_default();
-        }
-        Limits::default()
-    }
-}
-
 /// How a text is written anew.
-#[derive(Clone, Copy, Debug, PartialEq, Eq)]
+#[derive(Clone, Copy, PartialEq)]
 pub enum Rewriting {
     /// Without what is ignored and isn't needed.
     Minified,
@@ -46,20 +43,43 @@ pub enum Rewriting {
     Formatted,
 }
 
+/// A mistake that is planted.
+#[derive(Clone, Copy)]
+pub enum Mistake {
+    None,
+    /// The printer forgets these characters.
+    Printed(&'static str),
+    /// The parser answers by this form as if a text went on.
+    Parsed(Form),
+    /// So does the check.
+    Checked(Form),
+    /// In texts that are written anew so, these characters are missing.
+    Rewritten(Rewriting, &'static str),
+}
+
+/// What is asked: the calls of a language, which may have a mistake.
+#[derive(Clone, Copy)]
+pub struct Calls {
+    pub language: Language,
+    pub mistake: Mistake,
+}
+
 /// What an answer is seen by. Equal answers have equal parts.
 #[derive(Drop)]
 pub struct Seen {
     pub kind: Kind,
     /// The tree with its places, or the error with all of its fields.
-    pub placed: String,
+    pub placed: Shown,
     /// The tree or the error, without places.
-    pub placeless: String,
+    pub placeless: Shown,
     /// The tree as it is printed; empty for an error.
-    pub printed: String,
+    pub printed: Shown,
+    // What the check answers: `accepted`, or the error with all of its fields.
+    checked: Shown,
 }
 
 /// A kind of answer.
-#[derive(Clone, Copy, PartialEq, Eq)]
+#[derive(Clone, Copy, PartialEq)]
 pub enum Kind {
     Accepted,
     BreaksRule,
@@ -70,87 +90,171 @@ pub enum Kind {
     CheckedOtherwise,
 }
 
-/// A language: a grammar, a parser and its check.
-pub trait Language {
+impl Language {
     /// The grammar of its texts.
-    fn grammar(&self) -> &'static str;
-
-    /// What its parser answers.
-    fn seen(&self, alloc: Global, form: Form, text: &str) -> Result<Seen, AllocError>;
-
-    /// What its check answers.
-    fn checked(&self, alloc: Global, form: Form, text: &str) -> Answer<()>;
-
-    /// The text written anew, or its error.
-    fn rewritten(&self, alloc: Global, rewriting: Rewriting, text: &str) -> Answer<String>;
-}
-
-/// What the parser of a language answers, if its check answers the same: both accept, or both give the same error.
-pub fn asked<L: Language>(
-    alloc: Global,
-    language: &L,
-    form: Form,
-    text: &str,
-) -> Result<Seen, AllocError> {
-    let seen = language.seen(alloc, form, text)?;
-    let checked = match language.checked(alloc, form, text) {
-        Ok(()) if seen.kind == Kind::Accepted => return Ok(seen),
-        Ok(()) => String::from_str(alloc, "accepted")?,
-        Err(error) => format!(in alloc; "{error:?}")?,
-    };
-    if checked == seen.placed {
-        return Ok(seen);
-    }
-    let placed = format!(in alloc; "{}, checked {checked}", seen.placed)?;
-    Ok(Seen {
-        kind: Kind::CheckedOtherwise,
-        placeless: placed.clone()?,
-        placed,
-        printed: seen.printed,
-    })
-}
-
-/// The languages of the parser.
-#[derive(Clone, Copy)]
-pub enum Parsed {
-    Requests,
-    Schemas,
-}
-
-impl Language for Parsed {
-    fn grammar(&self) -> &'static str {
+    pub fn grammar(self) -> &'static str {
         match self {
-            Parsed::Requests => grammars::REQUESTS,
-            Parsed::Schemas => grammars::SCHEMAS,
+            Language::Requests => grammars::REQUESTS,
+            Language::Schemas => grammars::SCHEMAS,
+        }
+    }
+}
+
+impl Form {
+    // The limits of a form that has some.
+    fn limits(self) -> Limits {
+        match self {
+            Form::Shallow => Limits::new(1, 1, 1).unwrap_or_default(),
+            _ => Limits::default(),
+        }
+    }
+}
+
+impl Seen {
+    /// No answer.
+    pub fn new(alloc: Global) -> Seen {
+        Seen {
+            kind: Kind::NoMemory,
+            placed: Shown::new(alloc, true),
+            placeless: Shown::new(alloc, false),
+            printed: Shown::new(alloc, true),
+            checked: Shown::new(alloc, true),
         }
     }
 
-    fn seen(&self, alloc: Global, form: Form, text: &str) -> Result<Seen, AllocError> {
-        match self {
-            Parsed::Requests => answered(alloc, request(alloc, form, text)),
-            Parsed::Schemas => answered(alloc, schema_file(alloc, form, text)),
+    fn clear(&mut self) {
+        self.placed.clear();
+        self.placeless.clear();
+        self.printed.clear();
+        self.checked.clear();
+    }
+
+    // A tree, and how it is printed without some characters.
+    fn accept<T: Written>(
+        &mut self,
+        tree: &T,
+        printed: Result<String, AllocError>,
+        forgotten: &str,
+    ) {
+        self.kind = Kind::Accepted;
+        tree.write(&mut self.placed);
+        tree.write(&mut self.placeless);
+        match printed {
+            Ok(printed) => write_without(&mut self.printed, printed.as_str(), forgotten),
+            Err(_) => self.printed.leave_out(),
         }
     }
 
-    fn checked(&self, alloc: Global, form: Form, text: &str) -> Answer<()> {
+    fn refuse(&mut self, error: &Error) {
+        self.placed.debugged("", error);
+        self.kind = match error {
+            Error::Syntax { .. } => Kind::Syntax,
+            Error::RecursionLimitExceeded => Kind::Limit,
+            Error::OutOfMemory => Kind::NoMemory,
+            _ => Kind::BreaksRule,
+        };
+        match error {
+            Error::Syntax { .. } => self.placeless.word("syntax"),
+            _ => self.placeless.item("", error),
+        }
+    }
+
+    // The check has to answer as the parser: both accept, or both give the same error.
+    fn compare_check(&mut self, answer: Answer<()>) {
+        let is_same = match answer {
+            Ok(()) => {
+                self.checked.word("accepted");
+                self.kind == Kind::Accepted
+            }
+            Err(error) => {
+                self.checked.debugged("", &error);
+                is_same(&self.checked, &self.placed)
+            }
+        };
+        if !is_same {
+            self.kind = Kind::CheckedOtherwise;
+            let checked = self.checked.whole().unwrap_or("out of memory");
+            self.placed.word(", checked ");
+            self.placed.word(checked);
+            self.placeless.word(", checked ");
+            self.placeless.word(checked);
+        }
+    }
+}
+
+impl Calls {
+    /// Sees what the parser answers, and whether its check answers the same.
+    pub fn ask(self, seen: &mut Seen, form: Form, text: &str) {
+        seen.clear();
+        let alloc = seen.placed.alloc();
+        match self.mistake {
+            Mistake::Parsed(wrong) if wrong == form => {
+                let longer = longer(alloc, text);
+                self.parse(seen, form, longer.whole().unwrap_or(""));
+                seen.compare_check(self.checked(alloc, form, text));
+            }
+            Mistake::Checked(wrong) if wrong == form => {
+                let longer = longer(alloc, text);
+                self.parse(seen, form, text);
+                seen.compare_check(self.checked(alloc, form, longer.whole().unwrap_or("")));
+            }
+            _ => {
+                self.parse(seen, form, text);
+                seen.compare_check(self.checked(alloc, form, text));
+            }
+        }
+    }
+
+    fn parse(self, seen: &mut Seen, form: Form, text: &str) {
+        let alloc = seen.placed.alloc();
+        let forgotten = match self.mistake {
+            Mistake::Printed(forgotten) => forgotten,
+            _ => "",
+        };
+        match self.language {
+            Language::Requests => match request(alloc, form, text) {
+                Ok(document) => seen.accept(&document, print_query(alloc, &document), forgotten),
+                Err(error) => seen.refuse(&error),
+            },
+            Language::Schemas => match schema_file(alloc, form, text) {
+                Ok(document) => seen.accept(&document, print_schema(alloc, &document), forgotten),
+                Err(error) => seen.refuse(&error),
+            },
+        }
+    }
+
+    fn checked(self, alloc: Global, form: Form, text: &str) -> Answer<()> {
         let limits = form.limits();
-        match (self, form) {
-            (Parsed::Requests, Form::Plain) => check_query(alloc, text),
-            (Parsed::Requests, Form::FromTokens) => check_query_from(alloc, &mut Tokens::new(text)),
-            (Parsed::Requests, _) => check_query_limited(alloc, text, limits),
-            (Parsed::Schemas, Form::Plain) => check_schema(alloc, text),
-            (Parsed::Schemas, Form::FromTokens) => check_schema_from(alloc, &mut Tokens::new(text)),
-            (Parsed::Schemas, _) => check_schema_limited(alloc, text, limits),
+        match (self.language, form) {
+            (Language::Requests, Form::Plain) => check_query(alloc, text),
+            (Language::Requests, Form::FromTokens) => {
+                check_query_from(alloc, &mut Tokens::new(text))
+            }
+            (Language::Requests, _) => check_query_limited(alloc, text, limits),
+            (Language::Schemas, Form::Plain) => check_schema(alloc, text),
+            (Language::Schemas, Form::FromTokens) => {
+                check_schema_from(alloc, &mut Tokens::new(text))
+            }
+            (Language::Schemas, _) => check_schema_limited(alloc, text, limits),
         }
     }
 
-    fn rewritten(&self, alloc: Global, rewriting: Rewriting, text: &str) -> Answer<String> {
-        let limits = Limits::default();
-        match (self, rewriting) {
-            (Parsed::Requests, Rewriting::Minified) => minify_query(alloc, text, limits),
-            (Parsed::Requests, Rewriting::Formatted) => format_query(alloc, text, limits),
-            (Parsed::Schemas, Rewriting::Minified) => minify_schema(alloc, text, limits),
-            (Parsed::Schemas, Rewriting::Formatted) => format_schema(alloc, text, limits),
+    /// Writes a text anew, or its error with all of its fields. The answer is whether the text was written.
+    pub fn rewrite(self, shown: &mut Shown, rewriting: Rewriting, text: &str) -> bool {
+        shown.clear();
+        let missing = match self.mistake {
+            Mistake::Rewritten(wrong, missing) if wrong == rewriting => missing,
+            _ => "",
+        };
+        match rewritten(shown.alloc(), self.language, rewriting, text) {
+            Ok(written) => {
+                write_without(shown, written.as_str(), missing);
+                true
+            }
+            Err(error) => {
+                shown.debugged("", &error);
+                false
+            }
         }
     }
 }
@@ -171,54 +275,43 @@ fn schema_file(alloc: Global, form: Form, text: &str) -> Answer<ServiceDocument>
     }
 }
 
-// A tree that a parser answers.
-trait Tree: Written + Drop {
-    fn print(&self, alloc: Global) -> Result<String, AllocError>;
-}
-
-impl Tree for ExecutableDocument {
-    fn print(&self, alloc: Global) -> Result<String, AllocError> {
-        print_query(alloc, self)
+fn rewritten(
+    alloc: Global,
+    language: Language,
+    rewriting: Rewriting,
+    text: &str,
+) -> Answer<String> {
+    let limits = Limits::default();
+    match (language, rewriting) {
+        (Language::Requests, Rewriting::Minified) => minify_query(alloc, text, limits),
+        (Language::Requests, Rewriting::Formatted) => format_query(alloc, text, limits),
+        (Language::Schemas, Rewriting::Minified) => minify_schema(alloc, text, limits),
+        (Language::Schemas, Rewriting::Formatted) => format_schema(alloc, text, limits),
     }
 }
 
-impl Tree for ServiceDocument {
-    fn print(&self, alloc: Global) -> Result<String, AllocError> {
-        print_schema(alloc, self)
+// The text with a token after it that no text goes on with.
+fn longer(alloc: Global, text: &str) -> Shown {
+    let mut longer = Shown::new(alloc, true);
+    longer.word(text);
+    longer.word(" )");
+    longer
+}
+
+/// Whether both texts are whole and the same.
+pub fn is_same(one: &Shown, other: &Shown) -> bool {
+    match (one.whole(), other.whole()) {
+        (Some(one), Some(other)) => one == other,
+        _ => false,
     }
 }
 
-fn answered<T: Tree>(alloc: Global, answer: Answer<T>) -> Result<Seen, AllocError> {
-    let tree = match answer {
-        Ok(tree) => tree,
-        Err(error) => return refused(alloc, &error),
-    };
-    let mut placed = Shown::new(alloc, true);
-    tree.write(&mut placed);
-    let mut placeless = Shown::new(alloc, false);
-    tree.write(&mut placeless);
-    Ok(Seen {
-        kind: Kind::Accepted,
-        placed: placed.finish()?,
-        placeless: placeless.finish()?,
-        printed: tree.print(alloc)?,
-    })
-}
-
-fn refused(alloc: Global, error: &Error) -> Result<Seen, AllocError> {
-    let kind = match error {
-        Error::Syntax { .. } => Kind::Syntax,
-        Error::RecursionLimitExceeded => Kind::Limit,
-        Error::OutOfMemory => Kind::NoMemory,
-        _ => Kind::BreaksRule,
-    };
-    Ok(Seen {
-        kind,
-        placed: format!(in alloc; "{error:?}")?,
-        placeless: match kind {
-            Kind::Syntax => String::from_str(alloc, "syntax")?,
-            _ => format!(in alloc; "{error}")?,
-        },
-        printed: String::new(alloc),
-    })
+/// Writes a text without some characters.
+pub fn write_without(shown: &mut Shown, text: &str, forgotten: &str) {
+    if forgotten.is_empty() {
+        return shown.word(text);
+    }
+    for part in text.split(forgotten) {
+        shown.word(part);
+    }
 }

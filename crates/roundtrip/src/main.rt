@@ -21,8 +21,9 @@ mod texts;
 mod values;
 
 use checking::run;
-use languages::{Language, Parsed};
+use languages::{Calls, Language, Mistake};
 use mistakes::overlooked;
+use rows::Shown;
 use std::process::ExitCode;
 use std::{env, io};
 use texts::Source;
@@ -31,78 +32,95 @@ use values::run_values;
 const USAGE: &str = "usage: roundtrip SEED COUNT [requests|schemas]";
 
 fn main(rt: HostRuntime) -> io::Result<ExitCode> {
-    let mut words = env::args(&rt)?;
-    words.next();
-    let (Some(seed), Some(count)) = (number(words.next()), number(words.next())) else {
-        println!(rt; "{USAGE}")?;
-        return Ok(ExitCode::from(2));
-    };
-    match words.next().as_ref().map(|word| word.as_str()) {
-        None => judge(&rt, seed, count),
-        Some("requests") => print_texts(&rt, &Parsed::Requests, seed, count),
-        Some("schemas") => print_texts(&rt, &Parsed::Schemas, seed, count),
-        Some(_) => {
+    let words: Vec<String> = env::args(&rt)?.skip(1).collect(rt.alloc())?;
+    let seed = word(&words, 0).parse::<u64>();
+    let count = word(&words, 1).parse::<u64>();
+    match (seed, count, word(&words, 2)) {
+        (Ok(seed), Ok(count), "") => judge(&rt, seed, count),
+        (Ok(seed), Ok(count), "requests") => print_texts(&rt, Language::Requests, seed, count),
+        (Ok(seed), Ok(count), "schemas") => print_texts(&rt, Language::Schemas, seed, count),
+        _ => {
             println!(rt; "{USAGE}")?;
             Ok(ExitCode::from(2))
         }
     }
 }
 
-// Checks so many texts of each language, and tells whether all is as it should be.
-fn judge(rt: &HostRuntime, seed: u64, count: u64) -> io::Result<ExitCode> {
-    if is_whole(rt, "requests", &Parsed::Requests, seed, count)?
-        && is_whole(rt, "schema files", &Parsed::Schemas, seed, count)?
-        && are_values_whole(rt, seed, count)?
-    {
-        return Ok(ExitCode::from(0));
+// An argument of the program; an empty one if there is none.
+fn word(words: &Vec<String>, index: usize) -> &str {
+    match words.get(index) {
+        Some(word) => word.as_str(),
+        None => "",
     }
-    Ok(ExitCode::from(1))
 }
 
-fn print_texts<L: Language>(
+// Checks so many texts of each language, and so many values, and prints what was found.
+fn judge(rt: &HostRuntime, seed: u64, count: u64) -> io::Result<ExitCode> {
+    let mut shown = Shown::new(rt.alloc(), true);
+    let is_whole = is_language_whole(&mut shown, "requests", Language::Requests, seed, count)
+        && is_language_whole(&mut shown, "schema files", Language::Schemas, seed, count)
+        && are_values_whole(&mut shown, seed, count);
+    print!(rt; "{}", shown.whole().unwrap_or("out of memory\n"))?;
+    Ok(ExitCode::from(if is_whole { 0 } else { 1 }))
+}
+
+// Prints so many texts, each with the character U+0000 after it.
+fn print_texts(
     rt: &HostRuntime,
-    language: &L,
+    language: Language,
     seed: u64,
     count: u64,
 ) -> io::Result<ExitCode> {
-    let mut source = Source::new(rt.alloc(), language.grammar(), grammars::TOKENS, seed)?;
+    let mut source = Source::new(rt.alloc(), seed);
+    source.read(language.grammar())?;
+    let mut text = String::new(rt.alloc());
     for _ in 0..count {
-        let made = source.next_text(rt.alloc())?;
-        print!(rt; "{}\0", made.text)?;
+        source.make(&mut text)?;
+        print!(rt; "{text}\0")?;
     }
     Ok(ExitCode::from(0))
 }
 
-fn number(word: Option<String>) -> Option<u64> {
-    word?.as_str().parse().ok()
-}
-
-// Whether all the texts of a language keep what is checked. What was found is printed.
-fn is_whole<L: Language>(
-    rt: &HostRuntime,
+// Whether all the texts of a language keep what is checked. What was found is written.
+fn is_language_whole(
+    shown: &mut Shown,
     name: &str,
-    language: &L,
+    language: Language,
     seed: u64,
     count: u64,
-) -> io::Result<bool> {
-    let tally = run(rt.alloc(), language, seed, count)?;
-    println!(rt; "{name}: {tally}")?;
-    if let Some(failure) = &tally.failure {
-        println!(rt; "{failure}")?;
-        return Ok(false);
+) -> bool {
+    let mut failure = Shown::new(shown.alloc(), true);
+    let mistake = Mistake::None;
+    let tally = run(&mut failure, Calls { language, mistake }, seed, count);
+    shown.word(name);
+    shown.item(": ", &tally.accepted);
+    shown.item(" accepted, ", &tally.broke_rules);
+    shown.item(" broke a rule, ", &tally.refused);
+    shown.word(" refused\n");
+    let failure = failure.whole().unwrap_or("out of memory");
+    if !failure.is_empty() {
+        shown.word(failure);
+        shown.word("\n");
     }
-    Ok(true)
+    failure.is_empty()
 }
 
-// Whether values are read as they are printed, and each mistake is found.
-fn are_values_whole(rt: &HostRuntime, seed: u64, count: u64) -> io::Result<bool> {
-    let tally = run_values(rt.alloc(), seed, count, None)?;
-    println!(rt; "values: {count}, {} without variables", tally.constants)?;
-    if let Some(failure) = &tally.failure {
-        println!(rt; "read as another: {failure}")?;
-        return Ok(false);
+// Whether values are read as they are printed, and each mistake is found. What was found is written.
+fn are_values_whole(shown: &mut Shown, seed: u64, count: u64) -> bool {
+    let mut failure = Shown::new(shown.alloc(), true);
+    let tally = run_values(&mut failure, seed, count, "");
+    shown.item("values: ", &count);
+    shown.item(", ", &tally.constants);
+    shown.word(" without variables\n");
+    let failure = failure.whole().unwrap_or("out of memory");
+    if !failure.is_empty() {
+        shown.word("read as another: ");
+        shown.word(failure);
+        shown.word("\n");
+        return false;
     }
-    let overlooked = overlooked(rt.alloc(), seed, count)?;
-    println!(rt; "mistakes: {overlooked} were not found")?;
-    Ok(overlooked == 0)
+    let overlooked = overlooked(shown.alloc(), seed, count);
+    shown.item("mistakes: ", &overlooked);
+    shown.word(" were not found\n");
+    overlooked == 0
 }

@@ -2,28 +2,31 @@
 use crate::random::Random;
 use std::alloc::{AllocError, Global};
 
-// So many steps one text takes at most: after the steps in which it grows, it is only brought to its end.
+// A text takes at most so many steps: after the steps in which it grows, it is only brought to its end.
 const STEPS: usize = 100_000;
 
 /// A grammar, a rule a line: `Name : Choice | Choice`. A choice is words with blanks between them: `Part`, `Part?`,
 /// `Part*` or `Part+`, where a part is the name of a rule, or else text, which may stand in single quotes. The first
 /// choice of each rule comes to an end when no optional part and no other choice is taken.
 #[derive(Drop)]
-pub struct Grammar<'a> {
-    names: Vec<&'a str>,
-    rules: Vec<Vec<Vec<Symbol<'a>>>>,
+pub struct Grammar {
+    rules: Vec<Rule>,
+    // What is still to be written of a text, the next at the end.
+    left: Vec<Symbol>,
+    /// The pieces of the text that was made last.
+    pub pieces: Vec<&'static str>,
 }
 
 #[derive(Clone, Copy)]
-struct Symbol<'a> {
-    part: Part<'a>,
+struct Rule {
+    name: &'static str,
+    choices: &'static str,
+}
+
+#[derive(Clone, Copy)]
+struct Symbol {
+    part: &'static str,
     times: Times,
-}
-
-#[derive(Clone, Copy)]
-enum Part<'a> {
-    Rule(usize),
-    Text(&'a str),
 }
 
 #[derive(Clone, Copy)]
@@ -34,139 +37,110 @@ enum Times {
     AtLeastOnce,
 }
 
-impl<'a> Grammar<'a> {
-    /// The grammar that a text describes.
-    pub fn read(alloc: Global, text: &'a str) -> Result<Grammar<'a>, AllocError> {
-        let mut grammar = Grammar {
-            names: Vec::new(alloc),
+impl Grammar {
+    /// A grammar without rules.
+    pub fn new(alloc: Global) -> Grammar {
+        Grammar {
             rules: Vec::new(alloc),
-        };
+            left: Vec::new(alloc),
+            pieces: Vec::new(alloc),
+        }
+    }
+
+    /// Adds the rules that a text describes.
+    pub fn read(&mut self, text: &'static str) -> Result<(), AllocError> {
         for line in text.lines() {
-            if let Some((name, _)) = line.split_once(" : ") {
-                grammar.names.push(name.trim_ascii())?;
+            if let Some((name, choices)) = line.split_once(" : ") {
+                self.rules.push(Rule { name, choices })?;
             }
         }
-        for line in text.lines() {
-            if let Some((_, choices)) = line.split_once(" : ") {
-                let choices = grammar.choices(alloc, choices)?;
-                grammar.rules.push(choices)?;
-            }
-        }
-        Ok(grammar)
+        Ok(())
     }
 
-    fn choices(&self, alloc: Global, text: &'a str) -> Result<Vec<Vec<Symbol<'a>>>, AllocError> {
-        let mut choices = Vec::new(alloc);
-        for choice in text.split(" | ") {
-            let mut symbols = Vec::new(alloc);
-            for word in choice.split_ascii_whitespace() {
-                symbols.push(self.symbol(word))?;
-            }
-            choices.push(symbols)?;
-        }
-        Ok(choices)
-    }
-
-    fn symbol(&self, word: &'a str) -> Symbol<'a> {
-        let (name, times) = if let Some(name) = word.strip_suffix("?") {
-            (name, Times::AtMostOnce)
-        } else if let Some(name) = word.strip_suffix("*") {
-            (name, Times::Any)
-        } else if let Some(name) = word.strip_suffix("+") {
-            (name, Times::AtLeastOnce)
-        } else {
-            (word, Times::Once)
-        };
-        let part = match self.index_of(name) {
-            Some(index) => Part::Rule(index),
-            None => Part::Text(unquoted(name)),
-        };
-        Symbol { part, times }
-    }
-
-    /// The index of the rule of this name.
-    pub fn index_of(&self, name: &str) -> Option<usize> {
-        for (index, other) in self.names.iter().enumerate() {
-            if *other == name {
-                return Some(index);
+    /// The choices of the rule of this name.
+    pub fn choices(&self, name: &str) -> Option<&'static str> {
+        for rule in &self.rules {
+            if rule.name == name {
+                return Some(rule.choices);
             }
         }
         None
     }
 
-    /// The pieces of one text that the rule of this index describes. It grows in the first steps, so many of them.
-    pub fn pieces(
-        &self,
-        alloc: Global,
+    /// Makes the pieces of one text that this rule describes. It grows in the first steps, so many of them.
+    pub fn make(
+        &mut self,
         random: &mut Random,
-        rule: usize,
+        rule: &'static str,
         growth: usize,
-    ) -> Result<Vec<&'a str>, AllocError> {
-        let mut pieces = Vec::new(alloc);
-        let mut left = Vec::new(alloc);
-        left.push(once(Part::Rule(rule)))?;
+    ) -> Result<(), AllocError> {
+        self.pieces.clear();
+        self.left.clear();
+        self.leave(rule, Times::Once)?;
         for step in 0..STEPS {
-            let Some(symbol) = left.pop() else {
+            let Some(symbol) = self.left.pop() else {
                 break;
             };
-            let grows = step < growth;
-            match (symbol.times, symbol.part) {
-                (Times::Once, Part::Text(text)) => pieces.push(text)?,
-                (Times::Once, Part::Rule(rule)) => {
-                    if let Some(choice) = self.choice(random, rule, grows) {
-                        for symbol in choice.iter().rev() {
-                            left.push(*symbol)?;
-                        }
-                    }
-                }
-                (Times::AtMostOnce, part) => {
-                    if grows && random.one_in(2) {
-                        left.push(once(part))?;
-                    }
-                }
-                (Times::Any, part) => {
-                    if grows && random.one_in(2) {
-                        left.push(symbol)?;
-                        left.push(once(part))?;
-                    }
-                }
-                (Times::AtLeastOnce, part) => {
-                    left.push(Symbol {
-                        part,
-                        times: Times::Any,
-                    })?;
-                    left.push(once(part))?;
-                }
-            }
+            self.take(random, symbol, step < growth)?;
         }
-        Ok(pieces)
+        Ok(())
     }
 
-    // One of a rule's choices: the first where the text is to end.
-    fn choice(&self, random: &mut Random, rule: usize, grows: bool) -> Option<&Vec<Symbol<'a>>> {
-        let choices = self.rules.get(rule)?;
+    fn leave(&mut self, part: &'static str, times: Times) -> Result<(), AllocError> {
+        Ok(self.left.push(Symbol { part, times })?)
+    }
+
+    // Writes a symbol, or leaves what it stands for.
+    fn take(&mut self, random: &mut Random, symbol: Symbol, grows: bool) -> Result<(), AllocError> {
+        match symbol.times {
+            Times::Once => return self.take_once(random, symbol.part, grows),
+            Times::AtLeastOnce => self.leave(symbol.part, Times::Any)?,
+            Times::Any | Times::AtMostOnce if !grows || !random.one_in(2) => return Ok(()),
+            Times::Any => self.leave(symbol.part, Times::Any)?,
+            Times::AtMostOnce => {}
+        }
+        self.leave(symbol.part, Times::Once)
+    }
+
+    // Writes a text, or leaves one of the choices of a rule: the first if the text is to end.
+    fn take_once(
+        &mut self,
+        random: &mut Random,
+        part: &'static str,
+        grows: bool,
+    ) -> Result<(), AllocError> {
+        let Some(choices) = self.choices(part) else {
+            return Ok(self.pieces.push(unquoted(part))?);
+        };
         let index = if grows {
-            random.below(choices.len())
+            random.below(choices.split(" | ").count())
         } else {
             0
         };
-        choices.get(index)
+        for word in choices.split(" | ").nth(index).unwrap_or("").rsplit(' ') {
+            let (part, times) = part_of(word);
+            self.leave(part, times)?;
+        }
+        Ok(())
     }
 }
 
-fn once<'a>(part: Part<'a>) -> Symbol<'a> {
-    Symbol {
-        part,
-        times: Times::Once,
+// The part that a word of a choice names, and how often it stands there.
+fn part_of(word: &str) -> (&str, Times) {
+    if let Some(part) = word.strip_suffix("?") {
+        (part, Times::AtMostOnce)
+    } else if let Some(part) = word.strip_suffix("*") {
+        (part, Times::Any)
+    } else if let Some(part) = word.strip_suffix("+") {
+        (part, Times::AtLeastOnce)
+    } else {
+        (word, Times::Once)
     }
 }
 
 // What stands between quotes; a few marks stand for characters that would not be seen.
 fn unquoted(word: &str) -> &str {
-    let text = word
-        .strip_prefix("'")
-        .and_then(|rest| rest.strip_suffix("'"))
-        .unwrap_or(word);
+    let text = inside_quotes(word);
     match text {
         "␠" => " ",
         "␉" => "\t",
@@ -175,5 +149,12 @@ fn unquoted(word: &str) -> &str {
         "␀" => "\0",
         "mark" => "\u{FEFF}",
         _ => text,
+    }
+}
+
+fn inside_quotes(word: &str) -> &str {
+    match word.strip_prefix("'") {
+        Some(rest) => rest.strip_suffix("'").unwrap_or(word),
+        None => word,
     }
 }

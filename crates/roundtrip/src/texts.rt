@@ -1,7 +1,7 @@
 //! Random texts of a language: those that its grammar describes, and those that one edit took from there.
+use crate::grammars;
 use crate::random::Random;
 use crate::rules::Grammar;
-use rows::Shown;
 use std::alloc::{AllocError, Global};
 
 // What a changed character becomes.
@@ -14,137 +14,154 @@ const TEXT_GROWTH: usize = 240;
 
 /// A source of texts.
 #[derive(Drop)]
-pub struct Source<'a> {
-    phrases: Grammar<'a>,
-    tokens: Grammar<'a>,
+pub struct Source {
+    phrases: Grammar,
+    tokens: Grammar,
     random: Random,
+    // The tokens of the text that is being made, and where each of them stands.
+    spelled: String,
+    spans: Vec<Span>,
 }
 
-/// A text, and whether it was made by the grammar and left as it was.
-#[derive(Drop)]
-pub struct Made {
-    pub text: String,
-    pub is_meant: bool,
+#[derive(Clone, Copy)]
+struct Span {
+    start: usize,
+    end: usize,
 }
 
-impl<'a> Source<'a> {
-    /// The texts of a grammar over the tokens of another, from this seed on.
-    pub fn new(
-        alloc: Global,
-        phrases: &'a str,
-        tokens: &'a str,
-        seed: u64,
-    ) -> Result<Source<'a>, AllocError> {
-        Ok(Source {
-            phrases: Grammar::read(alloc, phrases)?,
-            tokens: Grammar::read(alloc, tokens)?,
+impl Source {
+    /// A source of texts from this seed on, which has to read its grammar first.
+    pub fn new(alloc: Global, seed: u64) -> Source {
+        Source {
+            phrases: Grammar::new(alloc),
+            tokens: Grammar::new(alloc),
             random: Random::new(seed),
-        })
+            spelled: String::new(alloc),
+            spans: Vec::new(alloc),
+        }
     }
 
-    /// The next text. Half of them are edited once.
-    pub fn next_text(&mut self, alloc: Global) -> Result<Made, AllocError> {
-        let growth = self.random.below(TEXT_GROWTH);
-        let rule = self.phrases.index_of("Document").unwrap_or(0);
-        let pieces = self.phrases.pieces(alloc, &mut self.random, rule, growth)?;
-        let mut tokens = Vec::new(alloc);
-        for piece in &pieces {
-            tokens.push(self.spelling(alloc, piece)?)?;
-        }
+    /// Reads the grammar of the texts, and that of their tokens.
+    pub fn read(&mut self, phrases: &'static str) -> Result<(), AllocError> {
+        self.phrases.read(phrases)?;
+        self.tokens.read(grammars::TOKENS)
+    }
+
+    /// Makes the next text. The answer is whether it was made by the grammar and left as it was: half of them are edited once.
+    pub fn make(&mut self, text: &mut String) -> Result<bool, AllocError> {
+        self.make_tokens()?;
         let is_meant = self.random.one_in(2);
-        let edited = if is_meant { 4 } else { self.random.below(4) };
-        if edited < 3 {
-            self.edit(&mut tokens, edited)?;
+        let edit = if is_meant { 4 } else { self.random.below(4) };
+        self.edit(edit)?;
+        text.clear();
+        self.space(text)?;
+        if edit == 3 {
+            self.spelled.clear();
+            self.spelled.push_str(text.as_str())?;
+            text.clear();
+            write_changed(&mut self.random, text, self.spelled.as_str())?;
         }
-        let text = self.spaced(alloc, &tokens)?;
-        if edited == 3 {
-            return Ok(Made {
-                text: self.changed(alloc, text.as_str())?,
-                is_meant,
-            });
-        }
-        Ok(Made { text, is_meant })
+        Ok(is_meant)
     }
 
-    // A token of a kind, or the token itself where its kind has one spelling.
-    fn spelling(&mut self, alloc: Global, kind: &str) -> Result<String, AllocError> {
-        let Some(rule) = self.tokens.index_of(kind) else {
-            return String::from_str(alloc, kind);
-        };
-        let growth = self.random.below(TOKEN_GROWTH);
-        let pieces = self.tokens.pieces(alloc, &mut self.random, rule, growth)?;
-        let mut text = String::new(alloc);
-        for piece in &pieces {
-            text.push_str(piece)?;
-        }
-        Ok(text)
-    }
-
-    // One token dropped, doubled, or swapped with its neighbour.
-    fn edit(&mut self, tokens: &mut Vec<String>, edit: usize) -> Result<(), AllocError> {
-        let index = self.random.below(tokens.len());
-        if index >= tokens.len() {
-            return Ok(());
-        }
-        let token = tokens.remove(index);
-        match edit {
-            0 => {}
-            1 => {
-                let copy = token.clone()?;
-                tokens.insert(index, token)?;
-                tokens.insert(index, copy)?;
-            }
-            _ => {
-                let there = if index < tokens.len() { index + 1 } else { 0 };
-                tokens.insert(there, token)?;
-            }
+    // Makes the tokens of a text.
+    fn make_tokens(&mut self) -> Result<(), AllocError> {
+        let growth = self.random.below(TEXT_GROWTH);
+        self.phrases.make(&mut self.random, "Document", growth)?;
+        self.spelled.clear();
+        self.spans.clear();
+        for kind in &self.phrases.pieces {
+            let start = self.spelled.len();
+            spell(&mut self.tokens, &mut self.random, &mut self.spelled, kind)?;
+            let end = self.spelled.len();
+            self.spans.push(Span { start, end })?;
         }
         Ok(())
     }
 
-    // The tokens with ignored text around them: between two that could run together there is some.
-    fn spaced(&mut self, alloc: Global, tokens: &Vec<String>) -> Result<String, AllocError> {
-        let mut shown = Shown::new(alloc, false);
-        let is_dense = self.random.one_in(4);
-        let mut is_open = false;
-        for token in tokens {
-            let blanks = if is_dense && !self.random.one_in(8) {
-                String::new(alloc)
-            } else {
-                self.spelling(alloc, "Ignored")?
-            };
-            shown.word(blanks.as_str());
-            if blanks.is_empty() && is_open && can_run_on(token.as_str()) {
-                shown.word(" ");
-            }
-            shown.word(token.as_str());
-            is_open = can_run_on(token.as_str());
+    // Drops one token, doubles it, or swaps it with its neighbour: edits 0, 1 and 2. The others leave the tokens as they are.
+    fn edit(&mut self, edit: usize) -> Result<(), AllocError> {
+        if edit > 2 {
+            return Ok(());
         }
-        let blanks = self.spelling(alloc, "Ignored")?;
-        shown.word(blanks.as_str());
-        shown.finish()
+        let index = self.random.below(self.spans.len());
+        if index >= self.spans.len() {
+            return Ok(());
+        }
+        let token = self.spans.remove(index);
+        if edit == 1 {
+            self.spans.insert(index, token)?;
+            self.spans.insert(index, token)?;
+        }
+        if edit == 2 {
+            let there = if index < self.spans.len() {
+                index + 1
+            } else {
+                0
+            };
+            self.spans.insert(there, token)?;
+        }
+        Ok(())
     }
 
-    // The text with one character changed, dropped, or put in.
-    fn changed(&mut self, alloc: Global, text: &str) -> Result<String, AllocError> {
-        let place = self.random.below(text.len());
-        let way = self.random.below(3);
-        let other = self.random.below(OTHERS.len());
-        let mut shown = Shown::new(alloc, false);
-        for (index, letter) in text.char_indices() {
-            if index == place && way != 0 {
-                for (at, new) in OTHERS.char_indices() {
-                    if at == other {
-                        shown.item("", &new);
-                    }
-                }
+    // Writes the tokens with ignored text around them: between two that could run together there is some.
+    fn space(&mut self, text: &mut String) -> Result<(), AllocError> {
+        let is_dense = self.random.one_in(4);
+        let mut is_open = false;
+        for span in &self.spans {
+            let token = self.spelled.get(span.start..span.end).unwrap_or("");
+            let before = text.len();
+            if !is_dense || self.random.one_in(8) {
+                spell(&mut self.tokens, &mut self.random, text, "Ignored")?;
             }
-            if index != place || way == 2 {
-                shown.item("", &letter);
+            if is_open && can_run_on(token) && text.len() == before {
+                text.push_str(" ")?;
             }
+            text.push_str(token)?;
+            is_open = can_run_on(token);
         }
-        shown.finish()
+        spell(&mut self.tokens, &mut self.random, text, "Ignored")
     }
+}
+
+// Writes a token of a kind, or the token itself if its kind has one spelling.
+fn spell(
+    tokens: &mut Grammar,
+    random: &mut Random,
+    text: &mut String,
+    kind: &'static str,
+) -> Result<(), AllocError> {
+    if tokens.choices(kind).is_none() {
+        return text.push_str(kind);
+    }
+    let growth = random.below(TOKEN_GROWTH);
+    tokens.make(random, kind, growth)?;
+    for piece in &tokens.pieces {
+        text.push_str(piece)?;
+    }
+    Ok(())
+}
+
+// Writes a text with one character changed, dropped, or put in.
+fn write_changed(random: &mut Random, text: &mut String, old: &str) -> Result<(), AllocError> {
+    let place = random.below(old.len());
+    let way = random.below(3);
+    let other = random.below(OTHERS.len());
+    let Some((before, after)) = old.split_at_checked(place) else {
+        return text.push_str(old);
+    };
+    text.push_str(before)?;
+    if way != 0
+        && let Some((_, others)) = OTHERS.split_at_checked(other)
+        && let Some(new) = others.chars().next()
+    {
+        text.push(new)?;
+    }
+    let mut rest = after.chars();
+    if way != 2 {
+        rest.next();
+    }
+    text.push_str(rest.as_str())
 }
 
 // Whether a token is more than a punctuator, or is dots.

@@ -1,9 +1,12 @@
 //! Random values as trees, and whether their texts are read as them again.
+use crate::languages::write_without;
 use crate::random::Random;
-use graphql_parser::types::{DocumentOperations, OperationDefinition, Selection};
+use graphql_parser::types::{DocumentOperations, ExecutableDocument, Selection};
 use graphql_parser::value::{ConstValue, Name, Number, Value};
 use graphql_parser::{check_query, parse_query};
+use rows::Shown;
 use std::alloc::{AllocError, Global};
+use std::mem;
 
 // A value is made in so many steps at most, each of which makes one that can hold earlier ones.
 const STEPS: usize = 24;
@@ -80,43 +83,53 @@ const CHARACTERS: [char; 28] = [
 #[derive(Drop)]
 pub struct ValueSource {
     random: Random,
+    // The values that were made and that no other holds.
+    made: Vec<Value>,
 }
 
 impl ValueSource {
     /// The values from this seed on.
-    pub fn new(seed: u64) -> ValueSource {
+    pub fn new(alloc: Global, seed: u64) -> ValueSource {
         ValueSource {
             random: Random::new(seed),
+            made: Vec::new(alloc),
         }
     }
 
     /// The next value. In half of them variables may stand.
-    pub fn next_value(&mut self, alloc: Global) -> Result<Value, AllocError> {
+    pub fn next_value(&mut self) -> Result<Value, AllocError> {
         let kinds = if self.random.one_in(2) {
             KINDS
         } else {
             KINDS - 1
         };
-        let mut made = Vec::new(alloc);
+        self.made.clear();
         for _ in 0..=self.random.below(STEPS) {
-            let value = match self.random.below(kinds) {
-                0 | 1 => Value::List(self.items(alloc, &mut made)?),
-                2 | 3 => Value::Object(self.fields(alloc, &mut made)?),
-                kind => self.simple(alloc, kind)?,
-            };
-            made.push(value)?;
+            let kind = self.random.below(kinds);
+            let value = self.value(kind)?;
+            self.made.push(value)?;
         }
         if self.random.one_in(2) {
-            return Ok(Value::List(made));
+            let alloc = *self.made.allocator();
+            return Ok(Value::List(mem::replace(&mut self.made, Vec::new(alloc))));
         }
-        Ok(made.pop().unwrap_or(Value::Null))
+        Ok(self.made.pop().unwrap_or(Value::Null))
+    }
+
+    // A value of this kind.
+    fn value(&mut self, kind: usize) -> Result<Value, AllocError> {
+        match kind {
+            0 | 1 => Ok(Value::List(self.items()?)),
+            2 | 3 => Ok(Value::Object(self.fields()?)),
+            kind => self.simple(kind),
+        }
     }
 
     // Some of the values that were made last.
-    fn items(&mut self, alloc: Global, made: &mut Vec<Value>) -> Result<Vec<Value>, AllocError> {
-        let mut items = Vec::new(alloc);
+    fn items(&mut self) -> Result<Vec<Value>, AllocError> {
+        let mut items = Vec::new(*self.made.allocator());
         for _ in 0..self.random.below(NODES) {
-            if let Some(item) = made.pop() {
+            if let Some(item) = self.made.pop() {
                 items.push(item)?;
             }
         }
@@ -124,55 +137,55 @@ impl ValueSource {
     }
 
     // The same, each under a name of its own.
-    fn fields(
-        &mut self,
-        alloc: Global,
-        made: &mut Vec<Value>,
-    ) -> Result<Vec<(Name, Value)>, AllocError> {
+    fn fields(&mut self) -> Result<Vec<(Name, Value)>, AllocError> {
+        let alloc = *self.made.allocator();
         let mut fields = Vec::new(alloc);
         let first = self.random.below(NAMES.len());
-        for (index, item) in self.items(alloc, made)?.into_iter().enumerate() {
+        for index in 0..self.random.below(NODES) {
             let name = NAMES[first.wrapping_add(index) % NAMES.len()];
-            fields.push((Name::new(alloc, name)?, item))?;
+            if let Some(item) = self.made.pop() {
+                fields.push((Name::new(alloc, name)?, item))?;
+            }
         }
         Ok(fields)
     }
 
     // A value of this kind that holds no other.
-    fn simple(&mut self, alloc: Global, kind: usize) -> Result<Value, AllocError> {
-        Ok(match kind {
-            4 => Value::Null,
-            5 => Value::Boolean(self.random.one_in(2)),
+    fn simple(&mut self, kind: usize) -> Result<Value, AllocError> {
+        let alloc = *self.made.allocator();
+        match kind {
+            4 => Ok(Value::Null),
+            5 => Ok(Value::Boolean(self.random.one_in(2))),
             6 => {
                 let name = ENUM_NAMES[self.random.below(ENUM_NAMES.len())];
-                Value::Enum(Name::new(alloc, name)?)
+                Ok(Value::Enum(Name::new(alloc, name)?))
             }
             7 => {
                 let literal = NUMBERS[self.random.below(NUMBERS.len())];
                 match Number::new(alloc, literal)? {
-                    Some(number) => Value::Number(number),
-                    None => Value::Null,
+                    Some(number) => Ok(Value::Number(number)),
+                    None => Ok(Value::Null),
                 }
             }
-            8 | 9 => Value::String(self.string(alloc)?),
+            8 | 9 => Ok(Value::String(self.string(alloc)?)),
             _ => {
                 let name = NAMES[self.random.below(NAMES.len())];
-                Value::Variable(Name::new(alloc, name)?)
+                Ok(Value::Variable(Name::new(alloc, name)?))
             }
-        })
+        }
     }
 
     fn string(&mut self, alloc: Global) -> Result<String, AllocError> {
-        let mut text = String::new(alloc);
+        let mut shown = Shown::new(alloc, true);
         for _ in 0..self.random.below(LETTERS) {
-            text.push(CHARACTERS[self.random.below(CHARACTERS.len())])?;
+            shown.letter(CHARACTERS[self.random.below(CHARACTERS.len())]);
         }
-        Ok(text)
+        shown.finish()
     }
 }
 
 /// How many values were printed and read again.
-#[derive(Default, Drop)]
+#[derive(Clone, Copy)]
 pub struct ValueTally {
     /// Those without variables.
     pub constants: u64,
@@ -180,78 +193,113 @@ pub struct ValueTally {
     pub wrong_arguments: u64,
     /// Those that are read as another where they stand for a default.
     pub wrong_defaults: u64,
-    /// The text of the last of them.
-    pub failure: Option<String>,
 }
 
-/// Prints so many values from a seed on, and reads each text as an argument, and where the value has no variables as a
-/// default. Some characters may be left out of the texts.
-pub fn run_values(
-    alloc: Global,
-    seed: u64,
-    count: u64,
-    forgotten: Option<&str>,
-) -> Result<ValueTally, AllocError> {
-    let mut source = ValueSource::new(seed);
-    let mut tally = ValueTally::default();
+/// Prints so many values from a seed on, and reads each text as an argument, and if the value has no variables as a default.
+/// Some characters may be left out of the texts. The last text that is read as another is written.
+pub fn run_values(failure: &mut Shown, seed: u64, count: u64, forgotten: &str) -> ValueTally {
+    let mut source = ValueSource::new(failure.alloc(), seed);
+    let mut tally = ValueTally {
+        constants: 0,
+        wrong_arguments: 0,
+        wrong_defaults: 0,
+    };
     for _ in 0..count {
-        let value = source.next_value(alloc)?;
-        let mut text = format!(in alloc; "{value}")?;
-        if let Some(forgotten) = forgotten {
-            text = text.replace(alloc, forgotten, "")?;
-        }
-        let mut is_wrong = false;
-        if !is_argument(alloc, text.as_str(), &value)? {
-            tally.wrong_arguments = tally.wrong_arguments.wrapping_add(1);
-            is_wrong = true;
-        }
-        if let Some(constant) = value.into_const(alloc)? {
-            tally.constants = tally.constants.wrapping_add(1);
-            if !is_default(alloc, text.as_str(), &constant)? {
-                tally.wrong_defaults = tally.wrong_defaults.wrapping_add(1);
-                is_wrong = true;
-            }
-        }
-        if is_wrong {
-            tally.failure = Some(text);
+        match source.next_value() {
+            Ok(value) => check_value(failure, &mut tally, value, forgotten),
+            Err(_) => failure.leave_out(),
         }
     }
-    Ok(tally)
+    tally
 }
 
-// The operation of a request that its parser and its check accept, if it has no name.
-fn only_operation(alloc: Global, text: &str) -> Option<OperationDefinition> {
-    check_query(alloc, text).ok()?;
-    let operations = parse_query(alloc, text).ok()?.operations;
-    match operations {
-        DocumentOperations::Single(operation) => Some(operation.node),
-        DocumentOperations::Multiple(_) => None,
+fn check_value(failure: &mut Shown, tally: &mut ValueTally, value: Value, forgotten: &str) {
+    let alloc = failure.alloc();
+    let mut text = Shown::new(alloc, true);
+    write_value(&mut text, &value, forgotten);
+    let text = text.whole().unwrap_or("");
+    if !is_argument(alloc, text, &value) {
+        tally.wrong_arguments = tally.wrong_arguments.wrapping_add(1);
+        failure.clear();
+        failure.word(text);
+    }
+    match value.into_const(alloc) {
+        Ok(Some(constant)) => {
+            tally.constants = tally.constants.wrapping_add(1);
+            if !is_default(alloc, text, &constant) {
+                tally.wrong_defaults = tally.wrong_defaults.wrapping_add(1);
+                failure.clear();
+                failure.word(text);
+            }
+        }
+        Ok(None) => {}
+        Err(_) => failure.leave_out(),
+    }
+}
+
+// Writes the text of a value, without some characters.
+fn write_value(text: &mut Shown, value: &Value, forgotten: &str) {
+    let mut whole = Shown::new(text.alloc(), true);
+    whole.item("", value);
+    match whole.whole() {
+        Some(whole) => write_without(text, whole, forgotten),
+        None => text.leave_out(),
     }
 }
 
 /// Whether a text is read as this value where it stands for an argument.
-pub fn is_argument(alloc: Global, text: &str, value: &Value) -> Result<bool, AllocError> {
-    let request = format!(in alloc; "{{f(a: {text})}}")?;
-    let Some(operation) = only_operation(alloc, request.as_str()) else {
-        return Ok(false);
-    };
-    let first = operation.selection_set.node.items.first();
-    let Some(Selection::Field(field)) = first.map(|item| &item.node) else {
-        return Ok(false);
-    };
-    let argument = field.node.get_argument("a");
-    Ok(argument.is_some_and(|found| found.node == *value))
+pub fn is_argument(alloc: Global, text: &str, value: &Value) -> bool {
+    let mut request = Shown::new(alloc, true);
+    request.word("{f(a: ");
+    request.word(text);
+    request.word(")}");
+    let request = request.whole().unwrap_or("");
+    match parse_query(alloc, request) {
+        Ok(document) => check_query(alloc, request).is_ok() && has_argument(&document, value),
+        Err(_) => false,
+    }
 }
 
 /// Whether a text is read as this value where it stands for the default of a variable.
-pub fn is_default(alloc: Global, text: &str, value: &ConstValue) -> Result<bool, AllocError> {
-    let request = format!(in alloc; "query($v: T = {text}){{f}}")?;
-    let Some(operation) = only_operation(alloc, request.as_str()) else {
-        return Ok(false);
+pub fn is_default(alloc: Global, text: &str, value: &ConstValue) -> bool {
+    let mut request = Shown::new(alloc, true);
+    request.word("query($v: T = ");
+    request.word(text);
+    request.word("){f}");
+    let request = request.whole().unwrap_or("");
+    match parse_query(alloc, request) {
+        Ok(document) => check_query(alloc, request).is_ok() && has_default(&document, value),
+        Err(_) => false,
+    }
+}
+
+// Whether the first argument `a` of a request's only operation, in its first field, is this value.
+fn has_argument(document: &ExecutableDocument, value: &Value) -> bool {
+    let DocumentOperations::Single(operation) = &document.operations else {
+        return false;
     };
-    let Some(variable) = operation.variable_definitions.first() else {
-        return Ok(false);
+    let Some(first) = operation.node.selection_set.node.items.first() else {
+        return false;
     };
-    let default = variable.node.default_value.as_ref();
-    Ok(default.is_some_and(|found| found.node == *value))
+    let Selection::Field(field) = &first.node else {
+        return false;
+    };
+    match field.node.get_argument("a") {
+        Some(argument) => argument.node == *value,
+        None => false,
+    }
+}
+
+// Whether the default of the first variable of a request's only operation is this value.
+fn has_default(document: &ExecutableDocument, value: &ConstValue) -> bool {
+    let DocumentOperations::Single(operation) = &document.operations else {
+        return false;
+    };
+    let Some(variable) = operation.node.variable_definitions.first() else {
+        return false;
+    };
+    match &variable.node.default_value {
+        Some(default) => default.node == *value,
+        None => false,
+    }
 }

@@ -28,18 +28,6 @@ mod shown;
 mod tables;
 pub mod trees;
 
-pub use notation::meant;
+pub use notation::{meant, pair};
 pub use shown::Shown;
-use std::alloc::{AllocError, Global};
-use std::test::Fail;
 pub use tables::{Subject, ended, files_in, judge};
-
-/// The two parts of a text, before and after the first `between`.
-pub fn pair<'a>(text: &'a str, between: &str) -> Result<(&'a str, &'a str), Fail> {
-    Ok(text.split_once(between).ok_or("a part is missing")?)
-}
-
-/// The word for how two values compare.
-pub fn compared<T: PartialEq>(alloc: Global, one: &T, other: &T) -> Result<String, AllocError> {
-    String::from_str(alloc, if one == other { "equal" } else { "different" })
-}

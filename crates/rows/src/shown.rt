@@ -35,6 +35,21 @@ impl Shown {
         self.is_cut = false;
     }
 
+    /// What takes memory for the text.
+    pub fn alloc(&self) -> Global {
+        *self.text.allocator()
+    }
+
+    /// From here on no place is written.
+    pub fn leave_out_places(&mut self) {
+        self.has_places = false;
+    }
+
+    /// A part is left out, since there was no memory for it.
+    pub fn leave_out(&mut self) {
+        self.is_cut = true;
+    }
+
     /// The whole text, unless a part was left out.
     pub fn whole(&self) -> Option<&str> {
         if self.is_cut {
@@ -47,6 +62,21 @@ impl Shown {
     pub fn word(&mut self, text: &str) {
         if self.text.push_str(text).is_err() {
             self.is_cut = true;
+        }
+    }
+
+    /// Adds this character.
+    pub fn letter(&mut self, c: char) {
+        if self.text.push(c).is_err() {
+            self.is_cut = true;
+        }
+    }
+
+    /// Adds what was made, after what stands before it, if there was memory to make it.
+    pub fn made<T: fmt::Display + Drop>(&mut self, before: &str, made: Result<T, AllocError>) {
+        match made {
+            Ok(made) => self.item(before, &made),
+            Err(_) => self.is_cut = true,
         }
     }
 

@@ -1,14 +1,17 @@
 //! Tables in files: a program judges all of them, and prints what it finds.
-use crate::notation::{in_one_line, meant};
-use crate::pair;
-use std::alloc::Global;
+use crate::Shown;
+use crate::notation::{meant, pair, write_in_one_line};
+use std::alloc::{AllocError, Global};
 use std::test::Fail;
 use std::{env, fs};
 
+// Stands for a line end after which a row goes on, and is a blank in both parts of the row.
+const GOES_ON: &str = "\u{B}";
+
 /// The calls that tables are about.
 pub trait Subject {
-    /// What the call of this name makes of a text.
-    fn answer(&self, alloc: Global, call: &str, text: &str) -> Result<String, Fail>;
+    /// Writes what the call of this name makes of a text.
+    fn answer(&self, shown: &mut Shown, call: &str, text: &str);
 }
 
 /// Judges the files in the folder `tables`: prints of each table how many rows it has, and before that each row that doesn't hold,
@@ -59,91 +62,69 @@ pub fn files_in(rt: &HostRuntime, folder: &str) -> Result<Vec<String>, Fail> {
 // Judges a file, and gives how many of its rows don't hold.
 fn judge_file<S: Subject>(rt: &HostRuntime, subject: &S, file: &str) -> Result<usize, Fail> {
     let text = fs::read_to_string(rt, file)?;
-    let tables = text.as_str().strip_prefix("== ").ok_or("no table")?;
-    let mut wrong = 0usize;
-    let mut line = 1usize;
-    for table in tables.split("\n== ") {
-        wrong = wrong.saturating_add(judge_table(rt, subject, file, line, table)?);
-        line = line.saturating_add(table.split('\n').count());
-    }
-    Ok(wrong)
-}
-
-// Judges a table that begins at this line of a file with the name of its call, and gives how many of its rows don't hold.
-fn judge_table<S: Subject>(
-    rt: &HostRuntime,
-    subject: &S,
-    file: &str,
-    first: usize,
-    table: &str,
-) -> Result<usize, Fail> {
-    let (call, rows) = pair(table, "\n")?;
     let mut judged = Judged {
         file,
-        call,
+        line: 1,
         rows: 0,
         wrong: 0,
     };
-    if let Some((text, answer)) = rows.rsplit_once("\n⇒\n") {
-        judged.compare(rt, subject, first, text, answer)?;
-    } else {
-        judged.judge_rows(rt, subject, first, rows)?;
+    for table in text.as_str().split("\n== ") {
+        let table = table.strip_prefix("== ").unwrap_or(table);
+        judged.judge_table(rt, subject, table)?;
     }
-    let count = judged.rows;
-    let rows = if count == 1 { "row" } else { "rows" };
-    println!(rt; "{file}: {call}: {count} {rows}")?;
     Ok(judged.wrong)
 }
 
-// A table, how many of its rows were judged, and how many of these don't hold.
+// A file, at which of its lines the judge is, how many rows of a table were judged, and how many rows of the file don't hold.
 #[derive(Clone, Copy)]
 struct Judged<'a> {
     file: &'a str,
-    call: &'a str,
+    line: usize,
     rows: usize,
     wrong: usize,
 }
 
 impl Judged<'_> {
-    // Judges rows, which stand after this line of the file.
+    // Judges a table, which begins with the name of its call.
+    fn judge_table<S: Subject>(
+        &mut self,
+        rt: &HostRuntime,
+        subject: &S,
+        table: &str,
+    ) -> Result<(), Fail> {
+        let (call, rows) = pair(table, "\n");
+        self.rows = 0;
+        if let Some((text, answer)) = rows.rsplit_once("\n⇒\n") {
+            self.compare(rt, subject, call, text, answer)?;
+            self.line = self.line.saturating_add(table.split('\n').count());
+        } else {
+            self.judge_rows(rt, subject, call, rows)?;
+        }
+        let (file, count) = (self.file, self.rows);
+        let rows = if count == 1 { "row" } else { "rows" };
+        Ok(println!(rt; "{file}: {call}: {count} {rows}")?)
+    }
+
+    // Judges rows, which stand after the line at which the judge is. A row that goes on in a line is one with a mark there.
     fn judge_rows<S: Subject>(
         &mut self,
         rt: &HostRuntime,
         subject: &S,
-        before: usize,
+        call: &str,
         rows: &str,
     ) -> Result<(), Fail> {
-        let mut row = String::new(rt.alloc());
-        let mut line = before;
-        let mut begun = before;
-        for part in rows.lines() {
-            line = line.saturating_add(1);
-            if let Some(more) = part.strip_prefix("  ") {
-                write!(row, " {more}")?;
-            } else if !part.starts_with("-- ") {
-                self.judge_row(rt, subject, begun, row.as_str())?;
-                row.clear();
-                row.push_str(part)?;
-                begun = line;
+        let rows = rows.replace(rt.alloc(), "\n  ", GOES_ON)?;
+        for row in rows.as_str().split('\n') {
+            self.line = self.line.saturating_add(1);
+            if !row.is_empty() && !row.starts_with("-- ") {
+                let (text, answer) = pair(row, " ⇒");
+                let text = meant(rt.alloc(), text.trim_ascii_end())?;
+                self.compare(rt, subject, call, text.as_str(), answer)?;
             }
+            self.line = self.line.saturating_add(row.matches(GOES_ON).count());
         }
-        self.judge_row(rt, subject, begun, row.as_str())
-    }
-
-    // Judges one row, which begins at this line of the file.
-    fn judge_row<S: Subject>(
-        &mut self,
-        rt: &HostRuntime,
-        subject: &S,
-        line: usize,
-        row: &str,
-    ) -> Result<(), Fail> {
-        if row.is_empty() {
-            return Ok(());
-        }
-        let (text, answer) = pair(row, " ⇒ ")?;
-        let text = meant(rt.alloc(), text.trim_ascii_end())?;
-        self.compare(rt, subject, line, text.as_str(), answer)
+        self.line = self.line.saturating_add(1);
+        Ok(())
     }
 
     // Prints what was expected and what was found, unless that is the same.
@@ -151,19 +132,27 @@ impl Judged<'_> {
         &mut self,
         rt: &HostRuntime,
         subject: &S,
-        line: usize,
+        call: &str,
         text: &str,
         answer: &str,
     ) -> Result<(), Fail> {
-        let alloc = rt.alloc();
-        let wanted = meant(alloc, in_one_line(alloc, answer)?.as_str())?;
-        let found = subject.answer(alloc, self.call, text)?;
         self.rows = self.rows.saturating_add(1);
-        if found.as_str().trim_ascii() != wanted.as_str().trim_ascii() {
+        let wanted = wanted(rt.alloc(), answer)?;
+        let mut found = Shown::new(rt.alloc(), true);
+        subject.answer(&mut found, call, text);
+        let found = found.whole().unwrap_or("out of memory");
+        if found.trim_ascii() != wanted.as_str().trim_ascii() {
             self.wrong = self.wrong.saturating_add(1);
-            let (file, call) = (self.file, self.call);
+            let (file, line) = (self.file, self.line);
             println!(rt; "{file}:{line}: {call}\n  expected: {wanted}\n  found:    {found}")?;
         }
         Ok(())
     }
+}
+
+// What the answer of a row stands for.
+fn wanted(alloc: Global, answer: &str) -> Result<String, AllocError> {
+    let mut line = Shown::new(alloc, true);
+    write_in_one_line(&mut line, answer);
+    meant(alloc, line.whole().ok_or(AllocError)?)
 }

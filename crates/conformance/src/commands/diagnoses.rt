@@ -1,73 +1,94 @@
 //! What is wrong with a text, as data for an editor, and texts that are mended by it.
 use graphql_parser::Limits;
-use graphql_texts::{Diagnosis, Fix, Language, diagnoses_of};
-use std::alloc::Global;
-use std::test::Fail;
+use graphql_texts::{Diagnosis, Fix, Language, Span, diagnoses_of};
+use rows::Shown;
 
 /// What is wrong with a text: of each thing where it is, as byte offsets with what stands there, its status, and the other place
 /// with what is said of it; what mends it stands behind, and there are commas between them. A text without any is `good`.
-pub fn told(alloc: Global, language: &str, text: &str) -> Result<String, Fail> {
-    let mut told = String::new(alloc);
-    for diagnosis in &found(alloc, language, text)? {
-        if !told.is_empty() {
-            told.push_str(", ")?;
+pub fn told(shown: &mut Shown, language: &str, text: &str) {
+    match diagnoses_of(shown.alloc(), named(language), text, Limits::default()) {
+        Ok(found) => {
+            if found.is_empty() {
+                shown.word("good");
+            }
+            for (index, diagnosis) in found.iter().enumerate() {
+                shown.word(if index > 0 { ", " } else { "" });
+                write_diagnosis(shown, text, diagnosis);
+            }
         }
-        push_diagnosis(&mut told, text, diagnosis)?;
+        Err(_) => shown.leave_out(),
     }
-    if told.is_empty() {
-        told.push_str("good")?;
-    }
-    Ok(told)
 }
 
 /// What the first fix makes of a text, with its title before it, and how many things were wrong before and are then.
-pub fn mended(alloc: Global, language: &str, text: &str) -> Result<String, Fail> {
-    let found_before = found(alloc, language, text)?;
-    for diagnosis in &found_before {
-        if let Some(fix) = &diagnosis.fix {
-            let new = with_fix(alloc, text, fix)?;
-            let before = found_before.len();
-            let after = found(alloc, language, new.as_str())?.len();
-            let title = fix.title.as_str();
-            return Ok(format!(in alloc; "{before} {after} {title}: {new}")?);
-        }
+pub fn mended(shown: &mut Shown, language: &str, text: &str) {
+    match diagnoses_of(shown.alloc(), named(language), text, Limits::default()) {
+        Ok(found) => match first_fix(&found) {
+            Some(fix) => {
+                shown.item("", &found.len());
+                write_mended(shown, language, text, fix);
+            }
+            None => shown.word("no fix"),
+        },
+        Err(_) => shown.leave_out(),
     }
-    Ok(String::from_str(alloc, "no fix")?)
 }
 
-fn found(alloc: Global, language: &str, text: &str) -> Result<Vec<Diagnosis>, Fail> {
-    let language = match language {
+fn named(language: &str) -> Language {
+    match language {
         "query" => Language::Requests,
         _ => Language::Schemas,
-    };
-    Ok(diagnoses_of(alloc, language, text, Limits::default())?)
+    }
 }
 
-fn with_fix(alloc: Global, text: &str, fix: &Fix) -> Result<String, Fail> {
-    let (Some(before), Some(after)) = (text.get(..fix.span.start), text.get(fix.span.end..)) else {
-        return Err(Fail::new("a fix outside of the text"));
-    };
-    let mut new = String::from_str(alloc, before)?;
-    new.push_str(fix.new.as_str())?;
-    new.push_str(after)?;
-    Ok(new)
+fn first_fix(found: &Vec<Diagnosis>) -> Option<&Fix> {
+    for diagnosis in found {
+        if let Some(fix) = &diagnosis.fix {
+            return Some(fix);
+        }
+    }
+    None
 }
 
-fn push_diagnosis(told: &mut String, text: &str, diagnosis: &Diagnosis) -> Result<(), Fail> {
-    let (start, end) = (diagnosis.span.start, diagnosis.span.end);
-    let shown = text.get(start..end).unwrap_or("outside");
-    let status = diagnosis.status;
-    write!(told, "{start}-{end} \"{shown}\" {status}")?;
+// Writes how many things are wrong with the text that a fix makes, the fix's title, and the text.
+fn write_mended(shown: &mut Shown, language: &str, text: &str, fix: &Fix) {
+    let mut new = Shown::new(shown.alloc(), true);
+    new.word(text.get(..fix.span.start).unwrap_or("outside"));
+    new.word(fix.new.as_str());
+    new.word(text.get(fix.span.end..).unwrap_or("outside"));
+    let new = new.whole().unwrap_or("out of memory");
+    match diagnoses_of(shown.alloc(), named(language), new, Limits::default()) {
+        Ok(left) => shown.item(" ", &left.len()),
+        Err(_) => shown.leave_out(),
+    }
+    shown.item(" ", &fix.title);
+    shown.word(": ");
+    shown.word(new);
+}
+
+fn write_diagnosis(shown: &mut Shown, text: &str, diagnosis: &Diagnosis) {
+    write_span(shown, text, diagnosis.span);
+    shown.word(diagnosis.status);
     if let Some(other) = diagnosis.other {
-        let (start, end) = (other.span.start, other.span.end);
-        let shown = text.get(start..end).unwrap_or("outside");
-        let message = other.message;
-        write!(told, " ({start}-{end} \"{shown}\" {message})")?;
+        shown.word(" (");
+        write_span(shown, text, other.span);
+        shown.word(other.message);
+        shown.word(")");
     }
     if let Some(fix) = &diagnosis.fix {
-        let (start, end) = (fix.span.start, fix.span.end);
-        let (title, new) = (fix.title.as_str(), fix.new.as_str());
-        write!(told, " [{title}: {start}-{end} \"{new}\"]")?;
+        shown.item(" [", &fix.title);
+        shown.item(": ", &fix.span.start);
+        shown.item("-", &fix.span.end);
+        shown.item(" \"", &fix.new);
+        shown.word("\"]");
     }
-    Ok(())
+}
+
+// Writes between which offsets something stands, and what that is.
+fn write_span(shown: &mut Shown, text: &str, span: Span) {
+    shown.item("", &span.start);
+    shown.item("-", &span.end);
+    shown.word(" \"");
+    shown.word(text.get(span.start..span.end).unwrap_or("outside"));
+    shown.word("\" ");
 }

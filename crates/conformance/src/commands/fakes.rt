@@ -3,6 +3,7 @@ use graphql_commands::texts::{Texts, Unread, Unwritten, text_of};
 use rows::meant;
 use std::alloc::{AllocError, Global};
 use std::io::{Error, ErrorKind, Result as IoResult, Write};
+use std::str;
 
 /// The files of a run, and what was written in the place of some of them.
 #[derive(Drop)]
@@ -10,6 +11,13 @@ pub struct Files<'a> {
     // A file a line, in the notation of the crate `rows`: its name, ` ⇒ `, and its text.
     listed: &'a str,
     pub written: Vec<Written>,
+}
+
+/// A file that was written: its name and its text.
+#[derive(Drop)]
+pub struct Written {
+    pub name: String,
+    pub text: String,
 }
 
 impl<'a> Files<'a> {
@@ -21,16 +29,27 @@ impl<'a> Files<'a> {
         }
     }
 
-    // The text of the file of this name, if it is listed.
-    fn listed_text(&self, alloc: Global, name: &str) -> Result<Option<String>, AllocError> {
-        for line in self.listed.lines() {
-            if let Some((known, text)) = line.split_once(" ⇒ ")
-                && meant(alloc, known)?.as_str() == name
-            {
-                return Ok(Some(meant(alloc, text)?));
+    // What was last written to the file of this name.
+    fn written_text(&self, name: &str) -> Option<&str> {
+        let mut text = None;
+        for written in &self.written {
+            if written.name.as_str() == name {
+                text = Some(written.text.as_str());
             }
         }
-        Ok(None)
+        text
+    }
+
+    // The text of the file of this name as it is listed.
+    fn listed_text(&self, alloc: Global, name: &str) -> Option<&'a str> {
+        for line in self.listed.lines() {
+            if let Some((known, text)) = line.split_once(" ⇒ ")
+                && is_meant(alloc, known, name)
+            {
+                return Some(text);
+            }
+        }
+        None
     }
 
     // The names of the files that begin so.
@@ -45,37 +64,44 @@ impl<'a> Files<'a> {
         }
         Ok(names)
     }
+
+    // Keeps what is written to a file.
+    fn keep(&mut self, alloc: Global, name: &str, text: &str) -> Result<(), AllocError> {
+        let name = String::from_str(alloc, name)?;
+        let text = String::from_str(alloc, text)?;
+        self.written.push(Written { name, text })?;
+        Ok(())
+    }
 }
 
-/// A file that was written: its name and its text.
-#[derive(Drop)]
-pub struct Written {
-    pub name: String,
-    pub text: String,
+// Whether this name is what another stands for in the notation of the crate `rows`.
+fn is_meant(alloc: Global, known: &str, name: &str) -> bool {
+    match meant(alloc, known) {
+        Ok(known) => known.as_str() == name,
+        Err(_) => false,
+    }
 }
 
 impl Texts for Files<'_> {
     ghost gives = { λ _ _ _ _. Unit {0} };
 
     fn text(&mut self, alloc: Global, name: &str) -> Result<String, Unread> {
-        for written in self.written.iter().rev() {
-            if written.name.as_str() == name {
-                return Ok(String::from_str(alloc, written.text.as_str())?);
-            }
+        if let Some(text) = self.written_text(name) {
+            return Ok(String::from_str(alloc, text)?);
         }
         if name == "bytes.graphql" {
             return text_of(Vec::from_slice(alloc, b"{\xff}")?);
         }
-        if let Some(text) = self.listed_text(alloc, name)? {
-            return text_of(Vec::from_slice(alloc, text.as_str().as_bytes())?);
+        match self.listed_text(alloc, name) {
+            Some(text) => text_of(meant(alloc, text)?.into_bytes()),
+            None => Err(match name {
+                "secret.graphql" => Unread::Forbidden,
+                "folder" => Unread::Folder,
+                "disk.graphql" => Unread::Unreadable,
+                "huge.graphql" => Unread::NoMemory,
+                _ => Unread::Missing,
+            }),
         }
-        Err(match name {
-            "secret.graphql" => Unread::Forbidden,
-            "folder" => Unread::Folder,
-            "disk.graphql" => Unread::Unreadable,
-            "huge.graphql" => Unread::NoMemory,
-            _ => Unread::Missing,
-        })
     }
 
     fn files_below(&mut self, alloc: Global, name: &str) -> Result<Option<Vec<String>>, Unread> {
@@ -90,49 +116,56 @@ impl Texts for Files<'_> {
 
     fn replace(&mut self, alloc: Global, name: &str, text: &str) -> Result<(), Unwritten> {
         match name {
-            "kept.graphql" => return Err(Unwritten::Forbidden),
-            "gone.graphql" => return Err(Unwritten::Missing),
-            "fixed.graphql" => return Err(Unwritten::ReadOnly),
-            "full.graphql" => return Err(Unwritten::Full),
-            "odd.graphql" => return Err(Unwritten::Unwritable),
-            "spent.graphql" => return Err(Unwritten::NoMemory),
-            _ => {}
+            "kept.graphql" => Err(Unwritten::Forbidden),
+            "gone.graphql" => Err(Unwritten::Missing),
+            "fixed.graphql" => Err(Unwritten::ReadOnly),
+            "full.graphql" => Err(Unwritten::Full),
+            "odd.graphql" => Err(Unwritten::Unwritable),
+            "spent.graphql" => Err(Unwritten::NoMemory),
+            _ => match self.keep(alloc, name, text) {
+                Ok(()) => Ok(()),
+                Err(_) => Err(Unwritten::NoMemory),
+            },
         }
-        let written = written_file(alloc, name, text).map_err(|_| Unwritten::NoMemory)?;
-        self.written.push(written).map_err(|_| Unwritten::NoMemory)
     }
 }
 
-fn written_file(alloc: Global, name: &str, text: &str) -> Result<Written, AllocError> {
-    Ok(Written {
-        name: String::from_str(alloc, name)?,
-        text: String::from_str(alloc, text)?,
-    })
-}
-
-/// Keeps what it is given, at most so many bytes at a call, and fails in this way once no call is left. A flush is a call too.
+/// Keeps what it is given, and fails in this way once no call is left. A flush is a call too.
 #[derive(Drop)]
 pub struct Sheet {
-    pub held: Vec<u8>,
-    at_once: usize,
+    held: Vec<u8>,
+    /// So many bytes are taken at a call at most.
+    pub at_once: usize,
     calls_left: usize,
     kind: ErrorKind,
 }
 
 impl Sheet {
-    /// An empty one, which takes any number of bytes at a call.
-    pub fn new(alloc: Global, calls_left: usize, kind: ErrorKind) -> Sheet {
-        Sheet::slow(alloc, usize::MAX, calls_left, kind)
-    }
-
-    /// An empty one, which takes so many bytes at a call.
-    pub fn slow(alloc: Global, at_once: usize, calls_left: usize, kind: ErrorKind) -> Sheet {
+    /// An empty one, which takes all that is written.
+    pub fn new(alloc: Global) -> Sheet {
         Sheet {
             held: Vec::new(alloc),
-            at_once,
-            calls_left,
-            kind,
+            at_once: usize::MAX,
+            calls_left: usize::MAX,
+            kind: ErrorKind::Other,
         }
+    }
+
+    /// Is empty again, with so many calls left.
+    pub fn renew(&mut self, calls: usize) {
+        self.held.clear();
+        self.calls_left = calls;
+    }
+
+    /// Fails in this way after so many calls.
+    pub fn fail_after(&mut self, calls: usize, kind: ErrorKind) {
+        self.calls_left = calls;
+        self.kind = kind;
+    }
+
+    /// What was written.
+    pub fn text(&self) -> &str {
+        str::from_utf8(self.held.as_slice()).unwrap_or("no text")
     }
 
     fn call(&mut self) -> IoResult<()> {

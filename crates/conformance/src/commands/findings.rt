@@ -2,11 +2,10 @@
 //! lines before it, the tokens were looked for in all of it, and so was a block string that nothing closes. How the text was gone
 //! through stands here as it was; the reports of both forms are those of `graphql_report`, and so is the refused token within other
 //! limits than the default; where a definition or a block string begins is found alike for both.
-ghost use Rattle.std.specs.Prelude.{IfOk};
 ghost use Rattle.graphql_report.specs.reports.Rests.{BeginsAt};
 
 use super::fakes::Sheet;
-use super::runs::patient;
+use super::pieces::{number_pair, write_made, write_many_mistakes};
 use crate::reports::read_as;
 use graphql_commands::command::Format;
 use graphql_commands::telling::Teller;
@@ -15,112 +14,127 @@ use graphql_parser::pos::PositionCalculator;
 use graphql_parser::{Error, Limits, Memory, Pos, check_query_from, check_schema_from};
 use graphql_report::{Language, ReadFrom, ReadUpTo, Style, finding_of, refused_token};
 use graphql_texts::check::error_of;
-use graphql_texts::diagnoses_of;
-use graphql_texts::errors::{MOST_FINDINGS, Names, Refused, Source};
+use graphql_texts::errors::{MOST_FINDINGS, Names, Source};
 use graphql_texts::recovery::{next_definition, probable_opening, rest_at, unclosed_string};
-use rows::pair;
+use graphql_texts::{Diagnosis, diagnoses_of};
+use rows::Shown;
 use serde_json::to_string;
 use std::alloc::{AllocError, Global};
-use std::str;
-use std::test::Fail;
 
-/// Pieces of which schema files are made.
-pub const OF_SCHEMAS: [&str; 30] = [
-    "type A {\n",
-    "type B implements C & D {\n",
-    "  a: Int\n",
-    "  \"d\" b(c: Int = 1): [D!]\n",
-    "  e: [[F]]\n",
-    "}\n",
-    "}",
-    "enum G { H I }\n",
-    "input J { k: L = {m: 1} }\n",
-    "\"\"\"\n",
-    "\"\"\"told\"\"\"\n",
-    "\"\"\"\"",
-    "\"\"",
-    "\"a\\q\"",
-    "\"a",
-    "extend type N\n",
-    "scalar O @p(q: \"\"\"r\ns\"\"\")\n",
-    "union T = U | V\n",
-    "directive @w(x: Y) on FIELD | OBJECT\n",
-    "schema { query: Q }\n",
-    "schema { query: Q query: R }\n",
-    "interface Z\n",
-    "  f g\n",
-    ") ",
-    "\r",
-    "\r\n",
-    "# c\n",
-    "é\n",
-    "<<<<<<< HEAD\n",
-    "\n",
-];
-
-/// Pieces of which requests are made.
-pub const OF_REQUESTS: [&str; 24] = [
-    "query A($b: Int = 1) {\n",
-    "query C @d {\n",
-    "mutation {\n",
-    "{\n",
-    "  e(f: [1, {g: $h}]) { i j: k }\n",
-    "  ...L\n",
-    "  ... on M { n }\n",
-    "  o(p: [[[[1]]]]) { q { r { s } } }\n",
-    "}\n",
-    "}",
-    "fragment T on U { v }\n",
-    "fragment T on W { x }\n",
-    "{ y(z:) }\n",
-    "\"\"\"\n",
-    "\"\"\"told\"\"\"\n",
-    "\"a\\u12\"",
-    "  a(b: \"c\" d: \"\"\"e\nf\"\"\")\n",
-    "$ ",
-    "1.\n",
-    "\r",
-    "# c\n",
-    "é\n",
-    "query type\n",
-    "\n",
-];
-
-// A request with a mistake in so many definitions, and one that nests too deep last.
-fn many_mistakes(alloc: Global, count: usize) -> Result<String, AllocError> {
-    let mut text = String::new(alloc);
-    for _ in 0..count {
-        text.push_str("query A {\n  b(c:)\n}\n")?;
-    }
-    text.push_str("query D ")?;
-    for _ in 0..70 {
-        text.push_str("{e")?;
-    }
-    text.push_str("\nquery F {}\n")?;
-    Ok(text)
+// All that is told of a text: the reports, and the lines of JSON.
+#[derive(Drop)]
+struct Told {
+    reporter: Teller,
+    lister: Teller,
+    err: Sheet,
 }
 
-// The next number of a run that looks random.
-fn next_number(state: &mut u64) -> usize {
-    let mut next = *state;
-    next ^= next << 13;
-    next ^= next >> 7;
-    next ^= next << 17;
-    *state = next;
-    (next >> 11) as usize
-}
-
-/// A text of some of these pieces.
-pub fn made(alloc: Global, pieces: &[&'static str], state: &mut u64) -> Result<String, AllocError> {
-    let mut text = String::new(alloc);
-    for _ in 0..next_number(state) % 40 {
-        let at = next_number(state).checked_rem(pieces.len()).unwrap_or(0);
-        text.push_str(pieces.get(at).copied().unwrap_or(""))?;
+impl Told {
+    fn new(alloc: Global) -> Told {
+        Told {
+            reporter: Teller::new(alloc, Format::Text, Style::Plain, false),
+            lister: Teller::new(alloc, Format::Json, Style::Plain, false),
+            err: Sheet::new(alloc),
+        }
     }
-    Ok(text)
+
+    // A line of JSON for each finding.
+    fn lines(&self) -> &str {
+        self.lister.lines.as_str()
+    }
+
+    fn is_as(&self, other: &Told) -> bool {
+        self.err.text() == other.err.text()
+            && self.lines() == other.lines()
+            && self.reporter.lines == other.reporter.lines
+    }
+
+    // Tells the errors of a text as it is done now.
+    fn tell_all(&mut self, alloc: Global, source: &Source<'_>) -> Result<(), AllocError> {
+        if let Some(refused) = error_of(&mut Memory::new(alloc), source, true)? {
+            self.reporter.tell_all(source, refused, &mut self.err)?;
+        }
+        if let Some(refused) = error_of(&mut Memory::new(alloc), source, true)? {
+            self.lister.tell_all(source, refused, &mut self.err)?;
+        }
+        Ok(())
+    }
 }
 
 // ---- as it was
+
+impl Told {
+    fn tell_all_before(&mut self, alloc: Global, whole: &Source<'_>) -> Result<(), AllocError> {
+        let mut rest = String::from_str(alloc, whole.text)?;
+        for turn in 0..MOST_FINDINGS {
+            let source = Source {
+                text: rest.as_str(),
+                ..*whole
+            };
+            match self.tell_first_before(alloc, &source, turn > 0)? {
+                Some(next) => rest = next,
+                None => break,
+            }
+        }
+        Ok(())
+    }
+
+    // Tells the first error of a text, and returns a copy of the rest from the next definition on.
+    fn tell_first_before(
+        &mut self,
+        alloc: Global,
+        source: &Source<'_>,
+        is_rest: bool,
+    ) -> Result<Option<String>, AllocError> {
+        match error_of(&mut Memory::new(alloc), source, true)? {
+            Some(refused) => self.tell_error_before(alloc, source, &refused.error, is_rest),
+            None => Ok(None),
+        }
+    }
+
+    fn tell_error_before(
+        &mut self,
+        alloc: Global,
+        source: &Source<'_>,
+        error: &Error,
+        is_rest: bool,
+    ) -> Result<Option<String>, AllocError> {
+        if is_rest && matches!(error, Error::MultipleOperations { .. }) {
+            return Ok(None);
+        }
+        let token = token_before(alloc, source, error);
+        let known = ReadUpTo {
+            from: ReadFrom::top(source.text),
+            token,
+            unclosed: unclosed_before(source, token),
+        };
+        self.reporter.tell(source, &known, error, &mut self.err)?;
+        self.lister.tell(source, &known, error, &mut self.err)?;
+        match next_before(source, token) {
+            Some(offset) => rest_at(alloc, source.text, offset),
+            None => Ok(None),
+        }
+    }
+}
+
+// The token at which a text is refused, if it is refused at one.
+fn token_before<'a>(alloc: Global, source: &Source<'a>, error: &Error) -> Option<Token<'a>> {
+    let found = match error {
+        Error::Syntax { start, .. } => only_token_at(source.text, *start),
+        Error::RecursionLimitExceeded => None,
+        _ => return None,
+    };
+    if found.is_some() {
+        return found;
+    }
+    if source.limits == Limits::default() {
+        return last_taken(alloc, source);
+    }
+    match refused_token(alloc, source.language, source.text, source.limits, error) {
+        Ok(token) => token,
+        Err(_) => None,
+    }
+}
 
 fn only_token_at(text: &str, place: Pos) -> Option<Token<'_>> {
     let mut found = None;
@@ -135,223 +149,52 @@ fn only_token_at(text: &str, place: Pos) -> Option<Token<'_>> {
     found
 }
 
-fn token_before<'a>(
-    alloc: Global,
-    source: &Source<'a>,
-    error: &Error,
-) -> Result<Option<Token<'a>>, AllocError> {
-    if let Error::Syntax { start, .. } = error
-        && let Some(token) = only_token_at(source.text, *start)
-    {
-        return Ok(Some(token));
-    }
-    if source.limits != Limits::default() {
-        return refused_token(alloc, source.language, source.text, source.limits, error);
-    }
+fn last_taken<'a>(alloc: Global, source: &Source<'a>) -> Option<Token<'a>> {
     let mut tokens = Tokens::new(source.text);
     let _ = match source.language {
         Language::Requests => check_query_from(alloc, &mut tokens),
         Language::Schemas => check_schema_from(alloc, &mut tokens),
     };
     let taken = tokens.taken();
-    Ok(Tokens::new(source.text).nth(taken.saturating_sub(1)))
+    Tokens::new(source.text).nth(taken.saturating_sub(1))
 }
 
-fn error_before(alloc: Global, source: &Source<'_>) -> Result<Option<Error>, AllocError> {
-    let Some(refused) = error_of(&mut Memory::new(alloc), source, true)? else {
-        return Ok(None);
-    };
-    let Refused { error, .. } = refused;
-    match error {
-        Error::MultipleOperations { .. } => Ok(None),
-        other => Ok(Some(other)),
-    }
-}
-
-// What is known of the reading of a text from its beginning on. Where nothing closes a block string of the rest, it is told where
-// the one probably begins that isn't closed.
-fn known_before<'a>(
-    alloc: Global,
-    source: &Source<'a>,
-    error: &Error,
-) -> Result<ReadUpTo<'a>, AllocError>
-    ensures { IfOk result (λ known. BeginsAt source.now.text.now known.from) }
-{
-    let mut known = ReadUpTo {
-        from: ReadFrom::top(source.text),
-        token: None,
-        unclosed: None,
-    };
-    if !matches!(error, Error::Syntax { .. } | Error::RecursionLimitExceeded) {
-        return Ok(known);
-    }
-    known.token = token_before(alloc, source, error)?;
-    let Some(token) = known.token else {
-        return Ok(known);
-    };
-    if let Some(last) = unclosed_string(source.text, token.start) {
-        known.unclosed = unclosed_before(source, &token, last);
-    }
-    Ok(known)
-}
-
-fn unclosed_before(source: &Source<'_>, token: &Token<'_>, last: usize) -> Option<Pos> {
+// Where the block string probably begins that isn't closed, if nothing closes one of the rest, and that isn't the refused token.
+fn unclosed_before(source: &Source<'_>, token: Option<Token<'_>>) -> Option<Pos> {
+    let token = token?;
+    let last = unclosed_string(source.text, token.start)?;
     let start = probable_opening(source.language, source.text, token.start).unwrap_or(last);
-    let (front, _) = source.text.split_at_checked(start)?;
     if start == token.start {
         return None;
     }
-    Some(PositionCalculator::new(front).step(front.len()))
+    place_at(source.text, start)
 }
 
-fn rest_before(
-    alloc: Global,
-    source: &Source<'_>,
-    known: &ReadUpTo<'_>,
-) -> Result<Option<String>, AllocError> {
-    let Some(token) = known.token else {
-        return Ok(None);
-    };
+fn next_before(source: &Source<'_>, token: Option<Token<'_>>) -> Option<usize> {
+    let token = token?;
     let passed = unclosed_string(source.text, token.start).unwrap_or(token.start);
-    match next_definition(source.language, source.text, passed) {
-        Some(offset) => rest_at(alloc, source.text, offset),
-        None => Ok(None),
-    }
+    next_definition(source.language, source.text, passed)
 }
 
-fn tell_all_before(
-    teller: &mut Teller,
-    whole: &Source<'_>,
-    error: &Error,
-    err: &mut Sheet,
-) -> Result<(), AllocError> {
-    let alloc = teller.alloc;
-    let known = known_before(alloc, whole, error)?;
-    teller.tell(whole, &known, error, err)?;
-    let Some(mut rest) = rest_before(alloc, whole, &known)? else {
-        return Ok(());
-    };
-    for _ in 1..MOST_FINDINGS {
-        let source = Source {
-            text: rest.as_str(),
-            ..*whole
-        };
-        let Some(error) = error_before(alloc, &source)? else {
-            break;
-        };
-        let known = known_before(alloc, &source, &error)?;
-        teller.tell(&source, &known, &error, err)?;
-        let Some(next) = rest_before(alloc, &source, &known)? else {
-            break;
-        };
-        rest = next;
+// Where the refused token ends, counted from the beginning of the text.
+fn end_before(source: &Source<'_>, token: Option<Token<'_>>) -> Option<Pos> {
+    let token = token?;
+    if token.text.is_empty() {
+        return None;
     }
-    Ok(())
+    place_at(source.text, token.start.saturating_add(token.text.len()))
+}
+
+fn place_at(text: &str, offset: usize) -> Option<Pos> {
+    let (front, _) = text.split_at_checked(offset)?;
+    Some(PositionCalculator::new(front).step(front.len()))
 }
 
 // ---- both forms
 
-// All that is told of a text, in one form or the other.
-fn told(
-    alloc: Global,
-    source: &Source<'_>,
-    format: Format,
-    refused: &Refused<'_>,
-    is_before: bool,
-) -> Result<String, Fail> {
-    let mut teller = Teller::new(alloc, format, Style::Plain, false);
-    let mut err = patient(alloc);
-    if is_before {
-        tell_all_before(&mut teller, source, &refused.error, &mut err)?;
-    } else if let Some(refused) = error_of(&mut Memory::new(alloc), source, true)? {
-        teller.tell_all(source, refused, &mut err)?;
-    }
-    let mut told = String::from_str(alloc, str::from_utf8(err.held.as_slice())?)?;
-    told.push_str(teller.lines.as_str())?;
-    Ok(told)
-}
-
-// Where the refused token ends, counted from the beginning of the text.
-fn end_before(
-    alloc: Global,
-    source: &Source<'_>,
-    error: &Error,
-) -> Result<Option<Pos>, AllocError> {
-    if !matches!(error, Error::Syntax { .. } | Error::RecursionLimitExceeded) {
-        return Ok(None);
-    }
-    let Some(token) = token_before(alloc, source, error)? else {
-        return Ok(None);
-    };
-    if token.text.is_empty() {
-        return Ok(None);
-    }
-    let end = token.start.saturating_add(token.text.len());
-    let Some((front, _)) = source.text.split_at_checked(end) else {
-        return Ok(None);
-    };
-    Ok(Some(PositionCalculator::new(front).step(front.len())))
-}
-
-// How many findings a text with this error has, if it is told alike in both forms, and diagnosed so.
-fn counted(
-    alloc: Global,
-    source: &Source<'_>,
-    refused: &Refused<'_>,
-) -> Result<Option<usize>, Fail> {
-    let error = &refused.error;
-    let report = told(alloc, source, Format::Text, refused, false)?;
-    // A line of JSON for each.
-    let lines = told(alloc, source, Format::Json, refused, false)?;
-    let finding = finding_of(alloc, source.language, source.text, source.limits, error)?;
-    if report != told(alloc, source, Format::Text, refused, true)?
-        || lines != told(alloc, source, Format::Json, refused, true)?
-        || finding.end != end_before(alloc, source, error)?
-        || !are_diagnosed(alloc, source, lines.as_str())?
-    {
-        return Ok(None);
-    }
-    Ok(Some(lines.as_str().lines().count()))
-}
-
-// Whether the diagnoses of a text are the findings of these lines of JSON, in order: the place is where a diagnosis begins.
-fn are_diagnosed(alloc: Global, source: &Source<'_>, lines: &str) -> Result<bool, Fail> {
-    let Source {
-        language,
-        limits,
-        text,
-        ..
-    } = *source;
-    let diagnoses = diagnoses_of(alloc, language, text, limits)?;
-    let mut left = lines.lines();
-    for diagnosis in &diagnoses {
-        let line = left.next().unwrap_or("");
-        let Some((front, _)) = text.split_at_checked(diagnosis.span.start) else {
-            return Ok(false);
-        };
-        let Pos { line: row, column } = PositionCalculator::new(front).step(front.len());
-        let place = format!(in alloc; "\"line\":{row},\"column\":{column},")?;
-        let status = diagnosis.status;
-        let status = format!(in alloc; "\"status\":\"{status}\",")?;
-        let message = to_string(alloc, &diagnosis.message.as_str())?;
-        if !(line.contains(place.as_str())
-            && line.contains(status.as_str())
-            && line.contains(message.as_str()))
-        {
-            return Ok(false);
-        }
-    }
-    Ok(left.next().is_none())
-}
-
-// How many findings a text has, if it is told alike in both forms, and diagnosed so.
-fn findings_of(
-    alloc: Global,
-    language: Language,
-    limits: Limits,
-    text: &str,
-) -> Result<Option<usize>, Fail> {
-    let source = Source {
+// How many findings a text has, if it is told alike in both forms, and diagnosed so, and there is memory for that.
+fn findings_of(alloc: Global, language: Language, limits: Limits, text: &str) -> Option<usize> {
+    let source = &Source {
         names: Names {
             shown: "a",
             name: "a",
@@ -360,43 +203,112 @@ fn findings_of(
         limits,
         text,
     };
-    match error_of(&mut Memory::new(alloc), &source, true)? {
-        Some(refused) => counted(alloc, &source, &refused),
-        None => Ok(Some(0)),
+    let mut now = Told::new(alloc);
+    let mut before = Told::new(alloc);
+    let is_alike = now.tell_all(alloc, source).is_ok()
+        && before.tell_all_before(alloc, source).is_ok()
+        && now.is_as(&before)
+        && ends_alike(alloc, source)
+        && is_diagnosed(alloc, source, now.lines());
+    if is_alike {
+        Some(now.lines().lines().count())
+    } else {
+        None
+    }
+}
+
+// Whether the refused token of a text ends where it did.
+fn ends_alike(alloc: Global, source: &Source<'_>) -> bool {
+    match error_of(&mut Memory::new(alloc), source, true) {
+        Ok(Some(refused)) => is_end_alike(alloc, source, &refused.error),
+        Ok(None) => true,
+        Err(_) => false,
+    }
+}
+
+fn is_end_alike(alloc: Global, source: &Source<'_>, error: &Error) -> bool {
+    let token = token_before(alloc, source, error);
+    match finding_of(alloc, source.language, source.text, source.limits, error) {
+        Ok(finding) => finding.end == end_before(source, token),
+        Err(_) => false,
+    }
+}
+
+// Whether the diagnoses of a text are the findings of these lines of JSON, in order: the place is where a diagnosis begins.
+fn is_diagnosed(alloc: Global, source: &Source<'_>, lines: &str) -> bool {
+    match diagnoses_of(alloc, source.language, source.text, source.limits) {
+        Ok(diagnoses) => are_lines_of(alloc, source.text, lines, &diagnoses),
+        Err(_) => false,
+    }
+}
+
+fn are_lines_of(alloc: Global, text: &str, lines: &str, diagnoses: &Vec<Diagnosis>) -> bool {
+    let mut left = lines.lines();
+    let mut part = Shown::new(alloc, true);
+    for diagnosis in diagnoses {
+        if !is_line_of(&mut part, text, left.next().unwrap_or(""), diagnosis) {
+            return false;
+        }
+    }
+    left.next().is_none()
+}
+
+// Whether a line of JSON has the place, the status and the message of a diagnosis; each is written to `part`.
+fn is_line_of(part: &mut Shown, text: &str, line: &str, diagnosis: &Diagnosis) -> bool {
+    let Some(place) = place_at(text, diagnosis.span.start) else {
+        return false;
+    };
+    part.clear();
+    part.item("\"line\":", &place.line);
+    part.item(",\"column\":", &place.column);
+    part.word(",");
+    let has_place = is_in(part, line);
+    part.clear();
+    part.item("\"status\":\"", &diagnosis.status);
+    part.word("\",");
+    let has_status = is_in(part, line);
+    match to_string(part.alloc(), &diagnosis.message.as_str()) {
+        Ok(message) => has_place && has_status && line.contains(message.as_str()),
+        Err(_) => false,
+    }
+}
+
+fn is_in(part: &Shown, line: &str) -> bool {
+    match part.whole() {
+        Some(part) => line.contains(part),
+        None => false,
     }
 }
 
 /// Whether a text is told alike in both forms, which is read in a language and at limits, as `query 64 64 64`.
-pub fn told_alike(alloc: Global, reading: &str, text: &str) -> Result<String, Fail> {
-    let (language, limits) = read_as(reading)?;
-    let answer = match findings_of(alloc, language, limits, text)? {
-        Some(0) => "good",
-        Some(_) => "alike, some",
-        None => "otherwise",
+pub fn told_alike(shown: &mut Shown, reading: &str, text: &str) {
+    let Some((language, limits)) = read_as(reading) else {
+        shown.word("no such reading");
+        return;
     };
-    Ok(String::from_str(alloc, answer)?)
-}
-
-/// Whether a request with a mistake in so many definitions is told alike, and how many findings it has.
-pub fn many_told(alloc: Global, count: &str) -> Result<String, Fail> {
-    let text = many_mistakes(alloc, count.parse()?)?;
-    let limits = Limits::default();
-    match findings_of(alloc, Language::Requests, limits, text.as_str())? {
-        Some(found) => Ok(format!(in alloc; "alike, {found}")?),
-        None => Ok(String::from_str(alloc, "otherwise")?),
+    match findings_of(shown.alloc(), language, limits, text) {
+        Some(0) => shown.word("good"),
+        Some(_) => shown.word("alike, some"),
+        None => shown.word("otherwise"),
     }
 }
 
-/// Two numbers, with a blank between them.
-pub fn number_pair(row: &str) -> Result<(u64, usize), Fail> {
-    let (one, other) = pair(row, " ")?;
-    Ok((one.parse()?, other.parse()?))
+/// Whether a request with a mistake in so many definitions is told alike, and how many findings it has.
+pub fn many_told(shown: &mut Shown, count: &str) {
+    let mut text = Shown::new(shown.alloc(), true);
+    write_many_mistakes(&mut text, count.parse().unwrap_or(0));
+    let text = text.whole().unwrap_or("");
+    match findings_of(shown.alloc(), Language::Requests, Limits::default(), text) {
+        Some(found) => shown.item("alike, ", &found),
+        None => shown.word("otherwise"),
+    }
 }
 
-/// Whether made texts are told alike, so many of each language, after the seed: every third within narrow limits. If not, the
-/// first that isn't.
-pub fn made_told(alloc: Global, row: &str) -> Result<String, Fail> {
-    let (mut state, count) = number_pair(row)?;
+/// Whether made texts are told alike, so many of each language, after the seed: every third within narrow limits. Those that
+/// aren't stand before that.
+pub fn made_told(shown: &mut Shown, row: &str) {
+    let (mut state, count) = number_pair(row);
+    let mut text = Shown::new(shown.alloc(), true);
     let mut refused = 0usize;
     let mut findings = 0usize;
     for turn in 0..count {
@@ -406,19 +318,22 @@ pub fn made_told(alloc: Global, row: &str) -> Result<String, Fail> {
             Limits::default()
         };
         for language in [Language::Requests, Language::Schemas] {
-            let pieces: &[&'static str] = match language {
-                Language::Requests => &OF_REQUESTS,
-                Language::Schemas => &OF_SCHEMAS,
-            };
-            let text = made(alloc, pieces, &mut state)?;
-            let Some(found) = findings_of(alloc, language, limits, text.as_str())? else {
-                return Ok(text);
-            };
-            refused = refused.saturating_add(found.min(1));
-            findings = findings.saturating_add(found);
+            text.clear();
+            write_made(&mut text, language, &mut state);
+            let made = text.whole().unwrap_or("");
+            match findings_of(shown.alloc(), language, limits, made) {
+                Some(found) => {
+                    refused = refused.saturating_add(found.min(1));
+                    findings = findings.saturating_add(found);
+                }
+                None => shown.item("otherwise: ", &made),
+            }
         }
     }
     let is_many = refused > count && findings > refused.saturating_mul(2);
-    let many = if is_many { "many" } else { "few" };
-    Ok(format!(in alloc; "alike, {many} in rests")?)
+    shown.word(if is_many {
+        "alike, many in rests"
+    } else {
+        "alike, few in rests"
+    });
 }

@@ -4,13 +4,11 @@
 //! Where `*` stands before the arguments, each read, each write and each flush is made to fail in turn, too, and the last line has
 //! the number of all these runs.
 use super::fakes::Sheet;
-use super::runs::push_lines;
+use super::runs::write_lines;
 use graphql_listing::run;
-use rows::{meant, pair};
-use std::alloc::Global;
+use rows::{Shown, meant, pair};
+use std::alloc::{AllocError, Global};
 use std::io::{Error, ErrorKind, Read, Result as IoResult};
-use std::str;
-use std::test::Fail;
 
 const MANY: usize = 1_000_000;
 
@@ -48,24 +46,65 @@ struct Ended<'a> {
     err: &'a str,
 }
 
-// What the program is given, and how its runs have ended.
+// What the program is given, what it writes, and how its runs have ended.
 #[derive(Drop)]
 struct Row {
     words: Vec<String>,
     input: Vec<u8>,
+    out: Sheet,
+    err: Sheet,
     runs: usize,
     failed: usize,
 }
 
 impl Row {
-    // Runs the program, and returns its status. So many reads succeed, and a later one fails.
-    fn run(&mut self, alloc: Global, reads: usize, out: &mut Sheet, err: &mut Sheet) -> u8 {
+    fn new(alloc: Global) -> Row {
+        let mut row = Row {
+            words: Vec::new(alloc),
+            input: Vec::new(alloc),
+            out: Sheet::new(alloc),
+            err: Sheet::new(alloc),
+            runs: 0,
+            failed: 0,
+        };
+        row.out.at_once = WRITTEN_AT_ONCE;
+        row.err.at_once = WRITTEN_AT_ONCE;
+        row
+    }
+
+    // Takes the arguments and the input of a row.
+    fn take(&mut self, alloc: Global, head: &str, line: &str) -> Result<(), AllocError> {
+        for word in head.split_ascii_whitespace().skip(1) {
+            self.words.push(meant(alloc, word)?)?;
+        }
+        if let Some(text) = line.strip_prefix("< ") {
+            self.input
+                .extend_from_slice(meant(alloc, text)?.as_str().as_bytes())?;
+        } else if let Some(bytes) = line.strip_prefix("x ") {
+            for byte in bytes.split_ascii_whitespace() {
+                self.input.push(u8::from_str_radix(byte, 16).unwrap_or(0))?;
+            }
+        }
+        Ok(())
+    }
+
+    // Runs the program, and returns its status. So many reads succeed, so many writes and flushes of its output, and so many of its
+    // complaint, and a later one fails.
+    fn run(&mut self, alloc: Global, reads: usize, writes: usize, complaints: usize) -> u8 {
         let mut input = Input {
             left: self.input.as_slice(),
             calls_left: reads,
         };
         self.runs = self.runs.saturating_add(1);
-        run(alloc, self.words.as_slice(), &mut input, out, err)
+        self.out.renew(writes);
+        self.err.renew(complaints);
+        run(
+            alloc,
+            self.words.as_slice(),
+            &mut input,
+            &mut self.out,
+            &mut self.err,
+        )
     }
 
     // Runs the program where so many reads and so many writes and flushes of its output succeed, and so many of its complaint:
@@ -78,13 +117,10 @@ impl Row {
         ended: Ended<'_>,
     ) {
         for complaints in 0..=calls_for(ended.err) {
-            let mut out = sheet(alloc, writes);
-            let mut err = sheet(alloc, complaints);
-            let status = self.run(alloc, reads, &mut out, &mut err);
-            let told = written(ended.err, complaints);
+            let status = self.run(alloc, reads, writes, complaints);
             if status != ended.status
-                || out.held.as_slice() != ended.out.as_bytes()
-                || err.held.as_slice() != told.as_bytes()
+                || self.out.text() != ended.out
+                || self.err.text() != written(ended.err, complaints)
             {
                 self.failed = self.failed.saturating_add(1);
             }
@@ -126,11 +162,6 @@ impl Row {
     }
 }
 
-// A sheet that takes so many calls.
-fn sheet(alloc: Global, calls: usize) -> Sheet {
-    Sheet::slow(alloc, WRITTEN_AT_ONCE, calls, ErrorKind::Other)
-}
-
 // How many calls it takes to write a text and to flush it.
 fn calls_for(text: &str) -> usize {
     text.len().div_ceil(WRITTEN_AT_ONCE).wrapping_add(1)
@@ -144,57 +175,45 @@ fn written(text: &str, calls: usize) -> &str {
     }
 }
 
-// The arguments and the input of a row.
-fn given(alloc: Global, head: &str, line: &str) -> Result<Row, Fail> {
-    let mut words = Vec::new(alloc);
-    for word in head.split_ascii_whitespace().skip(1) {
-        words.push(meant(alloc, word)?)?;
+/// Writes the row that is made by the runs whose arguments and input are those of this one.
+pub fn write_made(shown: &mut Shown, row: &str) {
+    let (head, rest) = pair(row, "\n");
+    let line = rest.lines().next().unwrap_or("");
+    let mut row = Row::new(shown.alloc());
+    match row.take(shown.alloc(), head, line) {
+        Ok(()) => write_row(shown, &mut row, head, line),
+        Err(_) => shown.leave_out(),
     }
-    let mut input = Vec::new(alloc);
-    if let Some(bytes) = line.strip_prefix("x ") {
-        for byte in bytes.split_ascii_whitespace() {
-            input.push(u8::from_str_radix(byte, 16)?)?;
-        }
-    } else if let Some(text) = line.strip_prefix("< ") {
-        input.extend_from_slice(meant(alloc, text)?.as_str().as_bytes())?;
-    }
-    Ok(Row {
-        words,
-        input,
-        runs: 0,
-        failed: 0,
-    })
 }
 
-/// The row that is made by the runs whose arguments and input are those of this one.
-pub fn made(alloc: Global, row: &str) -> Result<String, Fail> {
-    let (head, rest) = pair(row, "\n")?;
-    let line = rest.lines().next().unwrap_or("");
-    let mut row = given(alloc, head, line)?;
-    let mut out = sheet(alloc, MANY);
-    let mut err = sheet(alloc, MANY);
-    let status = row.run(alloc, MANY, &mut out, &mut err);
+fn write_row(shown: &mut Shown, row: &mut Row, head: &str, line: &str) {
+    let alloc = shown.alloc();
+    let status = row.run(alloc, MANY, MANY, MANY);
+    let mut out = Shown::new(alloc, true);
+    let mut err = Shown::new(alloc, true);
+    out.word(row.out.text());
+    err.word(row.err.text());
     let ended = Ended {
         status,
-        out: str::from_utf8(out.held.as_slice())?,
-        err: str::from_utf8(err.held.as_slice())?,
+        out: out.whole().unwrap_or("out of memory"),
+        err: err.whole().unwrap_or("out of memory"),
     };
-    let mut made = String::from_str(alloc, head)?;
-    made.push('\n')?;
+    shown.word(head);
+    shown.word("\n");
     if line.starts_with('<') || line.starts_with('x') {
-        made.push_str(line)?;
-        made.push('\n')?;
+        shown.word(line);
+        shown.word("\n");
     }
-    push_lines(&mut made, "> ", ended.out)?;
-    push_lines(&mut made, "! ", ended.err)?;
-    write!(made, "= {status}")?;
+    write_lines(shown, "> ", ended.out);
+    write_lines(shown, "! ", ended.err);
+    shown.item("= ", &status);
     if head.starts_with('*') {
         row.calls_fail_in_turn(alloc, ended);
-        let (runs, failed) = (row.runs, row.failed);
-        write!(made, "\n{runs} runs")?;
-        if failed > 0 {
-            write!(made, ", of which {failed} end otherwise")?;
+        shown.item("\n", &row.runs);
+        shown.word(" runs");
+        if row.failed > 0 {
+            shown.item(", of which ", &row.failed);
+            shown.word(" end otherwise");
         }
     }
-    Ok(made)
 }

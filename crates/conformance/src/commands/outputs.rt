@@ -1,12 +1,8 @@
 //! Help, and output that can't be written.
-use super::fakes::{Files, Sheet};
-use super::runs::{ended, patient};
+use super::runs::Run;
 use graphql_commands::Style;
-use rows::pair;
-use std::alloc::Global;
+use rows::{Shown, pair};
 use std::io::ErrorKind;
-use std::str;
-use std::test::Fail;
 
 // What help speaks of.
 const TOLD: [&str; 17] = [
@@ -30,38 +26,41 @@ const TOLD: [&str; 17] = [
 ];
 
 /// The status of a call for help that may write nothing to standard error, and what its help doesn't speak of.
-pub fn help(alloc: Global, listed: &str, words: &str) -> Result<String, Fail> {
-    let mut out = patient(alloc);
-    let mut err = Sheet::new(alloc, 0, ErrorKind::Other);
-    let files = &mut Files::new(alloc, listed);
-    let status = ended(alloc, files, Some(words), Style::Plain, &mut out, &mut err)?;
-    let help = str::from_utf8(out.held.as_slice())?;
-    let mut answer = format!(in alloc; "{status}")?;
+pub fn help(shown: &mut Shown, listed: &str, words: &str) {
+    let alloc = shown.alloc();
+    let mut run = Run::new(alloc, listed);
+    run.err.fail_after(0, ErrorKind::Other);
+    run.end(alloc, words, Style::Plain);
+    shown.item("", &run.status);
     for word in TOLD {
-        if !help.contains(word) {
-            write!(answer, " without {word}")?;
+        if !run.out.text().contains(word) {
+            shown.item(" without ", &word);
         }
     }
-    Ok(answer)
 }
 
 /// The status of a call whose standard output fails so after a number of writes and flushes, and what is told on standard
 /// error. The number stands before the words.
-pub fn cut_short(alloc: Global, listed: &str, kind: ErrorKind, row: &str) -> Result<String, Fail> {
-    let (calls, words) = pair(row, " ")?;
-    let mut out = Sheet::new(alloc, calls.parse()?, kind);
-    let mut err = patient(alloc);
-    let files = &mut Files::new(alloc, listed);
-    let status = ended(alloc, files, Some(words), Style::Plain, &mut out, &mut err)?;
-    let told = str::from_utf8(err.held.as_slice())?;
-    Ok(format!(in alloc; "{status} {told}")?)
+pub fn cut_short(shown: &mut Shown, listed: &str, kind: ErrorKind, row: &str) {
+    let (calls, words) = pair(row, " ");
+    let alloc = shown.alloc();
+    let mut run = Run::new(alloc, listed);
+    run.out
+        .fail_after(calls.parse().unwrap_or(usize::MAX), kind);
+    run.end(alloc, words, Style::Plain);
+    shown.item("", &run.status);
+    shown.word(" ");
+    shown.word(run.err.text());
 }
 
-/// The status of a call that can't write to standard error; its words are no text where they are None.
-pub fn unheard(alloc: Global, listed: &str, words: Option<&str>) -> Result<String, Fail> {
-    let mut out = patient(alloc);
-    let mut err = Sheet::new(alloc, 0, ErrorKind::Other);
-    let files = &mut Files::new(alloc, listed);
-    let status = ended(alloc, files, words, Style::Plain, &mut out, &mut err)?;
-    Ok(format!(in alloc; "{status}")?)
+/// The status of a call that can't write to standard error; its words are no text if they are None.
+pub fn unheard(shown: &mut Shown, listed: &str, words: Option<&str>) {
+    let alloc = shown.alloc();
+    let mut run = Run::new(alloc, listed);
+    run.err.fail_after(0, ErrorKind::Other);
+    match words {
+        Some(words) => run.end(alloc, words, Style::Plain),
+        None => run.end_without_words(alloc, Style::Plain),
+    }
+    shown.item("", &run.status);
 }

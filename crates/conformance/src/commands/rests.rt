@@ -10,110 +10,157 @@ use graphql_report::{
 use graphql_texts::check::error_of;
 use graphql_texts::errors::{Names, Source};
 use graphql_texts::recovery::rest_at;
-use rows::pair;
-use std::alloc::{AllocError, Global};
-use std::test::Fail;
+use rows::Shown;
+use std::alloc::AllocError;
 
 // What stands before the third line, from which a rest is read.
 const FRONT: &str = "# é\n) type\n";
 
 /// What is told of this rest, which is read in a language and at limits, as `query 64 64 64`: the place, where the token ends,
 /// and the status. Of a copy of it the same is told, and the same report is made.
-pub fn told(alloc: Global, reading: &str, rest: &str) -> Result<String, Fail> {
-    let mut text = String::from_str(alloc, FRONT)?;
-    text.push_str(rest)?;
-    let text = text.as_str();
-    let copy = rest_at(alloc, text, FRONT.len())?.ok_or("no copy")?;
-    let (language, limits) = read_as(reading)?;
-    let source = Source {
+pub fn told(shown: &mut Shown, reading: &str, rest: &str) {
+    let Some((language, limits)) = read_as(reading) else {
+        shown.word("no such reading");
+        return;
+    };
+    let mut text = Shown::new(shown.alloc(), true);
+    text.word(FRONT);
+    text.word(rest);
+    let whole = Source {
         names: Names {
             shown: "f",
             name: "f",
         },
         language,
         limits,
-        text: copy.as_str(),
+        text: text.whole().unwrap_or(""),
     };
-    // What is wrong with the copy, in which each place is that in the whole text.
-    let refused = error_of(&mut Memory::new(alloc), &source, true)?;
-    let refused = refused.ok_or("a good text")?;
-    let from = ReadFrom::top(text)
-        .later(text, FRONT.len())
-        .ok_or("no line")?;
-    told_alike(alloc, text, from, &source, &refused.error)
+    match rest_at(shown.alloc(), whole.text, FRONT.len()) {
+        Ok(Some(copy)) => write_of_copy(shown, &whole, copy.as_str()),
+        Ok(None) => shown.word("no copy"),
+        Err(_) => shown.leave_out(),
+    }
 }
 
-// What is told of a text from there on, if it is what is told of this copy of it.
-fn told_alike(
-    alloc: Global,
-    text: &str,
+// Writes what is told of a copy of the text from the third line on, in which each place is that in the whole text.
+fn write_of_copy(shown: &mut Shown, whole: &Source<'_>, copy: &str) {
+    let source = Source {
+        text: copy,
+        ..*whole
+    };
+    match error_of(&mut Memory::new(shown.alloc()), &source, true) {
+        Ok(Some(refused)) => write_both(shown, whole, &source, &refused.error),
+        Ok(None) => shown.word("a good text"),
+        Err(_) => shown.leave_out(),
+    }
+}
+
+// Writes what is told of the text from the third line on, and what is told of the copy where that is not the same.
+fn write_both(shown: &mut Shown, whole: &Source<'_>, copy: &Source<'_>, error: &Error) {
+    let mut of_text = Shown::new(shown.alloc(), true);
+    let mut of_copy = Shown::new(shown.alloc(), true);
+    match ReadFrom::top(whole.text).later(whole.text, FRONT.len()) {
+        Some(from) => write_of_text(shown, &mut of_text, whole, from, error),
+        None => shown.word("no line"),
+    }
+    let Source {
+        language,
+        limits,
+        text,
+        ..
+    } = *copy;
+    let alloc = shown.alloc();
+    write_message(
+        &mut of_copy,
+        &finding_of(alloc, language, text, limits, error),
+    );
+    of_copy.made("; ", explain(alloc, language, "f", text, limits, error));
+    if of_text.whole() != of_copy.whole() {
+        shown.word(of_text.whole().unwrap_or("out of memory"));
+        shown.word(" of the text, of the copy ");
+        shown.word(of_copy.whole().unwrap_or("out of memory"));
+    }
+}
+
+// Writes the place, the end and the status, and then all that is told of the text from there on to `of_text`.
+fn write_of_text(
+    shown: &mut Shown,
+    of_text: &mut Shown,
+    whole: &Source<'_>,
     from: ReadFrom,
-    copy: &Source<'_>,
     error: &Error,
-) -> Result<String, Fail>
-    requires { BeginsAt text.now from }
+)
+    requires { BeginsAt whole.now.text.now from }
 {
     let Source {
         language,
         limits,
+        text,
         ..
-    } = *copy;
-    let token = match error {
-        Error::Syntax { .. } | Error::RecursionLimitExceeded => {
-            refused_token_from(alloc, language, text, from, limits, error)?
-        }
-        _ => None,
+    } = *whole;
+    let alloc = shown.alloc();
+    let token = match refused_token_from(alloc, language, text, from, limits, error) {
+        Ok(token) => token,
+        Err(_) => None,
     };
     let read = &ReadUpTo {
         from,
         token,
         unclosed: None,
     };
-    let finding = finding_from(alloc, language, text, read, limits, error)?;
-    let of_copy = finding_of(alloc, language, copy.text, limits, error)?;
-    let told = shown(alloc, &finding)?;
-    if told != shown(alloc, &of_copy)? || finding.message != of_copy.message {
-        return Ok(format!(in alloc; "{told}, but not of the copy")?);
-    }
+    let finding = finding_from(alloc, language, text, read, limits, error);
+    write_finding(shown, &finding);
+    write_message(of_text, &finding);
     let style = Style::Plain;
-    let report = explain_from(style, alloc, language, "f", text, read, limits, error)?;
-    let of_copy = explain(alloc, language, "f", copy.text, limits, error)?;
-    if report != of_copy {
-        return Ok(format!(in alloc; "{report} of the text, {of_copy} of the copy")?);
-    }
-    Ok(told)
+    of_text.made(
+        "; ",
+        explain_from(style, alloc, language, "f", text, read, limits, error),
+    );
 }
 
-// The place of a finding, where its token ends, and its status.
-fn shown(alloc: Global, finding: &Finding) -> Result<String, AllocError> {
-    let mut shown = String::new(alloc);
-    for place in [finding.place, finding.end] {
-        match place {
-            Some(place) => write!(shown, "{place} ")?,
-            None => shown.push_str("- ")?,
+// Writes the place of a finding, where its token ends, and its status.
+fn write_finding(shown: &mut Shown, finding: &Result<Finding, AllocError>) {
+    match finding {
+        Ok(finding) => {
+            for place in [finding.place, finding.end] {
+                match place {
+                    Some(place) => shown.item("", &place),
+                    None => shown.word("-"),
+                }
+                shown.word(" ");
+            }
+            shown.word(finding.status);
         }
+        Err(_) => shown.leave_out(),
     }
-    shown.push_str(finding.status)?;
-    Ok(shown)
+}
+
+// Writes the same, and the message.
+fn write_message(shown: &mut Shown, finding: &Result<Finding, AllocError>) {
+    write_finding(shown, finding);
+    if let Ok(finding) = finding {
+        shown.item(" ", &finding.message);
+    }
 }
 
 /// The number of the line that begins at an offset of a text of four line feeds; with a second offset, also of the line that
 /// begins there, counted from the first one.
-pub fn later_line(alloc: Global, offsets: &str) -> Result<String, Fail> {
+pub fn later_line(shown: &mut Shown, offsets: &str) {
     let text = "# é\n) type\n{\n\n";
     let (first, second) = offsets.split_once(' ').unwrap_or((offsets, ""));
-    let Some(from) = ReadFrom::top(text).later(text, first.parse()?) else {
-        return Ok(String::from_str(alloc, "none")?);
+    let Ok(first) = first.parse() else {
+        shown.word("no such offset");
+        return;
     };
-    let line = from.line;
-    if second.is_empty() {
-        return Ok(format!(in alloc; "{line}")?);
-    }
-    match from.later(text, second.parse()?) {
-        Some(later) => {
-            let next = later.line;
-            Ok(format!(in alloc; "{line} {next}")?)
+    let Some(from) = ReadFrom::top(text).later(text, first) else {
+        shown.word("none");
+        return;
+    };
+    shown.item("", &from.line);
+    if let Ok(second) = second.parse() {
+        match from.later(text, second) {
+            Some(later) => shown.item(" ", &later.line),
+            None => shown.word(" none"),
         }
-        None => Ok(format!(in alloc; "{line} none")?),
     }
 }

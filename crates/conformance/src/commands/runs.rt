@@ -7,34 +7,56 @@
 use super::fakes::{Files, Sheet};
 use super::listings;
 use graphql_commands::{Style, run};
-use rows::{files_in, meant};
+use rows::{Shown, files_in, meant};
 use std::alloc::{AllocError, Global};
-use std::io::ErrorKind;
+use std::fs;
 use std::test::Fail;
-use std::{fs, str};
 
-const MANY: usize = 1_000_000;
-
-/// A sheet that takes all that is written.
-pub fn patient(alloc: Global) -> Sheet {
-    Sheet::new(alloc, MANY, ErrorKind::Other)
+/// A run of `gql`: its files and its arguments, what it writes to them and besides, and the status that it ends with.
+#[derive(Drop)]
+pub struct Run<'a> {
+    files: Files<'a>,
+    words: Vec<String>,
+    pub out: Sheet,
+    pub err: Sheet,
+    pub status: u8,
 }
 
-/// Runs the program over these files on these words, which have blanks between them; if they are None, they are no text.
-pub fn ended(
-    alloc: Global,
-    files: &mut Files<'_>,
-    words: Option<&str>,
-    style: Style,
-    out: &mut Sheet,
-    err: &mut Sheet,
-) -> Result<u8, AllocError> {
-    let mut strings = Vec::new(alloc);
-    for word in words.unwrap_or("").split_ascii_whitespace() {
-        strings.push(String::from_str(alloc, word)?)?;
+impl<'a> Run<'a> {
+    /// One over the files that `listed` has, before it begins.
+    pub fn new(alloc: Global, listed: &'a str) -> Run<'a> {
+        Run {
+            files: Files::new(alloc, listed),
+            words: Vec::new(alloc),
+            out: Sheet::new(alloc),
+            err: Sheet::new(alloc),
+            status: 0,
+        }
     }
-    let words = words.map(|_| strings.as_slice());
-    Ok(run(alloc, words, style, files, out, err))
+
+    /// Runs the program on these words, which have blanks between them.
+    pub fn end(&mut self, alloc: Global, words: &str, style: Style) {
+        if self.take_words(alloc, words).is_err() {
+            self.status = u8::MAX;
+            return;
+        }
+        let words = Some(self.words.as_slice());
+        let (out, err) = (&mut self.out, &mut self.err);
+        self.status = run(alloc, words, style, &mut self.files, out, err);
+    }
+
+    /// Runs the program on words that are no text.
+    pub fn end_without_words(&mut self, alloc: Global, style: Style) {
+        let (out, err) = (&mut self.out, &mut self.err);
+        self.status = run(alloc, None, style, &mut self.files, out, err);
+    }
+
+    fn take_words(&mut self, alloc: Global, words: &str) -> Result<(), AllocError> {
+        for word in words.split_ascii_whitespace() {
+            self.words.push(String::from_str(alloc, word)?)?;
+        }
+        Ok(())
+    }
 }
 
 /// Judges the files in the folder `runs`, those that the program's arguments name, if there are any: prints of each how many runs it
@@ -49,63 +71,90 @@ pub fn judge_runs(rt: &HostRuntime, listed: &str) -> Result<usize, Fail> {
 }
 
 fn judge_file(rt: &HostRuntime, listed: &str, file: &str) -> Result<usize, Fail> {
-    let alloc = rt.alloc();
     let text = fs::read_to_string(rt, file)?;
-    let mut wrong = 0usize;
-    let mut count = 0usize;
-    let mut line = 1usize;
+    let mut judged = Judged {
+        file,
+        listed,
+        line: 1,
+        count: 0,
+        wrong: 0,
+    };
     for row in text.as_str().trim_ascii_end().split("\n\n") {
-        let wanted = if file.ends_with("/gql") {
-            meant(alloc, row)?
-        } else {
-            String::from_str(alloc, row)?
-        };
-        let wanted = wanted.as_str();
-        let made = if file.ends_with("/gql") {
-            made(alloc, listed, wanted)?
-        } else {
-            listings::made(alloc, wanted)?
-        };
-        if made.as_str() != wanted {
-            println!(rt; "{file}:{line}: expected:\n{wanted}\n  found:\n{made}")?;
-            wrong = wrong.saturating_add(1);
-        }
-        count = count.saturating_add(1);
-        line = line.saturating_add(row.lines().count()).saturating_add(1);
+        judged.judge(rt, row)?;
     }
+    let count = judged.count;
     println!(rt; "{file}: {count} rows")?;
-    Ok(wrong)
+    Ok(judged.wrong)
 }
 
-// The row that a run makes whose first line is that of this one.
-fn made(alloc: Global, listed: &str, row: &str) -> Result<String, Fail> {
+// A file of runs, at which of its lines the judge is, how many runs were judged, and how many of them make something else.
+#[derive(Clone, Copy)]
+struct Judged<'a> {
+    file: &'a str,
+    listed: &'a str,
+    line: usize,
+    count: usize,
+    wrong: usize,
+}
+
+impl Judged<'_> {
+    // Judges the run that stands at the line at which the judge is.
+    fn judge(&mut self, rt: &HostRuntime, row: &str) -> Result<(), Fail> {
+        let mut made = Shown::new(rt.alloc(), true);
+        if self.file.ends_with("/gql") {
+            let wanted = meant(rt.alloc(), row)?;
+            write_made(&mut made, self.listed, wanted.as_str());
+            self.compare(rt, wanted.as_str(), &made)?;
+        } else {
+            listings::write_made(&mut made, row);
+            self.compare(rt, row, &made)?;
+        }
+        self.count = self.count.saturating_add(1);
+        self.line = self
+            .line
+            .saturating_add(row.lines().count())
+            .saturating_add(1);
+        Ok(())
+    }
+
+    // Prints what was expected and what was made, unless that is the same.
+    fn compare(&mut self, rt: &HostRuntime, wanted: &str, made: &Shown) -> Result<(), Fail> {
+        let made = made.whole().unwrap_or("out of memory");
+        if made != wanted {
+            self.wrong = self.wrong.saturating_add(1);
+            let (file, line) = (self.file, self.line);
+            println!(rt; "{file}:{line}: expected:\n{wanted}\n  found:\n{made}")?;
+        }
+        Ok(())
+    }
+}
+
+// Writes the row that a run makes whose first line is that of this one.
+fn write_made(shown: &mut Shown, listed: &str, row: &str) {
     let head = row.lines().next().unwrap_or("");
     let (words, style) = match head.strip_prefix('%') {
         Some(words) => (words, Style::Coloured),
         None => (head.trim_start_matches('$'), Style::Plain),
     };
-    let mut out = patient(alloc);
-    let mut err = patient(alloc);
-    let mut files = Files::new(alloc, listed);
-    let status = ended(alloc, &mut files, Some(words), style, &mut out, &mut err)?;
-    let mut made = String::from_str(alloc, head)?;
-    made.push('\n')?;
-    push_lines(&mut made, "> ", str::from_utf8(out.held.as_slice())?)?;
-    push_lines(&mut made, "! ", str::from_utf8(err.held.as_slice())?)?;
-    for written in &files.written {
-        push_lines(&mut made, "+ ", written.name.as_str())?;
-        made.push('\n')?;
-        push_lines(&mut made, "| ", written.text.as_str())?;
+    let alloc = shown.alloc();
+    let mut run = Run::new(alloc, listed);
+    run.end(alloc, words, style);
+    shown.word(head);
+    shown.word("\n");
+    write_lines(shown, "> ", run.out.text());
+    write_lines(shown, "! ", run.err.text());
+    for written in &run.files.written {
+        write_lines(shown, "+ ", written.name.as_str());
+        shown.word("\n");
+        write_lines(shown, "| ", written.text.as_str());
     }
-    write!(made, "= {status}")?;
-    Ok(made)
+    shown.item("= ", &run.status);
 }
 
-/// Adds what was written, each line after this mark.
-pub fn push_lines(made: &mut String, mark: &str, text: &str) -> Result<(), AllocError> {
+/// Writes what was written, each line after this mark.
+pub fn write_lines(shown: &mut Shown, mark: &str, text: &str) {
     for line in text.split_inclusive('\n') {
-        made.push_str(mark)?;
-        made.push_str(line)?;
+        shown.word(mark);
+        shown.word(line);
     }
-    Ok(())
 }

@@ -1,63 +1,90 @@
 //! Spellings in lists of tokens, beside what they were when each was written by the character.
-use super::findings::{OF_REQUESTS, OF_SCHEMAS, made, number_pair};
+use super::pieces::{number_pair, write_made};
 use graphql_commands::listed::push_in_one_line;
 use graphql_parser::lexer::Tokens;
-use std::alloc::{AllocError, Global};
-use std::test::Fail;
+use graphql_report::Language;
+use rows::Shown;
 
 // ---- as it was
 
-fn push_by_the_character(out: &mut String, text: &str) -> Result<(), AllocError> {
+fn write_by_the_character(shown: &mut Shown, text: &str) {
     for c in text.chars() {
         match c {
-            '\n' => out.push_str("\\n")?,
-            '\r' => out.push_str("\\r")?,
-            other => out.push(other)?,
+            '\n' => shown.word("\\n"),
+            '\r' => shown.word("\\r"),
+            other => shown.letter(other),
         }
     }
-    Ok(())
 }
 
 // ---- both forms
 
-// Whether a text is written in one line as it was, after what stands there.
-fn is_written_alike(alloc: Global, text: &str) -> Result<bool, AllocError> {
-    let mut before = String::from_str(alloc, "a ")?;
-    let mut now = String::from_str(alloc, "a ")?;
-    push_by_the_character(&mut before, text)?;
-    push_in_one_line(&mut now, text)?;
-    Ok(now == before)
+// A spelling in both forms, and how many of those before it have a line end.
+#[derive(Drop)]
+struct Spelling {
+    before: Shown,
+    now: String,
+    broken: usize,
 }
 
-/// Whether a text is written in one line as it was.
-pub fn spelled(alloc: Global, text: &str) -> Result<String, Fail> {
-    let is = is_written_alike(alloc, text)?;
-    Ok(String::from_str(alloc, if is { "alike" } else { text })?)
-}
+impl Spelling {
+    fn new(shown: &Shown) -> Spelling {
+        Spelling {
+            before: Shown::new(shown.alloc(), true),
+            now: String::new(shown.alloc()),
+            broken: 0,
+        }
+    }
 
-/// Whether made texts and their tokens are written in one line as they were: so many of each language, after the seed. If not,
-/// the first that isn't.
-pub fn made_spelled(alloc: Global, row: &str) -> Result<String, Fail> {
-    let (mut state, count) = number_pair(row)?;
-    // How many of the tokens have a line end.
-    let mut broken = 0usize;
-    for _ in 0..count {
-        for pieces in [OF_REQUESTS.as_slice(), OF_SCHEMAS.as_slice()] {
-            let text = made(alloc, pieces, &mut state)?;
-            let text = text.as_str();
-            if !is_written_alike(alloc, text)? {
-                return Ok(String::from_str(alloc, text)?);
+    // Whether a text is written in one line as it was, after what stands there.
+    fn is_alike(&mut self, text: &str) -> bool {
+        self.before.clear();
+        self.before.word("a ");
+        write_by_the_character(&mut self.before, text);
+        self.now.clear();
+        let is_cut = self.now.push_str("a ").is_err()
+            || push_in_one_line(&mut self.now, text).is_err();
+        !is_cut && self.before.whole() == Some(self.now.as_str())
+    }
+
+    // Writes a text, and each of its tokens, that isn't written in one line as it was.
+    fn write_unlike(&mut self, shown: &mut Shown, text: &str) {
+        if !self.is_alike(text) {
+            shown.item("otherwise: ", &text);
+        }
+        for token in Tokens::new(text) {
+            if !self.is_alike(token.text) {
+                shown.item("otherwise: ", &token.text);
             }
-            for token in Tokens::new(text) {
-                if !is_written_alike(alloc, token.text)? {
-                    return Ok(String::from_str(alloc, token.text)?);
-                }
-                if token.text.contains(['\n', '\r']) {
-                    broken = broken.saturating_add(1);
-                }
+            if token.text.contains(['\n', '\r']) {
+                self.broken = self.broken.saturating_add(1);
             }
         }
     }
-    let lines = if broken > 50 { "some" } else { "few" };
-    Ok(format!(in alloc; "alike, {lines} of more than one line")?)
+}
+
+/// Whether a text is written in one line as it was.
+pub fn spelled(shown: &mut Shown, text: &str) {
+    let is_alike = Spelling::new(shown).is_alike(text);
+    shown.word(if is_alike { "alike" } else { text });
+}
+
+/// Whether made texts and their tokens are written in one line as they were: so many of each language, after the seed. Those that
+/// aren't stand before that.
+pub fn made_spelled(shown: &mut Shown, row: &str) {
+    let (mut state, count) = number_pair(row);
+    let mut spelling = Spelling::new(shown);
+    let mut text = Shown::new(shown.alloc(), true);
+    for _ in 0..count {
+        for language in [Language::Requests, Language::Schemas] {
+            text.clear();
+            write_made(&mut text, language, &mut state);
+            spelling.write_unlike(shown, text.whole().unwrap_or(""));
+        }
+    }
+    shown.word(if spelling.broken > 50 {
+        "alike, some of more than one line"
+    } else {
+        "alike, few of more than one line"
+    });
 }

@@ -1,15 +1,20 @@
 //! Parts of requests: what stands around them in the text, and in the JSON of its definitions without places.
-use super::between;
-use std::alloc::{AllocError, Global};
-
 /// What stands before and after a part, in the text and in the JSON.
 #[derive(Clone, Copy)]
 pub struct Inside {
-    before: &'static str,
-    after: &'static str,
-    json_before: &'static str,
-    json_after: &'static str,
+    pub before: &'static str,
+    pub after: &'static str,
+    pub json_before: &'static str,
+    pub json_after: &'static str,
 }
+
+/// Nothing, around all of a text.
+pub const WHOLE: Inside = Inside {
+    before: "",
+    after: "",
+    json_before: "",
+    json_after: "",
+};
 
 // The selections of a query.
 const SELECTIONS: Inside = Inside {
@@ -63,15 +68,12 @@ impl Inside {
             _ => return None,
         })
     }
+}
 
-    /// The request with this part.
-    pub fn text(&self, alloc: Global, part: &str) -> Result<String, AllocError> {
-        let (before, after) = (self.before, self.after);
-        format!(in alloc; "{before}{part}{after}")
-    }
-
-    /// The part in the JSON of the request.
-    pub fn part_of<'a>(&self, json: &'a str) -> &'a str {
-        between(json, self.json_before, self.json_after)
+/// What stands between these two; all of the text where they don't stand at its ends.
+pub fn between<'a>(text: &'a str, before: &str, after: &str) -> &'a str {
+    match text.strip_prefix(before) {
+        Some(rest) => rest.strip_suffix(after).unwrap_or(text),
+        None => text,
     }
 }

@@ -1,7 +1,6 @@
 //! The answers of the two parsers and of their checks, as text.
-use super::documents::Document;
-use super::errors::shown;
-use super::views::View;
+use super::errors::write_error;
+use super::views::Document;
 use graphql_parser::lexer::{Token, Tokens};
 use graphql_parser::{
     Limits, Memory, Result as Answer, check_query, check_query_from, check_query_limited,
@@ -9,7 +8,8 @@ use graphql_parser::{
     parse_query, parse_query_from, parse_query_limited, parse_schema, parse_schema_from,
     parse_schema_limited,
 };
-use std::alloc::{AllocError, Global};
+use rows::Shown;
+use std::alloc::Global;
 
 /// What is seen of an answer if the check answers otherwise.
 pub const OTHERWISE: &str = "checked otherwise";
@@ -24,76 +24,63 @@ pub enum Parser {
 }
 
 impl Parser {
-    /// What is seen of the answer to a text, unless the check answers otherwise; `asked` is the name that is looked up in
-    /// a request.
-    pub fn of_text(
-        self,
-        alloc: Global,
-        view: View,
-        asked: &str,
-        text: &str,
-    ) -> Result<String, AllocError> {
+    /// Writes what is seen of the answer to a text, unless the check answers otherwise; `asked` is the name that is
+    /// looked up in a request.
+    pub fn write(self, shown: &mut Shown, view: &str, asked: &str, text: &str) {
+        let alloc = shown.alloc();
         match self {
             Parser::Query => {
-                let checked = check_query(alloc, text);
-                of_answers(alloc, view, asked, &parse_query(alloc, text), &checked)
+                let (answer, checked) = (parse_query(alloc, text), check_query(alloc, text));
+                write_answer(shown, view, asked, answer, checked);
             }
             Parser::Schema => {
-                let checked = check_schema(alloc, text);
-                of_answers(alloc, view, asked, &parse_schema(alloc, text), &checked)
+                let (answer, checked) = (parse_schema(alloc, text), check_schema(alloc, text));
+                write_answer(shown, view, asked, answer, checked);
             }
         }
     }
 
     /// The same within limits that the caller chooses.
-    pub fn limited(
-        self,
-        alloc: Global,
-        view: View,
-        text: &str,
-        limits: Limits,
-    ) -> Result<String, AllocError> {
+    pub fn write_limited(self, shown: &mut Shown, view: &str, text: &str, limits: Limits) {
+        let alloc = shown.alloc();
         match self {
             Parser::Query => {
-                let answer = parse_query_limited(alloc, text, limits);
                 let checked = check_query_limited(alloc, text, limits);
-                of_answers(alloc, view, "", &answer, &checked)
+                let answer = parse_query_limited(alloc, text, limits);
+                write_answer(shown, view, "", answer, checked);
             }
             Parser::Schema => {
-                let answer = parse_schema_limited(alloc, text, limits);
                 let checked = check_schema_limited(alloc, text, limits);
-                of_answers(alloc, view, "", &answer, &checked)
+                let answer = parse_schema_limited(alloc, text, limits);
+                write_answer(shown, view, "", answer, checked);
             }
         }
     }
 
     /// The same over the tokens that are left. Where none is, nothing is seen. The check goes over those of `others`, and
     /// has to take as many.
-    pub fn of_tokens(
+    pub fn write_from(
         self,
-        alloc: Global,
-        view: View,
+        shown: &mut Shown,
+        view: &str,
         tokens: &mut Tokens<'_>,
         others: &mut Tokens<'_>,
-    ) -> Result<String, AllocError> {
-        if tokens.is_ended() || others.is_ended() {
-            let is_same = others.taken() == tokens.taken();
-            return String::from_str(alloc, if is_same { "" } else { OTHERWISE });
-        }
-        let seen = match self {
+    ) {
+        let alloc = shown.alloc();
+        match self {
+            _ if tokens.is_ended() || others.is_ended() => {}
             Parser::Query => {
                 let checked = check_query_from(alloc, others);
-                of_answers(alloc, view, "", &parse_query_from(alloc, tokens), &checked)?
+                write_answer(shown, view, "", parse_query_from(alloc, tokens), checked);
             }
             Parser::Schema => {
                 let checked = check_schema_from(alloc, others);
-                of_answers(alloc, view, "", &parse_schema_from(alloc, tokens), &checked)?
+                write_answer(shown, view, "", parse_schema_from(alloc, tokens), checked);
             }
-        };
-        if others.taken() != tokens.taken() {
-            return String::from_str(alloc, OTHERWISE);
         }
-        Ok(seen)
+        if others.taken() != tokens.taken() {
+            shown.word(OTHERWISE);
+        }
     }
 
     /// What its check answers to a text, and the token at which the text is refused, if it is refused at one.
@@ -105,22 +92,19 @@ impl Parser {
         }
     }
 
-    /// What is seen of the answer to a text. The call with limits, at the default, and the one over fresh tokens have
-    /// to give the same.
-    pub fn of_each_call(self, alloc: Global, view: View, text: &str) -> Result<String, AllocError> {
-        let answer = self.of_text(alloc, view, "", text)?;
-        let limited = self.limited(alloc, view, text, Limits::default())?;
+    /// Writes what is seen of the answer to a text, where nothing was written before. The call with limits, at the
+    /// default, and the one over fresh tokens have to give the same.
+    pub fn write_each_call(self, shown: &mut Shown, view: &str, text: &str) {
+        self.write(shown, view, "", text);
+        let mut limited = Shown::new(shown.alloc(), true);
+        self.write_limited(&mut limited, view, text, Limits::default());
+        let mut from = Shown::new(shown.alloc(), true);
         let (tokens, others) = (&mut Tokens::new(text), &mut Tokens::new(text));
-        let from = self.of_tokens(alloc, view, tokens, others)?;
-        if limited.as_str() != answer.as_str() || from.as_str() != answer.as_str() {
-            return format!(in alloc; "{answer}, limited {limited}, from tokens {from}");
+        self.write_from(&mut from, view, tokens, others);
+        if limited.whole() != shown.whole() || from.whole() != shown.whole() {
+            shown.item(", limited ", &limited.whole().unwrap_or("out of memory"));
+            shown.item(", from tokens ", &from.whole().unwrap_or("out of memory"));
         }
-        Ok(answer)
-    }
-
-    /// The word `accepted`, or the error.
-    pub fn accepted(self, alloc: Global, text: &str) -> Result<String, AllocError> {
-        self.of_text(alloc, View::Acceptance, "", text)
     }
 }
 
@@ -133,18 +117,18 @@ pub fn are_alike<T>(answer: &Answer<T>, checked: &Answer<()>) -> bool {
     }
 }
 
-fn of_answers<D: Document>(
-    alloc: Global,
-    view: View,
+fn write_answer<D: Document>(
+    shown: &mut Shown,
+    view: &str,
     asked: &str,
-    answer: &Answer<D>,
-    checked: &Answer<()>,
-) -> Result<String, AllocError> {
-    if !are_alike(answer, checked) {
-        return String::from_str(alloc, OTHERWISE);
+    answer: Answer<D>,
+    checked: Answer<()>,
+) {
+    if !are_alike(&answer, &checked) {
+        shown.word(OTHERWISE);
     }
-    match answer {
-        Ok(document) => document.seen(alloc, view, asked),
-        Err(error) => shown(alloc, !matches!(view, View::Placeless), error),
+    match &answer {
+        Ok(document) => document.write_view(shown, view, asked),
+        Err(error) => write_error(shown, error),
     }
 }

@@ -1,13 +1,11 @@
 //! What is asked of a parser in a table.
 use super::answers::Parser;
-use super::views::View;
+use super::views::VIEWS;
 use super::{budgets, hostile, taken};
 use graphql_parser::Limits;
-use rows::pair;
-use std::alloc::Global;
-use std::test::Fail;
+use rows::{Shown, pair};
 
-/// What a parser gives that is asked so.
+/// Writes what a parser gives that is asked so.
 ///
 /// - `whole`: what each of its calls gives, the tree with all places or the error
 /// - `accepted`: the same, where of an accepted text nothing is said but that it is
@@ -24,32 +22,40 @@ use std::test::Fail;
 ///   and how many are refused
 /// - the name of a view: what is looked at in the tree. Before the text may stand the name that is asked for, with ` in `
 ///   between them.
-pub fn answer(alloc: Global, parser: Parser, asked: &str, text: &str) -> Result<String, Fail> {
-    Ok(match asked {
-        "whole" => parser.of_each_call(alloc, View::Whole, text)?,
-        "accepted" => parser.of_each_call(alloc, View::Acceptance, text)?,
-        "taken" => taken::counted(alloc, parser, View::Acceptance, text)?,
-        "in turn" => {
-            let (passed, text) = pair(text, " in ")?;
-            taken::in_turn(alloc, parser, passed.parse()?, text)?
+pub fn write_asked(shown: &mut Shown, parser: Parser, asked: &str, text: &str) {
+    match asked {
+        "whole" | "accepted" => parser.write_each_call(shown, asked, text),
+        "taken" => taken::write_counted(shown, parser, "accepted", text),
+        "in turn" => write_in_turn(shown, parser, text),
+        "limited" => write_limited(shown, parser, text),
+        "budgets" => budgets::write_answers(shown, parser, text),
+        "beginnings" => hostile::write_beginnings(shown, parser, text),
+        "cuts" => hostile::write_cuts(shown, parser, text),
+        "quotes" => hostile::write_quotes(shown, parser, text),
+        "lines" => hostile::write_lines(shown, parser, text),
+        "short texts" => hostile::write_short_texts(shown, parser, text),
+        view if VIEWS.contains(&view) => {
+            let (asked, text) = pair(text, " in ");
+            parser.write(shown, view, asked, text);
         }
-        "limited" => {
-            let (limits, text) = pair(text, " in ")?;
-            let limits = limits_of(limits).ok_or("no such limits")?;
-            parser.limited(alloc, View::Acceptance, text, limits)?
-        }
-        "budgets" => budgets::answers(alloc, parser, text)?,
-        "beginnings" => hostile::beginnings(alloc, parser, text)?,
-        "cuts" => hostile::cuts(alloc, parser, text)?,
-        "quotes" => hostile::quotes(alloc, parser, text)?,
-        "lines" => hostile::lines(alloc, parser, text)?,
-        "short texts" => hostile::short_texts(alloc, parser, text)?,
-        name => {
-            let view = View::named(name).ok_or("no such view")?;
-            let (asked, text) = text.split_once(" in ").unwrap_or(("", text));
-            parser.of_text(alloc, view, asked, text)?
-        }
-    })
+        _ => shown.word("no such call"),
+    }
+}
+
+fn write_in_turn(shown: &mut Shown, parser: Parser, text: &str) {
+    let (passed, text) = pair(text, " in ");
+    match passed.parse() {
+        Ok(passed) => taken::write_in_turn(shown, parser, passed, text),
+        Err(_) => shown.word("no number"),
+    }
+}
+
+fn write_limited(shown: &mut Shown, parser: Parser, text: &str) {
+    let (limits, text) = pair(text, " in ");
+    match limits_of(limits) {
+        Some(limits) => parser.write_limited(shown, "accepted", text, limits),
+        None => shown.word("no such limits"),
+    }
 }
 
 /// The limits of three numbers in one text.

@@ -2,47 +2,15 @@
 use graphql_parser::value::Name;
 use graphql_parser::{Error, Pos};
 use rows::Shown;
-use std::alloc::{AllocError, Global};
 
-/// An error, with its fields. One of syntax with the usual message and no end is `syntax 1:4`.
-pub fn shown(alloc: Global, has_places: bool, error: &Error) -> Result<String, AllocError> {
-    let mut shown = Shown::new(alloc, has_places);
+/// Writes an error, with its fields. One of syntax with the usual message and no end is `syntax 1:4`.
+pub fn write_error(shown: &mut Shown, error: &Error) {
     match error {
         Error::Syntax {
             message,
             start,
             end,
-        } => {
-            let usual = format!(in alloc; "syntax error at {start}")?;
-            let is_usual = usual.as_str() == message.as_str();
-            write_syntax(
-                &mut shown,
-                start,
-                if is_usual { None } else { Some(message) },
-                end,
-            );
-        }
-        other => write_rule(&mut shown, other),
-    }
-    shown.finish()
-}
-
-// An error of syntax, with its message where that is not the usual one.
-fn write_syntax(shown: &mut Shown, start: &Pos, own: Option<&String>, end: &Option<Pos>) {
-    shown.place("syntax ", start);
-    if let Some(message) = own {
-        shown.item(" '", message);
-        shown.word("'");
-    }
-    if let Some(end) = end {
-        shown.place(" end ", end);
-    }
-}
-
-// Any other error.
-fn write_rule(shown: &mut Shown, error: &Error) {
-    match error {
-        Error::Syntax { .. } => {}
+        } => write_syntax(shown, message, start, end),
         Error::MultipleRoots { root, schema, pos } => {
             shown.item("multiple roots ", root);
             write_two(shown, " schema ", *schema, " pos ", *pos);
@@ -68,6 +36,20 @@ fn write_rule(shown: &mut Shown, error: &Error) {
         Error::MissingOperation => shown.word("missing operation"),
         Error::RecursionLimitExceeded => shown.word("recursion limit exceeded"),
         Error::OutOfMemory => shown.word("out of memory"),
+    }
+}
+
+// An error of syntax, with its message where that is not the usual one.
+fn write_syntax(shown: &mut Shown, message: &String, start: &Pos, end: &Option<Pos>) {
+    let mut usual = Shown::new(shown.alloc(), true);
+    usual.item("syntax error at ", start);
+    shown.place("syntax ", start);
+    if usual.whole() != Some(message.as_str()) {
+        shown.item(" '", message);
+        shown.word("'");
+    }
+    if let Some(end) = end {
+        shown.place(" end ", end);
     }
 }
 

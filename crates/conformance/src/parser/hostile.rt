@@ -1,49 +1,52 @@
 //! Cut texts, open quotes, other blanks, and every short list of tokens.
 use super::answers::Parser;
-use super::taken::counted;
-use super::views::View;
+use super::taken::write_counted;
 use graphql_parser::Pos;
 use graphql_parser::lexer::{TokenKind, Tokens};
 use rows::Shown;
-use std::alloc::{AllocError, Global};
 
-fn is_refused_at(alloc: Global, answer: &str, place: Pos) -> Result<bool, AllocError> {
-    Ok(format!(in alloc; "syntax {place}")?.as_str() == answer)
+fn is_refused_at(answer: &Shown, place: Pos) -> bool {
+    let mut wanted = Shown::new(answer.alloc(), true);
+    wanted.place("syntax ", &place);
+    answer.whole().is_some() && answer.whole() == wanted.whole()
 }
 
-/// How many beginnings a text has, if each of them is accepted, breaks a rule, or is refused at one of its
-/// last two tokens; else the first that is not.
-pub fn beginnings(alloc: Global, parser: Parser, text: &str) -> Result<String, AllocError> {
+/// Writes how many beginnings a text has, if each of them is accepted, breaks a rule, or is refused at one of its
+/// last two tokens; and else those that are not.
+pub fn write_beginnings(shown: &mut Shown, parser: Parser, text: &str) {
     let mut count = 0usize;
     for offset in 0..=text.len() {
         if let Some((front, _)) = text.split_at_checked(offset) {
-            if !is_refused_late(alloc, parser, front)? {
-                return String::from_str(alloc, front);
-            }
+            write_unless_late(shown, parser, front);
             count = count.wrapping_add(1);
         }
     }
-    format!(in alloc; "{count} beginnings")
+    shown.item("", &count);
+    shown.word(" beginnings");
 }
 
-fn is_refused_late(alloc: Global, parser: Parser, text: &str) -> Result<bool, AllocError> {
-    let answer = parser.accepted(alloc, text)?;
-    let answer = answer.as_str();
-    if !answer.starts_with("syntax") {
-        return Ok(answer != "recursion limit exceeded" && answer != "out of memory");
-    }
+fn write_unless_late(shown: &mut Shown, parser: Parser, text: &str) {
+    let mut answer = Shown::new(shown.alloc(), true);
+    parser.write(&mut answer, "accepted", "", text);
     let (mut before, mut last) = (Pos::default(), Pos::default());
     for token in Tokens::new(text) {
         before = last;
         last = token.pos;
     }
-    Ok(is_refused_at(alloc, answer, before)? || is_refused_at(alloc, answer, last)?)
+    let words = answer.whole().unwrap_or("out of memory");
+    let is_late = if words.starts_with("syntax") {
+        is_refused_at(&answer, before) || is_refused_at(&answer, last)
+    } else {
+        words != "recursion limit exceeded" && words != "out of memory"
+    };
+    if !is_late {
+        shown.item(text, &": ");
+    }
 }
 
-/// After how many of its tokens a line may end, and how many it has, if it is refused at its end when
-/// it is cut off after any other; else the first answer that is not so.
-pub fn cuts(alloc: Global, parser: Parser, text: &str) -> Result<String, AllocError> {
-    let mut shown = Shown::new(alloc, true);
+/// Writes after how many of its tokens a line may end, and how many it has, if it is refused at its end when
+/// it is cut off after any other; and else the answers that are not so.
+pub fn write_cuts(shown: &mut Shown, parser: Parser, text: &str) {
     shown.word("after");
     let mut count = 0usize;
     for token in Tokens::new(text) {
@@ -51,104 +54,128 @@ pub fn cuts(alloc: Global, parser: Parser, text: &str) -> Result<String, AllocEr
             count = count.wrapping_add(1);
             let end = token.start.wrapping_add(token.text.len());
             let (front, _) = text.split_at_checked(end).unwrap_or((text, ""));
-            let answer = parser.of_each_call(alloc, View::Acceptance, front)?;
-            if answer.as_str() == "accepted" {
-                shown.item(" ", &count);
-            } else if !is_refused_at_end(alloc, answer.as_str(), front)? {
-                return format!(in alloc; "{front}: {answer}");
-            }
+            write_cut(shown, parser, front, count);
         }
     }
     shown.item(" of ", &count);
-    shown.finish()
 }
 
-fn is_refused_at_end(alloc: Global, answer: &str, line: &str) -> Result<bool, AllocError> {
-    let column = line.chars().count().wrapping_add(1);
-    is_refused_at(alloc, answer, Pos { line: 1, column })
+fn write_cut(shown: &mut Shown, parser: Parser, front: &str, count: usize) {
+    let mut answer = Shown::new(shown.alloc(), true);
+    parser.write_each_call(&mut answer, "accepted", front);
+    let end = Pos {
+        line: 1,
+        column: front.chars().count().wrapping_add(1),
+    };
+    if answer.whole() == Some("accepted") {
+        shown.item(" ", &count);
+    } else if !is_refused_at(&answer, end) {
+        shown.item(" ", &front);
+        shown.item(": ", &answer.whole().unwrap_or("out of memory"));
+    }
 }
 
-/// How many tokens a text has, if a quote before any of them but the end is refused at that quote; else the
-/// text that is not.
-pub fn quotes(alloc: Global, parser: Parser, text: &str) -> Result<String, AllocError> {
+/// Writes how many tokens a text has, if a quote before any of them but the end is refused at that quote; and else the
+/// texts that are not.
+pub fn write_quotes(shown: &mut Shown, parser: Parser, text: &str) {
     let mut count = 0usize;
     for token in Tokens::new(text) {
         if token.kind != TokenKind::End {
-            let quoted = with_quote(alloc, text, token.start)?;
-            if !is_refused_at_quote(alloc, parser, quoted.as_str(), token.pos)? {
-                return Ok(quoted);
-            }
+            write_unless_at_quote(shown, parser, text, token.start, token.pos);
             count = count.wrapping_add(1);
         }
     }
-    format!(in alloc; "{count} quotes")
+    shown.item("", &count);
+    shown.word(" quotes");
 }
 
-fn with_quote(alloc: Global, text: &str, offset: usize) -> Result<String, AllocError> {
+fn write_unless_at_quote(shown: &mut Shown, parser: Parser, text: &str, offset: usize, place: Pos) {
     let (front, back) = text.split_at_checked(offset).unwrap_or((text, ""));
-    format!(in alloc; "{front}\"{back}")
+    let mut quoted = Shown::new(shown.alloc(), true);
+    quoted.item(front, &'"');
+    quoted.word(back);
+    let mut answer = Shown::new(shown.alloc(), true);
+    parser.write(&mut answer, "accepted", "", quoted.whole().unwrap_or(""));
+    if !is_refused_at(&answer, place) {
+        shown.item(quoted.whole().unwrap_or("out of memory"), &": ");
+    }
 }
 
-fn is_refused_at_quote(
-    alloc: Global,
-    parser: Parser,
-    text: &str,
-    place: Pos,
-) -> Result<bool, AllocError> {
-    is_refused_at(alloc, parser.accepted(alloc, text)?.as_str(), place)
-}
-
-/// How many tokens are taken of a text, if the answer is the same, but for the places, when its tokens are
+/// Writes how many tokens are taken of a text, if the answer is the same, but for the places, when its tokens are
 /// written again with a line feed after each; else both answers.
-pub fn lines(alloc: Global, parser: Parser, text: &str) -> Result<String, AllocError> {
-    let mut lines = Shown::new(alloc, true);
+pub fn write_lines(shown: &mut Shown, parser: Parser, text: &str) {
+    let mut lines = Shown::new(shown.alloc(), true);
     for token in Tokens::new(text) {
         lines.word(token.text);
         lines.word("\n");
     }
-    let one = counted(alloc, parser, View::Placeless, text)?;
-    let other = counted(alloc, parser, View::Placeless, lines.finish()?.as_str())?;
-    match one.as_str().rsplit_once(", ") {
-        Some((_, taken)) if one == other => format!(in alloc; "the same, {taken}"),
-        _ => format!(in alloc; "{one} and {other}"),
+    let mut one = Shown::new(shown.alloc(), false);
+    write_counted(&mut one, parser, "whole", text);
+    let mut other = Shown::new(shown.alloc(), false);
+    write_counted(&mut other, parser, "whole", lines.whole().unwrap_or(""));
+    match (lines.whole(), one.whole(), other.whole()) {
+        (Some(_), Some(one), Some(other)) => write_both(shown, one, other),
+        _ => shown.leave_out(),
     }
 }
 
-/// How many of the texts are accepted that are at most four of these spellings with blanks between them,
+fn write_both(shown: &mut Shown, one: &str, other: &str) {
+    match one.rsplit_once(", ") {
+        Some((_, taken)) if one == other => shown.item("the same, ", &taken),
+        _ => {
+            shown.item("", &one);
+            shown.item(" and ", &other);
+        }
+    }
+}
+
+/// Writes how many of the texts are accepted that are at most four of these spellings with blanks between them,
 /// how many are refused, and how many have another answer.
-pub fn short_texts(alloc: Global, parser: Parser, text: &str) -> Result<String, AllocError> {
-    let spellings = text.split_whitespace().collect::<Vec<&str>>(alloc)?;
+pub fn write_short_texts(shown: &mut Shown, parser: Parser, spellings: &str) {
     let (mut taken, mut refused, mut other) = (0usize, 0usize, 0usize);
+    let count = spellings.split_whitespace().count();
     for length in 0..=4u32 {
-        for index in 0..spellings.len().wrapping_pow(length) {
-            let text = spelled(alloc, spellings.as_slice(), length, index)?;
-            let answer = parser.accepted(alloc, text.as_str())?;
-            if answer.as_str() == "accepted" {
-                taken = taken.wrapping_add(1);
-            } else if answer.starts_with("syntax") {
-                refused = refused.wrapping_add(1);
-            } else {
-                other = other.wrapping_add(1);
+        for index in 0..count.wrapping_pow(length) {
+            match is_taken(shown, parser, spellings, length, index) {
+                Some(true) => taken = taken.wrapping_add(1),
+                Some(false) => refused = refused.wrapping_add(1),
+                None => other = other.wrapping_add(1),
             }
         }
     }
-    format!(in alloc; "{taken} accepted, {refused} refused, {other} others")
+    shown.item("", &taken);
+    shown.item(" accepted, ", &refused);
+    shown.item(" refused, ", &other);
+    shown.word(" others");
+}
+
+// Whether the text of this index among those of so many spellings is accepted or refused, if it is one of the two.
+fn is_taken(
+    shown: &Shown,
+    parser: Parser,
+    spellings: &str,
+    length: u32,
+    index: usize,
+) -> Option<bool> {
+    let mut text = Shown::new(shown.alloc(), true);
+    write_spelled(&mut text, spellings, length, index);
+    let mut answer = Shown::new(shown.alloc(), true);
+    parser.write(&mut answer, "accepted", "", text.whole().unwrap_or(""));
+    match (text.whole(), answer.whole()) {
+        (Some(_), Some("accepted")) => Some(true),
+        (Some(_), Some(words)) if words.starts_with("syntax") => Some(false),
+        _ => None,
+    }
 }
 
 // The text of this index among those of so many spellings.
-fn spelled(
-    alloc: Global,
-    spellings: &[&str],
-    length: u32,
-    index: usize,
-) -> Result<String, AllocError> {
-    let mut shown = Shown::new(alloc, true);
+fn write_spelled(shown: &mut Shown, spellings: &str, length: u32, index: usize) {
+    let count = spellings.split_whitespace().count();
     let mut rest = index;
     for _ in 0..length {
-        let which = rest.checked_rem(spellings.len()).unwrap_or(0);
-        rest = rest.checked_div(spellings.len()).unwrap_or(0);
-        shown.word(spellings.get(which).copied().unwrap_or("?"));
+        let which = rest.checked_rem(count).unwrap_or(0);
+        rest = rest.checked_div(count).unwrap_or(0);
+        shown.word(spellings.split_whitespace().nth(which).unwrap_or("?"));
         shown.word(" ");
     }
-    shown.finish()
 }

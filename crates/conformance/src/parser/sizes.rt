@@ -152,10 +152,16 @@ fn write_input_values(
 ) {
     write_count(shown, before, values.len());
     if let Some(value) = values.first() {
-        match value.node.default_value.as_ref().map(|value| &value.node) {
-            Some(ConstValue::List(items)) => shown.item(", list of ", &items.len()),
-            Some(ConstValue::Object(fields)) => shown.item(", object of ", &fields.len()),
-            _ => {}
+        if let Some(default) = &value.node.default_value {
+            write_default_size(shown, &default.node);
         }
+    }
+}
+
+fn write_default_size(shown: &mut Shown, default: &ConstValue) {
+    match default {
+        ConstValue::List(items) => shown.item(", list of ", &items.len()),
+        ConstValue::Object(fields) => shown.item(", object of ", &fields.len()),
+        _ => {}
     }
 }

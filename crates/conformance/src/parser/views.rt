@@ -2,206 +2,118 @@
 use super::sizes::{write_file_sizes, write_request_sizes};
 use graphql_parser::Positioned;
 use graphql_parser::types::{
-    Directive, ExecutableDocument, Field, OperationDefinition, OperationsIter, Selection,
-    ServiceDocument,
+    ConstDirective, Directive, ExecutableDocument, Field, OperationDefinition, OperationsIter,
+    Selection, ServiceDocument,
 };
 use graphql_parser::value::{ConstValue, Name, Value, ValueView};
 use rows::Shown;
 use rows::trees::{Written, write_default_value, write_directives, write_value};
 use std::alloc::{AllocError, Global};
 
-/// What is looked at in a tree. The first four are for schema files too.
-#[derive(Clone, Copy)]
-pub enum View {
-    /// The whole tree.
-    Whole,
-    /// The whole tree without places.
-    Placeless,
-    /// The word `accepted`.
-    Acceptance,
-    /// How long the first name and the first description or argument are, the value of a whole number there, and how
-    /// long each list of the first definition is that has more than one node.
-    Sizes,
-    /// The argument of a name in the first field, in its first directive, and in that as one without variables.
-    Argument,
-    /// The key of the first field in a response.
-    ResponseKey,
-    /// The defaults of the variables of the first operation: `lent` where the request writes them, `made` where the
-    /// type is nullable.
-    Defaults,
-    /// The directives of the first selection, and again when a copy of the first of them was put after them.
-    Directives,
-    /// The operations: all of them, and what is left when one more was given.
-    Operations,
-    /// The operation and the fragment of a name, also in a copy.
-    Named,
-    /// The first argument as a value without variables, and that as a value again.
-    IntoConst,
-    /// How the first two arguments compare, as values and as values without variables.
-    Equality,
-    /// The first directive of the first field as one without variables, and that as one with them again.
-    DirectiveIntoConst,
-    /// The selection sets of the selections of the first operation, by their places.
-    SetsOfSelections,
-    /// The first argument as GraphQL text, and the same of it as a value without variables.
-    Text,
-    /// The first argument through its view, and the same of it as a value without variables.
-    Viewed,
-    /// The field of a name in the first argument, through its view.
-    FieldViewed,
+/// What is looked at in a tree, beside the whole tree and whether there is one. Of a schema file only its sizes are.
+///
+/// - `sizes`: how long the first name and the first description or argument are, the value of a whole number there, and how
+///   long each list of the first definition is that has more than one node
+/// - `argument`: the argument of a name in the first field, in its first directive, and in that as one without variables
+/// - `response key`: the key of the first field in a response
+/// - `defaults`: the defaults of the variables of the first operation: `lent` where the request writes them, `made` where the
+///   type is nullable
+/// - `directives`: the directives of the first selection, and again when a copy of the first of them was put after them
+/// - `operations`: all of them, and what is left when one more was given
+/// - `named`: the operation and the fragment of a name, also in a copy
+/// - `into const`: the first argument as a value without variables, and that as a value again
+/// - `equality`: how the first two arguments compare, as values and as values without variables
+/// - `directive into const`: the first directive of the first field as one without variables, and that as one with them again
+/// - `sets of selections`: the selection sets of the selections of the first operation, by their places
+/// - `text`: the first argument as GraphQL text, and the same of it as a value without variables
+/// - `viewed`: the first argument through its view, and the same of it as a value without variables
+/// - `field viewed`: the field of a name in the first argument, through its view
+pub const VIEWS: [&str; 14] = [
+    "sizes",
+    "argument",
+    "response key",
+    "defaults",
+    "directives",
+    "operations",
+    "named",
+    "into const",
+    "equality",
+    "directive into const",
+    "sets of selections",
+    "text",
+    "viewed",
+    "field viewed",
+];
+
+/// What the parser of a language gives.
+pub trait Document: Drop {
+    /// Writes what is seen of it; `asked` is the name that is looked up in a request.
+    fn write_view(&self, shown: &mut Shown, view: &str, asked: &str);
 }
 
-// What a call that writes can answer besides: that memory was refused.
-type Outcome = Result<(), AllocError>;
-
-impl View {
-    /// The view of this name in the tables.
-    pub fn named(name: &str) -> Option<View> {
-        Some(match name {
-            "sizes" => View::Sizes,
-            "argument" => View::Argument,
-            "response key" => View::ResponseKey,
-            "defaults" => View::Defaults,
-            "directives" => View::Directives,
-            "operations" => View::Operations,
-            "named" => View::Named,
-            "into const" => View::IntoConst,
-            "equality" => View::Equality,
-            "directive into const" => View::DirectiveIntoConst,
-            "sets of selections" => View::SetsOfSelections,
-            "text" => View::Text,
-            "viewed" => View::Viewed,
-            "field viewed" => View::FieldViewed,
-            _ => return None,
-        })
-    }
-
-    /// What is seen of a schema file: the whole tree, its sizes, or the word `accepted`.
-    pub fn of_file(self, alloc: Global, document: &ServiceDocument) -> Result<String, AllocError> {
-        let mut shown = Shown::new(alloc, !matches!(self, View::Placeless));
-        match self {
-            View::Whole | View::Placeless => document.write(&mut shown),
-            View::Sizes => write_file_sizes(&mut shown, document),
+impl Document for ServiceDocument {
+    fn write_view(&self, shown: &mut Shown, view: &str, _asked: &str) {
+        match view {
+            "whole" => self.write(shown),
+            "sizes" => write_file_sizes(shown, self),
             _ => shown.word("accepted"),
         }
-        shown.finish()
     }
+}
 
-    /// What is seen of a document; `asked` is the name that is looked up in it.
-    pub fn of_document(
-        self,
-        alloc: Global,
-        asked: &str,
-        document: &ExecutableDocument,
-    ) -> Result<String, AllocError> {
-        let mut shown = Shown::new(alloc, !matches!(self, View::Placeless));
-        self.write_document(alloc, &mut shown, asked, document)?;
-        shown.finish()
-    }
-
-    fn write_document(
-        self,
-        alloc: Global,
-        shown: &mut Shown,
-        asked: &str,
-        document: &ExecutableDocument,
-    ) -> Outcome {
-        match self {
-            View::Whole | View::Placeless => document.write(shown),
-            View::Acceptance => shown.word("accepted"),
-            View::Sizes => write_request_sizes(shown, document),
-            View::Operations => return write_operations(shown, document.operations.iter()),
-            View::Named => {
-                write_named(shown, asked, document);
-                return write_named_of_copy(shown, asked, document);
-            }
+impl Document for ExecutableDocument {
+    fn write_view(&self, shown: &mut Shown, view: &str, asked: &str) {
+        match view {
+            "whole" => self.write(shown),
+            "accepted" => shown.word("accepted"),
+            "sizes" => write_request_sizes(shown, self),
+            "operations" => write_operations(shown, self.operations.iter()),
+            "named" => write_named_twice(shown, asked, self),
             _ => {
-                if let Some((_, operation)) = document.operations.iter().next() {
-                    return self.write_first(alloc, shown, asked, &operation.node);
+                if let Some((_, operation)) = self.operations.iter().next() {
+                    write_operation(shown, view, asked, &operation.node);
                 }
             }
         }
-        Ok(())
     }
+}
 
-    // What is seen of the first operation.
-    fn write_first(
-        self,
-        alloc: Global,
-        shown: &mut Shown,
-        asked: &str,
-        operation: &OperationDefinition,
-    ) -> Outcome {
-        match self {
-            View::Defaults => write_defaults(shown, operation),
-            View::SetsOfSelections => write_sets(shown, operation),
-            _ => {
-                if let Some(selection) = operation.selection_set.node.items.first() {
-                    return self.write_selection(alloc, shown, asked, &selection.node);
-                }
-            }
-        }
-        Ok(())
+// What is seen of the first operation.
+fn write_operation(shown: &mut Shown, view: &str, asked: &str, operation: &OperationDefinition) {
+    match (view, operation.selection_set.node.items.first()) {
+        ("defaults", _) => write_defaults(shown, operation),
+        ("sets of selections", _) => write_sets(shown, operation),
+        (_, Some(selection)) => write_selection(shown, view, asked, &selection.node),
+        (_, None) => {}
     }
+}
 
-    // What is seen of the first selection.
-    fn write_selection(
-        self,
-        alloc: Global,
-        shown: &mut Shown,
-        asked: &str,
-        selection: &Selection,
-    ) -> Outcome {
-        if matches!(self, View::Directives) {
-            return write_grown(shown, selection);
-        }
-        match selection {
-            Selection::Field(field) => self.write_field(alloc, shown, asked, &field.node),
-            _ => Ok(()),
-        }
+// What is seen of the first selection.
+fn write_selection(shown: &mut Shown, view: &str, asked: &str, selection: &Selection) {
+    match selection {
+        _ if view == "directives" => write_grown(shown, selection),
+        Selection::Field(field) => write_field(shown, view, asked, &field.node),
+        _ => {}
     }
+}
 
-    // What is seen of the first field.
-    fn write_field(self, alloc: Global, shown: &mut Shown, asked: &str, field: &Field) -> Outcome {
-        match self {
-            View::Argument => {
-                write_found(shown, field.get_argument(asked));
-                write_argument(alloc, shown, asked, field.directives.first())
-            }
-            View::ResponseKey => {
-                write_response_key(shown, field);
-                Ok(())
-            }
-            View::DirectiveIntoConst => write_directive(alloc, shown, field.directives.first()),
-            View::Equality => match field.arguments.as_slice() {
-                [one, other] => write_equality(alloc, shown, &one.1.node, &other.1.node),
-                _ => Ok(()),
-            },
-            _ => match field.arguments.first() {
-                Some(argument) => self.write_first_argument(alloc, shown, asked, &argument.1.node),
-                None => Ok(()),
-            },
+// What is seen of the first field.
+fn write_field(shown: &mut Shown, view: &str, asked: &str, field: &Field) {
+    match (view, field.arguments.as_slice(), field.directives.first()) {
+        ("argument", _, directive) => {
+            write_found(shown, field.get_argument(asked));
+            write_argument(shown, asked, directive);
         }
-    }
-
-    // What is seen of the first argument.
-    fn write_first_argument(
-        self,
-        alloc: Global,
-        shown: &mut Shown,
-        asked: &str,
-        value: &Value,
-    ) -> Outcome {
-        match self {
-            View::IntoConst => write_there_and_back(alloc, shown, value),
-            View::Text => write_text(alloc, shown, value),
-            View::Viewed => write_viewed(alloc, shown, value),
-            View::FieldViewed => {
-                write_field_viewed(shown, asked, value.as_view());
-                Ok(())
-            }
-            _ => Ok(()),
+        ("response key", _, _) => write_response_key(shown, field),
+        ("directive into const", _, Some(directive)) => write_directive(shown, &directive.node),
+        ("equality", [one, other], _) => write_equality(shown, &one.1.node, &other.1.node),
+        ("into const", [argument, ..], _) => write_there_and_back(shown, &argument.1.node),
+        ("text", [argument, ..], _) => write_text(shown, &argument.1.node),
+        ("viewed", [argument, ..], _) => write_viewed(shown, &argument.1.node),
+        ("field viewed", [argument, ..], _) => {
+            write_field_viewed(shown, asked, argument.1.node.as_view());
         }
+        _ => {}
     }
 }
 
@@ -219,23 +131,18 @@ fn write_found<V: Written>(shown: &mut Shown, value: Option<&Positioned<V>>) {
 }
 
 // The argument of a directive, where there is one, and of it as one without variables.
-fn write_argument(
-    alloc: Global,
-    shown: &mut Shown,
-    asked: &str,
-    directive: Option<&Positioned<Directive>>,
-) -> Outcome {
+fn write_argument(shown: &mut Shown, asked: &str, directive: Option<&Positioned<Directive>>) {
     let Some(directive) = directive else {
-        return Ok(());
+        return;
     };
     shown.word(", ");
     write_found(shown, directive.node.get_argument(asked));
     shown.word(", ");
-    match directive.node.clone()?.into_const(alloc)? {
-        Some(constant) => write_found(shown, constant.get_argument(asked)),
-        None => shown.word("not constant"),
+    match constant_directive(shown.alloc(), &directive.node) {
+        Ok(Some(constant)) => write_found(shown, constant.get_argument(asked)),
+        Ok(None) => shown.word("not constant"),
+        Err(_) => shown.leave_out(),
     }
-    Ok(())
 }
 
 fn write_defaults(shown: &mut Shown, operation: &OperationDefinition) {
@@ -246,43 +153,74 @@ fn write_defaults(shown: &mut Shown, operation: &OperationDefinition) {
     }
 }
 
-fn write_grown(shown: &mut Shown, selection: &Selection) -> Outcome {
+fn write_grown(shown: &mut Shown, selection: &Selection) {
     write_directives(shown, selection.directives());
     shown.word(" then");
-    let mut selection = selection.clone()?;
-    if let Some(directive) = selection.directives().first() {
-        let copy = directive.clone()?;
-        selection.directives_mut().push(copy)?;
+    match selection.clone() {
+        Ok(mut copy) => write_with_one_more(shown, &mut copy),
+        Err(_) => shown.leave_out(),
     }
-    write_directives(shown, selection.directives());
-    Ok(())
 }
 
-fn write_operations(shown: &mut Shown, mut left: OperationsIter<'_>) -> Outcome {
-    write_left(shown, &left)?;
+fn write_with_one_more(shown: &mut Shown, selection: &mut Selection) {
+    if let Some(directive) = selection.directives().first() {
+        match directive.clone() {
+            Ok(directive) => put_directive(shown, selection, directive),
+            Err(_) => shown.leave_out(),
+        }
+    }
+    write_directives(shown, selection.directives());
+}
+
+fn put_directive(shown: &mut Shown, selection: &mut Selection, directive: Positioned<Directive>) {
+    if selection.directives_mut().push(directive).is_err() {
+        shown.leave_out();
+    }
+}
+
+fn write_operations(shown: &mut Shown, mut left: OperationsIter<'_>) {
+    write_left(shown, &left);
     for _ in 0..4 {
         shown.word(match left.next() {
             Some(_) => ", then",
             None => ", none",
         });
-        write_left(shown, &left)?;
+        write_left(shown, &left);
     }
-    Ok(())
 }
 
 // What is left, by a copy, and whether its number is told.
-fn write_left(shown: &mut Shown, operations: &OperationsIter<'_>) -> Outcome {
+fn write_left(shown: &mut Shown, left: &OperationsIter<'_>) {
+    match left.clone() {
+        Ok(copy) => {
+            let count = write_each(shown, copy);
+            if left.len() != count || left.size_hint() != (count, Some(count)) {
+                shown.word(" (not counted)");
+            }
+        }
+        Err(_) => shown.leave_out(),
+    }
+}
+
+// Writes the operations that are left, and gives how many there are.
+fn write_each(shown: &mut Shown, operations: OperationsIter<'_>) -> usize {
     let mut count = 0usize;
-    for (name, operation) in operations.clone()? {
+    for (name, operation) in operations {
         shown.word(" ");
         shown.word(name.map(Name::as_str).unwrap_or("unnamed"));
         shown.place("@", &operation.pos);
         count = count.wrapping_add(1);
     }
-    if operations.len() != count || operations.size_hint() != (count, Some(count)) {
-        shown.word(" (not counted)");
+    count
+}
+
+fn write_named_twice(shown: &mut Shown, asked: &str, document: &ExecutableDocument) {
+    write_named(shown, asked, document);
+    shown.word(", copied");
+    match document.clone() {
+        Ok(copy) => write_named(shown, asked, &copy),
+        Err(_) => shown.leave_out(),
     }
-    Ok(())
 }
 
 fn write_named(shown: &mut Shown, asked: &str, document: &ExecutableDocument) {
@@ -296,57 +234,62 @@ fn write_named(shown: &mut Shown, asked: &str, document: &ExecutableDocument) {
     }
 }
 
-fn write_named_of_copy(shown: &mut Shown, asked: &str, document: &ExecutableDocument) -> Outcome {
-    let copy = document.clone()?;
-    shown.word(", copied");
-    write_named(shown, asked, &copy);
-    Ok(())
-}
-
-// The value as one without variables.
+// A value as one without variables, if it has none.
 fn constant_of(alloc: Global, value: &Value) -> Result<Option<ConstValue>, AllocError> {
     value.clone()?.into_const(alloc)
 }
 
-fn write_there_and_back(alloc: Global, shown: &mut Shown, value: &Value) -> Outcome {
-    match constant_of(alloc, value)? {
-        Some(constant) => {
+fn write_there_and_back(shown: &mut Shown, value: &Value) {
+    match constant_of(shown.alloc(), value) {
+        Ok(Some(constant)) => {
             constant.write(shown);
             shown.word(" and ");
-            constant.into_value(alloc)?.write(shown);
+            match constant.into_value(shown.alloc()) {
+                Ok(value) => value.write(shown),
+                Err(_) => shown.leave_out(),
+            }
         }
-        None => shown.word("none"),
+        Ok(None) => shown.word("none"),
+        Err(_) => shown.leave_out(),
     }
-    Ok(())
 }
 
-fn write_equality(alloc: Global, shown: &mut Shown, one: &Value, other: &Value) -> Outcome {
-    let is_same = one == other;
-    let constant = constant_of(alloc, one)?;
-    let is_same_constant = constant == constant_of(alloc, other)?;
-    for is_same in [is_same, is_same_constant] {
-        shown.word(if is_same { " equal" } else { " different" });
+fn write_equality(shown: &mut Shown, one: &Value, other: &Value) {
+    write_is_same(shown, one == other);
+    match (
+        constant_of(shown.alloc(), one),
+        constant_of(shown.alloc(), other),
+    ) {
+        (Ok(one), Ok(other)) => write_is_same(shown, one == other),
+        _ => shown.leave_out(),
     }
-    Ok(())
 }
 
-fn write_directive(
+fn write_is_same(shown: &mut Shown, is_same: bool) {
+    shown.word(if is_same { " equal" } else { " different" });
+}
+
+// A directive as one without variables, if it has none.
+fn constant_directive(
     alloc: Global,
-    shown: &mut Shown,
-    directive: Option<&Positioned<Directive>>,
-) -> Outcome {
-    let Some(directive) = directive else {
-        return Ok(());
-    };
-    match directive.node.clone()?.into_const(alloc)? {
-        Some(constant) => {
+    directive: &Directive,
+) -> Result<Option<ConstDirective>, AllocError> {
+    directive.clone()?.into_const(alloc)
+}
+
+fn write_directive(shown: &mut Shown, directive: &Directive) {
+    match constant_directive(shown.alloc(), directive) {
+        Ok(Some(constant)) => {
             constant.write(shown);
             shown.word(" and");
-            constant.into_directive(alloc)?.write(shown);
+            match constant.into_directive(shown.alloc()) {
+                Ok(directive) => directive.write(shown),
+                Err(_) => shown.leave_out(),
+            }
         }
-        None => shown.word("none"),
+        Ok(None) => shown.word("none"),
+        Err(_) => shown.leave_out(),
     }
-    Ok(())
 }
 
 fn write_sets(shown: &mut Shown, operation: &OperationDefinition) {
@@ -361,25 +304,23 @@ fn write_sets(shown: &mut Shown, operation: &OperationDefinition) {
     }
 }
 
-fn write_text(alloc: Global, shown: &mut Shown, value: &Value) -> Outcome {
+fn write_text(shown: &mut Shown, value: &Value) {
     shown.item("", value);
-    match constant_of(alloc, value)? {
-        Some(constant) => shown.item(" and ", &constant),
-        None => shown.word(" and none"),
+    match constant_of(shown.alloc(), value) {
+        Ok(Some(constant)) => shown.item(" and ", &constant),
+        Ok(None) => shown.word(" and none"),
+        Err(_) => shown.leave_out(),
     }
-    Ok(())
 }
 
-fn write_viewed(alloc: Global, shown: &mut Shown, value: &Value) -> Outcome {
+fn write_viewed(shown: &mut Shown, value: &Value) {
     write_view(shown, value.as_view());
-    match constant_of(alloc, value)? {
-        Some(constant) => {
-            shown.word(" and");
-            write_view(shown, constant.as_view());
-        }
-        None => shown.word(" and none"),
+    shown.word(" and");
+    match constant_of(shown.alloc(), value) {
+        Ok(Some(constant)) => write_view(shown, constant.as_view()),
+        Ok(None) => shown.word(" none"),
+        Err(_) => shown.leave_out(),
     }
-    Ok(())
 }
 
 // The case of a value with its parts: of a list or an object how many it has, each by its index and each again in turn.

@@ -1,5 +1,5 @@
 use Rattle.std.proofs.Common.{◌≡◌}
-use Rattle.conformance_parts.proofs.places.shown.Given as goal
+use Rattle.conformance_parts.proofs.places.write_places.Given as goal
 
 -- the calculator is one of the text, and stands at the offset that was asked for last
 abbrev pub invariant-loop-word : goal.invariant-loop-word
