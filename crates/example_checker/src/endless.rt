@@ -24,23 +24,27 @@ pub fn first_fault<'a>(
     document: &'a ExecutableDocument,
 ) -> Result<Option<Fault<'a>>, AllocError> {
     let prices = prices_of_fragments(alloc, document, 0)?;
-    let Some(mut name) = first_of_operations(document, prices.as_slice()) else {
-        return Ok(None);
-    };
     let mut seen = vec![in alloc; false; document.fragments.len()]?;
+    Ok(fault_of(document, prices.as_slice(), &mut seen))
+}
+
+// The fault to which a walk comes, where no fragment was seen before.
+fn fault_of<'a>(
+    document: &'a ExecutableDocument,
+    prices: &[Option<u64>],
+    seen: &mut [bool],
+) -> Option<Fault<'a>> {
+    let mut name = first_of_operations(document, prices)?;
     for _ in 0..=document.fragments.len() {
         let Some(place) = document.fragments.get_index_of(name) else {
-            return Ok(Some(Fault::Missing(name)));
+            return Some(Fault::Missing(name));
         };
-        if mem::replace(&mut seen[place], true) {
-            return Ok(Some(Fault::SpreadsItself(name)));
+        if mem::replace(seen.get_mut(place)?, true) {
+            return Some(Fault::SpreadsItself(name));
         }
-        let Some(next) = next_of(document, prices.as_slice(), place) else {
-            return Ok(None);
-        };
-        name = next;
+        name = next_of(document, prices, place)?;
     }
-    Ok(None)
+    None
 }
 
 // The first name that the fragment at this place spreads and that has no price.

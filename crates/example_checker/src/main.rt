@@ -32,31 +32,41 @@ use std::{env, fs, io};
 
 fn main(rt: HostRuntime) -> io::Result<ExitCode> {
     let mut words = env::args(&rt)?.skip(1);
-    let limit = match words.next() {
-        Some(word) => word.as_str().parse::<u32>().ok(),
-        None => None,
-    };
-    let Some(limit) = limit else {
+    let Some(limit) = limit_of(words.next()) else {
         eprintln!(rt; "usage: example_checker LIMIT FILE..")?;
         return Ok(ExitCode::from(2));
     };
     let mut status = 0;
     for file in words {
-        let text = fs::read_to_string(&rt, file.as_str())?;
-        let mut lines = String::new(rt.alloc());
-        let is_well = if file.as_str().ends_with(".graphqls") {
-            check_schema(&mut lines, text.as_str())?
-        } else {
-            check_request(&mut lines, text.as_str(), limit)?
-        };
-        for line in lines.as_str().lines() {
-            println!(rt; "{file}:{line}")?;
-        }
-        if !is_well {
+        if !check_file(&rt, file.as_str(), limit)? {
             status = 1;
         }
     }
     Ok(ExitCode::from(status))
+}
+
+fn limit_of(word: Option<String>) -> Option<u32> {
+    word?.as_str().parse().ok()
+}
+
+// Prints what there is to say of a file, and gives whether it is let through without a fault.
+fn check_file(rt: &HostRuntime, file: &str, limit: u32) -> io::Result<bool> {
+    let text = fs::read_to_string(rt, file)?;
+    let mut lines = String::new(rt.alloc());
+    let is_well = if file.ends_with(".graphqls") {
+        check_schema(&mut lines, text.as_str())?
+    } else {
+        check_request(&mut lines, text.as_str(), limit)?
+    };
+    print_lines(rt, file, lines.as_str())?;
+    Ok(is_well)
+}
+
+fn print_lines(rt: &HostRuntime, file: &str, lines: &str) -> io::Result<()> {
+    for line in lines.lines() {
+        println!(rt; "{file}:{line}")?;
+    }
+    Ok(())
 }
 
 // Writes what is printed of a request, and gives whether it is let through without a fault.

@@ -4,7 +4,6 @@
 
 use graphql_parser::types::{ExecutableDocument, Selection, SelectionSet};
 use std::alloc::{AllocError, Global};
-use std::mem;
 
 // How far a fragment is from standing in the order.
 #[derive(Drop)]
@@ -23,6 +22,11 @@ pub(crate) fn order_of(
 ) -> Result<Vec<usize>, AllocError> {
     let mut fragments = waiting_fragments(alloc, document)?;
     let mut order = Vec::new(alloc);
+    put_in_order(&mut order, &mut fragments)?;
+    Ok(order)
+}
+
+fn put_in_order(order: &mut Vec<usize>, fragments: &mut [Waiting]) -> Result<(), AllocError> {
     for (place, fragment) in fragments.iter().enumerate() {
         if fragment.spreads == 0 {
             order.push(place)?;
@@ -32,17 +36,33 @@ pub(crate) fn order_of(
         let Some(place) = order.get(next).copied() else {
             break;
         };
-        let spread_by = match fragments.get_mut(place) {
-            Some(fragment) => mem::replace(&mut fragment.spread_by, Vec::new(alloc)),
-            None => break,
-        };
-        for user in spread_by {
-            if has_no_other_spread(&mut fragments, user) {
-                order.push(user)?;
-            }
+        put_users(order, fragments, place)?;
+    }
+    Ok(())
+}
+
+// Puts those in order that waited for the fragment at this place alone.
+fn put_users(
+    order: &mut Vec<usize>,
+    fragments: &mut [Waiting],
+    place: usize,
+) -> Result<(), AllocError> {
+    for spread in 0..users_of(fragments, place).len() {
+        if let Some(user) = users_of(fragments, place).get(spread).copied()
+            && has_no_other_spread(fragments, user)
+        {
+            order.push(user)?;
         }
     }
-    Ok(order)
+    Ok(())
+}
+
+// The places of the fragments that spread the one at this place.
+fn users_of(fragments: &[Waiting], place: usize) -> &[usize] {
+    match fragments.get(place) {
+        Some(fragment) => fragment.spread_by.as_slice(),
+        None => &[],
+    }
 }
 
 // One spread of the fragment at this place waits no more. Gives whether that was the last.
@@ -66,15 +86,24 @@ fn waiting_fragments(
             spread_by: Vec::new(alloc),
         })?;
     }
+    note_fragments(document, &mut fragments)?;
+    Ok(fragments)
+}
+
+// Notes what is spread in each fragment.
+fn note_fragments(
+    document: &ExecutableDocument,
+    fragments: &mut [Waiting],
+) -> Result<(), AllocError> {
     for (place, (_, fragment)) in document.fragments.iter().enumerate() {
         note_set(
             &fragment.node.selection_set.node,
             document,
             place,
-            &mut fragments,
+            fragments,
         )?;
     }
-    Ok(fragments)
+    Ok(())
 }
 
 // Notes what is spread in a set of the fragment at this place.
