@@ -1,8 +1,8 @@
 # How the scripts `gqlparse` and `gql` at the top run their programs: read by them, with `.`.
 #
 # If the program isn't built, or a source of its crates is newer, it is proved and built first, with the libraries below it, by
-# `rt ci` in a copy of these crates alone: what that proves is kept on the machine, so that a later `rt ci`, or the other program,
-# doesn't prove it again, and the other way round. Each crate that is proved is reported on standard error.
+# `rt ci` in a copy of these crates alone. A kit that keeps on the machine what it proved doesn't prove it again for a later `rt ci`
+# or for the other program, nor the other way round. Each crate that is proved is reported on standard error.
 
 root=$(dirname -- "$(readlink -f -- "$0")")
 

@@ -79,7 +79,6 @@ pub fn string_value(alloc: Global, content: &str) -> Result<Option<String>, Allo
 }
 
 /// As [`string_value`], in this memory.
-#[tactic(auto, using(crate::proofs::Contents::former_means))]
 pub fn string_value_in(memory: &mut Memory, content: &str) -> Result<Option<String>, AllocError>
     // What it gives is the value of the content,
     ensures some { IfOk result (λ value.

@@ -6,7 +6,7 @@ use Rattle.std.proofs.lemmas.Str.{IsUtf8-string_bytes, IsUtf8-nil, IsCharBoundar
 use Rattle.graphql_tokens.specs.tokens.Edition.{Current}
 use Rattle.graphql_tokens.specs.tokens.Strings.{StringMeans}
 use Rattle.graphql_tokens.specs.inner.Escapes.{escape_at}
-use Rattle.graphql_tokens.proofs.Contents.{past_run, past_push, no_content, means_once, all_plain, nothing, escape_some, escape_wide}
+use Rattle.graphql_tokens.proofs.Contents.{former_means, past_run, past_push, no_content, means_once, all_plain, nothing, escape_some, escape_wide}
 use Rattle.graphql_tokens.proofs.text.string_value_in.Goals as goal
 
 -- the character of an escape has no more bytes than the escape
@@ -179,3 +179,29 @@ returns-clause-some c = whole c
 
 pub returns-clause-only : goal.returns-clause-only
 returns-clause-only c other m = means_once _ _ other (whole c) m
+
+-- ---- the former edition
+
+pub returns-then-at-bytes-clause-former : goal.returns-then-at-bytes-clause-former
+returns-then-at-bytes-clause-former c value m = former_means _ value m
+
+pub returns-in_err-text_of-clause-former : goal.returns-in_err-text_of-clause-former
+returns-in_err-text_of-clause-former c value m = former_means _ value m
+
+pub returns-in_err-value-clause-former : goal.returns-in_err-value-clause-former
+returns-in_err-value-clause-former c value m = former_means _ value m
+
+pub returns-in_err-push_text-clause-former : goal.returns-in_err-push_text-clause-former
+returns-in_err-push_text-clause-former c value m = former_means _ value m
+
+pub returns-in_default-clause-former : goal.returns-in_default-clause-former
+returns-in_default-clause-former c value m = former_means _ value m
+
+pub returns-in_err-push_char-clause-former : goal.returns-in_err-push_char-clause-former
+returns-in_err-push_char-clause-former c value m = former_means _ value m
+
+pub returns-in_err-push_text-2-clause-former : goal.returns-in_err-push_text-2-clause-former
+returns-in_err-push_text-2-clause-former c value m = former_means _ value m
+
+pub returns-clause-former : goal.returns-clause-former
+returns-clause-former c value m = former_means _ value m
