@@ -4,13 +4,13 @@
     tests/layout.py [COUNT [SEED]]
 
 Texts are the rows of the tables of `conformance`, and COUNT random texts of each language (2,000 without it) that
-`roundtrip` makes. GraphQL.js prints those that it reads. The tokens of what it prints, one blank apart, have to be
+that program makes. GraphQL.js prints those that it reads. The tokens of what it prints, one blank apart, have to be
 formatted to that again, byte for byte, and so has what it prints itself: the block strings among them are spelled as in the
 text, where the two have the same tokens. No minified text may be longer than what `stripIgnoredCharacters` gives. It prints
 the texts for which that doesn't hold, and last how many there were of which kind; its status is 1 if there was one.
 
 It needs node with the package graphql (Debian's node-graphql, 16.6), and the programs of `crates/gql` and
-`crates/roundtrip`, which `rt run` builds there. It isn't part of `rt ci`, since that needs the kit alone.
+`crates/conformance`, which `rt run` builds there. It isn't part of `rt ci`, since that needs the kit alone.
 """
 import json
 import os
@@ -22,7 +22,7 @@ import tempfile
 
 ROOT = pathlib.Path(__file__).resolve().parent.parent
 GQL = ROOT / "crates/gql/out/gql"
-ROUNDTRIP = ROOT / "crates/roundtrip/out/roundtrip"
+CONFORMANCE = ROOT / "crates/conformance/out/conformance"
 
 # Prints, for each text of a list: null if it isn't read, else what is printed, its tokens one blank apart, and the text
 # without ignored characters.
@@ -96,7 +96,7 @@ def texts_of_rows():
 
 def random_texts(language, seed, count):
     word = {"query": "requests", "schema": "schemas"}[language]
-    made = subprocess.run([ROUNDTRIP, str(seed), str(count), word], capture_output=True, check=True)
+    made = subprocess.run([CONFORMANCE, "random", str(seed), str(count), word], capture_output=True, check=True)
     return made.stdout.decode().split("\0")[:-1]
 
 

@@ -1,5 +1,5 @@
 #!/bin/sh
-# Has each request for memory refused in turn, in the calls of crates/refused_memory.
+# Has each request for memory refused in turn, in the calls of crates/conformance/data/refused.
 #
 #   tests/refuse_each.sh [FIRST [LAST]]
 #
@@ -8,7 +8,7 @@
 # proof, compiled with checks and on an interpreter. Each row must then answer as it says, or tell that memory was refused.
 # A run takes half a minute and half a second a row, all of them an hour; FIRST and LAST choose a part.
 set -eu
-crate=$(dirname -- "$(readlink -f -- "$0")")/../crates/refused_memory
+crate=$(dirname -- "$(readlink -f -- "$0")")/../crates/conformance
 cases=$(mktemp -d)
 log=$cases.log
 trap 'rm -rf "$cases" "$log" "$cases.requests"' EXIT
@@ -16,7 +16,7 @@ cd "$crate"
 
 # Refuses the request of the given number in each row of $cases. Each must end well, and answer or be out of memory.
 refuse() {
-    rt try --fail-alloc "$1" --cases "$cases" >"$log" 2>&1 || true
+    rt try --fail-alloc "$1" --cases "$cases" -- once >"$log" 2>&1 || true
     rows=$(ls "$cases" | wc -l)
     answered=$(grep -c '^answered$' "$log" || true)
     refused=$(grep -c '^out of memory$' "$log" || true)
@@ -42,7 +42,7 @@ awk -v cases="$cases" '
     { finish() }
     /^== / { call = substr($0, 4); next }
     { row = $0 }
-    END { finish() }' data/tables/*.rows
+    END { finish() }' data/refused/*.rows
 refuse 1000000
 echo "none refused: $answered rows answered, $refused out of memory"
 [ "$refused" -eq 0 ]

@@ -2,7 +2,7 @@
 """Tries a built language server over pipes: tests/server.py GQL [PART..]
 
 GQL is the program, as crates/gql/out/gql. Without a PART all are tried:
-  dialogues  each dialogue of crates/dialogues, message by message
+  dialogues  each dialogue of crates/programs, message by message
   pieces     the same in random pieces (SEED=N in the environment for others)
   garbage    random bytes, dialogues with random damage, and contents that are no UTF-8: the server goes on, and ends by itself
   limits     messages of 64 MiB, and one byte more
@@ -14,7 +14,7 @@ The status is 0 where all is as it has to be. Times are printed, and judged by t
 import json, os, queue, random, re, statistics, subprocess, sys, threading, time
 from pathlib import Path
 
-DATA = Path(__file__).resolve().parent.parent / "crates/dialogues/data"
+DATA = Path(__file__).resolve().parent.parent / "crates/programs/data"
 SEED = int(os.environ.get("SEED", "1"))
 CHANGES = int(os.environ.get("CHANGES", "100000"))
 PATIENCE = 60
@@ -127,7 +127,7 @@ def ranged(start, end, text):
     return {"range": {"start": start, "end": end}, "text": text}
 
 
-# ---- Dialogues, in the notation of crates/dialogues/src/notation.rt
+# ---- Dialogues, in the notation of crates/programs/src/dialogues/notation.rt
 
 def meant(text):
     """The text that the notation of the rows stands for."""

@@ -1,39 +1,39 @@
-//! Tables of cases with expected answers: requests and schema files, what the calls of their trees and of their errors give,
-//! their JSON, what they are minified and formatted to, what their trees are printed as, the reports of refused texts, and what
-//! the programs `gql` and `gqlparse` do. The answers were worked out by hand from the rules of `docs/GRAMMAR.md`, and never
-//! taken from what the crates print.
+//! Tables of cases with expected answers: tokens, values, requests and schema files, what the calls of their trees and of their
+//! errors give, their JSON, what they are minified and formatted to, what their trees are printed as, the reports of refused
+//! texts, positions and edits, what an editor asks of a text, random texts, and calls that run out of memory. The answers were
+//! worked out by hand from the rules of `docs/GRAMMAR.md`, or come from where a table says, and were never taken from what the
+//! crates print.
 //!
-//! The tables are the files of `data/tables`, in the notation of the crate `rows`, and the runs of `gql` and `gqlparse` are the
-//! files of `data/runs`, those of `gql` over the files that `data/sources` lists. The program prints how many rows each has, and
-//! the rows that do not hold: the file `stdout` has the counts, and no such row. So a new row is a line of a table, and counts
-//! there.
+//! The tables are the files of `data/tables` and, for the module `refused`, of `data/refused`, in the notation of the crate
+//! `rows`. The program prints how many rows each has, and the rows that do not hold: the file `stdout` has the counts, and no
+//! such row. So a new row is a line of a table, and counts there. Words of the program name the tables to judge; those that
+//! begin with `random` or `once` are for the modules `roundtrip` and `refused`.
 #![tactic(auto)]
 
-mod commands;
+mod compared;
 mod errors;
 mod json;
 mod kept;
 mod made;
 mod parser;
+mod parts;
 mod printed;
 mod readme;
+mod refused;
 mod reports;
 mod rewritten;
+mod roundtrip;
 mod seeds;
+mod trees;
 
-use commands::judge_runs;
 use parser::Parser;
 use rewritten::Rewriting;
 use rows::{Shown, Subject, ended, judge, pair};
-use std::fs;
 use std::test::Fail;
+use std::{env, io};
 
 /// The calls that the tables are about.
-#[derive(Drop)]
-struct Calls {
-    /// The files that `gql` is run on: the file `sources`.
-    sources: String,
-}
+struct Calls;
 
 impl Subject for Calls {
     fn answer(&self, shown: &mut Shown, call: &str, text: &str) {
@@ -53,16 +53,35 @@ impl Subject for Calls {
             ("made", what) => made::write_made(shown, what, text),
             ("seeds", what) => seeds::write_seeds(shown, what, text),
             ("readme", example) => readme::write_example(shown, example, text),
-            ("gql", part) => commands::answer(shown, self.sources.as_str(), part, text),
-            _ => shown.word("no such call"),
+            ("random", _) => roundtrip::write_found(shown, text),
+            _ => parts::answer(shown, call, text),
         }
     }
 }
 
 fn main(rt: HostRuntime) -> Result<(), Fail> {
-    let calls = Calls {
-        sources: fs::read_to_string(&rt, "sources")?,
-    };
-    let wrong = judge(&rt, &calls)?;
-    ended(wrong.saturating_add(judge_runs(&rt, calls.sources.as_str())?))
+    let mut words = Shown::new(rt.alloc(), true);
+    if write_words(&rt, &mut words).is_err() {
+        words.leave_out();
+    }
+    match words.whole() {
+        Some("once") => refused::make_once(&rt),
+        Some(words) if words.starts_with("random ") => roundtrip::run(&rt, words),
+        Some(_) => judge_all(&rt),
+        None => Ok(println!(rt; "{}", refused::REFUSED)?),
+    }
+}
+
+// Writes the words of the program, with a blank between two.
+fn write_words(rt: &HostRuntime, words: &mut Shown) -> io::Result<()> {
+    for (index, word) in env::args(rt)?.skip(1).enumerate() {
+        words.word(if index > 0 { " " } else { "" });
+        words.item("", &word);
+    }
+    Ok(())
+}
+
+fn judge_all(rt: &HostRuntime) -> Result<(), Fail> {
+    let wrong = judge(rt, "tables", &Calls)?;
+    ended(wrong.saturating_add(refused::judge_rows(rt)?))
 }

@@ -1,4 +1,4 @@
-//! The example of README.md, as it stands there, and the one that docs/USING.md names.
+//! The longer example of docs/USING.md, as it stands there, and the one that its text names.
 use graphql_parser::types::{Selection, TypeKind, TypeSystemDefinition};
 use graphql_parser::{Error, parse_query, parse_schema};
 use rows::Shown;

@@ -26,8 +26,7 @@
 mod notation;
 mod shown;
 mod tables;
-pub mod trees;
 
-pub use notation::{meant, pair};
+pub use notation::{meant, pair, three_numbers};
 pub use shown::Shown;
 pub use tables::{Subject, ended, files_in, judge};

@@ -7,6 +7,17 @@ pub fn pair<'a>(text: &'a str, between: &str) -> (&'a str, &'a str) {
     text.split_once(between).unwrap_or(("", text))
 }
 
+/// The three numbers of a text, with blanks between them.
+pub fn three_numbers(text: &str) -> Option<(usize, usize, usize)> {
+    let (first, rest) = pair(text, " ");
+    let (second, third) = pair(rest, " ");
+    Some((
+        first.parse().ok()?,
+        second.parse().ok()?,
+        third.parse().ok()?,
+    ))
+}
+
 /// What a text in the notation of the rows stands for. A bracket that is not closed stands for itself.
 pub fn meant(alloc: Global, text: &str) -> Result<String, AllocError> {
     let mut shown = Shown::new(alloc, true);

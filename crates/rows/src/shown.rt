@@ -40,11 +40,6 @@ impl Shown {
         *self.text.allocator()
     }
 
-    /// From here on no place is written.
-    pub fn leave_out_places(&mut self) {
-        self.has_places = false;
-    }
-
     /// A part is left out, since there was no memory for it.
     pub fn leave_out(&mut self) {
         self.is_cut = true;

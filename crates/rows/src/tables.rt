@@ -14,13 +14,13 @@ pub trait Subject {
     fn answer(&self, shown: &mut Shown, call: &str, text: &str);
 }
 
-/// Judges the files in the folder `tables`: prints of each table how many rows it has, and before that each row that doesn't hold,
-/// with its file and line, what was expected and what was found. The answer is how many rows don't hold.
+/// Judges the files in a folder, `tables` mostly: prints how many rows each table has, and before that each row that doesn't hold,
+/// with its file and line, what was expected and what was found. Returns how many rows don't hold.
 ///
 /// The program's arguments name the files to judge, as `tokens` for `tables/tokens.rows`; with none, all are judged.
-pub fn judge<S: Subject>(rt: &HostRuntime, subject: &S) -> Result<usize, Fail> {
+pub fn judge<S: Subject>(rt: &HostRuntime, folder: &str, subject: &S) -> Result<usize, Fail> {
     let mut wrong = 0usize;
-    for file in &files_in(rt, "tables")? {
+    for file in &files_in(rt, folder)? {
         wrong = wrong.saturating_add(judge_file(rt, subject, file.as_str())?);
     }
     Ok(wrong)

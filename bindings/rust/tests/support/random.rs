@@ -1,4 +1,4 @@
-//! Random texts, made by the grammars that `crates/roundtrip` makes its own by.
+//! Random texts, made by the grammars that `crates/conformance` makes its own by.
 use super::tables;
 use std::collections::HashMap;
 use std::fs;
@@ -104,7 +104,7 @@ fn meant(word: &str) -> &str {
 
 /// Has `take` called with so many random texts of each language, and with whether it is that of requests.
 pub fn texts(seed: u64, count: usize, mut take: impl FnMut(&str, bool)) {
-    let source = fs::read_to_string(tables::path("crates/roundtrip/src/grammars.rt")).unwrap();
+    let source = fs::read_to_string(tables::path("crates/conformance/src/roundtrip/grammars.rt")).unwrap();
     let [requests, schemas, tokens] = tables::raw_strings(&source)[..] else {
         panic!("three grammars");
     };

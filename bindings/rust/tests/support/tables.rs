@@ -14,15 +14,12 @@ pub fn path(inside: &str) -> PathBuf {
 
 /// All texts of the tables, and what their files hold besides.
 pub fn texts() -> Vec<String> {
-    let crates = ["conformance", "conformance_parts"];
     let mut texts = Vec::new();
-    for name in crates {
-        for file in files(&path("crates").join(name).join("data/tables")) {
-            for table in fs::read_to_string(file).unwrap().split("\n== ") {
-                let (_, inside) = table.split_once('\n').unwrap();
-                texts.extend(rows(inside));
-                texts.extend(inside.split("\n⇒\n").map(str::to_owned));
-            }
+    for file in files(&path("crates/conformance/data/tables")) {
+        for table in fs::read_to_string(file).unwrap().split("\n== ") {
+            let (_, inside) = table.split_once('\n').unwrap();
+            texts.extend(rows(inside));
+            texts.extend(inside.split("\n⇒\n").map(str::to_owned));
         }
     }
     texts

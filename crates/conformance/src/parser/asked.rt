@@ -3,7 +3,7 @@ use super::answers::Parser;
 use super::views::VIEWS;
 use super::{budgets, hostile, taken};
 use graphql_parser::Limits;
-use rows::{Shown, pair};
+use rows::{Shown, pair, three_numbers};
 
 /// Writes what a parser gives that is asked so.
 ///
@@ -60,8 +60,6 @@ fn write_limited(shown: &mut Shown, parser: Parser, text: &str) {
 
 /// The limits of three numbers in one text.
 pub fn limits_of(text: &str) -> Option<Limits> {
-    let mut words = text.split_whitespace();
-    let selections = words.next()?.parse().ok()?;
-    let values = words.next()?.parse().ok()?;
-    Limits::new(selections, values, words.next()?.parse().ok()?)
+    let (selections, values, types) = three_numbers(text)?;
+    Limits::new(selections, values, types)
 }

@@ -1,0 +1,65 @@
+//! What stands below the parsers: tokens, places, names, numbers, what strings mean, types and values, the readers of values at a
+//! third type of values, block strings, positions of editors and edits, and what an editor asks of a text.
+mod blocks;
+mod cuts;
+mod editor;
+mod edits;
+mod literals_made;
+mod literals_read;
+mod names;
+mod nodes;
+mod numbers;
+mod places;
+mod tokens;
+mod type_texts;
+mod written;
+
+use graphql_tokens::text::{block_string_value, string_value};
+use rows::Shown;
+
+/// Writes what the call of this name makes of a text.
+pub fn answer(shown: &mut Shown, call: &str, text: &str) {
+    match call {
+        "tokens" => tokens::write_tokens(shown, text),
+        "tokens for developers" => tokens::write_debugged(shown, text),
+        "string value" => write_string(shown, text),
+        "block string value" => {
+            shown.made("'", block_string_value(shown.alloc(), text));
+            shown.word("'");
+        }
+        "number" => numbers::write_number(shown, text),
+        "numbers compared" => numbers::write_comparison(shown, text),
+        "name" => names::write_name(shown, text),
+        "names ordered" => names::write_order(shown, text),
+        "places of offsets" => places::write_places(shown, text),
+        "calculator for developers" => places::write_debugged(shown, text),
+        "place" => nodes::write_place(shown, text),
+        "places ordered" => nodes::write_order(shown, text),
+        "nodes compared" => nodes::write_comparison(shown, text),
+        "node of a text" => nodes::write_text(shown, text),
+        "type" => type_texts::write_read(shown, text),
+        "types compared" => type_texts::write_comparison(shown, text),
+        "value made" => literals_made::write_value(shown, text),
+        "block string written" => blocks::write_block(shown, text),
+        "sheet" => blocks::write_sheet(shown, text),
+        "cuts" => cuts::write_cuts(shown, text),
+        call => match call.split_once(' ') {
+            Some(("text", what)) => edits::write_answer(shown, what, text),
+            Some(("editor", what)) => editor::write_listed(shown, what, text),
+            Some(("at", what)) => editor::write_at_offset(shown, what, text),
+            Some(("value", what)) => literals_read::write_read(shown, what, text),
+            _ => written::write_read_back(shown, call, text),
+        },
+    }
+}
+
+fn write_string(shown: &mut Shown, text: &str) {
+    match string_value(shown.alloc(), text) {
+        Ok(Some(value)) => {
+            shown.item("'", &value);
+            shown.word("'");
+        }
+        Ok(None) => shown.word("none"),
+        Err(_) => shown.leave_out(),
+    }
+}

@@ -1,0 +1,184 @@
+//! Calls that are given a text.
+use super::answers::{
+    show, show_checked, show_found, show_json, show_made, show_option, show_text, show_tree,
+};
+use super::free;
+use super::inputs::Input;
+use super::row::Row;
+use graphql_parser::lexer::Tokens;
+use graphql_parser::text::{block_string_value, string_value};
+use graphql_parser::types::Type;
+use graphql_parser::value::{Name, Number};
+use graphql_parser::{
+    Limits, check_query, check_query_from, check_query_limited, check_schema, check_schema_from,
+    check_schema_limited, parse_query, parse_query_from, parse_query_limited, parse_schema,
+    parse_schema_from, parse_schema_limited,
+};
+use graphql_printer::{format_query, format_schema, minify_query, minify_schema};
+use rows::{Shown, pair};
+
+/// Nothing but the text of the row.
+#[derive(Drop)]
+pub struct Text;
+
+impl Input for Text {
+    fn make(&mut self, row: &Row<'_>, shown: &mut Shown) -> bool {
+        match row.kind {
+            "query text" => of_query(shown, row.call, row.text),
+            "schema text" => of_schema(shown, row.call, row.text),
+            _ => of_text(shown, row.call, row.text),
+        }
+    }
+}
+
+// A call that is given the text of a request.
+fn of_query(shown: &mut Shown, call: &str, text: &str) -> bool {
+    let alloc = shown.alloc();
+    match call {
+        "parse" => show_tree(shown, parse_query(alloc, text)),
+        "parse limited" => show_tree(shown, parse_query_limited(alloc, text, narrow())),
+        "check" => show_checked(shown, check_query(alloc, text)),
+        "check limited" => show_checked(shown, check_query_limited(alloc, text, narrow())),
+        "minify" => show_text(shown, minify_query(alloc, text, narrow())),
+        "format" => show_text(shown, format_query(alloc, text, narrow())),
+        _ => of_tokens(shown, call, true, text),
+    }
+}
+
+// A call that is given the text of a schema file.
+fn of_schema(shown: &mut Shown, call: &str, text: &str) -> bool {
+    let alloc = shown.alloc();
+    match call {
+        "parse" => show_tree(shown, parse_schema(alloc, text)),
+        "parse limited" => show_tree(shown, parse_schema_limited(alloc, text, narrow())),
+        "check" => show_checked(shown, check_schema(alloc, text)),
+        "check limited" => show_checked(shown, check_schema_limited(alloc, text, narrow())),
+        "minify" => show_text(shown, minify_schema(alloc, text, narrow())),
+        "format" => show_text(shown, format_schema(alloc, text, narrow())),
+        _ => of_tokens(shown, call, false, text),
+    }
+}
+
+// The answer over the tokens that are left, and how many are taken; and where memory is refused, whether no more
+// are taken than there are, and the rest is still to come. Before the text may stand how many tokens are passed first, with
+// ` in ` between them.
+fn of_tokens(shown: &mut Shown, call: &str, is_query: bool, text: &str) -> bool {
+    let (passed, text) = pair(text, " in ");
+    let mut tokens = Tokens::new(text);
+    for _ in 0..passed.parse::<usize>().unwrap_or(0) {
+        tokens.next();
+    }
+    match call {
+        "parse from" => parse_rest(shown, is_query, tokens, text),
+        "check from" => check_rest(shown, is_query, tokens, text),
+        _ => show(shown, &"no such call"),
+    }
+}
+
+// The answer of a parse over the tokens that are left of a text.
+fn parse_rest(shown: &mut Shown, is_query: bool, mut tokens: Tokens<'_>, text: &str) -> bool {
+    if tokens.is_ended() {
+        return show(shown, &"no tokens left");
+    }
+    let is_answered = if is_query {
+        show_tree(shown, parse_query_from(shown.alloc(), &mut tokens))
+    } else {
+        show_tree(shown, parse_schema_from(shown.alloc(), &mut tokens))
+    };
+    show_taken(shown, is_answered, tokens, text);
+    is_answered
+}
+
+// The same of a check.
+fn check_rest(shown: &mut Shown, is_query: bool, mut tokens: Tokens<'_>, text: &str) -> bool {
+    if tokens.is_ended() {
+        return show(shown, &"no tokens left");
+    }
+    let is_answered = if is_query {
+        show_checked(shown, check_query_from(shown.alloc(), &mut tokens))
+    } else {
+        show_checked(shown, check_schema_from(shown.alloc(), &mut tokens))
+    };
+    show_taken(shown, is_answered, tokens, text);
+    is_answered
+}
+
+// How many tokens were taken, or that no more were than there are.
+fn show_taken(shown: &mut Shown, is_answered: bool, tokens: Tokens<'_>, text: &str) {
+    let taken = tokens.taken();
+    if is_answered {
+        shown.item(", taken ", &taken);
+    } else if taken.checked_add(count(tokens)) == Some(count(Tokens::new(text))) {
+        shown.word("taken within ");
+    }
+}
+
+// How many tokens are left.
+fn count(tokens: Tokens<'_>) -> usize {
+    let mut count = 0usize;
+    for _ in tokens {
+        count = count.wrapping_add(1);
+    }
+    count
+}
+
+// Limits within which little may nest.
+fn narrow() -> Limits {
+    Limits::new(1, 1, 1).unwrap_or(Limits::default())
+}
+
+// A call that is given any other text.
+fn of_text(shown: &mut Shown, call: &str, text: &str) -> bool {
+    let alloc = shown.alloc();
+    match call {
+        "string value" => show_found(shown, string_value(alloc, text)),
+        "block string value" => show_made(shown, block_string_value(alloc, text)),
+        "name" => show_made(shown, Name::new(alloc, text)),
+        "name cloned" => of_name(shown, text),
+        "places" => free::show_places(shown, text),
+        "tokens" => free::show_tokens(shown, text),
+        "number" | "number cloned" => of_number(shown, call, text),
+        "type" => show_found(shown, Type::new(alloc, text)),
+        _ => of_type(shown, call, text),
+    }
+}
+
+// A copy of a name.
+fn of_name(shown: &mut Shown, text: &str) -> bool {
+    match Name::new(shown.alloc(), text) {
+        Ok(name) => show_made(shown, name.clone()),
+        Err(_) => false,
+    }
+}
+
+fn of_number(shown: &mut Shown, call: &str, text: &str) -> bool {
+    match Number::new(shown.alloc(), text) {
+        Ok(Some(number)) => {
+            if call == "number cloned" {
+                return show_made(shown, number.clone());
+            }
+            show_number(shown, &number)
+        }
+        Ok(None) => show(shown, &"none"),
+        Err(_) => false,
+    }
+}
+
+fn show_number(shown: &mut Shown, number: &Number) -> bool {
+    shown.item("", number);
+    show_option(shown, " ", number.as_i64());
+    show_option(shown, " ", number.as_u64());
+    true
+}
+
+fn of_type(shown: &mut Shown, call: &str, text: &str) -> bool {
+    match Type::new(shown.alloc(), text) {
+        Ok(Some(ty)) => match call {
+            "type cloned" => show_made(shown, ty.clone()),
+            "type as JSON" => show_json(shown, &ty),
+            _ => show(shown, &"no such call"),
+        },
+        Ok(None) => show(shown, &"none"),
+        Err(_) => false,
+    }
+}

@@ -1,0 +1,134 @@
+//! What calls are given besides a text. It is made while there is memory.
+use super::calls::Text;
+use super::listing::try_listing;
+use super::row::Row;
+use super::trying::try_call;
+use graphql_parser::types::{ConstDirective, Directive, ExecutableDocument, Field, Selection};
+use graphql_parser::value::{ConstValue, Value};
+use graphql_parser::{Error, parse_query, parse_schema};
+use rows::Shown;
+use std::alloc::{AllocError, Global};
+
+/// What a call is given besides the text of its row.
+pub trait Input: Drop {
+    /// Makes the call of a row, and shows its answer. Where memory is refused, what may not change then is shown, and the
+    /// result is false.
+    fn make(&mut self, row: &Row<'_>, shown: &mut Shown) -> bool;
+}
+
+/// Tries the call of a row. False where there is no memory for what it is given.
+pub fn try_row(row: &Row<'_>, shown: &mut Shown) -> bool {
+    match row.kind {
+        "text" | "query text" | "schema text" => {
+            try_call(row, Text, shown);
+            true
+        }
+        "schema tree" => try_schema(row, shown),
+        "listing" => try_listing(row, shown),
+        _ => try_query(row, shown),
+    }
+}
+
+fn try_schema(row: &Row<'_>, shown: &mut Shown) -> bool {
+    let Some(document) = parse_schema(shown.alloc(), row.text).ok() else {
+        return false;
+    };
+    try_call(row, document, shown);
+    true
+}
+
+// A call that is given a request, a part of one, or the error of a text that is none.
+fn try_query(row: &Row<'_>, shown: &mut Shown) -> bool {
+    match parse_query(shown.alloc(), row.text) {
+        Ok(document) => {
+            if row.kind == "query tree" {
+                try_call(row, document, shown);
+                return true;
+            }
+            try_field(row, &document, shown)
+        }
+        Err(Error::OutOfMemory) => false,
+        Err(error) => {
+            try_call(row, error, shown);
+            true
+        }
+    }
+}
+
+// A call that is given the first argument of the first field, or its first directive.
+fn try_field(row: &Row<'_>, document: &ExecutableDocument, shown: &mut Shown) -> bool {
+    let Some(field) = first_field(document) else {
+        return false;
+    };
+    if let Some(argument) = field.arguments.first() {
+        try_argument(row, &argument.1.node, shown)
+    } else if let Some(directive) = field.directives.first() {
+        try_directive(row, &directive.node, shown)
+    } else {
+        false
+    }
+}
+
+fn try_argument(row: &Row<'_>, value: &Value, shown: &mut Shown) -> bool {
+    if row.kind == "value" {
+        return try_copies(row, value, shown);
+    }
+    match constant_of(shown.alloc(), value) {
+        Ok(Some(constant)) => try_copies(row, &constant, shown),
+        _ => false,
+    }
+}
+
+fn try_directive(row: &Row<'_>, directive: &Directive, shown: &mut Shown) -> bool {
+    if row.kind == "directive" {
+        return try_copies(row, directive, shown);
+    }
+    match constant_directive_of(shown.alloc(), directive) {
+        Ok(Some(constant)) => try_copies(row, &constant, shown),
+        _ => false,
+    }
+}
+
+fn constant_of(alloc: Global, value: &Value) -> Result<Option<ConstValue>, AllocError> {
+    value.clone()?.into_const(alloc)
+}
+
+fn constant_directive_of(
+    alloc: Global,
+    directive: &Directive,
+) -> Result<Option<ConstDirective>, AllocError> {
+    directive.clone()?.into_const(alloc)
+}
+
+// A conversion lets its value go, so there is a copy for each time that the call is made.
+fn try_copies<T: Clone + Drop>(row: &Row<'_>, item: &T, shown: &mut Shown) -> bool
+where
+    Vec<T>: Input,
+{
+    let mut copies = Vec::new(shown.alloc());
+    if copy_times(&mut copies, item, row.times()).is_err() {
+        return false;
+    }
+    try_call(row, copies, shown);
+    true
+}
+
+fn copy_times<T: Clone + Drop>(
+    copies: &mut Vec<T>,
+    item: &T,
+    times: usize,
+) -> Result<(), AllocError> {
+    for _ in 0..times {
+        copies.push(item.clone()?)?;
+    }
+    Ok(())
+}
+
+/// The first field of the first operation.
+pub fn first_field(document: &ExecutableDocument) -> Option<&Field> {
+    let (_, operation) = document.operations.iter().next()?;
+    match &operation.node.selection_set.node.items.first()?.node {
+        Selection::Field(field) => Some(&field.node),
+        _ => None,
+    }
+}

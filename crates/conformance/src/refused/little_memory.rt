@@ -1,0 +1,90 @@
+//! What is done at the end of memory: all of it is taken, and then given back piece by piece.
+use std::alloc::{AllocError, Global};
+
+const BLOCKS: usize = 100_000;
+
+const PIECES: usize = 400;
+
+/// How often an attempt is made: before any memory is given back, and after each piece.
+pub const ATTEMPTS: usize = PIECES + 1;
+
+/// Blocks of memory, which no one uses.
+pub type Blocks = Vec<Vec<u8>>;
+
+/// What is done again and again, with a piece of memory more each time.
+pub trait Attempt {
+    /// Does it once. What comes of it is kept without memory.
+    fn attempt(&mut self, alloc: Global);
+}
+
+/// Takes all memory and gives it back piece by piece; before the first piece and after each the attempt is made.
+/// False where memory has no end, and then none is made.
+pub fn attempts<A: Attempt>(alloc: Global, attempted: &mut A) -> Result<bool, AllocError> {
+    let mut blocks = Vec::with_capacity(alloc, BLOCKS)?;
+    let pieces = pieces(alloc, &mut blocks)?;
+    if !take_all(alloc, &mut blocks)? {
+        return Ok(false);
+    }
+    attempted.attempt(alloc);
+    for piece in pieces {
+        drop(piece);
+        attempted.attempt(alloc);
+    }
+    Ok(true)
+}
+
+/// Takes all memory but so many bytes, and holds it until the answer is let go; None where memory has no end. Attempts that
+/// are made meanwhile have little left to take.
+pub fn all_but(alloc: Global, bytes: usize) -> Result<Option<Blocks>, AllocError> {
+    let mut blocks = Vec::with_capacity(alloc, BLOCKS)?;
+    let room: Vec<u8> = Vec::with_capacity(alloc, bytes)?;
+    if !take_all(alloc, &mut blocks)? {
+        return Ok(None);
+    }
+    drop(room);
+    Ok(Some(blocks))
+}
+
+// Takes all memory that is left, in blocks whose bytes are never touched. False where more blocks would
+// be needed than `blocks` has room for.
+fn take_all(alloc: Global, blocks: &mut Blocks) -> Result<bool, AllocError> {
+    let mut size = 1usize << 34;
+    for _ in 0..24 {
+        if !take(alloc, blocks, size)? {
+            return Ok(false);
+        }
+        size /= 2;
+    }
+    // Of small blocks an allocator keeps some of each size.
+    for i in 0..75usize {
+        if !take(alloc, blocks, 1208 - 16 * i)? {
+            return Ok(false);
+        }
+    }
+    Ok(true)
+}
+
+// Takes blocks of this size while there are some.
+fn take(alloc: Global, blocks: &mut Blocks, size: usize) -> Result<bool, AllocError> {
+    for _ in 0..BLOCKS {
+        if blocks.len() == blocks.capacity() {
+            return Ok(false);
+        }
+        let Ok(block) = Vec::with_capacity(alloc, size) else {
+            break;
+        };
+        blocks.push(block)?;
+    }
+    Ok(true)
+}
+
+// Blocks of growing sizes, and after each of them a small one in `between`, so that what is given back of them
+// is not joined into larger pieces.
+fn pieces(alloc: Global, between: &mut Blocks) -> Result<Blocks, AllocError> {
+    let mut pieces = Vec::with_capacity(alloc, PIECES)?;
+    for i in 0..PIECES {
+        pieces.push(Vec::with_capacity(alloc, 24 + 16 * i)?)?;
+        between.push(Vec::with_capacity(alloc, 24)?)?;
+    }
+    Ok(pieces)
+}

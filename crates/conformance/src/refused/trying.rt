@@ -1,0 +1,158 @@
+//! A row once, and again and again at the end of memory, with a piece more each time.
+use super::inputs::{Input, try_row};
+use super::little_memory::{Attempt, attempts};
+use super::row::{End, REFUSED, Row};
+use rows::{Shown, Subject, meant, pair};
+use std::alloc::Global;
+
+// Room for the longest answer.
+const ROOM: usize = 4096;
+
+/// The calls of the tables, each made again and again at the end of memory.
+#[derive(Drop)]
+pub struct Calls {
+    /// Whether memory has an end, as it hasn't in `rt try`; without one each call is made once.
+    pub has_end: bool,
+}
+
+impl Subject for Calls {
+    /// Writes the answer where there is memory, unless the call ends in another way at the end of memory, or not in each way in
+    /// which it may end.
+    fn answer(&self, shown: &mut Shown, call: &str, text: &str) {
+        if !try_row(&Row::new(call, text, self.has_end), shown) {
+            shown.leave_out();
+        }
+    }
+}
+
+/// What comes of the call of a row that is made once; the name of its table stands in the line before it.
+pub fn once(alloc: Global, told: &str) -> &'static str {
+    let (table, row) = pair(told, "\n");
+    let (text, answer) = pair(row, " ⇒ ");
+    match (meant(alloc, text), meant(alloc, answer.trim_ascii())) {
+        (Ok(text), Ok(answer)) => {
+            made_once(
+                alloc,
+                &Row::new(table, text.as_str(), false),
+                answer.as_str(),
+            )
+        }
+        _ => REFUSED,
+    }
+}
+
+fn made_once(alloc: Global, row: &Row<'_>, answer: &str) -> &'static str {
+    let Ok(mut shown) = Shown::with_room(alloc, true, ROOM) else {
+        return REFUSED;
+    };
+    if !try_row(row, &mut shown) {
+        return REFUSED;
+    }
+    match row.end(answer, shown.whole().unwrap_or("no room")) {
+        End::Answered => "answered",
+        End::Refused | End::RefusedOutside => REFUSED,
+        End::Other => "another end",
+    }
+}
+
+/// Makes the call of a row, and shows its answer. Where memory has an end the call is then made there, and how it must not end
+/// is shown in place of its answer.
+pub fn try_call<I: Input>(row: &Row<'_>, mut input: I, shown: &mut Shown) {
+    make(row, &mut input, shown);
+    if row.has_end {
+        try_at_end(row, input, shown);
+    }
+}
+
+fn make<I: Input>(row: &Row<'_>, input: &mut I, shown: &mut Shown) {
+    if !input.make(row, shown) {
+        shown.word(REFUSED);
+    }
+}
+
+fn try_at_end<I: Input>(row: &Row<'_>, input: I, shown: &mut Shown) {
+    let answer = String::from_str(shown.alloc(), shown.whole().unwrap_or("no room"));
+    match (answer, Shown::with_room(shown.alloc(), true, ROOM)) {
+        (Ok(answer), Ok(room)) => {
+            let tried = Tried {
+                row: *row,
+                input,
+                answer,
+                room,
+                answered: 0,
+                refused: 0,
+                refused_outside: 0,
+                has_other: false,
+            };
+            show_fault(tried, shown);
+        }
+        _ => shown.leave_out(),
+    }
+}
+
+// Makes the attempts, and shows what is wrong with them.
+fn show_fault<I: Input>(mut tried: Tried<'_, I>, shown: &mut Shown) {
+    let fault = match attempts(shown.alloc(), &mut tried) {
+        Ok(true) => tried.fault(),
+        Ok(false) => Some("memory has no end here"),
+        Err(_) => Some(REFUSED),
+    };
+    if let Some(fault) = fault {
+        shown.clear();
+        shown.word(fault);
+        shown.item(": ", &tried.room.whole().unwrap_or("no room"));
+    }
+}
+
+// A call that is made again and again, and how often it has ended in each of its ways.
+#[derive(Drop)]
+struct Tried<'a, I> {
+    row: Row<'a>,
+    input: I,
+    answer: String,
+    room: Shown,
+    answered: usize,
+    refused: usize,
+    refused_outside: usize,
+    has_other: bool,
+}
+
+impl<I: Input> Tried<'_, I> {
+    // How the call ended that was made last.
+    fn end(&self) -> End {
+        let shown = self.room.whole().unwrap_or("no room");
+        self.row.end(self.answer.as_str(), shown)
+    }
+
+    // What is wrong with the ways in which the call has ended.
+    fn fault(&self) -> Option<&'static str> {
+        if self.has_other {
+            Some("another end")
+        } else if self.answered == 0 {
+            Some("never answered, but")
+        } else if self.row.is_refused() && self.refused == 0 {
+            Some("never refused memory, but")
+        } else if self.row.is_listing() && self.refused_outside == 0 {
+            Some("never refused memory outside of the parser, but")
+        } else {
+            None
+        }
+    }
+}
+
+impl<I: Input> Attempt for Tried<'_, I> {
+    // Makes the call, unless it has had another end. Takes no memory for itself.
+    fn attempt(&mut self, _alloc: Global) {
+        if self.has_other {
+            return;
+        }
+        self.room.clear();
+        make(&self.row, &mut self.input, &mut self.room);
+        match self.end() {
+            End::Answered => self.answered = self.answered.saturating_add(1),
+            End::Refused => self.refused = self.refused.saturating_add(1),
+            End::RefusedOutside => self.refused_outside = self.refused_outside.saturating_add(1),
+            End::Other => self.has_other = true,
+        }
+    }
+}
