@@ -8,7 +8,7 @@
 #
 # Both libraries show what the header declares, and nothing else.
 #
-# The first call proves and compiles the crate and all below it, which takes some minutes; later calls do nothing until a
+# The first call proves and compiles the crate and all below it, which takes as long as README says of the programs; later calls do nothing until a
 # source changes. Needs the kit (`rt`) and a C compiler (`cc`, with `ar` and `objcopy`). The callers need neither the kit
 # nor this repository.
 set -eu

@@ -6,7 +6,7 @@
 # sanitizers of addresses, leaks and undefined behaviour, where the compiler has them. A language whose tool (cc, cargo,
 # python3) is missing is skipped. The last line says what passed and what was skipped; the status is 1 if anything failed.
 #
-# It isn't part of `rt ci`. Once the library is built it takes some seconds.
+# It isn't part of `rt ci`. Once the library is built it takes two minutes.
 set -u
 here=$(dirname -- "$(readlink -f -- "$0")")
 out=$here/out
