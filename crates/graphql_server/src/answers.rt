@@ -57,6 +57,14 @@ impl Failure {
         }
     }
 
+    /// Whether a content can't be read at all.
+    pub fn is_unread(&self) -> bool {
+        matches!(
+            self,
+            Failure::OtherCharset | Failure::NotUtf8 | Failure::NotJson
+        )
+    }
+
     /// Whether memory ran out.
     pub fn is_of_memory(&self) -> bool {
         matches!(self, Failure::OutOfMemory)

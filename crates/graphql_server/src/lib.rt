@@ -31,6 +31,7 @@ pub mod reader;
 pub mod selection;
 mod server;
 mod session;
+mod surrogates;
 pub mod texts;
 pub mod writer;
 

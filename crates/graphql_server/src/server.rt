@@ -2,16 +2,14 @@
 
 ghost use Rattle.std.specs.Prelude.{◌≤◌, IfSome};
 
-use crate::answers::{Failure, Weight, log, refuse};
+use crate::answers::Failure;
 use crate::framing::{Frames, Piece};
-use crate::messages::Id;
 use crate::session::Session;
 use std::alloc::{AllocError, Global};
 
 /// A language server for one client, which is written to and read from in bytes (Language Server Protocol 3.17, "Base Protocol").
 #[derive(Drop)]
 pub struct Server {
-    alloc: Global,
     frames: Frames,
     session: Session,
 }
@@ -20,7 +18,6 @@ impl Server {
     /// A server to which nothing was sent. It takes no memory.
     pub fn new(alloc: Global) -> Server {
         Server {
-            alloc,
             frames: Frames::new(alloc),
             session: Session::new(alloc),
         }
@@ -30,7 +27,8 @@ impl Server {
     /// sent back to `out`, each message with its header part.
     ///
     /// A request is answered before the next message is read. A header part that is wrong, or a length beyond 64 MiB, is logged, and
-    /// reading goes on at the next `Content-Length:`. A content that is no JSON is answered by an error without id.
+    /// reading goes on at the next `Content-Length:`. A content that is no JSON is answered by an error without id. Either may have been
+    /// a change, so no text is open from then on.
     ///
     /// It fails only where there is no memory for the bytes, or even for an error in the place of an answer. The server goes on then:
     /// the next bytes may be given to it. Where a message is lost that may have changed a text, no text is open from then on.
@@ -85,12 +83,8 @@ impl Server {
                 let content = self.frames.content(start, end);
                 self.session.take(content, out)
             }
-            Piece::OtherCharset => {
-                let failure = Failure::OtherCharset;
-                log(self.alloc, Weight::Error, failure.message(), out)?;
-                refuse(self.alloc, &Id::Null, &failure, out)
-            }
-            Piece::Fault(why) => log(self.alloc, Weight::Error, why, out),
+            Piece::OtherCharset => self.session.refuse_content(Failure::OtherCharset, out),
+            Piece::Fault(why) => self.session.take_fault(why, out),
         }
     }
 }

@@ -15,9 +15,11 @@ use crate::navigation::{write_definitions, write_hover, write_references};
 use crate::outline::write_outline;
 use crate::params::{Params, params_of};
 use crate::selection::{are_too_many, write_selections};
+use crate::surrogates::without_halves;
 use crate::texts::{OpenText, Texts, change_all, is_position, is_range};
 use crate::writer::JsonWriter;
 use std::alloc::{AllocError, Global};
+use std::mem;
 use text_edits::{Document, Encoding, Position, Range};
 
 // How far a session is.
@@ -49,6 +51,8 @@ pub struct Session {
 const NOT_OPEN: &str = "the text isn't open";
 
 const OPEN_BEFORE: &str = "the text was open before";
+
+const LOST: &str = "the text is closed, since a change of it may be lost";
 
 const POSITION_CLIPPED: &str = "a position is outside of the text, or inside of a character";
 
@@ -107,20 +111,47 @@ impl Session {
 
     fn take_content(&mut self, content: &[u8], out: &mut Vec<u8>) -> Result<(), AllocError> {
         let Ok(content) = std::str::from_utf8(content) else {
-            return self.refuse_message(Id::Null, Failure::NotUtf8, out);
+            return self.refuse_content(Failure::NotUtf8, out);
         };
+        match without_halves(self.alloc, content) {
+            Ok(Some(whole)) => self.take_text(whole.as_str(), out),
+            Ok(None) => self.take_text(content, out),
+            Err(_) => self.refuse_content(Failure::OutOfMemory, out),
+        }
+    }
+
+    fn take_text(&mut self, content: &str, out: &mut Vec<u8>) -> Result<(), AllocError> {
         match message_of(self.alloc, content) {
             Ok(Message::Request(id, method)) => self.answer_request(content, method, &id, out),
             Ok(Message::Notice(method)) => self.take_notice(content, method, out),
             Ok(Message::Answer) => Ok(()),
             Ok(Message::Wrong(id)) => self.refuse_message(id, Failure::NotMessage, out),
-            Err(failure) => {
-                if failure.is_of_memory() {
-                    self.forget();
-                }
-                self.refuse_message(Id::Null, failure, out)
-            }
+            Err(failure) => self.refuse_content(failure, out),
         }
+    }
+
+    /// Logs what is wrong with a header part. The message may have changed a text: none is open from then on.
+    pub fn take_fault(&mut self, why: &str, out: &mut Vec<u8>) -> Result<(), AllocError> {
+        log(self.alloc, Weight::Error, why, out)?;
+        self.lose_all(out)
+    }
+
+    /// Answers a content by an error without an id, and logs it. If it can't be read it may have changed a text: none is open from
+    /// then on.
+    pub fn refuse_content(
+        &mut self,
+        failure: Failure,
+        out: &mut Vec<u8>,
+    ) -> Result<(), AllocError> {
+        if failure.is_of_memory() {
+            self.forget();
+        }
+        let is_unread = failure.is_unread();
+        self.refuse_message(Id::Null, failure, out)?;
+        if is_unread {
+            self.lose_all(out)?;
+        }
+        Ok(())
     }
 
     // Answers a message that is none by an error, and logs it.
@@ -385,7 +416,11 @@ impl Session {
                 let alloc = self.alloc;
                 let why = failure.message();
                 let message = format!(in alloc; "{name}: {why}")?;
-                log(alloc, Weight::Error, message.as_str(), out)
+                log(alloc, Weight::Error, message.as_str(), out)?;
+                if !failure.is_of_memory() {
+                    self.lose_changed(content, method, out)?;
+                }
+                Ok(())
             }
         }
     }
@@ -447,6 +482,49 @@ impl Session {
         if !self.texts.close(uri) {
             let _ = self.warn(NOT_OPEN, uri, out)?;
         } else if self.publishes {
+            self.publish_list(uri, None, &[], out)?;
+        }
+        Ok(())
+    }
+
+    // ---- Lost changes
+
+    // Closes what a notification with wrong parameters may have changed: the text that it names, or any if that can't be read.
+    fn lose_changed(
+        &mut self,
+        content: &str,
+        method: Method,
+        out: &mut Vec<u8>,
+    ) -> Result<(), AllocError> {
+        match (method, params_of(self.alloc, Method::DidClose, content)) {
+            (Method::DidOpen | Method::DidChange, Ok(params)) => {
+                let uri = params.uri.as_str();
+                if self.texts.close(uri) {
+                    self.tell_lost(uri, out)?;
+                }
+                Ok(())
+            }
+            (Method::DidChange, Err(_)) => self.lose_all(out),
+            _ => Ok(()),
+        }
+    }
+
+    // Closes each text that is open.
+    fn lose_all(&mut self, out: &mut Vec<u8>) -> Result<(), AllocError> {
+        let mut lost = mem::replace(&mut self.texts, Texts::new(self.alloc));
+        for _ in 0..u64::MAX {
+            let Some(uri) = lost.close_first() else {
+                break;
+            };
+            self.tell_lost(uri.as_str(), out)?;
+        }
+        Ok(())
+    }
+
+    // Logs that a text is closed, and takes back what was published of it.
+    fn tell_lost(&self, uri: &str, out: &mut Vec<u8>) -> Result<(), AllocError> {
+        let _ = self.warn(LOST, uri, out)?;
+        if self.publishes {
             self.publish_list(uri, None, &[], out)?;
         }
         Ok(())

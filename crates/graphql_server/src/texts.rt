@@ -68,6 +68,12 @@ impl Texts {
         self.open.remove(uri).is_some()
     }
 
+    /// Closes the first text that is open, and returns its URI.
+    pub fn close_first(&mut self) -> Option<String> {
+        let (uri, _) = self.open.pop_first()?;
+        Some(uri)
+    }
+
     /// The text of this URI, if it is open.
     pub fn get(&self, uri: &str) -> Option<&OpenText> {
         self.open.get(uri)
