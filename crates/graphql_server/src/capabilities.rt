@@ -1,5 +1,6 @@
 //! What the server reports at the beginning (Language Server Protocol 3.17, "Initialize Request").
 
+use crate::client::Client;
 use crate::fixes::QUICK_FIX;
 use crate::writer::JsonWriter;
 use text_edits::Encoding;
@@ -16,11 +17,11 @@ const PROVIDERS: [&str; 8] = [
     "hoverProvider",
 ];
 
-/// Writes what the server can do, and its name ("InitializeResult").
-pub fn write_initialized(encoding: Encoding, json: &mut JsonWriter) {
+/// Writes what the server can do for a client, and its name ("InitializeResult").
+pub fn write_initialized(client: &Client, json: &mut JsonWriter) {
     json.begin_object();
     json.name("capabilities");
-    write_capabilities(encoding, json);
+    write_capabilities(client, json);
     json.name("serverInfo");
     json.begin_object();
     json.text_member("name", "gql");
@@ -29,12 +30,14 @@ pub fn write_initialized(encoding: Encoding, json: &mut JsonWriter) {
     json.end_object();
 }
 
-fn write_capabilities(encoding: Encoding, json: &mut JsonWriter) {
+fn write_capabilities(client: &Client, json: &mut JsonWriter) {
     json.begin_object();
-    json.text_member("positionEncoding", name_of(encoding));
+    json.text_member("positionEncoding", name_of(client.encoding));
     write_sync_options(json);
     write_diagnostic_options(json);
-    write_action_options(json);
+    if client.takes_fixes {
+        write_action_options(json);
+    }
     for provider in PROVIDERS {
         json.boolean_member(provider, true);
     }

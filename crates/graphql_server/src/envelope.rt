@@ -6,14 +6,14 @@ use crate::messages::Id;
 use crate::methods::Method;
 use crate::reader::{DEEPEST, Fault, JsonReader, integer_of};
 use json::{Scratch, Token};
-use std::alloc::Global;
+use std::alloc::{AllocError, Global};
 
 /// What a message asks for.
 #[derive(Drop)]
 pub enum Message {
     Request(Id, Method),
     Notice(Method),
-    /// The answer to a request, of which the server has made none.
+    /// What has a result or an error: the answer to a request, of which the server has made none.
     Answer,
     /// It is no message, and has this id.
     Wrong(Id),
@@ -46,11 +46,26 @@ pub fn message_of(alloc: Global, content: &str) -> Result<Message, Failure> {
     let envelope = read_envelope(&mut reader);
     reader.end();
     match reader.fault() {
+        None if envelope.is_answer => Ok(Message::Answer),
         None => meant_by(alloc, envelope),
         Some(Fault::OutOfMemory) => Err(Failure::OutOfMemory),
         Some(Fault::NotJson) => Err(Failure::NotJson),
-        Some(_) => Err(Failure::NotMessage),
+        Some(_) => {
+            if is_answer(alloc, content)? {
+                Ok(Message::Answer)
+            } else {
+                Err(Failure::NotMessage)
+            }
+        }
     }
+}
+
+// Whether a message has a result or an error, whatever else it has.
+fn is_answer(alloc: Global, content: &str) -> Result<bool, AllocError> {
+    let mut scratch = Scratch::new(alloc);
+    let mut reader = JsonReader::new(alloc, content, &mut scratch)?;
+    let mut members = reader.begin_object(&[Member::Result, Member::Error], DEEPEST - 1);
+    Ok(reader.next_member(&mut members).is_some())
 }
 
 fn meant_by(alloc: Global, envelope: Envelope<'_>) -> Result<Message, Failure> {
@@ -64,7 +79,6 @@ fn meant_by(alloc: Global, envelope: Envelope<'_>) -> Result<Message, Failure> {
     Ok(match (envelope.method, id) {
         (Sent::Text(method), Some(id)) if is_version => Message::Request(id, Method::of(method)),
         (Sent::Text(method), None) if is_version => Message::Notice(Method::of(method)),
-        (Sent::Absent, Some(_)) if is_version && envelope.is_answer => Message::Answer,
         (_, id) => Message::Wrong(id.unwrap_or(Id::Null)),
     })
 }
@@ -90,12 +104,14 @@ fn read_envelope<'a>(reader: &mut JsonReader<'a>) -> Envelope<'a> {
         let Some(member) = reader.next_member(&mut members) else {
             break;
         };
-        let sent = read_sent(reader);
         match member {
-            Member::Jsonrpc => envelope.jsonrpc = sent,
-            Member::Id => envelope.id = sent,
-            Member::Method => envelope.method = sent,
-            _ => envelope.is_answer = true,
+            Member::Jsonrpc => envelope.jsonrpc = read_sent(reader),
+            Member::Id => envelope.id = read_sent(reader),
+            Member::Method => envelope.method = read_sent(reader),
+            _ => {
+                envelope.is_answer = true;
+                reader.skip(DEEPEST - 1);
+            }
         }
     }
     envelope

@@ -1,12 +1,13 @@
 //! What mends a text (Language Server Protocol 3.17, "Code Action Request").
 
+use crate::client::Client;
 use crate::diagnostics::{diagnostic_of, found_in, range_of};
 use crate::messages::{write_diagnostics, write_edit};
 use crate::writer::JsonWriter;
 use graphql_texts::{Diagnosis, Fix, Language};
 use std::alloc::{AllocError, Global};
 use std::slice;
-use text_edits::{Document, Encoding, Range};
+use text_edits::{Document, Range};
 
 /// The kind of all actions ("CodeActionKind").
 pub const QUICK_FIX: &str = "quickfix";
@@ -23,13 +24,13 @@ pub fn write_fixes(
     alloc: Global,
     uri: &str,
     language: Language,
-    encoding: Encoding,
+    client: &Client,
     document: &Document,
     asked: Range,
     json: &mut JsonWriter,
 ) -> Result<(), AllocError> {
-    let start = document.offset_of(encoding, asked.start);
-    let end = document.offset_of(encoding, asked.end);
+    let start = document.offset_of(client.encoding, asked.start);
+    let end = document.offset_of(client.encoding, asked.end);
     json.begin_list();
     for diagnosis in found_in(alloc, language, document)? {
         if diagnosis.span.start > end || diagnosis.span.end < start {
@@ -37,7 +38,7 @@ pub fn write_fixes(
         }
         let mut diagnosis = diagnosis;
         if let Some(fix) = diagnosis.fix.take() {
-            write_action(alloc, uri, encoding, document, diagnosis, &fix, json)?;
+            write_action(alloc, uri, client, document, diagnosis, &fix, json)?;
         }
     }
     json.end_list();
@@ -48,18 +49,19 @@ pub fn write_fixes(
 fn write_action(
     alloc: Global,
     uri: &str,
-    encoding: Encoding,
+    client: &Client,
     document: &Document,
     diagnosis: Diagnosis,
     fix: &Fix,
     json: &mut JsonWriter,
 ) -> Result<(), AllocError> {
+    let encoding = client.encoding;
     let diagnostic = diagnostic_of(alloc, uri, encoding, document, diagnosis)?;
     let range = range_of(encoding, document, fix.span.start, fix.span.end);
     json.begin_object();
     json.text_member("title", fix.title.as_str());
     json.text_member("kind", QUICK_FIX);
-    write_diagnostics("diagnostics", slice::from_ref(&diagnostic), json);
+    write_diagnostics("diagnostics", slice::from_ref(&diagnostic), client, json);
     json.boolean_member("isPreferred", true);
     json.name("edit");
     json.begin_object();

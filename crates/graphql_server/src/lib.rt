@@ -5,7 +5,8 @@
 //! parameters ([`params`], [`members`]) are read value by value ([`reader`]), and what is sent ([`messages`]) is written so
 //! ([`writer`]). A session ([`session`]) keeps the open texts ([`texts`]) and answers each request, about diagnostics
 //! ([`diagnostics`]), quick fixes ([`fixes`]), the outline ([`outline`]), folding and selection ranges ([`folding`], [`selection`]),
-//! names ([`navigation`]) and layout ([`formatting`]); what it can do is told at the beginning ([`capabilities`]).
+//! names ([`navigation`]) and layout ([`formatting`]); what it can do is told at the beginning ([`capabilities`]), and what it sends is
+//! what the client can take ([`client`]).
 //!
 //! Proved: it is safe and ends on every input. A text after a change is what the protocol says, as `text_edits` has it; each range of
 //! a diagnostic is one of positions of the text; what is published of a text is made from that text alone, and is nothing only where
@@ -14,6 +15,7 @@
 
 mod answers;
 pub mod capabilities;
+pub mod client;
 pub mod diagnostics;
 pub mod envelope;
 pub mod fixes;

@@ -1,5 +1,6 @@
 //! What the server sends, as it is written in JSON (Language Server Protocol 3.17).
 
+use crate::client::Client;
 use crate::writer::JsonWriter;
 use text_edits::{Position, Range};
 
@@ -51,24 +52,29 @@ pub struct Diagnostic<'a> {
     pub related_information: Vec<Related<'a>>,
 }
 
-/// Writes a member that is a list of diagnostics.
-pub fn write_diagnostics(name: &str, diagnostics: &[Diagnostic<'_>], json: &mut JsonWriter) {
+/// Writes a member that is a list of diagnostics for a client.
+pub fn write_diagnostics(
+    name: &str,
+    diagnostics: &[Diagnostic<'_>],
+    client: &Client,
+    json: &mut JsonWriter,
+) {
     json.name(name);
     json.begin_list();
     for diagnostic in diagnostics {
-        write_diagnostic(diagnostic, json);
+        write_diagnostic(diagnostic, client, json);
     }
     json.end_list();
 }
 
-fn write_diagnostic(diagnostic: &Diagnostic<'_>, json: &mut JsonWriter) {
+fn write_diagnostic(diagnostic: &Diagnostic<'_>, client: &Client, json: &mut JsonWriter) {
     json.begin_object();
     write_range("range", diagnostic.range, json);
     json.size_member("severity", usize::from(diagnostic.severity));
     json.text_member("code", diagnostic.code);
     json.text_member("source", diagnostic.source);
     json.text_member("message", diagnostic.message.as_str());
-    if !diagnostic.related_information.is_empty() {
+    if client.shows_related && !diagnostic.related_information.is_empty() {
         json.name("relatedInformation");
         json.begin_list();
         for related in &diagnostic.related_information {

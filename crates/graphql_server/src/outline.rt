@@ -1,34 +1,125 @@
 //! The outline of a text (Language Server Protocol 3.17, "Document Symbols Request").
 
-use crate::messages::write_range;
+use crate::client::{Client, SymbolKinds};
+use crate::messages::{Location, write_location, write_range};
 use crate::places::Places;
 use crate::writer::JsonWriter;
 use graphql_editor::{Span, Structure, Symbol, SymbolKind};
 use std::alloc::{AllocError, Global};
-use text_edits::Encoding;
+use text_edits::Range;
 
-/// Writes the symbols of a text, each with those inside of it.
+/// Writes the symbols of a text for a client: each with those inside of it, or one after another if it doesn't show them so.
 ///
 /// It fails only where memory runs out.
 pub fn write_outline(
     alloc: Global,
-    encoding: Encoding,
+    uri: &str,
+    client: &Client,
     text: &str,
     json: &mut JsonWriter,
 ) -> Result<(), AllocError> {
     let structure = Structure::new(alloc, text)?;
-    let places = Places::new(alloc, encoding, text)?;
+    let places = Places::new(alloc, client.encoding, text)?;
+    let outline = Outline {
+        uri,
+        text,
+        kinds: &client.kinds,
+        places: &places,
+    };
     json.begin_list();
-    // How many symbols are open: the one that was met last, and those around it.
-    let mut open = 0usize;
-    for symbol in structure.symbols() {
-        close_to(symbol.depth, open, json);
-        begin_symbol(text, &places, symbol, json);
-        open = open.min(symbol.depth).saturating_add(1);
+    if client.nests_symbols {
+        outline.write_nested(structure.symbols(), json);
+    } else {
+        outline.write_flat(alloc, structure.symbols(), json)?;
     }
-    close_to(0, open, json);
     json.end_list();
     Ok(())
+}
+
+// What symbols are written with.
+#[derive(Clone, Copy)]
+struct Outline<'a> {
+    uri: &'a str,
+    text: &'a str,
+    // Those that the client knows.
+    kinds: &'a SymbolKinds,
+    places: &'a Places<'a>,
+}
+
+impl Outline<'_> {
+    // Writes each symbol with those inside of it.
+    fn write_nested(&self, symbols: &[Symbol], json: &mut JsonWriter) {
+        // How many symbols are open: the one that was met last, and those around it.
+        let mut open = 0usize;
+        for symbol in symbols {
+            close_to(symbol.depth, open, json);
+            self.begin_symbol(symbol, json);
+            open = open.min(symbol.depth).saturating_add(1);
+        }
+        close_to(0, open, json);
+    }
+
+    // Writes a "DocumentSymbol" up to those inside of it.
+    fn begin_symbol(&self, symbol: &Symbol, json: &mut JsonWriter) {
+        json.begin_object();
+        json.text_member("name", slice_of(self.text, symbol.name));
+        if let Some(detail) = symbol.detail {
+            json.text_member("detail", slice_of(self.text, detail));
+        }
+        json.size_member("kind", self.kind_of(symbol));
+        write_range("range", self.range_of(symbol.whole), json);
+        write_range("selectionRange", self.range_of(symbol.name), json);
+        json.name("children");
+        json.begin_list();
+    }
+
+    // Writes each symbol as a "SymbolInformation", with the name of the one around it.
+    fn write_flat(
+        &self,
+        alloc: Global,
+        symbols: &[Symbol],
+        json: &mut JsonWriter,
+    ) -> Result<(), AllocError> {
+        let mut around: Vec<&str> = Vec::new(alloc);
+        for symbol in symbols {
+            let name = slice_of(self.text, symbol.name);
+            around.truncate(symbol.depth);
+            json.begin_object();
+            json.text_member("name", name);
+            json.size_member("kind", self.kind_of(symbol));
+            json.name("location");
+            let location = Location {
+                uri: self.uri,
+                range: self.range_of(symbol.whole),
+            };
+            write_location(location, json);
+            if let Some(outer) = around.last() {
+                json.text_member("containerName", outer);
+            }
+            json.end_object();
+            around.push(name)?;
+        }
+        Ok(())
+    }
+
+    // The number of a symbol's kind, or of one of the protocol's first version that is like it if the client doesn't know that one.
+    fn kind_of(&self, symbol: &Symbol) -> usize {
+        let kind = kind_of(symbol.kind);
+        if self.kinds.has(kind) {
+            return kind;
+        }
+        match kind {
+            OBJECT => FIELD,
+            ENUM_MEMBER => CONSTANT,
+            EVENT => FUNCTION,
+            STRUCT | TYPE_PARAMETER => CLASS,
+            _ => kind,
+        }
+    }
+
+    fn range_of(&self, span: Span) -> Range {
+        self.places.range_of(span.start, span.end)
+    }
 }
 
 // Ends each symbol that is open and not around this depth.
@@ -37,25 +128,6 @@ fn close_to(depth: usize, open: usize, json: &mut JsonWriter) {
         json.end_list();
         json.end_object();
     }
-}
-
-// Writes a "DocumentSymbol" up to those inside of it.
-fn begin_symbol(text: &str, places: &Places<'_>, symbol: &Symbol, json: &mut JsonWriter) {
-    let (whole, name) = (symbol.whole, symbol.name);
-    json.begin_object();
-    json.text_member("name", slice_of(text, name));
-    if let Some(detail) = symbol.detail {
-        json.text_member("detail", slice_of(text, detail));
-    }
-    json.size_member("kind", kind_of(symbol.kind));
-    write_range("range", places.range_of(whole.start, whole.end), json);
-    write_range(
-        "selectionRange",
-        places.range_of(name.start, name.end),
-        json,
-    );
-    json.name("children");
-    json.begin_list();
 }
 
 /// The part of a text between two offsets; nothing where they aren't offsets of characters.
@@ -100,6 +172,8 @@ const INTERFACE: usize = 11;
 const FUNCTION: usize = 12;
 
 const VARIABLE: usize = 13;
+
+const CONSTANT: usize = 14;
 
 const OBJECT: usize = 19;
 

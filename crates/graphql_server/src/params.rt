@@ -1,6 +1,7 @@
 //! The parameters of the messages of a client (Language Server Protocol 3.17).
 
 use crate::answers::Failure;
+use crate::client::{Client, Markup, SymbolKinds};
 use crate::fixes::has_fixes;
 use crate::members::Member;
 use crate::methods::Method;
@@ -30,10 +31,8 @@ pub struct Params {
     pub wants_fixes: bool,
     /// Whether definitions are among the references that are asked for ("ReferenceContext").
     pub takes_definitions: bool,
-    /// The units in which the client counts columns ("GeneralClientCapabilities").
-    pub encoding: Encoding,
-    /// Whether the client asks for diagnostics itself ("TextDocumentClientCapabilities").
-    pub asks_for_diagnostics: bool,
+    /// What the client can do ("ClientCapabilities").
+    pub client: Client,
 }
 
 const START: Position = Position {
@@ -57,8 +56,7 @@ impl Params {
             changes: Vec::new(alloc),
             wants_fixes: true,
             takes_definitions: false,
-            encoding: Encoding::Utf16,
-            asks_for_diagnostics: false,
+            client: Client::new(),
         }
     }
 }
@@ -166,7 +164,7 @@ fn read_param(reader: &mut JsonReader<'_>, method: Method, member: Member, param
         }
         Member::Context => read_context(reader, method, params),
         Member::ContentChanges => read_changes(reader, &mut params.changes),
-        Member::Capabilities => read_capabilities(reader, params),
+        Member::Capabilities => read_capabilities(reader, &mut params.client),
         _ => reader.skip(DEEPEST - 2),
     }
 }
@@ -337,21 +335,21 @@ fn read_kinds(reader: &mut JsonReader<'_>) -> bool {
 
 // ---- Capabilities
 
-fn read_capabilities(reader: &mut JsonReader<'_>, params: &mut Params) {
+fn read_capabilities(reader: &mut JsonReader<'_>, client: &mut Client) {
     let token = reader.next();
     let mut members = reader.begin(token, &[Member::General, Member::TextDocument]);
     for _ in 0..u64::MAX {
         match reader.next_member(&mut members) {
             None => break,
-            Some(Member::General) => read_general(reader, params),
-            Some(_) => read_text_capabilities(reader, params),
+            Some(Member::General) => read_general(reader, client),
+            Some(_) => read_text_capabilities(reader, client),
         }
     }
     reader.require_in_list(&members, Member::General);
     reader.require_in_list(&members, Member::TextDocument);
 }
 
-fn read_general(reader: &mut JsonReader<'_>, params: &mut Params) {
+fn read_general(reader: &mut JsonReader<'_>, client: &mut Client) {
     let token = reader.next();
     if let Some(Token::Null) = token {
         return;
@@ -361,27 +359,34 @@ fn read_general(reader: &mut JsonReader<'_>, params: &mut Params) {
         if reader.next_member(&mut members).is_none() {
             break;
         }
-        params.encoding = read_encodings(reader);
+        client.encoding = read_first_named(reader, encoding_named).unwrap_or(Encoding::Utf16);
     }
     reader.require_in_list(&members, Member::PositionEncodings);
 }
 
-// The first encoding that the server knows, and UTF-16 where there is none ("PositionEncodingKind").
-fn read_encodings(reader: &mut JsonReader<'_>) -> Encoding {
+// The first of a list of names that the server knows; None if there is none, and for null.
+fn read_first_named<T: Copy, F: Fn(&str) -> Option<T>>(
+    reader: &mut JsonReader<'_>,
+    named: F,
+) -> Option<T>
+    requires { F.IsAlwaysCallable named }
+{
     let token = reader.next();
     if let Some(Token::Null) = token {
-        return Encoding::Utf16;
+        return None;
     }
-    let mut encoding = None;
+    let mut first = None;
     reader.begin_list(token);
     for _ in 0..u64::MAX {
         if !reader.next_item() {
             break;
         }
         let name = reader.text();
-        encoding = encoding.or(encoding_named(name));
+        if first.is_none() {
+            first = named(name);
+        }
     }
-    encoding.unwrap_or(Encoding::Utf16)
+    first
 }
 
 fn encoding_named(name: &str) -> Option<Encoding> {
@@ -393,20 +398,113 @@ fn encoding_named(name: &str) -> Option<Encoding> {
     }
 }
 
+// The members of "TextDocumentClientCapabilities" that are read.
+const TEXT_CAPABILITIES: &[Member] = &[
+    Member::Diagnostic,
+    Member::PublishDiagnostics,
+    Member::DocumentSymbol,
+    Member::Hover,
+    Member::CodeAction,
+];
+
 // A client that has the capabilities of diagnostics asks for them itself.
-fn read_text_capabilities(reader: &mut JsonReader<'_>, params: &mut Params) {
+fn read_text_capabilities(reader: &mut JsonReader<'_>, client: &mut Client) {
     let token = reader.next();
     if let Some(Token::Null) = token {
         return;
     }
-    let mut members = reader.begin(token, &[Member::Diagnostic]);
+    let mut members = reader.begin(token, TEXT_CAPABILITIES);
+    for _ in 0..u64::MAX {
+        let Some(member) = reader.next_member(&mut members) else {
+            break;
+        };
+        match member {
+            Member::Diagnostic => client.asks_for_diagnostics = read_presence(reader),
+            capability => read_capability(reader, capability, client),
+        }
+    }
+    reader.require_in_list(&members, Member::Diagnostic);
+}
+
+// The members that are read of a capability.
+fn wanted_of(capability: Member) -> &'static [Member] {
+    match capability {
+        Member::PublishDiagnostics => &[Member::RelatedInformation],
+        Member::DocumentSymbol => &[
+            Member::HierarchicalDocumentSymbolSupport,
+            Member::SymbolKind,
+        ],
+        Member::Hover => &[Member::ContentFormat],
+        _ => &[Member::CodeActionLiteralSupport],
+    }
+}
+
+// Reads a capability that is an object of others.
+fn read_capability(reader: &mut JsonReader<'_>, capability: Member, client: &mut Client) {
+    let token = reader.next();
+    if let Some(Token::Null) = token {
+        return;
+    }
+    let mut members = reader.begin(token, wanted_of(capability));
+    for _ in 0..u64::MAX {
+        match reader.next_member(&mut members) {
+            None => break,
+            Some(Member::RelatedInformation) => client.shows_related = read_flag(reader),
+            Some(Member::HierarchicalDocumentSymbolSupport) => {
+                client.nests_symbols = read_flag(reader);
+            }
+            Some(Member::SymbolKind) => read_symbol_kinds(reader, client),
+            Some(Member::ContentFormat) => {
+                client.markup = read_first_named(reader, Markup::named).unwrap_or(Markup::Plain);
+            }
+            Some(_) => client.takes_fixes = read_presence(reader),
+        }
+    }
+}
+
+fn read_symbol_kinds(reader: &mut JsonReader<'_>, client: &mut Client) {
+    let token = reader.next();
+    if let Some(Token::Null) = token {
+        return;
+    }
+    let mut members = reader.begin(token, &[Member::ValueSet]);
     for _ in 0..u64::MAX {
         if reader.next_member(&mut members).is_none() {
             break;
         }
-        params.asks_for_diagnostics = read_presence(reader);
+        if let Some(kinds) = read_kinds_known(reader) {
+            client.kinds = kinds;
+        }
     }
-    reader.require_in_list(&members, Member::Diagnostic);
+}
+
+// The kinds of symbols of a list of numbers; None for null.
+fn read_kinds_known(reader: &mut JsonReader<'_>) -> Option<SymbolKinds> {
+    let token = reader.next();
+    if let Some(Token::Null) = token {
+        return None;
+    }
+    let mut kinds = SymbolKinds::none();
+    reader.begin_list(token);
+    for _ in 0..u64::MAX {
+        if !reader.next_item() {
+            break;
+        }
+        kinds.add(reader.size());
+    }
+    Some(kinds)
+}
+
+// Whether the value is true; null is not.
+fn read_flag(reader: &mut JsonReader<'_>) -> bool {
+    match reader.next() {
+        Some(Token::Bool(value)) => value,
+        Some(Token::Null) => false,
+        _ => {
+            reader.fail(Fault::WrongType);
+            false
+        }
+    }
 }
 
 // Whether the value is an object, of which no member is read, and not null.

@@ -4,6 +4,7 @@ ghost use Rattle.std.specs.Prelude.{◌≤◌, IfSome};
 
 use crate::answers::{Failure, Weight, begin_answer, begin_notice, log, refuse, send};
 use crate::capabilities::write_initialized;
+use crate::client::Client;
 use crate::diagnostics::diagnostics_of;
 use crate::envelope::{Message, message_of};
 use crate::fixes::write_fixes;
@@ -16,11 +17,11 @@ use crate::outline::write_outline;
 use crate::params::{Params, params_of};
 use crate::selection::{are_too_many, write_selections};
 use crate::surrogates::without_halves;
-use crate::texts::{OpenText, Texts, change_all, is_position, is_range};
+use crate::texts::{OpenText, Texts, are_known, change_all, is_known};
 use crate::writer::JsonWriter;
 use std::alloc::{AllocError, Global};
 use std::mem;
-use text_edits::{Document, Encoding, Position, Range};
+use text_edits::{Document, Position, Range};
 
 // How far a session is.
 #[derive(Clone, Copy)]
@@ -41,9 +42,7 @@ enum Phase {
 pub struct Session {
     alloc: Global,
     phase: Phase,
-    encoding: Encoding,
-    // The client doesn't ask for diagnostics, so they are published.
-    publishes: bool,
+    client: Client,
     texts: Texts,
 }
 
@@ -54,9 +53,11 @@ const OPEN_BEFORE: &str = "the text was open before";
 
 const LOST: &str = "the text is closed, since a change of it may be lost";
 
-const POSITION_CLIPPED: &str = "a position is outside of the text, or inside of a character";
+const POSITION_CLIPPED: &str =
+    "a position is on a line that the text doesn't have, or inside of a character";
 
-const RANGE_CLIPPED: &str = "a range is outside of the text, or ends inside of a character";
+const RANGE_CLIPPED: &str =
+    "a range begins or ends on a line that the text doesn't have, or inside of a character";
 
 // What is done with a request: its answer is added, or it fails.
 type Outcome = Result<(), Failure>;
@@ -67,8 +68,7 @@ impl Session {
         Session {
             alloc,
             phase: Phase::Fresh,
-            encoding: Encoding::Utf16,
-            publishes: true,
+            client: Client::new(),
             texts: Texts::new(alloc),
         }
     }
@@ -132,7 +132,7 @@ impl Session {
 
     /// Logs what is wrong with a header part. The message may have changed a text: none is open from then on.
     pub fn take_fault(&mut self, why: &str, out: &mut Vec<u8>) -> Result<(), AllocError> {
-        log(self.alloc, Weight::Error, why, out)?;
+        self.log(Weight::Error, why, out)?;
         self.lose_all(out)
     }
 
@@ -161,8 +161,16 @@ impl Session {
         failure: Failure,
         out: &mut Vec<u8>,
     ) -> Result<(), AllocError> {
-        log(self.alloc, Weight::Error, failure.message(), out)?;
+        self.log(Weight::Error, failure.message(), out)?;
         refuse(self.alloc, &id, &failure, out)
+    }
+
+    // Adds a message for the client's log, unless `initialize` wasn't answered yet: nothing but answers is sent before that.
+    fn log(&self, weight: Weight, message: &str, out: &mut Vec<u8>) -> Result<(), AllocError> {
+        match self.phase {
+            Phase::Fresh => Ok(()),
+            _ => log(self.alloc, weight, message, out),
+        }
     }
 
     // ---- Requests
@@ -195,10 +203,9 @@ impl Session {
     fn initialize(&mut self, content: &str, id: &Id, out: &mut Vec<u8>) -> Outcome {
         let params = params_of(self.alloc, Method::Initialize, content)?;
         let mut answer = begin_answer(self.alloc, id);
-        write_initialized(params.encoding, &mut answer);
+        write_initialized(&params.client, &mut answer);
         send(self.alloc, answer, out)?;
-        self.encoding = params.encoding;
-        self.publishes = !params.asks_for_diagnostics;
+        self.client = params.client;
         self.phase = Phase::Running;
         Ok(())
     }
@@ -250,14 +257,15 @@ impl Session {
         text: &OpenText,
         json: &mut JsonWriter,
     ) -> Result<(), AllocError> {
-        let (alloc, encoding, document) = (self.alloc, self.encoding, &text.document);
+        let (alloc, client, document) = (self.alloc, &self.client, &text.document);
         let (uri, position, range) = (params.uri.as_str(), params.position, params.range);
+        let encoding = client.encoding;
         match method {
-            Method::CodeAction if params.wants_fixes => {
+            Method::CodeAction if params.wants_fixes && client.takes_fixes => {
                 let language = text.language(alloc, uri)?;
-                write_fixes(alloc, uri, language, encoding, document, range, json)
+                write_fixes(alloc, uri, language, client, document, range, json)
             }
-            Method::DocumentSymbol => write_outline(alloc, encoding, document.text(), json),
+            Method::DocumentSymbol => write_outline(alloc, uri, client, document.text(), json),
             Method::FoldingRange => write_folds(alloc, document.text(), json),
             Method::SelectionRange => {
                 write_selections(alloc, encoding, document, params.positions.as_slice(), json)
@@ -277,7 +285,7 @@ impl Session {
                 let all = params.takes_definitions;
                 write_references(alloc, uri, encoding, document, position, all, json)
             }
-            Method::Hover => write_hover(alloc, encoding, document, position, json),
+            Method::Hover => write_hover(alloc, client, document, position, json),
             Method::Diagnostic => self.write_report(uri, text, json),
             _ => {
                 // No action is asked for that the server has.
@@ -298,7 +306,7 @@ impl Session {
         let diagnostics = self.diagnostics(uri, text)?;
         json.begin_object();
         json.text_member("kind", "full");
-        write_diagnostics("items", diagnostics.as_slice(), json);
+        write_diagnostics("items", diagnostics.as_slice(), &self.client, json);
         json.end_object();
         Ok(())
     }
@@ -311,7 +319,7 @@ impl Session {
         }
     }
 
-    // Logs the places that a request speaks of and that are none of the text: they are clipped.
+    // Logs the places that a request speaks of and that the text doesn't have: they are clipped.
     fn log_places(
         &self,
         method: Method,
@@ -353,7 +361,7 @@ impl Session {
         position: Position,
         out: &mut Vec<u8>,
     ) -> Result<(), AllocError> {
-        if !is_position(document, self.encoding, position) {
+        if !is_known(document, self.client.encoding, position) {
             let _ = self.warn(POSITION_CLIPPED, uri, out)?;
         }
         Ok(())
@@ -366,7 +374,7 @@ impl Session {
         range: Range,
         out: &mut Vec<u8>,
     ) -> Result<(), AllocError> {
-        if !is_range(document, self.encoding, range) {
+        if !are_known(document, self.client.encoding, range) {
             let _ = self.warn(RANGE_CLIPPED, uri, out)?;
         }
         Ok(())
@@ -376,7 +384,7 @@ impl Session {
     fn warn(&self, what: &str, uri: &str, out: &mut Vec<u8>) -> Result<String, AllocError> {
         let alloc = self.alloc;
         let message = format!(in alloc; "{what}: {uri}")?;
-        log(alloc, Weight::Warning, message.as_str(), out)?;
+        self.log(Weight::Warning, message.as_str(), out)?;
         Ok(message)
     }
 
@@ -416,7 +424,7 @@ impl Session {
                 let alloc = self.alloc;
                 let why = failure.message();
                 let message = format!(in alloc; "{name}: {why}")?;
-                log(alloc, Weight::Error, message.as_str(), out)?;
+                self.log(Weight::Error, message.as_str(), out)?;
                 if !failure.is_of_memory() {
                     self.lose_changed(content, method, out)?;
                 }
@@ -446,7 +454,7 @@ impl Session {
     }
 
     fn did_change(&mut self, content: &str, out: &mut Vec<u8>) -> Outcome {
-        let (alloc, encoding) = (self.alloc, self.encoding);
+        let (alloc, encoding) = (self.alloc, self.client.encoding);
         let params = params_of(alloc, Method::DidChange, content);
         if let Err(failure) = &params
             && failure.is_of_memory()
@@ -481,7 +489,7 @@ impl Session {
         let uri = params.uri.as_str();
         if !self.texts.close(uri) {
             let _ = self.warn(NOT_OPEN, uri, out)?;
-        } else if self.publishes {
+        } else if self.publishes() {
             self.publish_list(uri, None, &[], out)?;
         }
         Ok(())
@@ -524,7 +532,7 @@ impl Session {
     // Logs that a text is closed, and takes back what was published of it.
     fn tell_lost(&self, uri: &str, out: &mut Vec<u8>) -> Result<(), AllocError> {
         let _ = self.warn(LOST, uri, out)?;
-        if self.publishes {
+        if self.publishes() {
             self.publish_list(uri, None, &[], out)?;
         }
         Ok(())
@@ -532,13 +540,24 @@ impl Session {
 
     // ---- Diagnostics
 
+    // Whether diagnostics are published, since the client doesn't ask for them.
+    fn publishes(&self) -> bool {
+        !self.client.asks_for_diagnostics
+    }
+
     fn diagnostics<'a>(
         &self,
         uri: &'a str,
         text: &OpenText,
     ) -> Result<Vec<Diagnostic<'a>>, AllocError> {
         let language = text.language(self.alloc, uri)?;
-        diagnostics_of(self.alloc, uri, language, self.encoding, &text.document)
+        diagnostics_of(
+            self.alloc,
+            uri,
+            language,
+            self.client.encoding,
+            &text.document,
+        )
     }
 
     // Publishes what is wrong with a text that is open.
@@ -546,7 +565,7 @@ impl Session {
         let Some(text) = self.texts.get(uri) else {
             return Ok(());
         };
-        if !self.publishes {
+        if !self.publishes() {
             return Ok(());
         }
         let diagnostics = self.diagnostics(uri, text)?;
@@ -568,7 +587,7 @@ impl Session {
             notice.name("version");
             notice.integer(version);
         }
-        write_diagnostics("diagnostics", diagnostics, &mut notice);
+        write_diagnostics("diagnostics", diagnostics, &self.client, &mut notice);
         notice.end_object();
         send(self.alloc, notice, out)
     }

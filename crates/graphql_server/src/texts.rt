@@ -95,8 +95,8 @@ pub struct Change {
 }
 
 /// Changes a text by one change after another, each of which speaks of the text as the one before it left it ("DidChangeTextDocument
-/// Notification"). A position outside of the text, or inside of a character, is taken as `text_edits` says; the answer is how many
-/// changes have one.
+/// Notification"). A position that isn't one of the text is taken as `text_edits` says; the answer is how many changes have one
+/// beyond the last line, or inside of a character.
 ///
 /// It fails only where memory runs out, and then only some of the changes may be made.
 pub fn change_all(
@@ -110,7 +110,7 @@ pub fn change_all(
     let mut clipped = 0usize;
     for change in changes {
         if let Some(range) = change.range
-            && !is_range(document, encoding, range)
+            && !are_known(document, encoding, range)
         {
             clipped = clipped.saturating_add(1);
         }
@@ -145,9 +145,28 @@ pub fn is_position(document: &Document, encoding: Encoding, position: Position) 
     document.position_of(encoding, document.offset_of(encoding, position)) == position
 }
 
-/// Whether both ends of a range are positions of the text.
-pub fn is_range(document: &Document, encoding: Encoding, range: Range) -> bool
-    ensures { IsTrue result ↔ IsRange encoding document.now range }
+/// Whether a position is one of the text, or is beyond the end of a line, which is what it means then (Language Server Protocol 3.17,
+/// "Position").
+pub fn is_known(document: &Document, encoding: Encoding, position: Position) -> bool
+    ensures { IsPosition encoding document.now position → IsTrue result }
 {
-    is_position(document, encoding, range.start) && is_position(document, encoding, range.end)
+    let end = document.position_of(
+        encoding,
+        document.offset_of(
+            encoding,
+            Position {
+                line: position.line,
+                character: usize::MAX,
+            },
+        ),
+    );
+    let is_beyond = end.line == position.line && end.character <= position.character;
+    is_beyond || is_position(document, encoding, position)
+}
+
+/// The same of both ends of a range.
+pub fn are_known(document: &Document, encoding: Encoding, range: Range) -> bool
+    ensures { IsRange encoding document.now range → IsTrue result }
+{
+    is_known(document, encoding, range.start) && is_known(document, encoding, range.end)
 }
