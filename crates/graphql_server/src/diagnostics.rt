@@ -7,6 +7,7 @@ ghost use Rattle.graphql_parser.specs.notation.Limits.{default_limits};
 ghost use Rattle.text_edits.specs.Positions.{position_of};
 ghost use Rattle.graphql_server.specs.Ranges.{IsRange, IsDiagnosticOf};
 
+use crate::line_ends::with_line_feeds;
 use crate::messages::{Diagnostic, Location, Related};
 use graphql_parser::Limits;
 use graphql_texts::{Diagnosis, Language, diagnoses_of};
@@ -31,7 +32,8 @@ pub fn range_of(encoding: Encoding, document: &Document, start: usize, end: usiz
     }
 }
 
-/// What is wrong with a text that is read as this language: all that `gql check` finds.
+/// What is wrong with a text that is read as this language: all that `gql check` finds of it with a line feed for each carriage return
+/// that ends a line alone, since a definition is looked for where a line begins.
 ///
 /// It fails only where memory runs out.
 pub fn found_in(
@@ -41,7 +43,19 @@ pub fn found_in(
 ) -> Result<Vec<Diagnosis>, AllocError>
     ensures { IfOk result (λ found. found.items ≡ [] → IsGoodText true language default_limits document.now) }
 {
-    diagnoses_of(alloc, language, document.text(), Limits::default())
+    let text = document.text();
+    let found = diagnoses_of(alloc, language, text, Limits::default())?;
+    if found.is_empty() {
+        return Ok(found);
+    }
+    let Some(text) = with_line_feeds(alloc, text)? else {
+        return Ok(found);
+    };
+    let by_lines = diagnoses_of(alloc, language, text.as_str(), Limits::default())?;
+    if by_lines.is_empty() {
+        return Ok(found);
+    }
+    Ok(by_lines)
 }
 
 /// The diagnostics of a text that is read as this language, each with the range of what is refused, and, for a name that is defined

@@ -2,6 +2,7 @@
 
 use crate::client::Client;
 use crate::diagnostics::{diagnostic_of, found_in, range_of};
+use crate::line_ends::{line_end_of, with_line_end};
 use crate::messages::{write_diagnostics, write_edit};
 use crate::writer::JsonWriter;
 use graphql_texts::{Diagnosis, Fix, Language};
@@ -58,6 +59,7 @@ fn write_action(
     let encoding = client.encoding;
     let diagnostic = diagnostic_of(alloc, uri, encoding, document, diagnosis)?;
     let range = range_of(encoding, document, fix.span.start, fix.span.end);
+    let new = with_line_end(alloc, fix.new.as_str(), line_end_of(document.text()))?;
     json.begin_object();
     json.text_member("title", fix.title.as_str());
     json.text_member("kind", QUICK_FIX);
@@ -69,7 +71,7 @@ fn write_action(
     json.begin_object();
     json.name(uri);
     json.begin_list();
-    write_edit(range, fix.new.as_str(), json);
+    write_edit(range, new.as_str(), json);
     json.end_list();
     json.end_object();
     json.end_object();

@@ -2,6 +2,7 @@
 //! Formatting Request").
 
 use crate::diagnostics::range_of;
+use crate::line_ends::{line_end_of, with_line_end};
 use crate::messages::write_edit;
 use crate::outline::slice_of;
 use crate::writer::JsonWriter;
@@ -37,8 +38,8 @@ pub fn write_formatted(
     Ok(())
 }
 
-/// Writes the same of each definition that touches the range, which is laid out as if it stood alone; one that has an error stays as
-/// it is.
+/// Writes the same of each definition that touches the range, which is laid out as if it stood alone, with the line ends of the text;
+/// one that has an error stays as it is.
 ///
 /// It fails only where memory runs out.
 pub fn write_formatted_range(
@@ -52,6 +53,7 @@ pub fn write_formatted_range(
     let text = document.text();
     let start = document.offset_of(encoding, asked.start);
     let end = document.offset_of(encoding, asked.end);
+    let line_end = line_end_of(text);
     let structure = Structure::new(alloc, text)?;
     json.begin_list();
     for definition in structure.definitions() {
@@ -67,7 +69,8 @@ pub fn write_formatted_range(
         };
         if let Some(new) = formatted(alloc, language, old)? {
             let new = new.as_str().trim_end_matches('\n');
-            write_difference(encoding, document, first, old, new, json);
+            let new = with_line_end(alloc, new, line_end)?;
+            write_difference(encoding, document, first, old, new.as_str(), json);
         }
     }
     json.end_list();

@@ -22,6 +22,7 @@ pub mod fixes;
 pub mod folding;
 pub mod formatting;
 pub mod framing;
+mod line_ends;
 pub mod members;
 pub mod messages;
 pub mod methods;
