@@ -1,5 +1,5 @@
 -- Texts after one change more.
-use Rattle.std.proofs.Common.{◌≡◌, ℕ, List, [], ◌∷◌, ◌++◌, refl, subst}
+use Rattle.std.proofs.Common.{ℕ, List, [], ◌∷◌, ◌++◌, refl, subst}
 use Rattle.text_edits.specs.declared.Encoding.{Encoding}
 use Rattle.graphql_server.specs.declared.texts.Change.{Change}
 use Rattle.graphql_server.specs.Changes.{IsChanged, AreChanged}

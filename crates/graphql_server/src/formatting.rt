@@ -1,7 +1,8 @@
-//! Texts laid out anew, as the lines that change (Language Server Protocol 3.17, "Document Formatting Request", "Document Range
-//! Formatting Request").
+//! Texts laid out anew, as edits of the lines that change (Language Server Protocol 3.17, "Document Formatting Request", "Document
+//! Range Formatting Request").
 
 use crate::diagnostics::range_of;
+use crate::differences::edits_between;
 use crate::line_ends::{line_end_of, with_line_end};
 use crate::messages::write_edit;
 use crate::outline::slice_of;
@@ -15,8 +16,8 @@ use graphql_texts::rewriting::laid_out;
 use std::alloc::{AllocError, Global};
 use text_edits::{Document, Encoding, Range};
 
-/// Writes what changes a text into what `gql format` makes of it: nothing where it is so already, else one edit of the lines that
-/// change. Null where the text has an error.
+/// Writes what changes a text into what `gql format` makes of it: an edit for each run of lines that change. Null where the text has an
+/// error.
 ///
 /// It fails only where memory runs out.
 pub fn write_formatted(
@@ -31,7 +32,7 @@ pub fn write_formatted(
         None => json.null(),
         Some(new) => {
             json.begin_list();
-            write_difference(encoding, document, 0, text, new.as_str(), json);
+            write_edits(alloc, encoding, document, 0, text, new.as_str(), json)?;
             json.end_list();
         }
     }
@@ -70,7 +71,7 @@ pub fn write_formatted_range(
         if let Some(new) = formatted(alloc, language, old)? {
             let new = new.as_str().trim_end_matches('\n');
             let new = with_line_end(alloc, new, line_end)?;
-            write_difference(encoding, document, first, old, new.as_str(), json);
+            write_edits(alloc, encoding, document, first, old, new.as_str(), json)?;
         }
     }
     json.end_list();
@@ -94,71 +95,25 @@ fn formatted(alloc: Global, language: Language, text: &str) -> Result<Option<Str
     }
 }
 
-// Writes the edit that changes `old`, which stands at that offset of the text, into `new`: the lines between the first and the last
-// one that differ. Where they are the same, nothing is written.
-fn write_difference(
+// Writes the edits that change `old`, which stands at that offset of the text, into `new`.
+fn write_edits(
+    alloc: Global,
     encoding: Encoding,
     document: &Document,
     offset: usize,
     old: &str,
     new: &str,
     json: &mut JsonWriter,
-) {
-    if old == new {
-        return;
+) -> Result<(), AllocError> {
+    for edit in edits_between(alloc, old, new)? {
+        let start = offset.saturating_add(edit.start);
+        let end = offset.saturating_add(edit.end);
+        let put = Span {
+            start: edit.new_start,
+            end: edit.new_end,
+        };
+        let range = range_of(encoding, document, start, end);
+        write_edit(range, slice_of(new, put), json);
     }
-    let front = same_front(old.as_bytes(), new.as_bytes());
-    let back = same_back(
-        old.as_bytes().get(front..).unwrap_or(&[]),
-        new.as_bytes().get(front..).unwrap_or(&[]),
-    );
-    let old_end = old.len().saturating_sub(back);
-    let new_end = new.len().saturating_sub(back);
-    let start = offset.saturating_add(front);
-    let end = offset.saturating_add(old_end);
-    let range = range_of(encoding, document, start, end);
-    let changed = Span {
-        start: front,
-        end: new_end,
-    };
-    let replacement = slice_of(new, changed);
-    write_edit(range, replacement, json);
-}
-
-// How many bytes the lines have with which both texts begin, each with its line feed.
-fn same_front(old: &[u8], new: &[u8]) -> usize {
-    let mut same = 0;
-    for (at, (one, other)) in old.iter().zip(new).enumerate() {
-        if *one != *other {
-            break;
-        }
-        if *one == b'\n' {
-            same = at.saturating_add(1);
-        }
-    }
-    same
-}
-
-// How many bytes the lines have with which both texts end. Each text begins with a line.
-fn same_back(old: &[u8], new: &[u8]) -> usize {
-    let mut same = 0;
-    for (at, (one, other)) in old.iter().rev().zip(new.iter().rev()).enumerate() {
-        if *one != *other {
-            return same;
-        }
-        if *one == b'\n' {
-            same = at;
-        }
-    }
-    // One text is the end of the other.
-    let (short, long) = if old.len() < new.len() {
-        (old, new)
-    } else {
-        (new, old)
-    };
-    let more = long.len().saturating_sub(short.len());
-    match more.checked_sub(1) {
-        Some(before) if long.get(before) == Some(&b'\n') => short.len(),
-        _ => same,
-    }
+    Ok(())
 }

@@ -5,18 +5,19 @@
 //! parameters ([`params`], [`members`]) are read value by value ([`reader`]), and what is sent ([`messages`]) is written so
 //! ([`writer`]). A session ([`session`]) keeps the open texts ([`texts`]) and answers each request, about diagnostics
 //! ([`diagnostics`]), quick fixes ([`fixes`]), the outline ([`outline`]), folding and selection ranges ([`folding`], [`selection`]),
-//! names ([`navigation`]) and layout ([`formatting`]); what it can do is told at the beginning ([`capabilities`]), and what it sends is
+//! names ([`navigation`]) and layout ([`formatting`], [`differences`]); what it can do is told at the beginning ([`capabilities`]), and what it sends is
 //! what the client can take ([`client`]).
 //!
 //! Proved: it is safe and ends on every input. A text after a change is what the protocol says, as `text_edits` has it; each range of
 //! a diagnostic is one of positions of the text; what is published of a text is made from that text alone, and is nothing only where
-//! the text is good. What else is answered is tested.
+//! the text is good. The edits that lay a text out make of it what is laid out. What else is answered is tested.
 #![tactic(auto)]
 
 mod answers;
 pub mod capabilities;
 pub mod client;
 pub mod diagnostics;
+pub mod differences;
 pub mod envelope;
 pub mod fixes;
 pub mod folding;
