@@ -167,4 +167,16 @@ if [ "$(id -u)" -eq 0 ] && mkdir full && mount -t tmpfs -o size=16k tmpfs full 2
     umount full
 fi
 
+# What is blank.
+mkdir blank
+: >blank/a.graphql
+printf '# {a}' >blank/b.graphqls
+ends_with 0 format --check blank
+ends_with 0 format blank
+says "2 files: 0 formatted, 2 unchanged"
+holds "comments stay" [ "$(cat blank/b.graphqls)" = '# {a}' ]
+ends_with 0 check blank
+ends_with 1 check --executable blank
+holds "an empty text is laid out as itself" [ -z "$("$gql" format </dev/null)" ]
+
 [ "$failures" -eq 0 ] && echo "format: all is as it should be"

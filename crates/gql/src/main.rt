@@ -4,8 +4,9 @@
 //! input and output. `gql --help` prints how it is called.
 //!
 //! Proved of it: it is safe and ends on every input; the status is 0, 1 or 2; a text is found good only where its tokens
-//! have a tree, and the files that are checked end with status 0 only where each of them was found good; only a good text is
-//! written anew, and it means the same then, and so does what is printed of a tree. What else it prints is tested.
+//! have a tree, or where it has no token and may have none, and the files that are checked end with status 0 only where each of
+//! them was found good; only a good text is written anew, and it means the same then, and so does what is printed of a tree.
+//! What else it prints is tested.
 #![tactic(auto)]
 
 use graphql_commands::texts::Disk;

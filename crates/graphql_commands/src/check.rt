@@ -1,7 +1,7 @@
 //! Checking texts: whether each is good.
-ghost use Rattle.std.specs.Prelude.{◌≡◌, ◌≤◌, ◌↔◌, IfOk, map, Ok};
+ghost use Rattle.std.specs.Prelude.{◌≡◌, ◌≤◌, ◌↔◌, IfOk, IsTrue, map, Ok};
 ghost use Rattle.graphql_texts.specs.checked.Good.{IsGoodText};
-ghost use Rattle.graphql_commands.specs.checked.Files.{IsGood, GiveGoodTexts};
+ghost use Rattle.graphql_commands.specs.checked.Files.{IsBlank, IsGood, GiveGoodTexts};
 ghost use Rattle.graphql_commands.specs.declared.check.Found.TheVariants.{Good};
 
 use crate::command::{Call, Format};
@@ -9,6 +9,7 @@ use crate::output::shown_name;
 use crate::telling::Teller;
 use crate::texts::{Texts, Unread};
 use graphql_parser::Memory;
+use graphql_parser::lexer::Tokens;
 use graphql_texts::check::error_of;
 use graphql_texts::errors::{Names, Source};
 use graphql_texts::language::read_as;
@@ -54,7 +55,7 @@ impl Found {
 
 /// Reads each of these files and checks it, one after another, and tells what is wrong with it: reports go to `err`, and
 /// what is for standard output is kept. No text is kept while the next one is read. The status is 0 only where each file
-/// has a text that is good. An error says that memory was refused.
+/// has a text that is good, or a blank one where requests may hold fragments alone. An error says that memory was refused.
 pub fn check_files<T: Texts, E: Write>(
     call: &Call<'_>,
     files: &Vec<&str>,
@@ -128,6 +129,9 @@ fn check_text<E: Write>(
         }
         Ok(text) => {
             let text = text.as_str();
+            if call.takes_fragments && is_blank(text) {
+                return Ok(Found::Good);
+            }
             let language = read_as(teller.alloc, call.language, name, text)?;
             let source = Source {
                 names,
@@ -137,6 +141,17 @@ fn check_text<E: Write>(
             };
             check_source(call, &source, teller, err)
         }
+    }
+}
+
+/// Whether a text is empty, or has nothing but blanks, commas, line ends and comments.
+pub fn is_blank(text: &str) -> bool
+    ensures { IsTrue result → IsBlank text.now }
+{
+    let mut tokens = Tokens::new(text);
+    match tokens.next() {
+        Some(first) => first.kind.is_end(),
+        None => false,
     }
 }
 

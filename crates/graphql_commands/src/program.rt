@@ -1,7 +1,7 @@
 //! The program's work, over any source of texts and any writers.
 ghost use Rattle.std.specs.Prelude.{◌≡◌, ◌≤◌, IfOk};
 
-use crate::check::{check_files, names_of, tell_tally};
+use crate::check::{check_files, is_blank, names_of, tell_tally};
 use crate::command::{Asked, Call, Command, Format, Wrong, command_of};
 use crate::listed::token_lines;
 use crate::output::{complain, complain_of_call, put, shown_name};
@@ -48,7 +48,8 @@ Options:
   --memory BYTES   check: how much memory the check of a file may take; one that needs more counts as not read. No request
                    of N bytes needs more than 1105 N + 1161, and no schema file more than 57
   --check          format: writes no file, and prints the names of those that it would; where it would, the status is 1
-  --executable     check: a request needs an operation; without it fragments alone are good, as --fragments says
+  --executable     check: a request needs an operation; without it fragments alone are good, as --fragments says, and so
+                   is a file that is empty or has nothing but comments
   --format FORMAT  check: text for people, which is so without it; json, a line for each finding, which has its file,
                    severity, status and message, and line, column, endLine and endColumn where they are known; or
                    github, a line for each, with which GitHub shows it where it is
@@ -197,6 +198,10 @@ fn answer_to_text<T: Texts, E: Write>(
     match texts.text(alloc, name) {
         Ok(text) if call.command == Command::Tokens => tokens(alloc, text.as_str()),
         Ok(text) if call.command == Command::Tree => tree(call, names, text.as_str(), teller, err),
+        Ok(text) if call.command == Command::Format && is_blank(text.as_str()) => Ok(Answer {
+            status: 0,
+            printed: Printed::Lines(text),
+        }),
         Ok(text) => anew(call, names, text.as_str(), teller, err),
         Err(why) => {
             teller.tell_unread(names, why, err)?;

@@ -4,7 +4,7 @@ ghost use Rattle.graphql_layout.specs.texts.LaidOut.{IsLaidOut};
 ghost use Rattle.graphql_report.specs.declared.fronts.Language.{Language as Lang};
 ghost use Rattle.graphql_texts.specs.checked.Rewritten.{MeanTheSameAs, PrintsAs};
 
-use crate::check::{Found, check_source, names_of, push_refused};
+use crate::check::{Found, check_source, is_blank, names_of, push_refused};
 use crate::command::{Call, Command};
 use crate::output::shown_name;
 use crate::telling::Teller;
@@ -114,7 +114,7 @@ pub fn written_anew<E: Write>(
 }
 
 /// Reads each of these files, and writes it anew where that changes it, one after another; where files are only checked, lists
-/// those that would change. What is wrong with a file goes to `err`, and the file stays as it is. An error says that memory was
+/// those that would change. A blank file stays as it is. What is wrong with a file goes to `err`, and the file stays as it is. An error says that memory was
 /// refused.
 pub fn format_files<T: Texts, E: Write>(
     call: &Call<'_>,
@@ -180,6 +180,9 @@ fn format_file<T: Texts, E: Write>(
             return Ok(Done::Unread);
         }
     };
+    if is_blank(text.as_str()) {
+        return Ok(Done::Unchanged);
+    }
     let formatted = match written_anew(call, names, text.as_str(), teller, err)? {
         Ok(formatted) => formatted,
         Err(_) => return Ok(Done::Refused),
