@@ -1,6 +1,6 @@
 //! What the program is asked for.
-ghost use Rattle.std.specs.Prelude.{◌≡◌, ◌≢◌, ◌↔◌, ℕ, List, [], ◌∷◌, true, false, Ok, None, IfOk, IsTrue, is_some, map, drop, codes, string_bytes, Option as Opt};
-ghost use Rattle.graphql_commands.specs.checked.Options.{takes_value, said_after, language_of_options};
+ghost use Rattle.std.specs.Prelude.{◌≡◌, ◌≢◌, ℕ, List, ◌∷◌, false, Ok, None, IfOk, is_some, map, drop, string_bytes, Option as Opt};
+ghost use Rattle.graphql_commands.specs.checked.Options.{takes_value, said_after, language_of_options, is_server_option, are_server_options, asks_for_server};
 ghost use Rattle.graphql_report.specs.declared.fronts.Language.{Language as Lang};
 ghost use Rattle.graphql_commands.specs.inner.Words.{said_in_the_end};
 
@@ -159,15 +159,34 @@ pub fn command_of<'a>(alloc: Global, words: &'a [String]) -> Result<Asked<'a>, A
     Ok(Asked::Call(call))
 }
 
-/// Whether these arguments, those after the program's name, ask for the language server. [`run`](crate::run) answers all others.
-/// (This project's own call.)
+/// Whether these arguments, those after the program's name, ask for the language server: `lsp`, and no more than the options that
+/// editors give to every server. [`run`](crate::run) answers all others. (This project's own call.)
 pub fn is_server(words: &[String]) -> bool
-    ensures { IsTrue result ↔ (map string_bytes words.now ≡ codes "lsp" ∷ []) }
+    ensures { result ≡ asks_for_server (map string_bytes words.now) }
 {
-    match words {
-        [word] => word.as_str() == "lsp",
-        _ => false,
+    match words.split_first() {
+        Some((word, options)) => word.as_str() == "lsp" && are_server_options(options),
+        None => false,
     }
+}
+
+fn are_server_options(words: &[String]) -> bool
+    ensures { result ≡ are_server_options (map string_bytes words.now) }
+{
+    for word in words {
+        if !is_server_option(word.as_str()) {
+            return false;
+        }
+    }
+    true
+}
+
+// Whether editors give this option to every server: that it speaks on standard input and output, and by which process it was
+// started. Neither changes what the server does, which ends with its input.
+fn is_server_option(word: &str) -> bool
+    ensures { result ≡ is_server_option word.now }
+{
+    word == "--stdio" || word.starts_with("--clientProcessId=")
 }
 
 // What is wrong with the number of files of this command, if something is.
@@ -260,14 +279,13 @@ fn read_word<'a>(
 
 // Whether the command takes this option, which some command takes. Those that came first pass over what isn't theirs.
 fn takes(command: Command, word: &str) -> bool {
-    if command == Command::Lsp {
-        return false;
-    }
     let option = match word.split_once('=') {
         Some((option, _)) => option,
         None => word,
     };
     match option {
+        "--stdio" | "--clientProcessId" => command == Command::Lsp,
+        _ if command == Command::Lsp => false,
         "--query" | "--schema" | "--limits" | "--color" => true,
         "-v" | "--verbose" | "-q" | "--quiet" => {
             !matches!(command, Command::Minify | Command::Print)
@@ -292,12 +310,14 @@ fn read_option<'a>(call: &mut Call<'a>, word: &'a str) -> Result<Next, Wrong<'a>
         "--executable" => call.takes_fragments = false,
         "--fragments" => call.takes_fragments = true,
         "--places" => call.has_places = true,
+        "--stdio" => {}
         _ => return read_valued(call, word),
     }
     Ok(Next::Any)
 }
 
-// Reads an option that has a value, which is the next word or stands after `=`.
+// Reads an option that has a value, which is the next word or stands after `=`. The process by which a server was started is
+// passed over.
 fn read_valued<'a>(call: &mut Call<'a>, word: &'a str) -> Result<Next, Wrong<'a>>
     ensures language { call.new.language ≡ call.old.language }
     ensures next { IfOk result (λ next. (said : Opt Lang) (words : List (List ℕ)) →
@@ -307,6 +327,9 @@ fn read_valued<'a>(call: &mut Call<'a>, word: &'a str) -> Result<Next, Wrong<'a>
         return Ok(Next::Value(option));
     }
     let (option, value) = word.split_once('=').ok_or(Wrong::UnknownOption(word))?;
+    if option == "--clientProcessId" {
+        return Ok(Next::Any);
+    }
     let option = option_named(option).ok_or(Wrong::UnknownOption(word))?;
     if !read_value(call, option, value) {
         return Err(Wrong::WrongValue(option, value));

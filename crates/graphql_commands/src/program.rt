@@ -36,7 +36,8 @@ Commands:
            tree, and is refused
   tree     prints the tree of a file as JSON, as GraphQL.js has it
   tokens   prints the tokens of a file, a line for each
-  lsp      serves an editor on standard input and output, by the Language Server Protocol; takes no file
+  lsp      serves an editor on standard input and output, by the Language Server Protocol; takes no file. The options
+           --stdio and --clientProcessId=N, which editors give to every server, change nothing
 
 Without a file, and for the file -, standard input is read.
 
