@@ -216,7 +216,11 @@ class StripIgnoredCharacters(unittest.TestCase):
                 continue
             if same:
                 found = graphql_parser.strip_ignored_characters(text)
-                self.assertEqual(found, graphql.strip_ignored_characters(text), text)
+                wanted = graphql.strip_ignored_characters(text)
+                if found != wanted:
+                    # A block string that graphql-core would write longer stays as it is.
+                    self.assertLess(len(found), len(wanted), text)
+                    self.assertEqual(graphql.strip_ignored_characters(found), wanted, text)
                 compared += 1
                 minify = graphql_parser.minify_query if found[0] in "{qmsf" else graphql_parser.minify_schema
                 with_blanks += answer(minify, text) != found
