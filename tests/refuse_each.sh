@@ -3,15 +3,14 @@
 #
 #   tests/refuse_each.sh [FIRST [LAST]]
 #
-# A first run, which refuses none, tells how many requests each row makes. Then for N from FIRST (1) to LAST, or to the
-# most requests of a row, the Nth request of each row that makes as many is refused, by `rt try --fail-alloc`: without any
-# proof, compiled with checks and on an interpreter. Each row must then answer as it says, or tell that memory was refused.
-# A run takes half a minute and half a second a row, all of them an hour; FIRST and LAST choose a part.
+# A first run refuses none. Then for N from FIRST (1) to LAST, or until three runs in turn had no row out of memory, the Nth request
+# of each row is refused, by `rt try --fail-alloc`: without any proof, compiled with checks. Each row must then answer as it says,
+# or report that memory was refused. A run takes two minutes, all of them hours; FIRST and LAST choose a part.
 set -eu
 crate=$(dirname -- "$(readlink -f -- "$0")")/../crates/conformance
 cases=$(mktemp -d)
 log=$cases.log
-trap 'rm -rf "$cases" "$log" "$cases.requests"' EXIT
+trap 'rm -rf "$cases" "$log"' EXIT
 cd "$crate"
 
 # Refuses the request of the given number in each row of $cases. Each must end well, and answer or be out of memory.
@@ -46,20 +45,12 @@ awk -v cases="$cases" '
 refuse 1000000
 echo "none refused: $answered rows answered, $refused out of memory"
 [ "$refused" -eq 0 ]
-# The rows by number, and how many requests each makes.
-sed -n 's/^== //p; s/^allocations: //p' "$log" | paste -d" " - - >"$cases.requests"
-most=$(cut -d" " -f2 "$cases.requests" | sort -n | tail -1)
 nth=${1:-1}
-while [ "$nth" -le "${2:-$most}" ]; do
-    while read -r row requests; do
-        if [ "$requests" -lt "$nth" ]; then
-            rm -f "$cases/$row"
-        fi
-    done <"$cases.requests"
-    if [ "$(ls "$cases" | wc -l)" -eq 0 ]; then
-        exit 0
-    fi
+without=0
+while [ "$nth" -le "${2:-1000000}" ] && [ "$without" -lt 3 ]; do
     refuse "$nth"
     echo "request $nth refused: of $rows rows $answered answered, $refused out of memory"
+    without=$((without + 1))
+    [ "$refused" -eq 0 ] || without=0
     nth=$((nth + 1))
 done
