@@ -71,6 +71,9 @@ fn language_of(name: &str) -> Language {
 // The language and the limits at which a text is read, as `query 64 64 64`.
 fn read_as(reading: &str) -> Option<(Language, Limits)> {
     let (language, limits) = pair(reading, " ");
+    if !matches!(language, "query" | "schema") {
+        return None;
+    }
     let (selections, values, types) = three_numbers(limits)?;
     let limits = Limits::new(selections, values, types)?;
     Some((language_of(language), limits))
