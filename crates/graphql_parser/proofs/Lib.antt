@@ -1,2 +1,29 @@
 -- Lemmas for the proofs of callers: the equations of the trees of a request.
 pub use Rattle.graphql_request_trees.proofs.Requests
+-- Lemmas of the checks.
+pub mod Rests
+pub mod Parts
+pub mod Straight
+pub mod Loops
+pub mod SeparatedLoop
+pub mod Sums
+pub mod SchemaRoots
+pub mod SchemaDefinitions
+pub mod SchemaBreaches
+pub mod Lines
+pub mod Levels
+pub mod Open
+pub mod Values
+pub mod Strings
+pub mod Heads
+pub mod OpenSets
+pub mod Mapped
+pub mod Documents
+pub mod Checking
+pub mod Calm
+pub mod HeadFunds
+pub mod OneDefinition
+pub mod ShortOperations
+pub mod RequestHeads
+pub mod WordedHeads
+pub mod Sorted

@@ -10,5 +10,14 @@ pub use Rattle.graphql_grammar.specs.answers
 pub use Rattle.graphql_grammar.specs.errors
 pub use Rattle.graphql_requests.specs.grammar as requests
 pub use Rattle.graphql_schemas.specs.grammar as schemas
-pub use Rattle.graphql_check.specs.Checking
-pub use Rattle.graphql_check.specs.OneDefinition
+pub mod Checking
+pub mod OneDefinition
+-- Inner: what clauses of readers cite. No public definition imports one of these.
+pub mod Checked
+pub mod SchemaRules
+pub mod Heads
+pub mod HeadFunds
+pub mod Levels
+pub mod OpenSets
+pub mod RequestHeads
+pub mod Sorting

@@ -8,16 +8,18 @@
 //! places of each `Error` are written definitions too. `check_query`, `check_schema` and
 //! their forms answer as the parses do, and make no tree.
 //!
-//! Proved of their `_within` forms also: a text of n bytes takes at most 1,105 n + 1,161 bytes of the caller's [`Memory`],
-//! and `OutOfMemory` is answered only where the heap refused a request, or less than that was left.
+//! Proved of their `_within` forms also: by the count of the caller's [`Memory`] a text of n bytes takes at most
+//! 1,105 n + 1,161 bytes, and `OutOfMemory` is returned only if the heap refused a request or less than that was left. That
+//! nothing is allocated beside the `Memory` is kept by the shape of the code, and tested.
 //!
-//! A user names this crate alone: what stands here is given out from the crates below it. What a reader of the
-//! contracts has to believe is given out by `specs/Lib.antt`.
+//! A user names this crate alone: the checks stand in the module `check`, and all else is given out from the crates
+//! below. What a reader of the contracts has to believe is given out by `specs/Lib.antt`.
 #![tactic(auto)]
 
+mod check;
 pub mod types;
 
-pub use graphql_check::{
+pub use check::{
     check_query, check_query_from, check_query_limited, check_query_to, check_query_within,
     check_schema, check_schema_from, check_schema_limited, check_schema_to, check_schema_within,
 };

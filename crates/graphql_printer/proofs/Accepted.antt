@@ -7,7 +7,7 @@ use Rattle.graphql_tokens.specs.tokens.Token.{Token}
 use Rattle.graphql_tokens.proofs.Editions.{no_fault}
 use Rattle.graphql_tokens.proofs.Lists.{cuts_ends}
 use Rattle.graphql_reading.specs.grammar.Limits.{Limits}
-use Rattle.graphql_check.specs.Checking.{checked}
+use Rattle.graphql_parser.specs.Checking.{checked}
 use Rattle.graphql_grammar.specs.answers.Answers.{AreTheDefinitions}
 use Rattle.graphql_grammar.specs.answers.Language.{Language}
 use Rattle.graphql_grammar.specs.answers.Reads.{ReadsText}

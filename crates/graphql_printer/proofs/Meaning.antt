@@ -13,7 +13,7 @@ use Rattle.graphql_reading.specs.grammar.Fronts.{bares}
 use Rattle.graphql_reading.specs.grammar.Limits.{Limits}
 use Rattle.graphql_reading.specs.reading.Outcome.{Reader}
 use Rattle.graphql_reading.proofs.IgnoresPlaces.{alike-append}
-use Rattle.graphql_check.specs.Checking.{checked}
+use Rattle.graphql_parser.specs.Checking.{checked}
 use Rattle.graphql_grammar.specs.answers.Answers.{AreTheDefinitions, BreakAlike}
 use Rattle.graphql_grammar.specs.answers.Language.{Language}
 use Rattle.graphql_grammar.specs.answers.Reads.{ReadsText}

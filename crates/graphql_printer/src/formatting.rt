@@ -1,6 +1,6 @@
 //! Texts laid out anew.
 ghost use Rattle.std.specs.Prelude.{◌≡◌, IfOk, IfErr, string_bytes};
-ghost use Rattle.graphql_check.specs.Checking.{checked, IsAsParsedText};
+ghost use Rattle.graphql_parser.specs.Checking.{checked, IsAsParsedText};
 ghost use Rattle.graphql_grammar.specs.answers.Reads.{ReadsText};
 ghost use Rattle.graphql_grammar.specs.declared.error.Error.TheVariants.{OutOfMemory};
 ghost use Rattle.graphql_layout.specs.texts.LaidOut.{IsLaidOut};

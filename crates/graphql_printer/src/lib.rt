@@ -16,7 +16,7 @@
 #![tactic(auto)]
 
 ghost use Rattle.std.specs.Prelude.{◌≡◌, List, ℕ, IfOk, IfErr, string_bytes};
-ghost use Rattle.graphql_check.specs.Checking.{checked, IsAsParsedText};
+ghost use Rattle.graphql_parser.specs.Checking.{checked, IsAsParsedText};
 ghost use Rattle.graphql_grammar.specs.answers.Reads.{ReadsText};
 ghost use Rattle.graphql_grammar.specs.declared.error.Error.TheVariants.{OutOfMemory};
 ghost use Rattle.graphql_layout.specs.texts.Minified.{IsMinified};

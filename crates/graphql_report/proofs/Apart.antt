@@ -8,7 +8,7 @@ use Rattle.graphql_reading.specs.grammar.Relations.{cons, separated_of}
 use Rattle.graphql_reading.specs.grammar.Tests.{Test}
 use Rattle.graphql_reading.specs.reading.Outcome.{Outcome, Reader, Read, Refused, Takes, ◌>>=◌, one_at, then_at, mapped_at, after_at, choose_at, none_at, opt_at, many_at, plus_at, separated_at}
 use Rattle.graphql_reading.proofs.Loop.{many-plus, many-stops}
-use Rattle.graphql_check.specs.Checked.{ended}
+use Rattle.graphql_parser.specs.Checked.{ended}
 use Rattle.graphql_report.specs.declared.phrases.Phrase.{Phrase}
 use Rattle.graphql_report.specs.inner.Left.{in_sight, phrase_at, phrases_at, Becomes, TellsToken, Steps}
 

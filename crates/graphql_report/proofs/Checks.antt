@@ -13,8 +13,8 @@ use Rattle.graphql_requests.proofs.RequestProductions.{requests-are-read}
 use Rattle.graphql_schemas.specs.grammar.Schemas.{schemas}
 use Rattle.graphql_schemas.specs.reading.SchemaFile as schema
 use Rattle.graphql_schemas.proofs.SchemaFileProductions.{schemas-are-read}
-use Rattle.graphql_check.specs.Checking.{checked}
-use Rattle.graphql_check.proofs.Checking.{checks-read}
+use Rattle.graphql_parser.specs.Checking.{checked}
+use Rattle.graphql_parser.proofs.Checking.{checks-read}
 use Rattle.graphql_report.specs.declared.fronts.Language.{Language}
 use Rattle.graphql_report.specs.declared.fronts.Language.TheVariants.{Requests, Schemas}
 use Rattle.graphql_report.specs.fronts.Front.{LastIsLineFeed}

@@ -7,7 +7,7 @@ use Rattle.graphql_grammar.specs.reading.Values.{value_at}
 use Rattle.graphql_requests.specs.reading.Selections.{selection_set_at}
 use Rattle.graphql_requests.specs.reading.SelectionSteps.{item_at}
 use Rattle.graphql_schemas.specs.declared.types.Word.TheVariants as kinds
-use Rattle.graphql_check.specs.Checked.{ended}
+use Rattle.graphql_parser.specs.Checked.{ended}
 use Rattle.graphql_report.specs.declared.phrases.Phrase.{Phrase}
 use Rattle.graphql_report.specs.declared.phrases.Phrase.TheVariants as phrases
 use Rattle.graphql_report.specs.inner.Left.{phrase_at, phrases_at}

@@ -23,7 +23,7 @@ use Rattle.graphql_reading.proofs.Theory.{Exact, Extends, proper-append}
 use Rattle.graphql_reading.proofs.Whole.{Says, whole-answers}
 use Rattle.graphql_grammar.specs.answers.Language.{Language as Described, grammar}
 use Rattle.graphql_grammar.proofs.Languages.{IsRead}
-use Rattle.graphql_check.specs.Checked.{ended}
+use Rattle.graphql_parser.specs.Checked.{ended}
 use Rattle.graphql_requests.specs.reading.Request as request
 use Rattle.graphql_requests.proofs.RequestProductions.{requests-are-read}
 use Rattle.graphql_schemas.specs.reading.SchemaFile as schema

@@ -26,7 +26,7 @@ use Rattle.graphql_grammar.specs.declared.error.Error.{Error}
 use Rattle.graphql_grammar.specs.declared.error.Error.TheVariants as errors
 use Rattle.graphql_requests.specs.grammar.Requests.{requests}
 use Rattle.graphql_schemas.specs.grammar.Schemas.{schemas}
-use Rattle.graphql_check.specs.Checking.{checked}
+use Rattle.graphql_parser.specs.Checking.{checked}
 use Rattle.graphql_report.specs.declared.fronts.Language.{Language}
 use Rattle.graphql_report.specs.declared.fronts.Language.TheVariants.{Requests, Schemas}
 use Rattle.graphql_report.specs.declared.rests.ReadFrom.{ReadFrom}

@@ -16,7 +16,7 @@ use Rattle.graphql_requests.specs.reading.Variables.{turned, default_and_directi
 use Rattle.graphql_requests.proofs.HeadTakes.{item-takes}
 use Rattle.graphql_requests.proofs.RequestProductions.{takes-definition}
 use Rattle.graphql_requests.proofs.VariableProductions.{takes-variable_definition}
-use Rattle.graphql_check.specs.Checked.{ended}
+use Rattle.graphql_parser.specs.Checked.{ended}
 use Rattle.graphql_report.specs.declared.phrases.Keyword.{Keyword}
 use Rattle.graphql_report.specs.declared.phrases.Keyword.TheVariants as words
 use Rattle.graphql_report.specs.declared.phrases.Mark.TheVariants as marks

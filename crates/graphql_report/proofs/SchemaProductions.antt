@@ -31,7 +31,7 @@ use Rattle.graphql_schemas.proofs.InputValueProductions.{takes-input_value}
 use Rattle.graphql_schemas.proofs.MemberProductions.{takes-enum_value}
 use Rattle.graphql_schemas.proofs.SchemaFileProductions.{takes-definition}
 use Rattle.graphql_schemas.proofs.SchemaProductions.{takes-root}
-use Rattle.graphql_check.specs.Checked.{ended}
+use Rattle.graphql_parser.specs.Checked.{ended}
 use Rattle.graphql_report.specs.declared.phrases.Keyword.{Keyword}
 use Rattle.graphql_report.specs.declared.phrases.Keyword.TheVariants as words
 use Rattle.graphql_report.specs.declared.phrases.Mark.{Mark}

@@ -21,8 +21,8 @@ use Rattle.graphql_schema_trees.specs.declared.service.DirectiveLocation.{Direct
 use Rattle.graphql_schemas.specs.reading.Descriptions.{is_text}
 use Rattle.graphql_schemas.specs.reading.Directives.{location_named}
 use Rattle.graphql_schemas.specs.reading.Schema.{root_first}
-use Rattle.graphql_check.specs.Checked.{ended}
-use Rattle.graphql_check.proofs.Strings.{string-stands}
+use Rattle.graphql_parser.specs.Checked.{ended}
+use Rattle.graphql_parser.proofs.Strings.{string-stands}
 use Rattle.graphql_report.specs.declared.phrases.Phrase.{Phrase}
 use Rattle.graphql_report.specs.declared.phrases.Phrase.TheVariants as phrases
 use Rattle.graphql_report.specs.inner.Left.{phrase_at, TellsToken}

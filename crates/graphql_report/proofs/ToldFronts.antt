@@ -26,7 +26,7 @@ use Rattle.graphql_grammar.specs.answers.Language.{Language, grammar}
 use Rattle.graphql_grammar.specs.declared.error.Error.{Error}
 use Rattle.graphql_grammar.specs.declared.error.Error.TheVariants.{Syntax, MultipleRoots, MissingQueryRoot, MultipleOperations, OperationDuplicated, FragmentDuplicated, MissingOperation, RecursionLimitExceeded, OutOfMemory}
 use Rattle.graphql_grammar.proofs.Languages.{IsRead, ends-well}
-use Rattle.graphql_check.specs.Checking.{checked}
+use Rattle.graphql_parser.specs.Checking.{checked}
 use Rattle.graphql_report.specs.fronts.Front.{LastIsLineFeed, IsFront}
 use Rattle.graphql_report.specs.inner.Told.{TellsFront}
 use Rattle.graphql_report.proofs.Lines.{is-lined, StandsIn, each-stands}

@@ -19,7 +19,7 @@ use Rattle.graphql_grammar.specs.reading.Types.{mark_at, named_type_at, list_typ
 use Rattle.graphql_grammar.specs.reading.Values.{block_text, word_at, number_at, string_at, block_at, variable_at, simple_at, simple_first, value_first, list_at, field_at, object_at, value_at}
 use Rattle.graphql_grammar.proofs.ArgumentProductions.{takes-argument, takes-directive}
 use Rattle.graphql_grammar.proofs.ValueProductions.{takes-value, takes-field}
-use Rattle.graphql_check.specs.Checked.{ended}
+use Rattle.graphql_parser.specs.Checked.{ended}
 use Rattle.graphql_report.specs.declared.phrases.Mark.{Mark}
 use Rattle.graphql_report.specs.declared.phrases.Mark.TheVariants as marks
 use Rattle.graphql_report.specs.declared.phrases.Phrase.TheVariants as phrases

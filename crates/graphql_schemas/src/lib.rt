@@ -8,7 +8,7 @@
 //!
 //! Users name `graphql_parser`, which gives these calls out. What a reader of the contracts has to believe stands in
 //! `specs/grammar`, and below it in the public specs of `graphql_grammar` and `graphql_reading`; `specs/reading` is
-//! inner. Modules are `pub` for `graphql_check` alone, which reads the same keywords and tells the same tokens.
+//! inner. Modules are `pub` for the checks of `graphql_parser` alone, which reads the same keywords and tells the same tokens.
 #![tactic(auto)]
 
 ghost use Rattle.std.specs.Prelude.{◌≡◌, ◌≢◌, ◌≤◌, ◌<◌, ◌⊎◌, ◌+◌, ◌*◌, List, [], Err, IfOk, length, vec_len};

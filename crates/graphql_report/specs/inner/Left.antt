@@ -31,7 +31,7 @@ use Rattle.graphql_schemas.specs.reading.Members.{name_at, implements_at, member
 use Rattle.graphql_schemas.specs.reading.Schema.{root_first, root_at, roots_at, extended_schema_at}
 use Rattle.graphql_schemas.specs.reading.SchemaFile as schema
 use Rattle.graphql_schemas.specs.reading.Types.{some_parts_at, body_at}
-use Rattle.graphql_check.specs.Checked.{ended}
+use Rattle.graphql_parser.specs.Checked.{ended}
 use Rattle.graphql_report.specs.declared.fronts.Language.{Language}
 use Rattle.graphql_report.specs.declared.fronts.Language.TheVariants.{Requests, Schemas}
 use Rattle.graphql_report.specs.declared.phrases.Keyword.{Keyword}

@@ -16,7 +16,7 @@ use Rattle.graphql_grammar.specs.declared.error.Error.TheVariants.{Syntax, Recur
 use Rattle.graphql_grammar.specs.errors.Errors.{error_places, error_text}
 use Rattle.graphql_requests.specs.grammar.Requests.{requests}
 use Rattle.graphql_schemas.specs.grammar.Schemas.{schemas}
-use Rattle.graphql_check.specs.Checking.{checked}
+use Rattle.graphql_parser.specs.Checking.{checked}
 use Rattle.graphql_report.specs.declared.findings.Finding.{Finding}
 use Rattle.graphql_report.specs.declared.fronts.Language.{Language}
 use Rattle.graphql_report.specs.reports.Findings.{first_of, status_of}

@@ -1,5 +1,0 @@
-use Rattle.graphql_grammar.proofs.ArgumentProductions.{takes-argument}
-use Rattle.graphql_check.proofs.arguments.check_arguments.Goals as goal
-
-pub check_one_or_more-requires : goal.check_one_or_more-requires
-check_one_or_more-requires g c = takes-argument _ c.args.limits.values

@@ -1,6 +1,0 @@
-use Rattle.std.proofs.Common.{refl}
-use Rattle.graphql_check.proofs.Sorted.{sorted-none}
-use Rattle.graphql_check.proofs.rules.Sorted.new.Goals as goal
-
-pub returns : goal.returns
-returns c = sorted-none _ refl refl c.new.ensures.empty c.new-2.ensures.empty

@@ -1,5 +1,0 @@
-use Rattle.graphql_check.proofs.SchemaRoots.{roots-more}
-use Rattle.graphql_check.proofs.schemas.rules.Roots.with.Goals as goal
-
-pub returns : goal.returns
-returns c roots last is head = roots-more roots last c.args.self c.args.root is head _ _ _ c.again.result _ c.is_met.ensures c.is_met-2.ensures c.is_met-3.ensures (c.again.ensures roots is) c.or.ensures
