@@ -7,7 +7,7 @@ use Rattle.graphql_tokens.specs.tokens.BlockText.{begins_quotes, unquoted}
 use Rattle.graphql_tokens.specs.inner.Quoted.{past_block_from, NoQuote}
 use Rattle.graphql_tokens.proofs.EscapeUnits.{both}
 use Rattle.graphql_tokens.proofs.BlockValue.{quotes_at, begins_is, unquoted_yes, unquoted_no, not_slash}
-use Rattle.graphql_layout.specs.inner.Blocks.{blanks, line_break, placed, body}
+use Rattle.graphql_layout.specs.texts.Blocks.{blanks, line_break, placed, body}
 use Rattle.graphql_layout.specs.texts.Shortened.{is_mark, is_open}
 
 -- the characters, with the indent after each line feed

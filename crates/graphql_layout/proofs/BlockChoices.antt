@@ -7,7 +7,7 @@ use Rattle.graphql_tokens.specs.inner.Blocks.{first_line}
 use Rattle.graphql_tokens.proofs.BlockIndents.{indents, indents_blank, indents_text}
 use Rattle.graphql_tokens.proofs.BlockLines.{lines_some}
 use Rattle.graphql_tokens.proofs.EscapeUnits.{both}
-use Rattle.graphql_layout.specs.inner.Blocks.{begins_in_text, text_after, ends_in_text, may_be_block}
+use Rattle.graphql_layout.specs.texts.Blocks.{begins_in_text, text_after, ends_in_text, may_be_block}
 use Rattle.graphql_layout.specs.texts.Shortened.{has, is_text, has_margin, is_hung}
 use Rattle.graphql_layout.proofs.BlockBodies.{and_false}
 use Rattle.graphql_layout.proofs.BlockLayouts.{none_of}

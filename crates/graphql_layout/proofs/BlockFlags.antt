@@ -1,7 +1,7 @@
 -- What a loop over a value's characters finds, one character on.
 use Rattle.std.proofs.Common.{◌≡◌, ℕ, Bool, true, false, cond, not, eqb, ◌&&◌, ◌||◌, List, ◌∷◌, sym, ap, ◌∙◌}
 use Rattle.graphql_tokens.specs.tokens.BlockText.{is_blank_char}
-use Rattle.graphql_layout.specs.inner.Blocks.{begins_in_text}
+use Rattle.graphql_layout.specs.texts.Blocks.{begins_in_text}
 use Rattle.graphql_layout.specs.texts.Shortened.{is_text, has_margin}
 
 pub blank_more : (c : ℕ) (rest : List ℕ) (b : Bool) → b ≡ is_blank_char c → b ≡ true → begins_in_text (c ∷ rest) ≡ begins_in_text rest

@@ -7,7 +7,7 @@ use Rattle.graphql_tokens.specs.tokens.Place.{is_line_end}
 use Rattle.graphql_tokens.specs.tokens.BlockText.{onto_line, lines_of, is_blank, indent, least, common_indent, dedented, joined}
 use Rattle.graphql_tokens.proofs.BlockIndents.{indents, indents_blank, indents_text}
 use Rattle.graphql_tokens.proofs.BlockLines.{lines_some}
-use Rattle.graphql_layout.specs.inner.Blocks.{blanks, line_break, break_if}
+use Rattle.graphql_layout.specs.texts.Blocks.{blanks, line_break, break_if}
 use Rattle.graphql_layout.specs.texts.Shortened.{has}
 use Rattle.graphql_layout.proofs.BlockBodies.{lined}
 

@@ -8,7 +8,7 @@ use Rattle.graphql_tokens.specs.tokens.BlockText.{unquoted, lines_of, is_blank_c
 use Rattle.graphql_tokens.proofs.BlockEnds.{to_text_more}
 use Rattle.graphql_tokens.proofs.BlockIndents.{indents, indents_text}
 use Rattle.graphql_tokens.proofs.BlockValue.{deep, same_all, from_text-all, to_text-all}
-use Rattle.graphql_layout.specs.inner.Blocks.{begins_blank, is_wide, leads, trails, blanks, line_break, break_if, body, content}
+use Rattle.graphql_layout.specs.texts.Blocks.{begins_blank, is_wide, leads, trails, blanks, line_break, break_if, body, content}
 use Rattle.graphql_layout.specs.texts.Shortened.{has}
 use Rattle.graphql_layout.proofs.BlockBodies.{and_false, lined, unquoted_break, body_unquoted}
 use Rattle.graphql_layout.proofs.BlockLayouts.{InLine, AreLines, are_lines, one_line, lines_joined, joined_lines, indented, closed, spread, shown, lines_shown, blank_indented, blank_blanks, common_spread, dedented_indented, dedented_spread}

@@ -2,7 +2,7 @@
 use Rattle.std.proofs.Common.{◌≡◌, ℕ, zero, suc, ◌<◌, Bool, true, false, List, ◌∷◌, ◌++◌, replicate, refl, sym, ap, ◌∙◌, append_assoc, arith}
 use Rattle.std.proofs.lemmas.Str.{encode_ascii, encodes-append}
 use Rattle.std.specs.Str.{encode_utf8_all}
-use Rattle.graphql_layout.specs.inner.Blocks.{blanks, quotes, line_break, body, break_if, content, block_of}
+use Rattle.graphql_layout.specs.texts.Blocks.{blanks, quotes, line_break, body, break_if, content, block_of}
 
 -- ---- bytes of characters of ASCII
 

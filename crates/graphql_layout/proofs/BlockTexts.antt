@@ -14,7 +14,7 @@ use Rattle.graphql_tokens.specs.declared.lexer.TokenKind.TheVariants.{Block}
 use Rattle.graphql_tokens.specs.inner.Quoted.{past_block_from, past_block}
 use Rattle.graphql_tokens.proofs.BlockTokens.{block_is}
 use Rattle.graphql_tokens.proofs.Propers.{text_scalars}
-use Rattle.graphql_layout.specs.inner.Blocks.{ends_in_mark, is_wide, leads, trails, blanks, line_break, placed, body, break_if, content, block_of, spelled, may_be_block, HasValue}
+use Rattle.graphql_layout.specs.texts.Blocks.{ends_in_mark, is_wide, leads, trails, blanks, line_break, placed, body, break_if, content, block_of, spelled, may_be_block, HasValue}
 use Rattle.graphql_layout.specs.texts.Shortened.{has, is_mark, is_open, is_hung, escaped, line_feed_if, shortest}
 use Rattle.graphql_layout.proofs.BlockBodies.{blanks_pass, body_passes}
 use Rattle.graphql_layout.proofs.BlockChoices.{kept_if, if_kept, flat_hung}

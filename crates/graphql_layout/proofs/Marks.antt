@@ -13,7 +13,7 @@ use Rattle.graphql_tokens.proofs.BlockValue.{quotes_at}
 use Rattle.graphql_tokens.proofs.Chars.{chars_split}
 use Rattle.graphql_tokens.proofs.EscapeUnits.{both}
 use Rattle.graphql_tokens.proofs.Scan.{IsAlike, span_chars}
-use Rattle.graphql_layout.specs.inner.Blocks.{line_break, body, placed}
+use Rattle.graphql_layout.specs.texts.Blocks.{line_break, body, placed}
 use Rattle.graphql_layout.specs.inner.Marks.{is_special, BeginsWithMark, IsMarked}
 use Rattle.graphql_layout.specs.texts.Shortened.{is_mark, is_open}
 use Rattle.graphql_layout.proofs.BlockBodies.{closes_is}

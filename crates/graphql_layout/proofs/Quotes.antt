@@ -3,7 +3,8 @@ use Rattle.std.proofs.Common.{◌≡◌, ℕ, ◌+◌, List, [], ◌∷◌, leng
 use Rattle.graphql_layout.specs.declared.sheet.Last.{Last}
 use Rattle.graphql_layout.specs.declared.sheet.Last.TheVariants.{Comment, Other}
 use Rattle.graphql_layout.specs.inner.Endings.{string_ending}
-use Rattle.graphql_layout.specs.inner.Sheets.{holds_off_token, in_quotes}
+use Rattle.graphql_layout.specs.inner.Sheets.{holds_off_token}
+use Rattle.graphql_layout.specs.texts.Items.{in_quotes}
 
 -- it may come where a quote may
 pub quote_held : (last : Last) (content : List ℕ) → holds_off_token last (in_quotes content) ≡ holds_off_token last (34 ∷ [])

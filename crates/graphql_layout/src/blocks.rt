@@ -6,7 +6,7 @@ ghost use Rattle.graphql_tokens.specs.tokens.Alike.{inside, value_of_block};
 ghost use Rattle.graphql_tokens.specs.tokens.BlockText.{is_blank_char};
 ghost use Rattle.graphql_tokens.specs.tokens.Proper.{Spells};
 ghost use Rattle.graphql_tokens.specs.declared.lexer.TokenKind.TheVariants as kinds;
-ghost use Rattle.graphql_layout.specs.inner.Blocks as spec;
+ghost use Rattle.graphql_layout.specs.texts.Blocks as spec;
 ghost use Rattle.graphql_layout.specs.inner.Marks.{BeginsWithMark, IsMarked};
 ghost use Rattle.graphql_layout.specs.texts.Shortened as short;
 

@@ -5,10 +5,10 @@ ghost use Rattle.std.specs.Str.{byte, chars};
 ghost use Rattle.graphql_tokens.specs.tokens.Ignored.{IsComment};
 ghost use Rattle.graphql_tokens.specs.tokens.Proper.{Spells};
 ghost use Rattle.graphql_tokens.specs.declared.lexer.TokenKind.TheVariants as kinds;
-ghost use Rattle.graphql_layout.specs.inner.Blocks.{spelled};
+ghost use Rattle.graphql_layout.specs.texts.Blocks.{spelled};
 ghost use Rattle.graphql_layout.specs.inner.ItemsIn.{items_in};
-ghost use Rattle.graphql_layout.specs.inner.Sheets.{IsSheet, Holds, holds_off, holds_off_token, in_quotes};
-ghost use Rattle.graphql_layout.specs.texts.Items.{comment, word};
+ghost use Rattle.graphql_layout.specs.inner.Sheets.{IsSheet, Holds, holds_off, holds_off_token};
+ghost use Rattle.graphql_layout.specs.texts.Items.{comment, in_quotes, word};
 
 use crate::blocks::push_block;
 use crate::ending::Ending;

@@ -2,7 +2,7 @@
 -- Source: this project's choice.
 use Rattle.std.specs.Prelude.{◌≡◌, ℕ, ◌<◌, Bool, true, ◌||◌, ◌==◌, List, ◌++◌, length, slice_index}
 use Rattle.std.specs.Str.{byte, chars, encode_utf8_all, IsUtf8}
-use Rattle.graphql_layout.specs.inner.Blocks.{body}
+use Rattle.graphql_layout.specs.texts.Blocks.{body}
 use Rattle.graphql_layout.specs.texts.Shortened.{is_open}
 
 abbrev pub is_special : ℕ → Bool

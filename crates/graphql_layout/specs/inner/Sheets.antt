@@ -1,6 +1,6 @@
 -- What a sheet keeps.
 -- Source: this project's choice.
-use Rattle.std.specs.Prelude.{◌≡◌, ℕ, Bool, true, false, not, List, [], ◌∷◌, ◌++◌, codes}
+use Rattle.std.specs.Prelude.{◌≡◌, ℕ, Bool, true, false, not, List, [], ◌∷◌, ◌++◌}
 use Rattle.std.specs.Str.{chars}
 use Rattle.graphql_tokens.specs.tokens.Place.{is_line_end}
 use Rattle.graphql_layout.specs.declared.sheet.Last.{Last}
@@ -34,7 +34,3 @@ pub record IsSheet (text : List ℕ) (last : Last) : Type 0 where
 pub record Holds (text : List ℕ) (last : Last) (items : List Item) : Type 0 where
   pub has : items_in text ≡ items
   pub sheet : IsSheet text last
-
--- a text between two quotes
-abbrev pub in_quotes : List ℕ → List ℕ
-in_quotes content = codes "\"" ++ (content ++ codes "\"")

@@ -1,7 +1,7 @@
 -- The comments and tokens of a text, in their order.
 -- Source: GraphQL October 2021, section 2.1 (Source Text), with sections 2.1.4 (Comments) and 2.1.6 (Lexical Tokens). That a text
 -- is one list of both is this project's choice.
-use Rattle.std.specs.Prelude.{◌≡◌, ℕ, true, List, [], ◌∷◌, ◌++◌}
+use Rattle.std.specs.Prelude.{◌≡◌, ℕ, true, List, [], ◌∷◌, ◌++◌, codes}
 use Rattle.std.specs.List.{AllByRecursion}
 use Rattle.std.specs.Str.{encode_utf8_all}
 use Rattle.graphql_tokens.specs.tokens.Classes.{is_ignored}
@@ -50,3 +50,7 @@ abbrev pub words : List Item → List Bare
 words [] = []
 words (comment c ∷ items) = words items
 words (word b ∷ items) = b ∷ words items
+
+-- a text between two quotes
+abbrev pub in_quotes : List ℕ → List ℕ
+in_quotes content = codes "\"" ++ (content ++ codes "\"")

@@ -2,7 +2,7 @@ use Rattle.std.proofs.Common.{ℕ, List, [], ◌∷◌, ◌++◌, length, drop, 
 use Rattle.std.proofs.lemmas.Iterator.{YieldsList-from_chars}
 use Rattle.std.proofs.lemmas.Iterator.Consumers.{YieldsList-turn, YieldsList-end}
 use Rattle.std.specs.Str.{chars}
-use Rattle.graphql_layout.specs.inner.Blocks.{begins_in_text}
+use Rattle.graphql_layout.specs.texts.Blocks.{begins_in_text}
 use Rattle.graphql_layout.proofs.BlockFlags.{blank_more, text_here}
 use Rattle.graphql_layout.proofs.CharLoops.{next_left, none_left}
 use Rattle.graphql_layout.proofs.blocks.begins_in_text.Goals as goal

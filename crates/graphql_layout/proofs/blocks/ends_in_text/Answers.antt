@@ -2,7 +2,7 @@ use Rattle.std.proofs.Common.{[], ◌∷◌, ◌++◌, length, drop, sym, ap, �
 use Rattle.std.proofs.lemmas.Iterator.{YieldsList-from_chars}
 use Rattle.std.proofs.lemmas.Iterator.Consumers.{YieldsList-turn, YieldsList-end}
 use Rattle.std.specs.Str.{chars}
-use Rattle.graphql_layout.specs.inner.Blocks.{ends_in_text}
+use Rattle.graphql_layout.specs.texts.Blocks.{ends_in_text}
 use Rattle.graphql_layout.proofs.CharLoops.{next_left, none_left}
 use Rattle.graphql_layout.proofs.blocks.ends_in_text.Goals as goal
 

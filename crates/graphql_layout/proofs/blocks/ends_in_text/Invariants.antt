@@ -1,6 +1,6 @@
 use Rattle.std.proofs.Common.{◌≡◌, false, length, drop}
 use Rattle.std.specs.Str.{chars}
-use Rattle.graphql_layout.specs.inner.Blocks.{ends_in_text}
+use Rattle.graphql_layout.specs.texts.Blocks.{ends_in_text}
 use Rattle.graphql_layout.proofs.blocks.ends_in_text.Given as goal
 
 abbrev pub invariant-loop-c : goal.invariant-loop-c

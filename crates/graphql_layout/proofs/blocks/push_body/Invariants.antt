@@ -2,7 +2,7 @@ use Rattle.std.proofs.Common.{◌≡◌, ◌++◌, false, length, string_bytes}
 use denote.Text.{Utf8}
 use denote.Shadow.{shadow}
 use Rattle.std.specs.Str.{chars, encode_utf8_all}
-use Rattle.graphql_layout.specs.inner.Blocks.{body}
+use Rattle.graphql_layout.specs.texts.Blocks.{body}
 use Rattle.graphql_layout.specs.texts.Shortened.{is_open}
 use Rattle.graphql_layout.proofs.blocks.push_body.Given as goal
 

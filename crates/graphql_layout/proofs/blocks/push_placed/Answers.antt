@@ -1,6 +1,6 @@
 use Rattle.std.proofs.Common.{◌≡◌, ◌++◌, ℕ, List, OnOk, string_bytes, sym, ap, ◌∙◌, subst}
 use Rattle.std.specs.Str.{encode_utf8_all}
-use Rattle.graphql_layout.specs.inner.Blocks.{placed}
+use Rattle.graphql_layout.specs.texts.Blocks.{placed}
 use Rattle.graphql_layout.proofs.BlockPushes.{break_bytes}
 use Rattle.graphql_layout.proofs.blocks.push_placed.Goals as goal
 

@@ -1,7 +1,7 @@
 use Rattle.std.proofs.Common.{◌++◌, List, ℕ, Bool, string_bytes, sym, ap, ap₂, ◌∙◌}
 use Rattle.std.proofs.lemmas.Result.{on_ok_weaker}
 use Rattle.std.specs.Str.{chars}
-use Rattle.graphql_layout.specs.inner.Blocks.{block_of}
+use Rattle.graphql_layout.specs.texts.Blocks.{block_of}
 use Rattle.graphql_layout.proofs.BlockPushes.{block_written}
 use Rattle.graphql_layout.proofs.BlockTexts.{shortest_is}
 use Rattle.graphql_layout.proofs.blocks.push_shortest.Goals as goal

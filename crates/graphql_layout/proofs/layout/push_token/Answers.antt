@@ -5,7 +5,7 @@ use Rattle.graphql_tokens.specs.tokens.Alike.{inside}
 use Rattle.graphql_tokens.specs.tokens.Kinds.{is_block}
 use Rattle.graphql_tokens.specs.declared.lexer.TokenKind.{TokenKind}
 use Rattle.graphql_tokens.specs.declared.lexer.TokenKind.TheVariants.{Punct, Name, Number, String, Block, Fault, End}
-use Rattle.graphql_layout.specs.inner.Blocks.{spelled}
+use Rattle.graphql_layout.specs.texts.Blocks.{spelled}
 use Rattle.graphql_layout.proofs.BlockTexts.{spelled_means}
 use Rattle.graphql_layout.proofs.layout.push_token.Goals as goal
 

@@ -1,7 +1,7 @@
 use Rattle.std.proofs.Common.{List, ◌++◌, [], ◌∷◌, ap, ◌∙◌, string_bytes}
 use Rattle.std.proofs.lemmas.Str.{IsUtf8-string_bytes}
 use Rattle.graphql_tokens.specs.declared.lexer.TokenKind.TheVariants.{Block}
-use Rattle.graphql_layout.specs.inner.Blocks.{spelled}
+use Rattle.graphql_layout.specs.texts.Blocks.{spelled}
 use Rattle.graphql_layout.specs.texts.Items.{Item, word}
 use Rattle.graphql_layout.proofs.QuotedBlocks.{held_same}
 use Rattle.graphql_layout.proofs.Sheets.{opened, token_added}

@@ -1,8 +1,7 @@
 use Rattle.std.proofs.Common.{List, ◌++◌, [], ◌∷◌, ap, ◌∙◌, string_bytes}
 use Rattle.std.proofs.lemmas.Str.{IsUtf8-string_bytes}
 use Rattle.graphql_tokens.specs.declared.lexer.TokenKind.TheVariants.{String}
-use Rattle.graphql_layout.specs.inner.Sheets.{in_quotes}
-use Rattle.graphql_layout.specs.texts.Items.{Item, word}
+use Rattle.graphql_layout.specs.texts.Items.{Item, in_quotes, word}
 use Rattle.graphql_layout.proofs.Quotes.{quote_held, quoted_ending}
 use Rattle.graphql_layout.proofs.Sheets.{opened, token_added}
 use Rattle.graphql_layout.proofs.sheet.Sheet.quoted.Goals as goal
