@@ -22,5 +22,6 @@ pub mod ShownRequests
 pub mod ShownStrings
 pub mod ShownValues
 pub mod SpelledTexts
+pub mod StringTexts
 pub mod Spellings
 pub mod Writing

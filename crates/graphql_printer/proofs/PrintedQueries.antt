@@ -3,8 +3,9 @@ use Rattle.std.proofs.Common.{◌≡◌, ℕ, Result, Ok, Err, IfOk, String, Glo
 use Rattle.std.proofs.lemmas.Str.{IsUtf8-string_bytes}
 use Rattle.std.specs.List.{AllByRecursion, flat_map}
 use Rattle.std.specs.Str.{IsUtf8}
+use Rattle.graphql_tokens.specs.tokens.Cuts.{IsCutInto}
 use Rattle.graphql_tokens.specs.tokens.Edition.{Current}
-use Rattle.graphql_tokens.specs.tokens.Token.{Bare}
+use Rattle.graphql_tokens.specs.tokens.Token.{Bare, Token}
 use Rattle.graphql_request_trees.specs.declared.executable.ExecutableDocument.{ExecutableDocument}
 use Rattle.graphql_request_trees.specs.trees.RequestViews.{document_tree}
 use Rattle.graphql_reading.specs.grammar.Limits.{Limits}
@@ -16,13 +17,14 @@ use Rattle.graphql_requests.specs.grammar.Requests.{requests}
 use Rattle.graphql_requests.specs.grammar.Rules.{lack_of}
 use Rattle.graphql_requests.specs.reading.Request.{definitions_at}
 use Rattle.graphql_requests.proofs.RequestProductions.{requests-are-read}
+use Rattle.graphql_printer.specs.Controls.{IsClear, HasClearTokens}
 use Rattle.graphql_printer.specs.Printed.{IsDocumentOf, MakesTheSame, IsPrinted}
 use Rattle.graphql_printer.specs.Rewritten.{AreSound}
 use Rattle.graphql_printer.specs.inner.Shown.{by_values}
 use Rattle.graphql_printer.specs.inner.ShownRequests.{definitions_in, shown_definition, shown_request}
 use Rattle.graphql_printer.specs.inner.SpelledTexts.{KeepsTokens}
 use Rattle.graphql_printer.proofs.ArrangedRequests.{definitions-alike, each-printed, unbroken-alike, complete-alike, document-alike, placeless-alike}
-use Rattle.graphql_printer.proofs.PrintedTexts.{of_text, again_spellings, makes_the_same}
+use Rattle.graphql_printer.proofs.PrintedTexts.{of_text, again_spellings, again_clear, clear_tokens, makes_the_same}
 use Rattle.graphql_printer.proofs.Reprints.{Again, again-star, again-plus, star-each}
 use Rattle.graphql_printer.proofs.ShownRequests.{reprints-definition}
 
@@ -63,6 +65,17 @@ module _ (document : ExecutableDocument) (limits : Limits) (text : List ℕ) (of
       let bs = flat_map shown_definition es in
       makes_the_same requests definitions_at requests-are-read document_of limits bs ds es again sound same printed utf8
       (keeps bs (again_spellings (definitions Current limits) placeless_definitions bs es again) (e ∙ ap by_values shown-is))
+
+  clear_request : (raw : List Bare) (printed : List ℕ) → raw ≡ by_values (shown_request (document_tree document)) → KeepsTokens raw printed → (ts : List Token) → IsCutInto printed ts → AllByRecursion (λ t. IsClear t.bare) ts
+  clear_request raw printed e keeps =
+      let bs = flat_map shown_definition es in
+      clear_tokens bs (again_clear (definitions Current limits) placeless_definitions bs es again) printed
+      (keeps bs (again_spellings (definitions Current limits) placeless_definitions bs es again) (e ∙ ap by_values shown-is))
+
+pub query_clear : {E : Type 0} (document : ExecutableDocument) (raw : List Bare) (result : Result (String Global) E) → raw ≡ by_values (shown_request (document_tree document)) → IfOk result (λ s. KeepsTokens raw (string_bytes s))
+    → IfOk result (λ s. HasClearTokens requests document (string_bytes s))
+query_clear document raw (Ok s) e keeps = λ limits text of. clear_request document limits text of raw (string_bytes s) e keeps
+query_clear document raw (Err error) e keeps = tt
 
 pub query_printed : {E : Type 0} (document : ExecutableDocument) (raw : List Bare) (result : Result (String Global) E) → raw ≡ by_values (shown_request (document_tree document)) → IfOk result (λ s. KeepsTokens raw (string_bytes s))
     → IfOk result (λ s. IsPrinted requests document_of document (string_bytes s))

@@ -1,13 +1,15 @@
 -- A text with the tokens of what is shown, or with tokens that are alike, makes the document again.
-use Rattle.std.proofs.Common.{◌≡◌, ℕ, inl, List, [], ◌∷◌, ◌++◌, refl, sym, ap, ◌∙◌, subst}
+use Rattle.std.proofs.Common.{◌≡◌, ℕ, inl, inr, List, [], ◌∷◌, ◌++◌, refl, sym, ap, ◌∙◌, subst}
 use Rattle.std.proofs.lemmas.List.{map-append}
 use Rattle.std.specs.Str.{chars, IsUtf8}
-use Rattle.graphql_tokens.specs.tokens.Alike.{AreAlike}
-use Rattle.graphql_tokens.specs.tokens.Cuts.{EndsOnce, HasNoFault}
+use Rattle.graphql_tokens.specs.tokens.Alike.{IsAlike, AreAlike}
+use Rattle.graphql_tokens.specs.tokens.Cuts.{EndsOnce, HasNoFault, IsCutInto}
 use Rattle.graphql_tokens.specs.tokens.Edition.{Current}
 use Rattle.graphql_tokens.specs.tokens.Proper.{AreProperButFaults}
 use Rattle.graphql_tokens.specs.tokens.Token.{Bare, Token}
-use Rattle.graphql_tokens.specs.declared.lexer.TokenKind.TheVariants.{End}
+use Rattle.std.specs.List.{AllByRecursion}
+use Rattle.graphql_tokens.specs.declared.lexer.TokenKind.{TokenKind}
+use Rattle.graphql_tokens.specs.declared.lexer.TokenKind.TheVariants.{Block, End}
 use Rattle.graphql_tokens.proofs.Editions.{no_fault}
 use Rattle.graphql_tokens.proofs.Lists.{cuts_ends}
 use Rattle.graphql_tokens.proofs.Propers.{cuts_proper, text_scalars}
@@ -23,10 +25,11 @@ use Rattle.graphql_grammar.proofs.Alike.{break-alike}
 use Rattle.graphql_grammar.proofs.Languages.{IsRead, is-read-by}
 use Rattle.graphql_grammar.specs.answers.Answers.{AreTheDefinitions}
 use Rattle.graphql_grammar.specs.answers.Language.{Language, grammar}
+use Rattle.graphql_printer.specs.Controls.{IsClear, IsClearAs, are_clear}
 use Rattle.graphql_printer.specs.Printed.{IsDocumentOf, MakesTheSame}
 use Rattle.graphql_printer.specs.Rewritten.{AreSound}
 use Rattle.graphql_printer.specs.inner.SpelledTexts.{AreSpellings}
-use Rattle.graphql_printer.proofs.Reprints.{AreSpelled, Again}
+use Rattle.graphql_printer.proofs.Reprints.{AreSpelled, AreShown, Again}
 use Rattle.graphql_printer.proofs.SpelledTexts.{one_cut}
 
 the_end : Token
@@ -92,6 +95,43 @@ of_text language limits text document of =
 pub again_spellings : {A : Type 0} (p : _) (f : A → A) (bs : List Bare) (a : A) → Again p f bs a → AreSpellings bs
 again_spellings p f bs a again = subst AreSpellings again.are (go again.tokens again.spelled)
   where
-    go : (ts : List Token) → AreSpelled ts → AreSpellings (bares ts)
+    go : (ts : List Token) → AreShown ts → AreSpellings (bares ts)
     go [] h = tt
-    go (t ∷ ts) h = (h.0, go ts h.1)
+    go (t ∷ ts) h = (h.0.0, go ts h.1)
+
+-- and is clear
+pub again_clear : {A : Type 0} (p : _) (f : A → A) (bs : List Bare) (a : A) → Again p f bs a → AllByRecursion IsClear bs
+again_clear p f bs a again = subst (AllByRecursion IsClear) again.are (go again.tokens again.spelled)
+  where
+    go : (ts : List Token) → AreShown ts → AllByRecursion IsClear (bares ts)
+    go [] h = tt
+    go (t ∷ ts) h = (h.0.1, go ts h.1)
+
+-- ---- the printed text has clear tokens
+
+clear_alike : (a b : Bare) → IsAlike a b → IsClear a → IsClear b
+clear_alike a b (inl e) h = subst IsClear e h
+clear_alike a b (inr m) h =
+    let here : IsClearAs Block a.spelling = subst (λ (k : TokenKind). IsClearAs k a.spelling) m.block h in
+    subst (λ (k : TokenKind). IsClearAs k b.spelling) (sym m.other_block) (ap are_clear (sym m.value) ∙ here)
+
+all_alike : (bs cs : List Bare) → AreAlike bs cs → AllByRecursion IsClear bs → AllByRecursion IsClear cs
+all_alike [] [] m h = tt
+all_alike [] (c ∷ cs) m h = absurd m
+all_alike (b ∷ bs) [] m h = absurd m
+all_alike (b ∷ bs) (c ∷ cs) m h = (clear_alike b c m.0 h.0, all_alike bs cs m.1 h.1)
+
+-- the end is clear, too
+ended : (bs : List Bare) → AllByRecursion IsClear bs → AllByRecursion IsClear (bs ++ bare_end ∷ [])
+ended [] h = (tt, tt)
+ended (b ∷ bs) h = (h.0, ended bs h.1)
+
+each_token : (ts : List Token) → AllByRecursion IsClear (bares ts) → AllByRecursion (λ t. IsClear t.bare) ts
+each_token [] h = tt
+each_token (t ∷ ts) h = (h.0, each_token ts h.1)
+
+pub clear_tokens : (bs : List Bare) → AllByRecursion IsClear bs → (printed : List ℕ) → (others : List Bare) × HasTokens printed others × AreAlike bs others → (ts : List Token) → IsCutInto printed ts → AllByRecursion (λ t. IsClear t.bare) ts
+clear_tokens bs clear printed keeps ts cut =
+    let has = keeps.1 in
+    let whole = subst (AllByRecursion IsClear) (sym has.2) (ended keeps.0 (all_alike bs keeps.0 keeps.2 clear)) in
+    each_token ts (subst (λ (l : List Token). AllByRecursion IsClear (bares l)) (one_cut printed has.0 ts has.1 cut) whole)

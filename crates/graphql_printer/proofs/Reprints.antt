@@ -15,6 +15,7 @@ use Rattle.graphql_reading.specs.grammar.Limits.{Limits}
 use Rattle.graphql_reading.specs.grammar.Relations.{Rel, one, ◌⨾◌, ◌∪◌, mapped, never, opt, star, plus, cons, given, between, between_of, after, after_of, separated}
 use Rattle.graphql_reading.specs.grammar.Tests.{Test, punct, keyword, any_name, any_number}
 use Rattle.graphql_reading.proofs.Optional.{star-plus}
+use Rattle.graphql_printer.specs.Controls.{IsClear, IsClearAs}
 use Rattle.graphql_printer.specs.inner.Shown.{sign, word, shown_part, shown_between, shown_separated}
 
 -- ---- tokens with spellings
@@ -37,13 +38,20 @@ each_split P (x ∷ xs) ys h = let more = each_split P xs ys h.1 in ((h.0, more.
 pub parts_spelled : (ts front back : List Token) → ts ≡ front ++ back → AreSpelled ts → AreSpelled front × AreSpelled back
 parts_spelled ts front back e h = each_split IsSpelled front back (subst AreSpelled e h)
 
+-- each of a text that is printed is clear, too
+abbrev pub IsShown : Token → Type 0
+IsShown t = IsSpelled t × IsClear t.bare
+
+abbrev pub AreShown : List Token → Type 0
+AreShown ts = AllByRecursion IsShown ts
+
 -- ---- a tree again
 
 -- Tokens with these bare tokens have a tree that is a but for places.
 pub record Again {A : Type 0} (p : Rel A) (placeless : A → A) (bs : List Bare) (a : A) : Type 0 where
   pub tokens : List Token
   pub are : bares tokens ≡ bs
-  pub spelled : AreSpelled tokens
+  pub spelled : AreShown tokens
   pub tree : A
   pub holds : p tokens tree
   pub same : placeless tree ≡ placeless a
@@ -63,7 +71,7 @@ pub again-then : {A B : Type 0} {p : Rel A} {q : Rel B} {f : A → A} {g : B →
 again-then h k = record {
   tokens = h.tokens ++ k.tokens;
   are = map-append (λ (t : Token). t.bare) h.tokens k.tokens ∙ ap₂ (λ (l m : List Bare). l ++ m) h.are k.are;
-  spelled = each_append IsSpelled h.tokens k.tokens h.spelled k.spelled;
+  spelled = each_append IsShown h.tokens k.tokens h.spelled k.spelled;
   tree = (h.tree, k.tree);
   holds = record { front = h.tokens; back = k.tokens; joined = refl; first = h.holds; second = k.holds };
   same = λ n. (h.same n, k.same n);
@@ -87,7 +95,7 @@ again-star shown (a ∷ items) h =
     record {
       tokens = h.0.tokens ++ more.tokens;
       are = map-append (λ (t : Token). t.bare) h.0.tokens more.tokens ∙ ap₂ (λ (l m : List Bare). l ++ m) h.0.are more.are;
-      spelled = each_append IsSpelled h.0.tokens more.tokens h.0.spelled more.spelled;
+      spelled = each_append IsShown h.0.tokens more.tokens h.0.spelled more.spelled;
       tree = h.0.tree ∷ more.tree;
       holds = record { front = h.0.tokens; back = more.tokens; joined = refl; first = h.0.holds; second = more.holds };
       same = ap₂ (λ (x : _) (l : List _). x ∷ l) h.0.same more.same;
@@ -108,16 +116,28 @@ again-plus {A} {p} {f} {bs} list some h = go h.tree h.holds h.same
 -- ---- tokens
 
 -- a token that can only be this one
-pub reprints-the : (test : Test) (b : Bare) → ((t : Bare) → IsTrue (test t) → t ≡ b) → Reprints (λ c. one test) without_place (λ t. b ∷ [])
-reprints-the test b known = record { by = λ c x t m s. record { tokens = x; are = ap bares m.0 ∙ ap (λ (k : Bare). k ∷ []) (known t.bare m.1); spelled = s; tree = t; holds = m; same = refl } }
+one_shown : (x : List Token) (t : Token) → x ≡ t ∷ [] → IsClear t.bare → AreSpelled x → AreShown x
+one_shown x t e clear s = subst AreShown (sym e) (((subst AreSpelled e s).0, clear), tt)
+
+pub reprints-the : (test : Test) (b : Bare) → IsClear b → ((t : Bare) → IsTrue (test t) → t ≡ b) → Reprints (λ c. one test) without_place (λ t. b ∷ [])
+reprints-the test b clear known = record {
+  by = λ c x t m s. record {
+    tokens = x;
+    are = ap bares m.0 ∙ ap (λ (k : Bare). k ∷ []) (known t.bare m.1);
+    spelled = one_shown x t m.0 (subst IsClear (sym (known t.bare m.1)) clear) s;
+    tree = t;
+    holds = m;
+    same = refl;
+  };
+}
 
 -- a token of which the kind is known
-pub reprints-kind : (test : Test) (kind : TokenKind) → ((t : Bare) → IsTrue (test t) → t.kind ≡ kind) → Reprints (λ c. one test) without_place (λ t. record { kind = kind; spelling = t.bare.spelling } ∷ [])
-reprints-kind test kind known = record {
+pub reprints-kind : (test : Test) (kind : TokenKind) → ((spelling : List ℕ) → IsClearAs kind spelling) → ((t : Bare) → IsTrue (test t) → t.kind ≡ kind) → Reprints (λ c. one test) without_place (λ t. record { kind = kind; spelling = t.bare.spelling } ∷ [])
+reprints-kind test kind clear known = record {
   by = λ c x t m s. record {
     tokens = x;
     are = ap bares m.0 ∙ ap (λ (k : TokenKind). record { kind = k; spelling = t.bare.spelling } ∷ []) (known t.bare m.1);
-    spelled = s;
+    spelled = one_shown x t m.0 (subst (λ (k : TokenKind). IsClearAs k t.bare.spelling) (sym (known t.bare m.1)) (clear t.bare.spelling)) s;
     tree = t;
     holds = m;
     same = refl;
@@ -165,16 +185,16 @@ pub keyword-is : (text : Word) (t : Bare) → IsTrue (keyword text t) → t ≡ 
 keyword-is text t h = let b = both (is_name t.kind) (bytes_eq t.spelling (codes text)) h in spelled_so Name Name t (codes text) (name-kind t.kind b.0) b.1
 
 pub reprints-punct : (text : Word) → Reprints (λ c. one (punct text)) without_place (λ t. sign text ∷ [])
-reprints-punct text = reprints-the (punct text) (sign text) (punct-is text)
+reprints-punct text = reprints-the (punct text) (sign text) tt (punct-is text)
 
 pub reprints-keyword : (text : Word) → Reprints (λ c. one (keyword text)) without_place (λ t. word (codes text) ∷ [])
-reprints-keyword text = reprints-the (keyword text) (word (codes text)) (keyword-is text)
+reprints-keyword text = reprints-the (keyword text) (word (codes text)) tt (keyword-is text)
 
 pub reprints-name : Reprints (λ c. one any_name) without_place (λ t. word t.bare.spelling ∷ [])
-reprints-name = reprints-kind any_name Name (λ t h. name-kind t.kind h)
+reprints-name = reprints-kind any_name Name (λ spelling. tt) (λ t h. name-kind t.kind h)
 
 pub reprints-number : Reprints (λ c. one any_number) without_place (λ t. record { kind = Number; spelling = t.bare.spelling } ∷ [])
-reprints-number = reprints-kind any_number Number (λ t h. number-kind t.kind h)
+reprints-number = reprints-kind any_number Number (λ spelling. tt) (λ t h. number-kind t.kind h)
 
 -- ---- the combinators
 

@@ -1,5 +1,5 @@
 -- What is printed of the parts of a schema file is these parts again, but for places.
-use Rattle.std.proofs.Common.{◌≡◌, Bool, true, false, if◌then◌else◌, inl, inr, Option, option_map, List, [], ◌∷◌, map, refl, ap, ◌∙◌, sym, subst, ℕ}
+use Rattle.std.proofs.Common.{◌≡◌, Bool, true, false, ◌&&◌, if◌then◌else◌, inl, inr, Option, option_map, List, [], ◌∷◌, map, refl, ap, ◌∙◌, sym, subst, ℕ}
 use Rattle.std.proofs.lemmas.Str.{encodes-chars}
 use Rattle.std.specs.Str.{chars, IsUtf8, encode_utf8_all}
 use Rattle.graphql_tokens.specs.declared.pos.Positioned.{Positioned}
@@ -23,11 +23,12 @@ use Rattle.graphql_schemas.specs.grammar.InputValues.{input_value_of, an_input_v
 use Rattle.graphql_schemas.specs.grammar.Members.{a_name, implements, members, enum_value_of, an_enum_value, enum_values}
 use Rattle.graphql_schemas.specs.grammar.Placeless.{placeless_description, placeless_names, placeless_input_value, placeless_input_values, placeless_field, placeless_enum_value}
 use Rattle.graphql_schemas.proofs.DescriptionProductions.{described-nowhere}
-use Rattle.graphql_layout.specs.inner.Blocks.{may_be_block}
+use Rattle.graphql_layout.specs.texts.Blocks.{may_be_block}
 use Rattle.graphql_layout.proofs.BlockTexts.{block_spelled, value_kept}
+use Rattle.graphql_printer.specs.Controls.{IsClear, are_clear}
 use Rattle.graphql_printer.specs.inner.Shown.{shown_node, sign, word, quoted, shown_between, shown_separated}
-use Rattle.graphql_printer.specs.inner.ShownSchemas.{in_block, shown_text, shown_description, shown_name, shown_led, shown_input_value, shown_parameters, shown_field, shown_enum_value, shown_implements, shown_members, shown_location, shown_locations}
-use Rattle.graphql_printer.proofs.Reprints.{AreSpelled, Again, Reprints, again-as, reprints-name, reprints-keyword, reprints-punct, reprints-shown, reprints-first, reprints-then, reprints-mapped, reprints-opt, reprints-listed, reprints-maybe_listed, reprints-separated}
+use Rattle.graphql_printer.specs.inner.ShownSchemas.{in_block, fits_block, shown_text, shown_description, shown_name, shown_led, shown_input_value, shown_parameters, shown_field, shown_enum_value, shown_implements, shown_members, shown_location, shown_locations}
+use Rattle.graphql_printer.proofs.Reprints.{AreSpelled, AreShown, Again, Reprints, again-as, reprints-name, reprints-keyword, reprints-punct, reprints-shown, reprints-first, reprints-then, reprints-mapped, reprints-opt, reprints-listed, reprints-maybe_listed, reprints-separated}
 use Rattle.graphql_printer.proofs.ShownParts.{reprints-type, reprints-default, reprints-directives}
 use Rattle.graphql_printer.proofs.ShownValues.{reprints-name_but, reprints-strings, blocks-as_strings, strings_utf8, blocks_utf8}
 use Prim.Native.String.{String}
@@ -66,23 +67,29 @@ text_utf8 : (x : List Token) (d : Positioned (List ℕ)) → a_description Curre
 text_utf8 x d (inl m) s = subst IsUtf8 (ap (λ (d : Positioned (List ℕ)). d.node) (sym m.is)) (strings_utf8 x d m s)
 text_utf8 x d (inr m) s = subst IsUtf8 (ap (λ (d : Positioned (List ℕ)). d.node) (sym m.is)) (blocks_utf8 x d m s)
 
+split : (a b : Bool) → (a && b) ≡ true → (a ≡ true) × (b ≡ true)
+split true b e = (refl, e)
+split false b e = absurd cc
+
 -- and as a block string that keeps it
-again-block : (d : Positioned (List ℕ)) → IsUtf8 d.node → may_be_block (chars d.node) ≡ true → Again (a_description Current) bare_node (in_block d.node ∷ []) d
-again-block d u kept =
+again-block : (d : Positioned (List ℕ)) → IsUtf8 d.node → fits_block (chars d.node) ≡ true → Again (a_description Current) bare_node (in_block d.node ∷ []) d
+again-block d u fits =
+    let both = split (may_be_block (chars d.node)) (are_clear (chars d.node)) fits in
+    let kept = both.0 in
     let token : Token = record { bare = in_block d.node; start = 0; pos = nowhere } in
     record {
       tokens = token ∷ [];
       are = refl;
-      spelled = (block_spelled 0 d.node u, tt);
+      spelled = ((block_spelled 0 d.node u, ap are_clear (value_kept d.node u kept 0) ∙ both.1), tt);
       tree = text_of (token, d.node);
       holds = inr (record { value = (token, d.node); holds = (refl, refl, sym (encodes-chars d.node u) ∙ ap encode_utf8_all (sym (value_kept d.node u kept 0))); is = refl });
       same = refl;
     }
 
 reprints-description : Reprints (λ c. a_description Current) bare_node (shown_node shown_text)
-reprints-description = record { by = λ c x d m s. go c x d m s (may_be_block (chars d.node)) refl }
+reprints-description = record { by = λ c x d m s. go c x d m s (fits_block (chars d.node)) refl }
   where
-    go : (c : Limits) (x : List Token) (d : Positioned (List ℕ)) → a_description Current x d → AreSpelled x → (b : Bool) → may_be_block (chars d.node) ≡ b → Again (a_description Current) bare_node (shown_node shown_text d) d
+    go : (c : Limits) (x : List Token) (d : Positioned (List ℕ)) → a_description Current x d → AreSpelled x → (b : Bool) → fits_block (chars d.node) ≡ b → Again (a_description Current) bare_node (shown_node shown_text d) d
     go c x d m s true e = again-as (ap (λ (b : Bool). (if b then in_block d.node else quoted d.node) ∷ []) (sym e)) (again-block d (text_utf8 x d m s) e)
     go c x d m s false e = again-as (ap (λ (b : Bool). (if b then in_block d.node else quoted d.node) ∷ []) (sym e)) (reprints-quoted.by c x d m s)
 
@@ -137,7 +144,7 @@ reprints-location = record {
         ∙ ap (λ (b : Bare). b ∷ []) (any_name-is m.value.0.bare m.holds.1)
         ∙ ap (λ (spelling : List ℕ). word spelling ∷ []) m.holds.2
         ∙ ap (shown_node shown_location) (sym m.is);
-    spelled = s;
+    spelled = subst AreShown (sym m.holds.0) (((subst AreSpelled m.holds.0 s).0, subst IsClear (sym (any_name-is m.value.0.bare m.holds.1)) tt), tt);
     tree = location;
     holds = m;
     same = refl;

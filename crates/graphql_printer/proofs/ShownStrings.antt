@@ -1,12 +1,13 @@
 -- The string that stands for a text: it is spelled as one, and means that text.
-use Rattle.std.proofs.Common.{◌≡◌, ℕ, ◌<◌, ◌/◌, ◌%◌, Bool, true, false, cond, ltb, eqb, List, [], ◌∷◌, ◌++◌, take, drop, length, ◌-◌, Option, Some, None, refl, sym, ap, ◌∙◌, subst, arith, length-append, codes}
+use Rattle.std.proofs.Common.{◌≡◌, ℕ, ◌<◌, ◌/◌, ◌%◌, Bool, true, false, ◌&&◌, cond, ltb, eqb, List, [], ◌∷◌, ◌++◌, take, drop, length, ◌-◌, Option, Some, None, refl, sym, ap, ◌∙◌, subst, arith, length-append, codes}
 use Rattle.std.proofs.lemmas.Bool.Decides.{nat_tests}
 use Rattle.std.proofs.lemmas.Str.{chars-encodes, encodes-append, encodes-chars}
 use Rattle.std.proofs.Math.Seq.{take-append_seam}
 use Rattle.std.proofs.Math.Utf8.{low_scalar}
 use lib.Utf8.{encode}
-use Rattle.std.specs.Char.{IsScalar, digit_char}
-use Rattle.std.specs.List.{AllByRecursion, concat}
+use Rattle.std.specs.Char.{IsScalar, is_control}
+use Rattle.std.proofs.lemmas.List.Folds.{list_all-append}
+use Rattle.std.specs.List.{AllByRecursion, concat, list_all}
 use Rattle.std.specs.Map.{lookup}
 use Rattle.std.specs.Str.{chars, IsUtf8, encode_utf8_all}
 use Rattle.graphql_tokens.specs.declared.lexer.TokenKind.TheVariants.{String, Block}
@@ -15,24 +16,26 @@ use Rattle.graphql_tokens.specs.tokens.BlockText.{block_value}
 use Rattle.graphql_tokens.specs.tokens.Proper.{Spells}
 use Rattle.graphql_tokens.specs.tokens.Token.{Bare}
 use Rattle.graphql_tokens.proofs.Propers.{text_scalars}
-use Rattle.graphql_syntax.specs.trees.ValueText.{letters, unit_with, unit_for, content_for, string_text}
-use Rattle.graphql_syntax.proofs.StringTexts.{content_means}
+use Rattle.graphql_syntax.specs.trees.ValueText.{letters}
 use Rattle.graphql_tokens.specs.tokens.Alike.{inside}
 use Rattle.graphql_grammar.specs.grammar.Values.{StringStands, BlockStands}
+use Rattle.graphql_printer.specs.Controls.{IsClearAs, is_no_control}
 use Rattle.graphql_printer.specs.inner.Shown.{quoted}
+use Rattle.graphql_printer.specs.inner.Strings.{hex_digit, unit_with, unit_for, content_for, string_text}
 use Rattle.graphql_printer.proofs.Scalars.{AreScalars, scalars_append, scalars_split, scalars_all, string_scalars, block_scalars}
+use Rattle.graphql_printer.proofs.StringTexts.{content_means, content_clear, control_below}
 
 -- ---- what it is made of are characters
 
-digit_scalar : (d : ℕ) → d < 36 → IsScalar (digit_char d)
-digit_scalar d l = low_scalar (digit_char d) (grind (arith, nat_tests))
+digit_scalar : (d : ℕ) → d < 16 → IsScalar (hex_digit d)
+digit_scalar d l = low_scalar (hex_digit d) (grind (arith, nat_tests))
 
 plain_scalars : (c : ℕ) → IsScalar c → AreScalars (unit_with c None)
-plain_scalars c h = go (ltb c 32) refl
+plain_scalars c h = go (is_control c) refl
   where
-    go : (b : Bool) → ltb c 32 ≡ b → AreScalars (cond b (codes "\\u00" ++ (digit_char (c / 16) ∷ digit_char (c % 16) ∷ [])) (c ∷ []))
+    go : (b : Bool) → is_control c ≡ b → AreScalars (cond b (codes "\\u00" ++ (hex_digit (c / 16) ∷ hex_digit (c % 16) ∷ [])) (c ∷ []))
     go true is =
-        let low : c < 32 = grind (arith, nat_tests) in
+        let low : c < 160 = control_below c is in
         (refl, (refl, (refl, (refl, (digit_scalar (c / 16) (omega arith), (digit_scalar (c % 16) (omega arith), tt))))))
     go false is = (h, tt)
 
@@ -84,6 +87,14 @@ string_spells s u =
       ap (λ (l : List ℕ). 34 ∷ l) (sym (encodes-append w (34 ∷ []))),
       (w, refl, (cs, content_means Current cs)),
     )
+
+pub string_clear : (s : List ℕ) → IsUtf8 s → IsClearAs String (string_text s)
+unfolding encode
+string_clear s u =
+    let w = content_for (chars s) in
+    let scalars = scalars_all (34 ∷ (w ++ 34 ∷ [])) (refl, scalars_append w (34 ∷ []) (content_scalars (chars s) (text_scalars s u)) (refl, tt)) in
+    let is : chars (string_text s) ≡ 34 ∷ (w ++ 34 ∷ []) = ap (λ (l : List ℕ). chars (34 ∷ l)) (sym (encodes-append w (34 ∷ []))) ∙ chars-encodes (34 ∷ (w ++ 34 ∷ [])) scalars in
+    ap (list_all is_no_control) is ∙ list_all-append is_no_control w (34 ∷ []) ∙ ap (λ (b : Bool). b && true) (content_clear (chars s))
 
 -- ---- what a string of a text means is UTF-8
 

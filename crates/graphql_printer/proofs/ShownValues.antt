@@ -22,7 +22,7 @@ use Rattle.graphql_grammar.specs.reading.Fields.{are_distinct}
 use Rattle.graphql_grammar.proofs.Fields.{merged-distinct}
 use Rattle.graphql_printer.specs.inner.Shown.{sign, word, quoted, shown_node, shown_value, shown_items, shown_fields}
 use Rattle.graphql_printer.proofs.Reprints.{AreSpelled, Again, Reprints, again-star, again-then, again-mapped, again-as, again-within, reprints-the, reprints-kind, reprints-punct, reprints-keyword, reprints-name, reprints-number, reprints-then, reprints-mapped, reprints-either, reprints-star, star-each, parts_spelled, name-kind, punct-is}
-use Rattle.graphql_printer.proofs.ShownStrings.{string_stands, string_spells, string_utf8, block_utf8}
+use Rattle.graphql_printer.proofs.ShownStrings.{string_stands, string_spells, string_clear, string_utf8, block_utf8}
 
 -- ---- words and numbers
 
@@ -31,7 +31,7 @@ both true b e = (refl, e)
 both false b e = absurd cc
 
 pub reprints-name_but : (words : List _) → Reprints (λ c. one (name_but words)) without_place (λ t. word t.bare.spelling ∷ [])
-reprints-name_but words = reprints-kind (name_but words) Name (λ t h. name-kind t.kind (both (is_name t.kind) (not (is_among t.spelling words)) h).0)
+reprints-name_but words = reprints-kind (name_but words) Name (λ spelling. tt) (λ t h. name-kind t.kind (both (is_name t.kind) (not (is_among t.spelling words)) h).0)
 
 reprints-word : Reprints (λ c. a_word) bare_node (shown_node shown_value)
 reprints-word =
@@ -81,7 +81,7 @@ module _ {B : Type 0} (k : Token × List ℕ → B) (placeless : B → B) (shown
       again-as (is t s) (record {
         tokens = other ∷ [];
         are = refl;
-        spelled = (string_spells s utf8, tt);
+        spelled = ((string_spells s utf8, string_clear s utf8), tt);
         tree = k (other, s);
         holds = record { value = (other, s); holds = (refl, refl, string_stands s utf8); is = refl };
         same = same other t s;
@@ -110,7 +110,7 @@ dollar-is : (vars : Bool) (t : Bare) → IsTrue (dollar vars t) → t ≡ sign "
 dollar-is vars t h = punct-is "$" t (both (punct "$" t) vars h).0
 
 reprints-variable : (vars : Bool) → Reprints (λ c. a_variable vars) bare_node (shown_node shown_value)
-reprints-variable vars = reprints-mapped {k = variable_of} (shown_node shown_value) (λ x. refl) (λ x. refl) (reprints-then (reprints-the (dollar vars) (sign "$") (dollar-is vars)) reprints-name)
+reprints-variable vars = reprints-mapped {k = variable_of} (shown_node shown_value) (λ x. refl) (λ x. refl) (reprints-then (reprints-the (dollar vars) (sign "$") tt (dollar-is vars)) reprints-name)
 
 reprints-simple : (vars : Bool) → Reprints (λ c. a_simple_value Current vars) bare_node (shown_node shown_value)
 reprints-simple vars = reprints-either reprints-word (reprints-either reprints-a_number (record { by = by }))

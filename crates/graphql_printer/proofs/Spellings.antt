@@ -4,8 +4,9 @@ use Rattle.std.proofs.lemmas.Bool.Decides.{nat_tests}
 use Rattle.std.proofs.lemmas.List.Folds.{list_all-append}
 use Rattle.std.proofs.lemmas.Str.{encodes-append, encodes-chars}
 use Rattle.std.proofs.Math.Utf8.{low_scalar}
-use Rattle.std.specs.Char.{is_ascii_digit, digit_char}
+use Rattle.std.specs.Char.{is_ascii_digit, is_control}
 use Rattle.std.specs.List.{AllByRecursion, list_all}
+use lib.Utf8.{encode}
 use Rattle.std.specs.Map.{lookup}
 use Rattle.std.specs.Str.{chars, IsUtf8, encode_utf8_all}
 use Rattle.graphql_tokens.specs.declared.lexer.TokenKind.TheVariants.{Punct, Name, Number, String}
@@ -19,12 +20,14 @@ use Rattle.graphql_tokens.proofs.Numbers.{number_is}
 use Rattle.graphql_tokens.proofs.Numerals.{is_numeral-is}
 use Rattle.graphql_tokens.proofs.NumberTexts.{number_passed, number_missed}
 use Rattle.graphql_tokens.proofs.Propers.{text_scalars}
-use Rattle.graphql_layout.specs.inner.Sheets.{in_quotes}
+use Rattle.graphql_layout.specs.texts.Items.{in_quotes}
 use Rattle.graphql_layout.proofs.BlockPushes.{same_byte}
-use Rattle.graphql_syntax.specs.trees.ValueText.{escape_letter, unit_for, unit_with, content_for, string_text}
+use Rattle.graphql_syntax.specs.trees.ValueText.{escape_letter}
+use Rattle.graphql_printer.specs.inner.Strings.{hex_digit, unit_for, unit_with, content_for, string_text}
 use Rattle.graphql_printer.specs.inner.Words.{is_sign, is_word, stays_in_string}
 use Rattle.graphql_printer.proofs.Scalars.{AreScalars}
 use Rattle.graphql_printer.proofs.ShownStrings.{string_spells}
+use Rattle.graphql_printer.proofs.StringTexts.{below, all_below}
 
 -- ---- texts of ASCII
 
@@ -153,16 +156,23 @@ number_spells text utf8 n = (chars text, text_scalars text utf8, sym (encodes-ch
 skipped : (c k v : ℕ) (others : List (ℕ × ℕ)) → eqb c k ≡ false → lookup (λ x. eqb c x) others ≡ None → lookup (λ x. eqb c x) ((k, v) ∷ others) ≡ None
 skipped c k v others e h = ap (λ (b : Bool). cond b (Some v) (lookup (λ x. eqb c x) others)) e ∙ h
 
-is_high : (c : ℕ) → stays_in_string c ≡ true → nat_lt c 32 ≡ false
-is_high c e = not_false (nat_lt c 32) (first_true (not (nat_lt c 32)) (not (eqb c 34) && not (eqb c 92)) e)
+-- a character that stands for itself
+abbrev stays : ℕ → Bool
+stays c = not (is_control c) && (not (eqb c 34) && not (eqb c 92))
+
+no_control : (c : ℕ) → stays c ≡ true → is_control c ≡ false
+no_control c e = not_false (is_control c) (first_true (not (is_control c)) (not (eqb c 34) && not (eqb c 92)) e)
+
+is_high : (c : ℕ) → is_control c ≡ false → nat_lt c 32 ≡ false
+is_high c e = grind (arith, nat_tests)
 
 other_than : (c k : ℕ) → nat_lt c 32 ≡ false → k < 32 → eqb c k ≡ false
 other_than c k e h = grind (arith, nat_tests)
 
-no_letter : (c : ℕ) → stays_in_string c ≡ true → escape_letter c ≡ None
+no_letter : (c : ℕ) → stays c ≡ true → escape_letter c ≡ None
 no_letter c e =
-    let high = is_high c e in
-    let marks = second_true (not (nat_lt c 32)) (not (eqb c 34) && not (eqb c 92)) e in
+    let high = is_high c (no_control c e) in
+    let marks = second_true (not (is_control c)) (not (eqb c 34) && not (eqb c 92)) e in
     let quote = not_false (eqb c 34) (first_true (not (eqb c 34)) (not (eqb c 92)) marks) in
     let backslash = not_false (eqb c 92) (second_true (not (eqb c 34)) (not (eqb c 92)) marks) in
     let feed : List (ℕ × ℕ) = (12, 102) ∷ [] in
@@ -174,39 +184,45 @@ no_letter c e =
     (skipped c 10 110 return (other_than c 10 high (omega arith)) (skipped c 13 114 tab (other_than c 13 high (omega arith))
     (skipped c 9 116 back (other_than c 9 high (omega arith)) (skipped c 8 98 feed (other_than c 8 high (omega arith)) (skipped c 12 102 [] (other_than c 12 high (omega arith)) refl))))))
 
-same_unit : (c : ℕ) → stays_in_string c ≡ true → unit_for c ≡ c ∷ []
-same_unit c e = ap (unit_with c) (no_letter c e) ∙ ap (λ (b : Bool). cond b (codes "\\u00" ++ (digit_char (c / 16) ∷ digit_char (c % 16) ∷ [])) (c ∷ [])) (is_high c e)
+same_unit : (c : ℕ) → stays c ≡ true → unit_for c ≡ c ∷ []
+same_unit c e = ap (unit_with c) (no_letter c e) ∙ ap (λ (b : Bool). cond b (codes "\\u00" ++ (hex_digit (c / 16) ∷ hex_digit (c % 16) ∷ [])) (c ∷ [])) (no_control c e)
 
-same_content : (cs : List ℕ) → list_all stays_in_string cs ≡ true → content_for cs ≡ cs
+same_content : (cs : List ℕ) → list_all stays cs ≡ true → content_for cs ≡ cs
 same_content [] e = refl
 same_content (c ∷ cs) e =
-    ap (λ (u : List ℕ). u ++ content_for cs) (same_unit c (first_true (stays_in_string c) (list_all stays_in_string cs) e))
-    ∙ ap (λ (l : List ℕ). c ∷ l) (same_content cs (second_true (stays_in_string c) (list_all stays_in_string cs) e))
+    ap (λ (u : List ℕ). u ++ content_for cs) (same_unit c (first_true (stays c) (list_all stays cs) e))
+    ∙ ap (λ (l : List ℕ). c ∷ l) (same_content cs (second_true (stays c) (list_all stays cs) e))
 
--- a class that all other characters than ASCII ones are of has the characters of a text where it has its bytes
-char_passes : (p : ℕ → Bool) → ((c : ℕ) → 128 ≤ c → p c ≡ true) → (c : ℕ) → list_all p (encode_utf8_all (c ∷ [])) ≡ true → p c ≡ true
-char_passes p high c e = by (nat_lt c 128) refl
-  where
-    by : (b : Bool) → nat_lt c 128 ≡ b → p c ≡ true
-    by true l =
-        let one : encode_utf8_all (c ∷ []) ≡ c ∷ [] = same_byte c [] (grind (arith, nat_tests)) in
-        first_true (p c) true (sym (ap (list_all p) one) ∙ e)
-    by false l = high c (grind (arith, nat_tests))
+-- the bytes of a character stay only if it does
+passes : ℕ → Bool
+passes c = not (list_all stays_in_string (encode_utf8_all (c ∷ []))) || stays c
 
-chars_pass : (p : ℕ → Bool) → ((c : ℕ) → 128 ≤ c → p c ≡ true) → (cs : List ℕ) → list_all p (encode_utf8_all cs) ≡ true → list_all p cs ≡ true
-chars_pass p high [] e = refl
-chars_pass p high (c ∷ cs) e =
-    let parts : (list_all p (encode_utf8_all (c ∷ [])) && list_all p (encode_utf8_all cs)) ≡ true =
-    sym (list_all-append p (encode_utf8_all (c ∷ [])) (encode_utf8_all cs)) ∙ ap (list_all p) (sym (encodes-append (c ∷ []) cs)) ∙ e in
-    let first = char_passes p high c (first_true (list_all p (encode_utf8_all (c ∷ []))) (list_all p (encode_utf8_all cs)) parts) in
-    let rest = chars_pass p high cs (second_true (list_all p (encode_utf8_all (c ∷ []))) (list_all p (encode_utf8_all cs)) parts) in
-    ap (λ (b : Bool). b && list_all p cs) first ∙ rest
+low_passes : (c : ℕ) → c < 160 → passes c ≡ true
+unfolding passes all_below encode
+low_passes c l = below passes 160 c refl l
 
-high_stays : (c : ℕ) → 128 ≤ c → stays_in_string c ≡ true
+high_stays : (c : ℕ) → 160 ≤ c → stays c ≡ true
 high_stays c h = grind (arith, nat_tests)
 
-chars_stay : (text : List ℕ) → IsUtf8 text → list_all stays_in_string text ≡ true → list_all stays_in_string (chars text) ≡ true
-chars_stay text utf8 e = chars_pass stays_in_string high_stays (chars text) (ap (list_all stays_in_string) (encodes-chars text utf8) ∙ e)
+char_stays : (c : ℕ) → list_all stays_in_string (encode_utf8_all (c ∷ [])) ≡ true → stays c ≡ true
+unfolding passes
+char_stays c e = by (nat_lt c 160) refl
+  where
+    by : (b : Bool) → nat_lt c 160 ≡ b → stays c ≡ true
+    by true l = sym (ap (λ (b : Bool). not b || stays c) e) ∙ low_passes c (grind (arith, nat_tests))
+    by false l = high_stays c (grind (arith, nat_tests))
+
+stay : (cs : List ℕ) → list_all stays_in_string (encode_utf8_all cs) ≡ true → list_all stays cs ≡ true
+stay [] e = refl
+stay (c ∷ cs) e =
+    let parts : (list_all stays_in_string (encode_utf8_all (c ∷ [])) && list_all stays_in_string (encode_utf8_all cs)) ≡ true =
+    sym (list_all-append stays_in_string (encode_utf8_all (c ∷ [])) (encode_utf8_all cs)) ∙ ap (list_all stays_in_string) (sym (encodes-append (c ∷ []) cs)) ∙ e in
+    let first = char_stays c (first_true (list_all stays_in_string (encode_utf8_all (c ∷ []))) (list_all stays_in_string (encode_utf8_all cs)) parts) in
+    let rest = stay cs (second_true (list_all stays_in_string (encode_utf8_all (c ∷ []))) (list_all stays_in_string (encode_utf8_all cs)) parts) in
+    ap (λ (b : Bool). b && list_all stays cs) first ∙ rest
+
+chars_stay : (text : List ℕ) → IsUtf8 text → list_all stays_in_string text ≡ true → list_all stays (chars text) ≡ true
+chars_stay text utf8 e = stay (chars text) (ap (list_all stays_in_string) (encodes-chars text utf8) ∙ e)
 
 pub same_string : (text : List ℕ) → IsUtf8 text → list_all stays_in_string text ≡ true → string_text text ≡ in_quotes text
 same_string text utf8 e = ap in_quotes (ap encode_utf8_all (same_content (chars text) (chars_stay text utf8 e)) ∙ encodes-chars text utf8)

@@ -5,7 +5,7 @@ use Rattle.std.proofs.lemmas.List.{map-append}
 use Rattle.std.specs.Str.{chars, IsUtf8}
 use Rattle.graphql_tokens.specs.declared.lexer.TokenKind.TheVariants.{Block}
 use Rattle.graphql_tokens.specs.tokens.Token.{Bare}
-use Rattle.graphql_layout.specs.inner.Blocks.{may_be_block, spelled as spelled_block}
+use Rattle.graphql_layout.specs.texts.Blocks.{may_be_block, spelled as spelled_block}
 use Rattle.graphql_layout.specs.texts.Items.{Item, comment, word, words}
 use Rattle.graphql_layout.proofs.BlockTexts.{value_kept}
 use Rattle.graphql_printer.specs.inner.Shown.{by_value, by_values}

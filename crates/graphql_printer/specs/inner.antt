@@ -6,4 +6,5 @@ pub mod Shown
 pub mod ShownRequests
 pub mod ShownSchemas
 pub mod SpelledTexts
+pub mod Strings
 pub mod Words

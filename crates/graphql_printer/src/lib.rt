@@ -32,6 +32,7 @@ mod places;
 mod requests;
 mod scans;
 mod schemas;
+mod strings;
 mod widths;
 mod writer;
 

@@ -6,6 +6,7 @@ ghost use Rattle.graphql_request_trees.specs.trees.RequestViews.{document_tree, 
 ghost use Rattle.graphql_requests.specs.grammar.Documents.{document_of};
 ghost use Rattle.graphql_requests.specs.grammar.Request.{Definition};
 ghost use Rattle.graphql_requests.specs.grammar.Requests.{requests};
+ghost use Rattle.graphql_printer.specs.Controls.{HasClearTokens};
 ghost use Rattle.graphql_printer.specs.Printed.{IsPrinted};
 ghost use Rattle.graphql_printer.specs.inner.Prints.{Prints, form};
 ghost use Rattle.graphql_printer.specs.inner.Shown.{by_values, sign as sign_token, shown_node, shown_part};
@@ -34,7 +35,9 @@ use std::alloc::{AllocError, Global};
 ///
 /// It fails only where memory runs out.
 pub fn print_query(alloc: Global, document: &ExecutableDocument) -> Result<String, AllocError>
-    ensures { IfOk result (λ s. IsPrinted requests document_of document.now (string_bytes s)) }
+    ensures printed { IfOk result (λ s. IsPrinted requests document_of document.now (string_bytes s)) }
+    // Its strings have escapes for control characters.
+    ensures clear { IfOk result (λ s. HasClearTokens requests document.now (string_bytes s)) }
 {
     let mut tokens = Writer::new(alloc);
     print_request(&mut tokens, document)?;

@@ -81,7 +81,8 @@ impl ByteClass for NameBytes {
     }
 }
 
-/// The bytes of characters that stand for themselves in a string that is printed.
+/// The bytes of characters that stand for themselves in a string that is printed. With C2 begin some that don't: U+0080 to
+/// U+009F.
 pub struct StringBytes;
 
 impl ByteClass for StringBytes {
@@ -89,14 +90,16 @@ impl ByteClass for StringBytes {
 
     #[inline(always)]
     fn has(b: u8) -> bool {
-        b >= b' ' && b != b'"' && b != b'\\'
+        b >= b' ' && b != b'"' && b != b'\\' && b != 0x7f && b != 0xc2
     }
 
     #[inline(always)]
     fn outsiders(bytes: u8x8) -> u64 {
         let outside = bytes.simd_lt(u8x8::splat(b' '))
             | bytes.simd_eq(u8x8::splat(b'"'))
-            | bytes.simd_eq(u8x8::splat(b'\\'));
+            | bytes.simd_eq(u8x8::splat(b'\\'))
+            | bytes.simd_eq(u8x8::splat(0x7f))
+            | bytes.simd_eq(u8x8::splat(0xc2));
         outside.to_bitmask()
     }
 }

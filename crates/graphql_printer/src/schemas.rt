@@ -1,11 +1,12 @@
 //! Schema files, printed as tokens.
 ghost use Rattle.std.specs.Prelude.{◌≡◌, [], IfOk, option_map, string_bytes};
 ghost use Rattle.std.specs.Str.{chars};
-ghost use Rattle.graphql_layout.specs.inner.Blocks.{may_be_block as may_be_block_of};
+ghost use Rattle.graphql_layout.specs.texts.Blocks.{may_be_block as may_be_block_of};
 ghost use Rattle.graphql_syntax.specs.trees.Parts.{placed};
 ghost use Rattle.graphql_schema_trees.specs.trees.SchemaViews.{definition_tree, directive_definition_tree, enum_value_tree, field_definition_tree, input_value_tree, kind_tree, schema_definition_tree, schema_document_tree, type_definition_tree};
 ghost use Rattle.graphql_schemas.specs.grammar.Documents.{document_of};
 ghost use Rattle.graphql_schemas.specs.grammar.Schemas.{schemas};
+ghost use Rattle.graphql_printer.specs.Controls.{HasClearTokens};
 ghost use Rattle.graphql_printer.specs.Printed.{IsPrinted};
 ghost use Rattle.graphql_printer.specs.inner.PrintedRoots.{and_then, are_none as are_none_of, goes_before as goes_before_of, shown_maybe_root};
 ghost use Rattle.graphql_printer.specs.inner.Prints.{Prints, form};
@@ -17,6 +18,7 @@ use crate::nodes::{
 };
 use crate::parts::{operation_word, print_default, print_string};
 use crate::places::stands_before;
+use crate::strings::are_clear;
 use crate::writer::Writer;
 use graphql_layout::blocks::may_be_block;
 use graphql_parser::Positioned;
@@ -37,7 +39,9 @@ use std::alloc::{AllocError, Global};
 /// token, the text is not laid out. It fails only where memory runs out.
 pub fn print_schema(alloc: Global, document: &ServiceDocument) -> Result<String, AllocError>
     // If the tree is that of a text within some limits, the printed text has the same within them, but for places.
-    ensures { IfOk result (λ s. IsPrinted schemas document_of document.now (string_bytes s)) }
+    ensures printed { IfOk result (λ s. IsPrinted schemas document_of document.now (string_bytes s)) }
+    // Its strings have escapes for control characters, and block strings show none but tabs and line feeds.
+    ensures clear { IfOk result (λ s. HasClearTokens schemas document.now (string_bytes s)) }
 {
     let mut tokens = Writer::new(alloc);
     print_file(&mut tokens, document)?;
@@ -245,11 +249,11 @@ fn print_description(out: &mut Writer, description: &Option<Positioned<String>>)
     out.begin_line()
 }
 
-// A text as a block string where that keeps it, and else in quotes.
+// A text as a block string if that keeps it and shows no control character but tabs and line feeds, and else in quotes.
 fn print_text(out: &mut Writer, text: &str) -> Outcome
     ensures { Prints result out.old out.new (shown_text text.now) }
 {
-    if !is_in_block(text) {
+    if !is_in_block(text) || !are_clear(text) {
         return print_string(out, text);
     }
     out.block(text)

@@ -80,19 +80,17 @@ fn after_fields(room: usize, fields: &Vec<(Name, Value)>) -> Option<usize> {
 // A string in its quotes.
 fn after_string(room: usize, text: &str) -> Option<usize> {
     let mut left = room.checked_sub(2)?;
-    for b in text.bytes() {
-        left = left.checked_sub(width_of(b))?;
+    for c in text.chars() {
+        left = left.checked_sub(width_of(c))?;
     }
     Some(left)
 }
 
-// How much a byte adds to a string's length: that of its character is counted at the first of the character's bytes.
-fn width_of(b: u8) -> usize {
-    match b {
-        b'"' | b'\\' | b'\n' | b'\r' | b'\t' | 8 | 12 => 2,
-        0..=0x1f => "\\u0000".len(),
-        0x80..=0xbf => 0,
-        0xf0..=0xff => 2,
-        _ => 1,
+// How much a character adds to a string's length.
+fn width_of(c: char) -> usize {
+    match c {
+        '"' | '\\' | '\n' | '\r' | '\t' | '\u{8}' | '\u{c}' => 2,
+        _ if c.is_control() => "\\u0000".len(),
+        _ => c.len_utf16(),
     }
 }

@@ -4,15 +4,15 @@ ghost use Rattle.std.specs.List.{list_all};
 ghost use Rattle.std.specs.Str.{chars};
 ghost use Rattle.graphql_tokens.specs.tokens.Proper.{Spells};
 ghost use Rattle.graphql_tokens.specs.declared.lexer.TokenKind.TheVariants as kinds;
-ghost use Rattle.graphql_layout.specs.inner.Blocks.{may_be_block, spelled as spelled_block};
+ghost use Rattle.graphql_layout.specs.texts.Blocks.{may_be_block, spelled as spelled_block};
 ghost use Rattle.graphql_printer.specs.inner.Shown.{by_values, quoted};
 ghost use Rattle.graphql_printer.specs.inner.SpelledTexts.{KeepsTokens};
 ghost use Rattle.graphql_printer.specs.inner.Words.{is_word as is_word_of, loose_tokens, stays_in_string};
 
 use crate::scans::{NameBytes, StringBytes, are_all};
+use crate::strings::quoted_text;
 use graphql_layout::blocks::push_block;
 use graphql_layout::sheet::Sheet;
-use graphql_syntax::value::ValueView;
 use graphql_tokens::lexer::{TokenKind, Tokens};
 use graphql_tokens::text::block_string_value;
 use std::alloc::{AllocError, Global};
@@ -221,8 +221,7 @@ impl Writer {
         if self.rest.is_empty() && is_plain(text) {
             return self.sheet.quoted(text);
         }
-        let shown = ValueView::String(text);
-        let spelling = format!(in self.alloc; "{shown}")?;
+        let spelling = quoted_text(self.alloc, text)?;
         self.token(TokenKind::String, &spelling)
     }
 

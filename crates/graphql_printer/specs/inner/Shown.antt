@@ -10,8 +10,9 @@ use Rattle.graphql_tokens.specs.tokens.Alike.{value_of_block}
 use Rattle.graphql_tokens.specs.tokens.Token.{Bare}
 use Rattle.graphql_syntax.specs.trees.Parts.{Argument, Arguments, Directive, Directives, placed}
 use Rattle.graphql_syntax.specs.trees.TypeTree.{TypeTree, named, list as list_type}
-use Rattle.graphql_syntax.specs.trees.ValueText.{string_text, word_of}
+use Rattle.graphql_syntax.specs.trees.ValueText.{word_of}
 use Rattle.graphql_syntax.specs.trees.ValueTree.{Tree, Trees, Fields, variable, null, number, string, boolean, enumeration, list, object, no_trees, more_trees, no_fields, field}
+use Rattle.graphql_printer.specs.inner.Strings.{string_text}
 
 -- ---- tokens
 

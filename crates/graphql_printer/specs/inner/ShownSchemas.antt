@@ -1,7 +1,7 @@
 -- The tokens that a schema file is printed as: those of its tree, where nothing is written that may be left out.
 -- Source: the productions of GraphQL October 2021, sections 3.1 to 3.13. That roots stand in the order of their places, and that
 -- an empty part is left out, is this project's choice.
-use Rattle.std.specs.Prelude.{ℕ, Bool, true, false, Option, Some, None, List, [], ◌∷◌, ◌++◌, flat_map, if◌then◌else◌, codes}
+use Rattle.std.specs.Prelude.{ℕ, Bool, true, false, Option, Some, None, List, [], ◌∷◌, ◌++◌, flat_map, if◌then◌else◌, ◌&&◌, codes}
 use Rattle.std.specs.Str.{chars}
 use Rattle.graphql_tokens.specs.declared.lexer.TokenKind.TheVariants.{Block}
 use Rattle.graphql_tokens.specs.declared.pos.Positioned.{Positioned}
@@ -13,7 +13,8 @@ use Rattle.graphql_syntax.specs.trees.Parts.{Name}
 use Rattle.graphql_schema_trees.specs.calls.Locations.{location_word}
 use Rattle.graphql_schema_trees.specs.declared.service.DirectiveLocation.{DirectiveLocation}
 use Rattle.graphql_schema_trees.specs.trees.Schema.{Description, Names, InputValueDefinition, InputValues, FieldDefinition, EnumValueDefinition, TypeKind, scalar, object, interface, union, enumeration, input_object, SchemaDefinition, TypeDefinition, DirectiveDefinition, Definition, schema, type_def, directive, Document}
-use Rattle.graphql_layout.specs.inner.Blocks as blocks
+use Rattle.graphql_layout.specs.texts.Blocks as blocks
+use Rattle.graphql_printer.specs.Controls.{are_clear}
 use Rattle.graphql_printer.specs.inner.Places.{stands_before}
 use Rattle.graphql_printer.specs.inner.Shown.{sign, word, quoted, shown_node, shown_part, shown_between, shown_type, shown_default, shown_directives}
 
@@ -23,9 +24,13 @@ use Rattle.graphql_printer.specs.inner.Shown.{sign, word, quoted, shown_node, sh
 abbrev pub in_block : List ℕ → Bare
 in_block text = record { kind = Block; spelling = blocks.spelled 0 text }
 
--- a text as a block string where that keeps it, and else between single quotes
+-- a block string keeps it, and shows no control character but tabs and line feeds
+abbrev pub fits_block : List ℕ → Bool
+fits_block cs = blocks.may_be_block cs && are_clear cs
+
+-- a text as a block string where that fits, and else between single quotes
 abbrev pub shown_text : List ℕ → List Bare
-shown_text text = (if blocks.may_be_block (chars text) then in_block text else quoted text) ∷ []
+shown_text text = (if fits_block (chars text) then in_block text else quoted text) ∷ []
 
 abbrev pub shown_description : Description → List Bare
 shown_description description = shown_part (shown_node shown_text) description

@@ -1,4 +1,4 @@
--- Which texts are punctuators and names, which characters need no escape, and tokens that are kept aside.
+-- Which texts are punctuators and names, which bytes need no escape, and tokens that are kept aside.
 -- Source: GraphQL October 2021, sections 2.1.8 (Punctuators), 2.1.9 (Names) and 2.9.4 (String Value). That tokens are kept aside
 -- from the first on that isn't spelled as its kind is, is this project's choice.
 use Rattle.std.specs.Prelude.{◌≡◌, ℕ, Bool, false, not, ◌&&◌, ◌==◌, nat_lt, List, [], ◌∷◌, map, string_bytes}
@@ -23,9 +23,10 @@ abbrev pub is_word : List ℕ → Bool
 is_word [] = false
 is_word (c ∷ cs) = not (is_ascii_digit c) && list_all is_name_char (c ∷ cs)
 
--- no escape stands for this character
+-- No escape stands for the character that this byte begins. With C2 begin the control characters from U+0080 to U+009F, and some
+-- others.
 abbrev pub stays_in_string : ℕ → Bool
-stays_in_string c = not (nat_lt c (byte " ")) && (not (c == byte "\"") && not (c == byte "\\"))
+stays_in_string b = not (nat_lt b (byte " ")) && (not (b == byte "\"") && (not (b == byte "\\") && (not (b == 0x7F) && not (b == 0xC2))))
 
 -- the bare tokens that are kept aside
 abbrev pub loose_token : Loose → Bare

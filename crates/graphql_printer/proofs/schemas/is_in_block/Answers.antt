@@ -3,7 +3,7 @@ use Rattle.std.proofs.lemmas.Bool.{eqb-true}
 use Rattle.std.proofs.lemmas.List.{nil_from_length}
 use Rattle.std.proofs.lemmas.Str.{chars-nil}
 use Rattle.std.specs.Str.{chars, IsUtf8}
-use Rattle.graphql_layout.specs.inner.Blocks.{may_be_block, spelled, HasValue}
+use Rattle.graphql_layout.specs.texts.Blocks.{may_be_block, spelled, HasValue}
 use Rattle.graphql_layout.proofs.BlockTexts.{value_kept, kept_value}
 use Rattle.graphql_printer.proofs.schemas.is_in_block.Goals as goal
 

@@ -12,4 +12,4 @@ returns c =
     let printed = c.in_ok-printed.printed in
     let new = c.push.new.self in
     prints_then schemas definitions_at schemas-read-by document_of c.args.limits c.args.text.now c.in_ok-document.document (string_bytes printed) (string_bytes new)
-    c.utf8.text (IsUtf8-string_bytes printed) (IsUtf8-string_bytes new) c.in_ok-document.ensures.reads c.in_ok-printed.ensures c.in_ok-push.ensures.bytes
+    c.utf8.text (IsUtf8-string_bytes printed) (IsUtf8-string_bytes new) c.in_ok-document.ensures.reads c.in_ok-printed.ensures.printed c.in_ok-push.ensures.bytes

@@ -10,4 +10,4 @@ pub returns : goal.returns
 returns c =
     let v = c.args.bytes in
     let long = c.fits-bytes.0 in
-    mask_of _ (is_outside stays_in_string) v (eight v long) c.fits-bytes.1 (zip2_of_maps _ _ _ v (zip2_of_maps _ _ _ v (zip2_splat _ v 8 32 long) (zip2_splat _ v 8 34 long)) (zip2_splat _ v 8 92 long)) refl
+    mask_of _ (is_outside stays_in_string) v (eight v long) c.fits-bytes.1 (zip2_of_maps _ _ _ v (zip2_of_maps _ _ _ v (zip2_of_maps _ _ _ v (zip2_of_maps _ _ _ v (zip2_splat _ v 8 32 long) (zip2_splat _ v 8 34 long)) (zip2_splat _ v 8 92 long)) (zip2_splat _ v 8 127 long)) (zip2_splat _ v 8 194 long)) refl

@@ -1,6 +1,6 @@
 use Rattle.std.proofs.Common.{sym, ◌∙◌, arith}
 use Rattle.graphql_tokens.specs.declared.lexer.TokenKind.TheVariants.{Block}
-use Rattle.graphql_layout.specs.inner.Blocks.{spelled}
+use Rattle.graphql_layout.specs.texts.Blocks.{spelled}
 use Rattle.graphql_printer.specs.inner.Words.{loose_tokens}
 use Rattle.graphql_printer.proofs.Writing.{no_rest, same_block, written_ok}
 use Rattle.graphql_printer.proofs.writer.Writer.block.Goals as goal

@@ -2,7 +2,7 @@ use Rattle.std.proofs.Common.{ap, sym, ◌∙◌, subst, arith}
 use Rattle.graphql_tokens.specs.declared.lexer.TokenKind.TheVariants.{String}
 use Rattle.graphql_tokens.specs.tokens.Proper.{Spells}
 use Rattle.graphql_tokens.specs.tokens.Token.{Bare}
-use Rattle.graphql_layout.specs.inner.Sheets.{in_quotes}
+use Rattle.graphql_layout.specs.texts.Items.{in_quotes}
 use Rattle.graphql_printer.specs.inner.Shown.{by_value, quoted}
 use Rattle.graphql_printer.specs.inner.Words.{loose_tokens}
 use Rattle.graphql_printer.proofs.ShownStrings.{string_spells}
@@ -24,4 +24,4 @@ returns-then-is_plain c =
     none c.quoted.ensures (ap (λ s. by_value (record { kind = String; spelling = s })) (sym same)) c.self.view_is
 
 pub token-requires : goal.token-requires
-token-requires c = subst (Spells String) (sym (c.deref.ensures ∙ c.in_ok-spelling.ensures.ok)) (string_spells c.args.text.now c.utf8.text)
+token-requires c = subst (Spells String) (sym (c.deref.ensures ∙ c.in_ok-spelling.ensures)) (string_spells c.args.text.now c.utf8.text)
