@@ -23,12 +23,12 @@ use Rattle.graphql_schemas.specs.grammar.SchemaFile.{Definition, schema, type_de
 use Rattle.graphql_schemas.specs.grammar.Schemas.{schemas}
 use Rattle.graphql_schemas.proofs.Finished.{anywhere}
 use Rattle.graphql_printer.proofs.SchemaDefinitions.{arranged_schema, arranged}
-use Rattle.graphql_printer.proofs.SchemaRoots.{as_kind, in_order, order-once, order-first, order-names}
+use Rattle.graphql_printer.proofs.SchemaRoots.{as_kind, by_place, in_order, order-once, order-first, order-names}
 
 -- ---- rules
 
 still-queried : (s : Positioned Schema) → lacks_a_query s ≡ None → lacks_a_query (placed arranged_schema s) ≡ None
-still-queried s h = ap (missing_query (placed arranged_schema s)) (order-first Query s.node.roots) ∙ by (first_of_kind Query s.node.roots) h
+still-queried s h = ap (missing_query (placed arranged_schema s)) (order-first by_place Query s.node.roots) ∙ by (first_of_kind Query s.node.roots) h
   where
     by : (root : Option Root) → missing_query s root ≡ None → missing_query (placed arranged_schema s) (option_map (as_kind Query) root) ≡ None
     by None h = h
@@ -36,7 +36,7 @@ still-queried s h = ap (missing_query (placed arranged_schema s)) (order-first Q
 
 still-unbroken : (d : Definition) → breach_of [] d ≡ None → breach_of [] (arranged d) ≡ None
 still-unbroken (schema s) h =
-    ap (λ (again : Option Root). or_else (option_map (λ root. MultipleRoots root.kind s.pos root.pos) again) (lacks_a_query (placed arranged_schema s))) (order-once s.node.roots)
+    ap (λ (again : Option Root). or_else (option_map (λ root. MultipleRoots root.kind s.pos root.pos) again) (lacks_a_query (placed arranged_schema s))) (order-once by_place s.node.roots)
     ∙ still-queried s (none-second (repeats_a_root s) (lacks_a_query s) h)
 still-unbroken (type_def t) h = h
 still-unbroken (directive d) h = h
@@ -73,7 +73,7 @@ names-away kind (root ∷ roots) = by (same_kind kind root.kind) (names-away kin
     by false e = e
 
 same-names : (kind : OperationType) (roots : List Root) → root_name kind (map placeless_root (in_order roots)) ≡ root_name kind (map placeless_root roots)
-same-names kind roots = names-away kind (in_order roots) ∙ ap (option_map bare_node) (order-names kind roots) ∙ sym (names-away kind roots)
+same-names kind roots = names-away kind (in_order roots) ∙ ap (option_map bare_node) (order-names by_place kind roots) ∙ sym (names-away kind roots)
 
 same-tree : (d : Definition) → tree_of (placeless_definition (arranged d)) ≡ tree_of (placeless_definition d)
 same-tree (schema s) =

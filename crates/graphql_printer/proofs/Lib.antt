@@ -5,6 +5,8 @@ pub mod Changes
 pub mod Lanes
 pub mod Meaning
 pub mod Parsed
+pub mod PlacelessRequests
+pub mod PlacelessSchemas
 pub mod PrintedFiles
 pub mod PrintedQueries
 pub mod PrintedRequests

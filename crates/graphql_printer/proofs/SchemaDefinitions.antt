@@ -10,8 +10,10 @@ use Rattle.graphql_syntax.specs.trees.Parts.{Directives, placed}
 use Rattle.graphql_schema_trees.specs.trees.Schema.{Description, InputValues, DirectiveDefinition}
 use Rattle.graphql_reading.specs.grammar.Fronts.{without_place}
 use Rattle.graphql_reading.specs.grammar.Limits.{Limits}
-use Rattle.graphql_reading.specs.grammar.Relations.{plus, cons, given, between_of}
-use Rattle.graphql_reading.proofs.IgnoresPlaces.{map-given}
+use Rattle.graphql_reading.specs.grammar.Relations.{Rel, plus, star, cons, given, between_of}
+use Rattle.graphql_reading.specs.grammar.Places.{nowhere}
+use Rattle.graphql_reading.proofs.Optional.{plus-star}
+use Rattle.graphql_reading.proofs.IgnoresPlaces.{map-given, head-is, tail-is}
 use Rattle.graphql_grammar.specs.grammar.Placeless.{unplaced, placeless_directives}
 use Rattle.graphql_schemas.specs.grammar.Descriptions.{described}
 use Rattle.graphql_schemas.specs.grammar.Directives.{is_there, directive_definition_of, a_directive_definition}
@@ -24,13 +26,15 @@ use Rattle.graphql_schemas.proofs.DescriptionProductions.{described-nowhere}
 use Rattle.graphql_schemas.proofs.DirectiveProductions.{DirectiveRest, placeless-directive-rest}
 use Rattle.graphql_schemas.proofs.PartProductions.{placeless-parts}
 use Rattle.graphql_printer.specs.inner.Shown.{sign, word, shown_part, shown_between, shown_directives}
-use Rattle.graphql_printer.specs.inner.ShownSchemas.{Root as ShownRoot, shown_description, shown_parameters, shown_type_definition, shown_root, shown_schema, shown_repeatable, shown_locations, shown_directive_definition, shown_definition, shown_file}
-use Rattle.graphql_printer.proofs.Changes.{Changes, changes-none, changes-shown, changes-then, changes-mapped, changes-either, changes-opt, changes-plus}
+use Rattle.graphql_printer.specs.inner.ShownSchemas.{shown_description, shown_extend, shown_parameters, shown_type_definition, shown_root, shown_schema, shown_repeatable, shown_locations, shown_directive_definition, shown_definition, shown_file}
+use Rattle.graphql_printer.proofs.Changes.{Changes, changes-none, changes-shown, changes-then, changes-mapped, changes-either, changes-opt}
 use Rattle.graphql_printer.proofs.ShownParts.{reprints-directive, reprints-directives, reprints-operation_type}
-use Rattle.graphql_printer.proofs.Reprints.{IsSpelled, AreSpelled, each_split, Again, Reprints, again-then, again-mapped, again-star, star-each, reprints-name, reprints-keyword, reprints-punct, reprints-then, reprints-mapped, reprints-plus, reprints-opt}
+use Rattle.graphql_printer.proofs.Reprints.{IsSpelled, AreSpelled, each_split, Again, Reprints, again-then, again-mapped, again-star, star-each, reprints-name, reprints-keyword, reprints-punct, reprints-then, reprints-mapped, reprints-plus, reprints-opt, again-as, again-plus, parts_spelled}
 use Rattle.graphql_printer.proofs.SchemaBodies.{given-shown, reprints-body, reprints-extended_body}
 use Rattle.graphql_printer.proofs.SchemaParts.{reprints-maybe_description, reprints-maybe_parameters, reprints-locations}
-use Rattle.graphql_printer.proofs.SchemaRoots.{root_of, in_order, order-shown, order-each, order-some}
+use Rattle.graphql_printer.proofs.SchemaRoots.{root_of, ordered, by_place, in_order, as_in, order-shown, order-each, order-some, order-like}
+use Rattle.graphql_printer.proofs.PlacelessRequests.{joined, directives-same}
+use Rattle.graphql_printer.proofs.PlacelessSchemas.{description-same, type-same, directive-definition-same}
 
 -- ---- types
 
@@ -84,30 +88,98 @@ some_shown : (roots : List Root) → (roots ≡ [] → ⊥) → sign "{" ∷ (fl
 some_shown [] some = absurd (some refl)
 some_shown (root ∷ roots) some = ap (λ (l : List Bare). sign "{" ∷ (l ++ sign "}" ∷ [])) (sym (flat_map-map shown_root root_of (root ∷ roots)))
 
--- one root or more, in the order of their places
-changes-some_roots : Changes (λ c. plus a_root) (map placeless_root) in_order (λ roots. flat_map (λ root. shown_root (root_of root)) (in_order roots))
-changes-some_roots = record {
-  by = λ c x roots m s.
-      let spelled = each_split IsSpelled m.holds.front m.holds.back (subst AreSpelled m.holds.joined s) in
-      let all : AllByRecursion (λ root. Again a_root placeless_root (shown_root (root_of root)) root) (m.value.0 ∷ m.value.1) = (reprints-root.by c m.holds.front m.value.0 m.holds.first spelled.0, star-each reprints-root c m.holds.back m.value.1 m.holds.second spelled.1) in
-      subst (λ (l : List Root). Again (plus a_root) (map placeless_root) (flat_map (λ root. shown_root (root_of root)) (in_order l)) (in_order l)) (sym m.is)
-      (again-some (in_order (m.value.0 ∷ m.value.1)) (order-some m.value.0 m.value.1) (order-each (λ root. Again a_root placeless_root (shown_root (root_of root)) root) (m.value.0 ∷ m.value.1) all));
-}
-  where
-    again-some : (roots : List Root) → (roots ≡ [] → ⊥) → AllByRecursion (λ root. Again a_root placeless_root (shown_root (root_of root)) root) roots → Again (plus a_root) (map placeless_root) (flat_map (λ root. shown_root (root_of root)) roots) roots
-    again-some [] some h = absurd (some refl)
-    again-some (root ∷ roots) some h = again-mapped {k = cons} (λ x. refl) (again-then h.0 (again-star (λ root. shown_root (root_of root)) roots h.1))
+-- which root goes before which
+module _ (before : Root → Root → Bool) where
+  abbrev order : List Root → List Root
+  order = ordered before
 
-changes-roots : Changes (λ c. roots) (map placeless_root) in_order (λ roots. shown_roots (in_order roots))
-changes-roots =
-    changes-shown (λ roots. shown_roots (in_order roots)) (λ c x all m. some all (m.is ∙ m.holds.second.first.is))
-    (changes-mapped {k = between_of} in_order (λ roots. sign "{" ∷ (flat_map (λ root. shown_root (root_of root)) (in_order roots) ++ sign "}" ∷ [])) (λ x. refl) (λ x. refl) (λ x. refl)
-    (changes-then (changes-none (reprints-punct "{")) (changes-then changes-some_roots (changes-none (reprints-punct "}")))))
-  where
-    some : (all : List Root) {first : Root} {others : List Root} → all ≡ first ∷ others → sign "{" ∷ (flat_map (λ root. shown_root (root_of root)) (in_order all) ++ sign "}" ∷ []) ≡ shown_roots (in_order all)
-    some all {first} {others} e = some_shown (in_order all) (λ none. order-some first others (ap in_order (sym e) ∙ none))
+  -- one root or more, in the order of their places
+  changes-some_roots : Changes (λ c. plus a_root) (map placeless_root) order (λ roots. flat_map (λ root. shown_root (root_of root)) (order roots))
+  changes-some_roots = record {
+    by = λ c x roots m s.
+        let spelled = each_split IsSpelled m.holds.front m.holds.back (subst AreSpelled m.holds.joined s) in
+        let all : AllByRecursion (λ root. Again a_root placeless_root (shown_root (root_of root)) root) (m.value.0 ∷ m.value.1) = (reprints-root.by c m.holds.front m.value.0 m.holds.first spelled.0, star-each reprints-root c m.holds.back m.value.1 m.holds.second spelled.1) in
+        subst (λ (l : List Root). Again (plus a_root) (map placeless_root) (flat_map (λ root. shown_root (root_of root)) (order l)) (order l)) (sym m.is)
+        (again-some (order (m.value.0 ∷ m.value.1)) (order-some before m.value.0 m.value.1) (order-each before (λ root. Again a_root placeless_root (shown_root (root_of root)) root) (m.value.0 ∷ m.value.1) all));
+  }
+    where
+      again-some : (roots : List Root) → (roots ≡ [] → ⊥) → AllByRecursion (λ root. Again a_root placeless_root (shown_root (root_of root)) root) roots → Again (plus a_root) (map placeless_root) (flat_map (λ root. shown_root (root_of root)) roots) roots
+      again-some [] some h = absurd (some refl)
+      again-some (root ∷ roots) some h = again-mapped {k = cons} (λ x. refl) (again-then h.0 (again-star (λ root. shown_root (root_of root)) roots h.1))
 
--- ---- schemas
+  changes-roots : Changes (λ c. roots) (map placeless_root) order (λ roots. shown_roots (order roots))
+  changes-roots =
+      changes-shown (λ roots. shown_roots (order roots)) (λ c x all m. some all (m.is ∙ m.holds.second.first.is))
+      (changes-mapped {k = between_of} order (λ roots. sign "{" ∷ (flat_map (λ root. shown_root (root_of root)) (order roots) ++ sign "}" ∷ [])) (λ x. refl) (λ x. refl) (λ x. refl)
+      (changes-then (changes-none (reprints-punct "{")) (changes-then changes-some_roots (changes-none (reprints-punct "}")))))
+    where
+      some : (all : List Root) {first : Root} {others : List Root} → all ≡ first ∷ others → sign "{" ∷ (flat_map (λ root. shown_root (root_of root)) (order all) ++ sign "}" ∷ []) ≡ shown_roots (order all)
+      some all {first} {others} e = some_shown (order all) (λ none. order-some before first others (ap order (sym e) ∙ none))
+
+  -- ---- schemas
+
+  abbrev schema_by : Schema → Schema
+  schema_by s = record { description = s.description; extend = s.extend; directives = s.directives; roots = order s.roots }
+
+  abbrev definition_by : Definition → Definition
+  definition_by (schema s) = schema (placed schema_by s)
+  definition_by (type_def t) = type_def t
+  definition_by (directive d) = directive d
+
+  abbrev shown_schema_by : Positioned Schema → List Bare
+  shown_schema_by s =
+      shown_description s.node.description
+      ++ (shown_extend s.node.extend ++ (word (codes "schema") ∷ (shown_directives s.node.directives ++ shown_roots (order s.node.roots))))
+
+  abbrev shown_by : Definition → List Bare
+  shown_by (schema s) = shown_schema_by s
+  shown_by (type_def t) = shown_type_definition t.node
+  shown_by (directive d) = shown_directive_definition d.node
+
+  changes-schema : Changes (a_schema Current) (unplaced placeless_schema) (placed schema_by) shown_schema_by
+  changes-schema =
+      changes-mapped {k = schema_of} (placed schema_by) shown_schema_by (λ x. described-nowhere placeless_schema x.0 x.1.0 (schema_of x).node) (λ x. refl)
+      (λ x. refl)
+      (changes-then (changes-none reprints-maybe_description) (changes-then (changes-none (reprints-keyword "schema")) (changes-then (changes-none (reprints-directives false)) changes-roots)))
+
+  -- directives and roots, one of the two at least
+  abbrev SchemaParts : Type 0
+  SchemaParts = Directives × List Root
+
+  abbrev arranged_parts : SchemaParts → SchemaParts
+  arranged_parts (directives, roots) = (directives, order roots)
+
+  abbrev shown_schema_parts : SchemaParts → List Bare
+  shown_schema_parts (directives, roots) = shown_directives directives ++ shown_roots (order roots)
+
+  given-arranged : (found : Option (List Root)) → given (option_map order found) ≡ order (given found)
+  given-arranged None = refl
+  given-arranged (Some found) = refl
+
+  changes-parts : Changes (λ c. some_parts Current c roots) (placeless-parts placeless_root) arranged_parts shown_schema_parts
+  changes-parts =
+      changes-either (changes-mapped {k = parts_of} arranged_parts shown_schema_parts (λ x. ap (λ (l : List Root). (placeless_directives x.0, l)) (map-given placeless_root x.1)) (λ x. ap (λ (l : List Root). (x.0, l)) (given-arranged x.1))
+      (λ x. ap (λ (l : List Bare). shown_directives x.0 ++ l) (given-shown (λ roots. shown_roots (order roots)) refl x.1))
+      (changes-then (changes-none (reprints-plus (reprints-directive false))) (changes-opt changes-roots)))
+      (changes-mapped {k = list_alone} arranged_parts shown_schema_parts (λ x. refl) (λ x. refl) (λ x. refl) changes-roots)
+
+  changes-schema_extension : Changes (a_schema_extension Current) (unplaced placeless_schema) (placed schema_by) shown_schema_by
+  changes-schema_extension =
+      changes-mapped {k = schema_extension_of} (placed schema_by) shown_schema_by (λ x. refl) (λ x. refl)
+      (λ x. refl)
+      (changes-then (changes-none (reprints-keyword "extend")) (changes-then (changes-none (reprints-keyword "schema")) changes-parts))
+
+  -- ---- files
+
+  changes-definition : Changes (a_definition Current) placeless_definition definition_by shown_by
+  changes-definition =
+      changes-either (changes-mapped {k = schema} definition_by shown_by (λ s. refl) (λ s. refl) (λ s. refl) changes-schema)
+      (changes-either (changes-mapped {k = schema} definition_by shown_by (λ s. refl) (λ s. refl) (λ s. refl) changes-schema_extension)
+      (changes-either (changes-mapped {k = type_def} definition_by shown_by (λ t. refl) (λ t. refl) (λ t. refl) (changes-none reprints-type_definition))
+      (changes-either (changes-mapped {k = type_def} definition_by shown_by (λ t. refl) (λ t. refl) (λ t. refl) (changes-none reprints-type_extension))
+      (changes-mapped {k = directive} definition_by shown_by (λ d. refl) (λ d. refl) (λ d. refl) (changes-none reprints-directive_definition)))))
+
+-- ---- definitions that are the same but for places
 
 abbrev pub arranged_schema : Schema → Schema
 arranged_schema s = record { description = s.description; extend = s.extend; directives = s.directives; roots = in_order s.roots }
@@ -117,54 +189,87 @@ arranged (schema s) = schema (placed arranged_schema s)
 arranged (type_def t) = type_def t
 arranged (directive d) = directive d
 
-abbrev shown_placed : Positioned Schema → List Bare
-shown_placed s = shown_schema (schema_tree_of s.node)
+abbrev shown_tree : Definition → List Bare
+shown_tree d = shown_definition (tree_of d)
 
-changes-schema : Changes (a_schema Current) (unplaced placeless_schema) (placed arranged_schema) shown_placed
-changes-schema =
-    changes-mapped {k = schema_of} (placed arranged_schema) shown_placed (λ x. described-nowhere placeless_schema x.0 x.1.0 (schema_of x).node) (λ x. refl)
-    (λ x. ap (λ (l : List ShownRoot). shown_description x.0 ++ (word (codes "schema") ∷ (shown_directives x.1.1.0 ++ shown_between "{" "}" shown_root l))) (order-shown (schema_of x).node))
-    (changes-then (changes-none reprints-maybe_description) (changes-then (changes-none (reprints-keyword "schema")) (changes-then (changes-none (reprints-directives false)) changes-roots)))
+retold : {p : Rel Definition} {bs cs : List Bare} {a b : Definition} → bs ≡ cs → placeless_definition a ≡ placeless_definition b → Again p placeless_definition bs a → Again p placeless_definition cs b
+retold e same h = record { tokens = h.tokens; are = h.are ∙ e; spelled = h.spelled; tree = h.tree; holds = h.holds; same = h.same ∙ same }
 
--- directives and roots, one of the two at least
-abbrev SchemaParts : Type 0
-SchemaParts = Directives × List Root
+roots-listed : (list : List Root) → flat_map shown_root (map root_of (map placeless_root list)) ≡ flat_map shown_root (map root_of list)
+roots-listed [] = refl
+roots-listed (root ∷ others) = ap (λ (l : List Bare). shown_root (root_of root) ++ l) (roots-listed others)
 
-abbrev arranged_parts : SchemaParts → SchemaParts
-arranged_parts (directives, roots) = (directives, in_order roots)
+roots-same : (list : List Root) → shown_roots (map placeless_root list) ≡ shown_roots list
+roots-same [] = refl
+roots-same (root ∷ others) = ap (λ (l : List Bare). sign "{" ∷ (l ++ sign "}" ∷ [])) (roots-listed (root ∷ others))
 
-abbrev shown_schema_parts : SchemaParts → List Bare
-shown_schema_parts (directives, roots) = shown_directives directives ++ shown_roots (in_order roots)
+abbrev schema_in : Definition → Schema
+schema_in (schema s) = s.node
+schema_in (type_def t) = record { description = None; extend = false; directives = []; roots = [] }
+schema_in (directive d) = record { description = None; extend = false; directives = []; roots = [] }
 
-given-arranged : (found : Option (List Root)) → given (option_map in_order found) ≡ in_order (given found)
-given-arranged None = refl
-given-arranged (Some found) = refl
+module _ (s other : Positioned Schema) (same : placeless_definition (schema s) ≡ placeless_definition (schema other)) where
+  roots-like : map placeless_root (in_order s.node.roots) ≡ map placeless_root (ordered (as_in s.node.roots) other.node.roots)
+  roots-like = order-like s.node.roots other.node.roots (ap (λ (d : Definition). (schema_in d).roots) same)
 
-changes-parts : Changes (λ c. some_parts Current c roots) (placeless-parts placeless_root) arranged_parts shown_schema_parts
-changes-parts =
-    changes-either (changes-mapped {k = parts_of} arranged_parts shown_schema_parts (λ x. ap (λ (l : List Root). (placeless_directives x.0, l)) (map-given placeless_root x.1)) (λ x. ap (λ (l : List Root). (x.0, l)) (given-arranged x.1))
-    (λ x. ap (λ (l : List Bare). shown_directives x.0 ++ l) (given-shown (λ roots. shown_roots (in_order roots)) refl x.1))
-    (changes-then (changes-none (reprints-plus (reprints-directive false))) (changes-opt changes-roots)))
-    (changes-mapped {k = list_alone} arranged_parts shown_schema_parts (λ x. refl) (λ x. refl) (λ x. refl) changes-roots)
+  schema-shown : shown_schema_by (as_in s.node.roots) other ≡ shown_schema (schema_tree_of s.node)
+  schema-shown =
+      let described = sym (description-same other.node.description) ∙ ap (λ (d : Definition). shown_description (schema_in d).description) (sym same) ∙ description-same s.node.description in
+      let extended = ap (λ (d : Definition). shown_extend (schema_in d).extend) (sym same) in
+      let directed = sym (directives-same other.node.directives) ∙ ap (λ (d : Definition). shown_directives (schema_in d).directives) (sym same) ∙ directives-same s.node.directives in
+      let rooted = sym (roots-same (ordered (as_in s.node.roots) other.node.roots)) ∙ ap shown_roots (sym roots-like) ∙ roots-same (in_order s.node.roots) ∙ ap (shown_between "{" "}" shown_root) (order-shown s.node) in
+      joined described (joined extended (ap (λ (l : List Bare). word (codes "schema") ∷ l) (joined directed rooted)))
 
-changes-schema_extension : Changes (a_schema_extension Current) (unplaced placeless_schema) (placed arranged_schema) shown_placed
-changes-schema_extension =
-    changes-mapped {k = schema_extension_of} (placed arranged_schema) shown_placed (λ x. refl) (λ x. refl)
-    (λ x. ap (λ (l : List ShownRoot). word (codes "extend") ∷ word (codes "schema") ∷ (shown_directives x.1.1.0 ++ shown_between "{" "}" shown_root l)) (order-shown (schema_extension_of x).node))
-    (changes-then (changes-none (reprints-keyword "extend")) (changes-then (changes-none (reprints-keyword "schema")) changes-parts))
+  schema-same : placeless_definition (definition_by (as_in s.node.roots) (schema other)) ≡ placeless_definition (arranged (schema s))
+  schema-same =
+      let described = ap (λ (d : Definition). (schema_in d).description) (sym same) in
+      let extended = ap (λ (d : Definition). (schema_in d).extend) (sym same) in
+      let directed = ap (λ (d : Definition). (schema_in d).directives) (sym same) in
+      let rooted = sym roots-like in
+      λ i. schema (record { pos = nowhere; node = record { description = described i; extend = extended i; directives = directed i; roots = rooted i } })
+
+-- what is shown of a definition is this definition again, if it is one of a text but for places
+again-like : (limits : Limits) (d e : Definition) → placeless_definition d ≡ placeless_definition e → ((before : Root → Root → Bool) → Again (a_definition Current limits) placeless_definition (shown_by before e) (definition_by before e))
+    → Again (a_definition Current limits) placeless_definition (shown_tree d) (arranged d)
+again-like limits (schema s) (schema other) same again = retold (schema-shown s other same) (schema-same s other same) (again (as_in s.node.roots))
+again-like limits (type_def t) (type_def other) same again =
+    retold (sym (type-same other.node) ∙ ap shown_tree (sym same) ∙ type-same t.node) (sym same) (again by_place)
+again-like limits (directive d) (directive other) same again =
+    retold (sym (directive-definition-same other.node) ∙ ap shown_tree (sym same) ∙ directive-definition-same d.node) (sym same) (again by_place)
+again-like limits (schema s) (type_def other) same again = absurd cc
+again-like limits (schema s) (directive other) same again = absurd cc
+again-like limits (type_def t) (schema other) same again = absurd cc
+again-like limits (type_def t) (directive other) same again = absurd cc
+again-like limits (directive d) (schema other) same again = absurd cc
+again-like limits (directive d) (type_def other) same again = absurd cc
 
 -- ---- files
 
-changes-definition : Changes (a_definition Current) placeless_definition arranged (λ d. shown_definition (tree_of d))
-changes-definition =
-    changes-either (changes-mapped {k = schema} arranged shown (λ s. refl) (λ s. refl) (λ s. refl) changes-schema)
-    (changes-either (changes-mapped {k = schema} arranged shown (λ s. refl) (λ s. refl) (λ s. refl) changes-schema_extension)
-    (changes-either (changes-mapped {k = type_def} arranged shown (λ t. refl) (λ t. refl) (λ t. refl) (changes-none reprints-type_definition))
-    (changes-either (changes-mapped {k = type_def} arranged shown (λ t. refl) (λ t. refl) (λ t. refl) (changes-none reprints-type_extension))
-    (changes-mapped {k = directive} arranged shown (λ d. refl) (λ d. refl) (λ d. refl) (changes-none reprints-directive_definition)))))
-  where
-    shown : Definition → List Bare
-    shown d = shown_definition (tree_of d)
+abbrev AgainOne : Limits → Definition → Type 0
+AgainOne c d = Again (a_definition Current c) placeless_definition (shown_tree d) (arranged d)
 
-pub again-file : (limits : Limits) (x : List Token) (ds : List Definition) → definitions Current limits x ds → AreSpelled x → Again (definitions Current limits) placeless_definitions (shown_file (document_of ds)) (map arranged ds)
-again-file limits x ds m s = (changes-shown (λ ds. shown_file (document_of ds)) (λ c x ds m. sym (flat_map-map shown_definition tree_of ds)) (changes-plus changes-definition)).by limits x ds m s
+each-again : (c : Limits) (x : List Token) (ds es : List Definition) → star (a_definition Current c) x es → AreSpelled x → placeless_definitions ds ≡ placeless_definitions es → AllByRecursion (AgainOne c) ds
+each-again c x [] es m s same = tt
+each-again c x (d ∷ ds) [] m s same = absurd cc
+each-again c x (d ∷ ds) (e ∷ es) m s same =
+    let spelled = parts_spelled x m.front m.back m.joined s in
+    let first = head-is (placeless_definition d) (placeless_definition e) (placeless_definitions ds) (placeless_definitions es) same in
+    let others = tail-is (placeless_definition d) (placeless_definition e) (placeless_definitions ds) (placeless_definitions es) same in
+    (again-like c d e first (λ before. (changes-definition before).by c m.front e m.first spelled.0), each-again c m.back ds es m.second spelled.1 others)
+
+again-list : (c : Limits) (ds : List Definition) → AllByRecursion (AgainOne c) ds → Again (star (a_definition Current c)) placeless_definitions (flat_map shown_tree ds) (map arranged ds)
+again-list c [] h = record { tokens = []; are = refl; spelled = tt; tree = []; holds = refl; same = refl }
+again-list c (d ∷ ds) h =
+    let i = again-then h.0 (again-list c ds h.1) in
+    record { tokens = i.tokens; are = i.are; spelled = i.spelled; tree = i.tree.0 ∷ i.tree.1; holds = record { front = i.holds.front; back = i.holds.back; joined = i.holds.joined; first = i.holds.first; second = i.holds.second }; same = ap cons i.same }
+
+-- definitions that are those of tokens but for places
+pub again-file : (limits : Limits) (x : List Token) (ds es : List Definition) → definitions Current limits x es → AreSpelled x → placeless_definitions ds ≡ placeless_definitions es
+    → Again (definitions Current limits) placeless_definitions (shown_file (document_of ds)) (map arranged ds)
+again-file limits x ds es m s same =
+    again-as (sym (flat_map-map shown_definition tree_of ds))
+    (again-plus (map arranged ds) (some ds es m.is same) (again-list limits ds (each-again limits x ds es (plus-star (a_definition Current limits) x es m) s same)))
+  where
+    some : (ds es : List Definition) {first : Definition} {others : List Definition} → es ≡ first ∷ others → placeless_definitions ds ≡ placeless_definitions es → map arranged ds ≡ [] → ⊥
+    some [] es e same none = let no : [] ≡ placeless_definitions (_ ∷ _) = same ∙ ap placeless_definitions e in cc
+    some (d ∷ ds) es e same none = cc

@@ -1,5 +1,5 @@
 -- The string that stands for a text: it is spelled as one, and means that text.
-use Rattle.std.proofs.Common.{◌≡◌, ℕ, ◌<◌, ◌/◌, ◌%◌, Bool, true, false, ◌&&◌, cond, ltb, eqb, List, [], ◌∷◌, ◌++◌, take, drop, length, ◌-◌, Option, Some, None, refl, sym, ap, ◌∙◌, subst, arith, length-append, codes}
+use Rattle.std.proofs.Common.{◌≡◌, ℕ, ◌<◌, ◌/◌, ◌%◌, Bool, true, false, ◌&&◌, cond, eqb, List, [], ◌∷◌, ◌++◌, take, drop, length, ◌-◌, Option, Some, None, refl, sym, ap, ◌∙◌, subst, arith, length-append, codes}
 use Rattle.std.proofs.lemmas.Bool.Decides.{nat_tests}
 use Rattle.std.proofs.lemmas.Str.{chars-encodes, encodes-append, encodes-chars}
 use Rattle.std.proofs.Math.Seq.{take-append_seam}

@@ -1,5 +1,5 @@
 -- What is printed of a text as a string means that text, and has no control character.
-use Rattle.std.proofs.Common.{◌≡◌, ◌≢◌, ℕ, zero, suc, ◌<◌, ◌≤◌, ◌/◌, ◌%◌, Bool, true, false, not, cond, ◌&&◌, ◌||◌, ◌⊎◌, eqb, ltb, nat_lt, List, [], ◌∷◌, ◌++◌, map, Option, Some, None, inl, inr, codes, refl, sym, ap, ◌∙◌, subst, arith, eqb-true, append-nil}
+use Rattle.std.proofs.Common.{◌≡◌, ◌≢◌, ℕ, zero, suc, ◌<◌, ◌/◌, ◌%◌, Bool, true, false, not, cond, ◌&&◌, ◌⊎◌, eqb, nat_lt, List, [], ◌∷◌, ◌++◌, map, Option, Some, None, inl, inr, codes, refl, sym, ap, ◌∙◌, subst, arith, eqb-true, append-nil}
 use Rattle.std.proofs.lemmas.Bool.Decides.{eqb_tells, nat_tests}
 use Rattle.std.proofs.lemmas.List.Folds.{list_all-append}
 use Rattle.std.specs.List.{concat, list_all, AllByRecursion}

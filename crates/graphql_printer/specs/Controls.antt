@@ -12,7 +12,7 @@ use Rattle.graphql_tokens.specs.tokens.Cuts.{IsCutInto}
 use Rattle.graphql_tokens.specs.tokens.Token.{Bare, Token}
 use Rattle.graphql_reading.specs.grammar.Limits.{Limits}
 use Rattle.graphql_grammar.specs.answers.Language.{Language}
-use Rattle.graphql_printer.specs.Printed.{IsDocumentOf}
+use Rattle.graphql_printer.specs.Printed.{IsDocumentButForPlaces}
 
 -- a control character is one of U+0000 to U+001F and U+007F to U+009F
 abbrev pub is_no_control : ℕ → Bool
@@ -35,7 +35,7 @@ IsClearAs other spelling = Unit {0}
 abbrev pub IsClear : Bare → Type 0
 IsClear b = IsClearAs b.kind b.spelling
 
--- whatever text the document is of, within whatever limits, the tokens of the printed text are clear
+-- whatever text the document is of but for places, within whatever limits, the tokens of the printed text are clear
 abbrev pub HasClearTokens : {D Document : Type 0} → Language D Document → Document → List ℕ → Type 0
 HasClearTokens language document printed =
-    (limits : Limits) (text : List ℕ) → IsDocumentOf language limits text document → (tokens : List Token) → IsCutInto printed tokens → AllByRecursion (λ t. IsClear t.bare) tokens
+    (limits : Limits) (text : List ℕ) → IsDocumentButForPlaces language limits text document → (tokens : List Token) → IsCutInto printed tokens → AllByRecursion (λ t. IsClear t.bare) tokens

@@ -19,6 +19,15 @@ pub record IsDocumentOf {D Document : Type 0} (language : Language D Document) (
   pub sound : AreSound language definitions
   pub made : language.makes definitions document
 
+-- The document is that of this text but for places: it is made of definitions that are, but for their places, those of a document of
+-- the text. So it may be made by hand, with whatever places.
+pub record IsDocumentButForPlaces {D Document : Type 0} (language : Language D Document) (limits : Limits) (text : List ℕ) (document : Document) : Type 0 where
+  pub other : Document
+  pub of : IsDocumentOf language limits text other
+  pub definitions : List D
+  pub made : language.makes definitions document
+  pub same : language.placeless definitions ≡ language.placeless of.definitions
+
 -- The text has one tree within the limits, which is sound, and makes what these definitions make, but for places.
 pub record MakesTheSame {D Document T : Type 0} (language : Language D Document) (made_of : List D → T) (limits : Limits) (definitions : List D) (text : List ℕ) : Type 0 where
   pub other_definitions : List D
@@ -26,7 +35,7 @@ pub record MakesTheSame {D Document T : Type 0} (language : Language D Document)
   pub sound : AreSound language other_definitions
   pub same : made_of (language.placeless definitions) ≡ made_of (language.placeless other_definitions)
 
--- whatever text the document is of, within whatever limits, the printed text makes the same
+-- whatever text the document is of but for places, within whatever limits, the printed text makes the same
 abbrev pub IsPrinted : {D Document T : Type 0} → Language D Document → (List D → T) → Document → List ℕ → Type 0
 IsPrinted language made_of document printed =
-    (limits : Limits) (text : List ℕ) (of : IsDocumentOf language limits text document) → MakesTheSame language made_of limits of.definitions printed
+    (limits : Limits) (text : List ℕ) (like : IsDocumentButForPlaces language limits text document) → MakesTheSame language made_of limits like.definitions printed

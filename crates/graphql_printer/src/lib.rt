@@ -2,17 +2,20 @@
 //!
 //! Proved of [`minify_query`] and [`minify_schema`], unless memory runs out: they answer as the checks of `graphql_parser` do;
 //! a text that they give has the tokens of the text that they are given, one for one in kind and spelling, but that block strings
-//! are written in their shortest form, with nothing between two that may touch, and else one blank; it is no longer; and so it has
-//! the same tree, except for places.
+//! are written in few characters and keep their values, with nothing between two that may touch, and else one blank; it is no
+//! longer; and so it has the same tree, except for places.
 //!
 //! Proved of [`format_query`] and [`format_schema`], unless memory runs out: they answer as the checks do; a text that they give
 //! has the tokens of the text that they are given, one for one in kind and spelling, but that block strings are indented anew and
 //! keep their values, and its comments in their order, each before the same token, less the blanks at its end; and so it has the
 //! same tree, except for places.
 //!
-//! Proved of [`print_query`] and [`print_schema`], unless memory runs out: of the document of a text, within some limits, they
-//! give a text that has one tree within these limits; that tree breaks no rule, lacks nothing and makes the document again,
-//! except for places.
+//! Proved of [`print_query`] and [`print_schema`], unless memory runs out: of a document that is that of a text, within some
+//! limits and except for places, they give a text that has one tree within these limits; that tree breaks no rule, lacks nothing
+//! and makes the document again, except for places; and no string in the text has a control character, nor the value of a block
+//! string one but tabs and line feeds.
+//!
+//! Where lines break is proved of none of them.
 #![tactic(auto)]
 
 ghost use Rattle.std.specs.Prelude.{◌≡◌, List, ℕ, IfOk, IfErr, string_bytes};
@@ -45,8 +48,8 @@ use std::alloc::Global;
 
 /// The request without what is ignored in it (GraphQL October 2021, section 2.1.7) and isn't needed: comments, and all blanks,
 /// line ends, commas and byte order marks; one blank is left where two tokens would be read as others if they touched. A block
-/// string is written in the shortest form that has its value (section 2.9.4), if that isn't longer. Selection sets, values and
-/// types may nest as deep as the limits say.
+/// string is written in few characters that have its value (section 2.9.4), as GraphQL.js strips it, unless it has fewer already.
+/// Selection sets, values and types may nest as deep as the limits say.
 ///
 /// Errors are those of `check_query_limited`, of the text that it is given; `OutOfMemory` where memory was refused.
 pub fn minify_query(alloc: Global, text: &str, limits: Limits) -> Result<String>

@@ -27,14 +27,16 @@ use graphql_tokens::pos::{Pos, Positioned};
 use std::alloc::{AllocError, Global};
 
 /// The request as text, laid out as [`format_query`](crate::format_query) lays texts out: its operations and fragments, where
-/// an operation comes before the next fragment unless the fragment stands before it in the text that was read. Strings are
-/// printed between single quotes, and a query without a name, variables and directives as its selection set alone.
+/// an operation comes before the next fragment unless the fragment's place is smaller. Strings are printed between single
+/// quotes, with escapes for control characters, and a query without a name, variables and directives as its selection set alone.
 ///
-/// Where the tree is that of a text, it is that of what is printed too, within the same limits and but for places. A tree made
-/// by hand may be that of none; where a name of it is none, its tokens are not laid out: each has a blank after it.
+/// If a text has this tree but for places, what is printed has it, too, within the same limits: a tree that is made by hand may
+/// have any places. Every other tree is printed as it is; from the first name on that is invalid nothing is laid out, and each
+/// token has a blank after it.
 ///
 /// It fails only where memory runs out.
 pub fn print_query(alloc: Global, document: &ExecutableDocument) -> Result<String, AllocError>
+    // If the tree is that of a text within some limits but for places, the printed text has the same within them.
     ensures printed { IfOk result (λ s. IsPrinted requests document_of document.now (string_bytes s)) }
     // Its strings have escapes for control characters.
     ensures clear { IfOk result (λ s. HasClearTokens requests document.now (string_bytes s)) }

@@ -32,13 +32,15 @@ use graphql_tokens::lexer::TokenKind;
 use std::alloc::{AllocError, Global};
 
 /// The schema file as a text, laid out as [`format_schema`](crate::format_schema) lays out others: its definitions and
-/// extensions in their order, the roots of a schema in the order of their places, descriptions as block strings where these keep
-/// them, and else as strings in quotes. A tree keeps no comments, so there are none.
+/// extensions in their order, the roots of a schema in the order of their places, descriptions as block strings if these keep
+/// them and show no control character but tabs and line feeds, and else as strings in quotes, with escapes for control
+/// characters. A tree keeps no comments, so there are none.
 ///
-/// Each tree is printed, also one that no text has, as that of a caller with a name that is none: where such a part makes a bad
-/// token, the text is not laid out. It fails only where memory runs out.
+/// If a text has this tree but for places, what is printed has it, too, within the same limits: a tree that is made by hand may
+/// have any places. Every other tree is printed as it is; from the first name on that is invalid nothing is laid out, and each
+/// token has a blank after it. It fails only where memory runs out.
 pub fn print_schema(alloc: Global, document: &ServiceDocument) -> Result<String, AllocError>
-    // If the tree is that of a text within some limits, the printed text has the same within them, but for places.
+    // If the tree is that of a text within some limits but for places, the printed text has the same within them.
     ensures printed { IfOk result (λ s. IsPrinted schemas document_of document.now (string_bytes s)) }
     // Its strings have escapes for control characters, and block strings show none but tabs and line feeds.
     ensures clear { IfOk result (λ s. HasClearTokens schemas document.now (string_bytes s)) }

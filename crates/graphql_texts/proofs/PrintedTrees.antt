@@ -1,5 +1,5 @@
 -- A tree that is printed, with a line feed after it, makes the document again.
-use Rattle.std.proofs.Common.{◌≡◌, ℕ, Ok, List, [], ◌++◌, ap, ◌∙◌}
+use Rattle.std.proofs.Common.{◌≡◌, ℕ, Ok, List, [], ◌++◌, refl, ap, ◌∙◌}
 use lib.Utf8.{encode}
 use Rattle.std.specs.Str.{chars, IsUtf8}
 use Rattle.graphql_tokens.specs.tokens.Cuts.{IsCutInto}
@@ -37,4 +37,4 @@ pub prints_then : {D Document T : Type 0} (language : Described D Document) (rea
     → IsUtf8 text → IsUtf8 printed → IsUtf8 new → ReadsText language limits text (Ok document) → IsPrinted language made_of document printed → new ≡ printed ++ encode 10 → Prints language made_of limits text new
 prints_then language reader read made_of limits text document printed new utf8 utf8_printed utf8_new reads is e =
     let of = of_parsed language limits text document utf8 reads in
-    (document, of, makes_then language reader read made_of limits of.definitions printed new utf8_printed utf8_new e (is limits text of))
+    (document, of, makes_then language reader read made_of limits of.definitions printed new utf8_printed utf8_new e (is limits text (record { other = document; of = of; definitions = of.definitions; made = of.made; same = refl })))
