@@ -17,6 +17,7 @@ mod ExpectedNames
 mod Trees
 mod Placed
 mod WordLists
+mod Hinted
 mod Refusing
 mod Checks
 mod ReportParts

@@ -1,5 +1,6 @@
 -- Public: how a report begins, and which places it tells; where a finding stands; where the reading of a text began, and the
--- token at which it is refused; the first bad escape of that token; how it is named, and what is expected in its place.
+-- token at which it is refused; the first bad escape of that token; how it is named, what is expected in its place, and which
+-- hints there are.
 pub mod Reports
 pub mod Findings
 pub mod Rests
@@ -7,3 +8,4 @@ pub mod Refused
 pub mod Escapes
 pub mod Words
 pub mod Expected
+pub mod Hints

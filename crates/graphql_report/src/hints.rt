@@ -1,10 +1,11 @@
 //! What was meant, as far as that can be guessed from the refused token and from what was expected.
-ghost use Rattle.std.specs.Prelude.{◌≡◌, OnOk, string_bytes};
-ghost use Rattle.std.specs.List.{list_any};
-ghost use Rattle.std.specs.Str.{bytes_eq};
+ghost use Rattle.std.specs.Prelude.{◌≡◌, ◌⊎◌, ◌++◌, codes, IfOk, IfSome, OnOk, string_bytes};
+ghost use Rattle.std.specs.Fmt.{decimal};
 ghost use Rattle.graphql_tokens.specs.tokens.Seen.{seen};
 ghost use Rattle.graphql_report.specs.inner.Called.{texts};
-ghost use Rattle.graphql_report.specs.inner.Told.{GoesOn};
+ghost use Rattle.graphql_report.specs.inner.Told.{Adds, AddsHint, AddsMeant};
+ghost use Rattle.graphql_report.specs.reports.Expected.{quoted};
+ghost use Rattle.graphql_report.specs.reports.Hints.{IsWordOf, begins_in_schemas as begins_schemas, is_among, is_of_other_language as is_of_other, other_language};
 ghost use Rattle.graphql_report.specs.reports.Words.{is_no_enum_value as is_no_value};
 
 use crate::fronts::Language;
@@ -12,6 +13,7 @@ use crate::refused::after;
 use crate::samples::{END, LOCATION, NAME};
 use graphql_parser::Pos;
 use graphql_parser::lexer::{Token, TokenKind, Tokens};
+use graphql_parser::types::DirectiveLocation;
 use std::alloc::{AllocError, Global};
 use strsim::damerau_levenshtein;
 
@@ -19,26 +21,26 @@ use strsim::damerau_levenshtein;
 const LONGEST_WORD: usize = 25;
 
 // The locations of directives (GraphQL October 2021, section 3.13).
-const LOCATIONS: [&str; 19] = [
-    "QUERY",
-    "MUTATION",
-    "SUBSCRIPTION",
-    "FIELD",
-    "FRAGMENT_DEFINITION",
-    "FRAGMENT_SPREAD",
-    "INLINE_FRAGMENT",
-    "VARIABLE_DEFINITION",
-    "SCHEMA",
-    "SCALAR",
-    "OBJECT",
-    "FIELD_DEFINITION",
-    "ARGUMENT_DEFINITION",
-    "INTERFACE",
-    "UNION",
-    "ENUM",
-    "ENUM_VALUE",
-    "INPUT_OBJECT",
-    "INPUT_FIELD_DEFINITION",
+const LOCATIONS: [DirectiveLocation; 19] = [
+    DirectiveLocation::Query,
+    DirectiveLocation::Mutation,
+    DirectiveLocation::Subscription,
+    DirectiveLocation::Field,
+    DirectiveLocation::FragmentDefinition,
+    DirectiveLocation::FragmentSpread,
+    DirectiveLocation::InlineFragment,
+    DirectiveLocation::VariableDefinition,
+    DirectiveLocation::Schema,
+    DirectiveLocation::Scalar,
+    DirectiveLocation::Object,
+    DirectiveLocation::FieldDefinition,
+    DirectiveLocation::ArgumentDefinition,
+    DirectiveLocation::Interface,
+    DirectiveLocation::Union,
+    DirectiveLocation::Enum,
+    DirectiveLocation::EnumValue,
+    DirectiveLocation::InputObject,
+    DirectiveLocation::InputFieldDefinition,
 ];
 
 // The keywords of types and of schemas, which `extend` may stand before.
@@ -56,7 +58,9 @@ const EXTENDED: [&str; 7] = [
 const OF_REQUESTS: [&str; 5] = ["{", "fragment", "mutation", "query", "subscription"];
 
 // Whether a definition of a schema file may begin with the word, but for its description.
-fn begins_in_schemas(word: &str) -> bool {
+fn begins_in_schemas(word: &str) -> bool
+    ensures { result ≡ begins_schemas word.now }
+{
     EXTENDED.contains(&word) || word == "extend" || word == "directive"
 }
 
@@ -70,7 +74,8 @@ pub fn push_hint(
     token: &Token<'_>,
     expected: &[&'static str],
 ) -> Result<Option<&'static str>, AllocError>
-    ensures { OnOk result (GoesOn (string_bytes out.old) (string_bytes out.new)) }
+    ensures { OnOk result (AddsHint language (seen token.now).bare (texts expected.now)
+        (string_bytes out.old) (string_bytes out.new)) }
 {
     if is_of_other_language(language, token, expected) {
         push_other_language(out, language, token)?;
@@ -91,12 +96,14 @@ pub fn push_hint(
     if means_implements(text, token) && expects(expected, "\"implements\"") {
         return push_meant(out, "implements");
     }
-    push_guess(alloc, out, token, expected)
+    push_guess(alloc, out, language, token, expected)
 }
 
 /// Adds that a block string isn't closed, which probably begins at this place.
 pub fn push_unclosed(out: &mut String, place: Pos) -> Result<(), AllocError>
-    ensures { OnOk result (GoesOn (string_bytes out.old) (string_bytes out.new)) }
+    ensures { OnOk result (Adds (codes " (the block string that begins at " ++
+        (decimal place.line ++ codes ":" ++ decimal place.column) ++ codes " is probably not closed)")
+        (string_bytes out.old) (string_bytes out.new)) }
 {
     write!(
         out,
@@ -109,7 +116,8 @@ fn push_other_language(
     language: Language,
     token: &Token<'_>,
 ) -> Result<(), AllocError>
-    ensures { OnOk result (GoesOn (string_bytes out.old) (string_bytes out.new)) }
+    ensures { OnOk result (Adds (other_language language (seen token.now).bare)
+        (string_bytes out.old) (string_bytes out.new)) }
 {
     let word = token.text;
     match language {
@@ -128,13 +136,15 @@ fn push_other_language(
 }
 
 fn expects(expected: &[&'static str], name: &str) -> bool
-    ensures { result ≡ list_any (λ other. bytes_eq other name.now) (texts expected.now) }
+    ensures { result ≡ is_among (texts expected.now) name.now }
 {
     expected.contains(&name)
 }
 
 // Whether a definition of the other language begins where one of this language could.
-fn is_of_other_language(language: Language, token: &Token<'_>, expected: &[&'static str]) -> bool {
+fn is_of_other_language(language: Language, token: &Token<'_>, expected: &[&'static str]) -> bool
+    ensures { result ≡ is_of_other language (seen token.now).bare (texts expected.now) }
+{
     let word = token.text;
     match language {
         Language::Requests => {
@@ -174,10 +184,12 @@ fn means_implements(text: &str, token: &Token<'_>) -> bool {
 fn push_guess(
     alloc: Global,
     out: &mut String,
+    language: Language,
     token: &Token<'_>,
     expected: &[&'static str],
 ) -> Result<Option<&'static str>, AllocError>
-    ensures { OnOk result (GoesOn (string_bytes out.old) (string_bytes out.new)) }
+    ensures { OnOk result (AddsHint language (seen token.now).bare (texts expected.now)
+        (string_bytes out.old) (string_bytes out.new)) }
 {
     if token.text.len() > LONGEST_WORD {
         return Ok(None);
@@ -188,20 +200,35 @@ fn push_guess(
     };
     let found = token.text.to_ascii_lowercase(alloc)?;
     for name in expected {
-        if *name == LOCATION {
-            for location in LOCATIONS {
-                best = better(alloc, best, location, found.as_str())?;
-            }
-        } else if let Some(keyword) = keyword(name) {
-            best = better(alloc, best, keyword, found.as_str())?;
-        }
+        best = better_of(alloc, best, name, found.as_str())?;
     }
     push_meant(out, best.word)
 }
 
+// The better of a guess and the words that are expected by this name.
+fn better_of(
+    alloc: Global,
+    best: Guess,
+    name: &'static str,
+    found: &str,
+) -> Result<Guess, AllocError>
+    ensures { IfOk result (λ guess. (guess.word.now ≡ best.word.now) ⊎
+        IsWordOf name.now guess.word.now) }
+{
+    let mut best = best;
+    if name == LOCATION {
+        for location in LOCATIONS {
+            best = better(alloc, best, location.as_str(), found)?;
+        }
+    } else if let Some(keyword) = keyword(name) {
+        best = better(alloc, best, keyword, found)?;
+    }
+    Ok(best)
+}
+
 // Adds a guess, if there is one, and gives it.
 fn push_meant(out: &mut String, word: &'static str) -> Result<Option<&'static str>, AllocError>
-    ensures { OnOk result (GoesOn (string_bytes out.old) (string_bytes out.new)) }
+    ensures { OnOk result (AddsMeant word.now (string_bytes out.old) (string_bytes out.new)) }
 {
     if word.is_empty() {
         return Ok(None);
@@ -218,12 +245,9 @@ struct Guess {
 }
 
 // The better of a guess and this word; `found` is in small letters.
-fn better(
-    alloc: Global,
-    best: Guess,
-    word: &'static str,
-    found: &str,
-) -> Result<Guess, AllocError> {
+fn better(alloc: Global, best: Guess, word: &'static str, found: &str) -> Result<Guess, AllocError>
+    ensures { IfOk result (λ guess. (guess.word.now ≡ best.word.now) ⊎ (guess.word.now ≡ word.now)) }
+{
     let small = word.to_ascii_lowercase(alloc)?;
     let edits = damerau_levenshtein(alloc, small.as_str(), found)?;
     let is_like = edits <= word.len().div_ceil(3);
@@ -235,9 +259,11 @@ fn better(
 }
 
 // What is expected without its quotes, if it is a keyword.
-fn keyword(name: &'static str) -> Option<&'static str> {
-    let word = name.trim_matches('"');
-    if word.starts_with(|c: char| c.is_ascii_lowercase()) && name.starts_with('"') {
+fn keyword(name: &'static str) -> Option<&'static str>
+    ensures { IfSome result (λ word. name.now ≡ quoted word.now) }
+{
+    let word = name.strip_prefix('"')?.strip_suffix('"')?;
+    if word.starts_with(|c: char| c.is_ascii_lowercase()) {
         Some(word)
     } else {
         None

@@ -6,7 +6,8 @@ ghost use Rattle.graphql_grammar.specs.errors.Errors.{error_text};
 ghost use Rattle.graphql_report.specs.declared.style.Style.TheVariants.{Plain};
 ghost use Rattle.graphql_tokens.specs.tokens.Seen.{seen};
 ghost use Rattle.graphql_report.specs.inner.Carets.{IsCaretAt, IsWrongAfter};
-ghost use Rattle.graphql_report.specs.inner.Told.{GoesOn, IsWrong};
+ghost use Rattle.graphql_report.specs.inner.Called.{texts};
+ghost use Rattle.graphql_report.specs.inner.Told.{AddsHint, IsWrong};
 ghost use Rattle.graphql_report.specs.reports.Refused.{IsKnown, IsRefusedFrom};
 ghost use Rattle.graphql_report.specs.reports.Rests.{BeginsAt, top};
 ghost use Rattle.graphql_report.specs.reports.Reports.{AreDetails, IsReport, TellsSyntax, TellsLimit, Tells, TellsPlaces, named as named_by};
@@ -328,7 +329,8 @@ fn push_more(
     token: &Token<'_>,
     expected: &[&'static str],
 ) -> Result<Option<&'static str>, AllocError>
-    ensures { OnOk result (GoesOn (string_bytes out.old) (string_bytes out.new)) }
+    ensures { OnOk result (AddsHint language (seen token.now).bare (texts expected.now)
+        (string_bytes out.old) (string_bytes out.new)) }
 {
     if let Some(place) = read.unclosed {
         push_unclosed(out, place)?;

@@ -1,7 +1,7 @@
 -- What the check of a text tells; and what its error tells: whether the text can be completed, where its end stands at a
 -- place of its own, and whether it has a tree.
 -- Source: this project's choice.
-use Rattle.std.specs.Prelude.{◌≡◌, ◌↔◌, ℕ, List, ◌++◌, codes, Bool, true, false, IsTrue, Option, None, string_bytes, Result, Ok, Err}
+use Rattle.std.specs.Prelude.{◌≡◌, ◌≢◌, ◌↔◌, ◌⊎◌, ℕ, List, [], ◌++◌, codes, Bool, true, false, IsTrue, Option, None, string_bytes, Result, Ok, Err}
 use Rattle.std.specs.declared.alloc.AllocError.{AllocError}
 use Rattle.graphql_tokens.specs.declared.lexer.Token.{Token as LentToken}
 use Rattle.graphql_tokens.specs.declared.pos.Pos.{Pos}
@@ -20,6 +20,7 @@ use Rattle.graphql_parser.specs.Checking.{checked}
 use Rattle.graphql_report.specs.declared.findings.Finding.{Finding}
 use Rattle.graphql_report.specs.declared.fronts.Language.{Language}
 use Rattle.graphql_report.specs.reports.Findings.{first_of, status_of}
+use Rattle.graphql_report.specs.reports.Hints.{IsExpectedWord, IsHint}
 use Rattle.graphql_report.specs.reports.Words.{found}
 use Rattle.graphql_report.specs.declared.fronts.Language.TheVariants.{Requests, Schemas}
 
@@ -49,9 +50,21 @@ abbrev pub ReadsTo : Language → Limits → List ℕ → Result (Unit {0}) Erro
 ReadsTo Requests limits text result token = ReadsText (checked requests) limits text result × ((tokens : List Token) → IsCutInto text tokens → TokenFor (checked requests) limits tokens result token)
 ReadsTo Schemas limits text result token = ReadsText (checked schemas) limits text result × ((tokens : List Token) → IsCutInto text tokens → TokenFor (checked schemas) limits tokens result token)
 
--- a text goes on with more
-abbrev pub GoesOn : List ℕ → List ℕ → Type 0
-GoesOn old new = (more : List ℕ) × (new ≡ old ++ more)
+-- a text goes on with a hint, if with anything
+abbrev pub AddsHint : Language → Bare → List (List ℕ) → List ℕ → List ℕ → Type 0
+AddsHint language token names old new = (more : List ℕ) × (new ≡ old ++ more) × IsHint language token names more
+
+-- a text goes on with this one
+abbrev pub Adds : List ℕ → List ℕ → List ℕ → Type 0
+Adds more old new = new ≡ old ++ more
+
+-- it goes on with the word that was meant, which is this one; or with nothing, where there is none
+abbrev pub AddsMeant : List ℕ → List ℕ → List ℕ → Type 0
+AddsMeant word old new = ((word ≡ []) × (new ≡ old)) ⊎ ((word ≢ []) × (new ≡ old ++ (codes " (did you mean \"" ++ word ++ codes "\"?)")))
+
+-- no word, or one that is expected
+abbrev pub IsGuess : List (List ℕ) → List ℕ → Type 0
+IsGuess names word = (word ≡ []) ⊎ IsExpectedWord names word
 
 -- what was found is told, or what is wrong
 abbrev pub IsWrong : Bare → List ℕ → List ℕ → Type 0

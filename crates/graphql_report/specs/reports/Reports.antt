@@ -19,6 +19,7 @@ use Rattle.graphql_report.specs.declared.style.Part.{Part}
 use Rattle.graphql_report.specs.declared.style.Part.TheVariants.{Place, Error as Word, Caret}
 use Rattle.graphql_report.specs.reports.Escapes.{IsBadEscapeOf}
 use Rattle.graphql_report.specs.reports.Expected.{AreExpected}
+use Rattle.graphql_report.specs.reports.Hints.{IsHint}
 use Rattle.graphql_report.specs.reports.Words.{found, expected}
 
 -- ---- how a part stands out
@@ -75,7 +76,8 @@ IsToldAt is_refused text start told =
 
 -- ---- what is told of a refused token
 
--- What was found, or what is wrong where no token begins, and then just what is expected after all that stands before it.
+-- What was found, or what is wrong where no token begins; then just what is expected after all that stands before it; and then
+-- a hint, if any.
 pub record TellsToken (language : Language) (limits : Limits) (text : List ℕ) (from : ReadFrom) (token : Token) (details : List ℕ) : Type 0 where
   pub names : List (List ℕ)
   pub are_expected : AreExpected language limits (take (token.start - from.offset) (drop from.offset text)) names
@@ -83,6 +85,7 @@ pub record TellsToken (language : Language) (limits : Limits) (text : List ℕ) 
   pub more : List ℕ
   pub is : details ≡ wrong ++ expected language token.bare names ++ more
   pub found : (token.bare.kind ≡ Fault → ⊥) → wrong ≡ codes "found " ++ found token.bare
+  pub hints : IsHint language token.bare names more
 
 -- these details are of the token that is the refused one
 abbrev pub AreDetails : (Token → Type 0) → Language → Limits → List ℕ → ReadFrom → List ℕ → Type 0

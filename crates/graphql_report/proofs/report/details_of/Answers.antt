@@ -26,6 +26,7 @@ returns-clause-told c token known =
       more = c.in_ok-meant.ensures.0;
       is = c.in_ok-meant.ensures.1 ∙ ap (λ (l : List ℕ). l ++ c.in_ok-meant.ensures.0) (c.in_ok-push_expected.ensures ∙ ap (λ (l : List ℕ). l ++ expected c.args.language (seen lent).bare (texts c.as_slice-expected.result.now)) (c.in_ok-offset.ensures.told.1 ∙ ap (λ (l : List ℕ). l ++ c.in_ok-offset.ensures.told.0) c.new-message.ensures.bytes));
       found = c.in_ok-offset.ensures.told.2;
+      hints = c.in_ok-meant.ensures.2;
     })
 
 pub returns-clause-caret : goal.returns-clause-caret
