@@ -157,15 +157,6 @@ c_names() {
         esac
 }
 
-# All that has a version has the header's. (The library's own is held against the header's by the callers.)
-c_version() {
-    number=$(printf '%s\n' "$version" | awk -F . '{ print $1 * 10000 + $2 * 100 + $3 }')
-    is_same "GRAPHQL_PARSER_VERSION_NUMBER" "$(sed -n 's/^#define GRAPHQL_PARSER_VERSION_NUMBER //p' "$here/graphql_parser.h")" "$number" &&
-        is_same "gql --version" "$(sed -n 's/.*"gql \([0-9.]*\)\\n".*/\1/p' "$here"/../crates/graphql_commands/src/*.rt)" "$version" &&
-        is_same "Cargo.toml" "$(sed -n 's/^version = "\(.*\)"$/\1/p' "$here/rust/Cargo.toml")" "$version" &&
-        is_same "graphql_parser for Python" "$(sed -n 's/^__version__ = "\(.*\)"$/\1/p' "$here/python/graphql_parser/__init__.py")" "$version"
-}
-
 rust_tests() {
     (cd "$here/rust" && cargo test --quiet --offline) >"$out/rust.log" 2>&1 || {
         cat "$out/rust.log"
@@ -228,7 +219,7 @@ elif ! "$here/build.sh"; then
     echo "the library isn't built"
     failed="$failed build"
 else
-    language C c_version c_static c_shared
+    language C c_static c_shared
     if has pkg-config; then
         language "C installed" c_installed
     else
