@@ -17,17 +17,18 @@ SOURCE = Path(__file__).resolve().parent / "graphql_parser" / "nodes.c"
 
 def compiled(folder):
     """The module in the folder, which is made anew where the source is newer; None where it can't be made."""
-    module = Path(folder) / f"_nodes_c{sysconfig.get_config_var('EXT_SUFFIX')}"
+    module = Path(folder).resolve() / f"_nodes_c{sysconfig.get_config_var('EXT_SUFFIX')}"
     if module.exists() and module.stat().st_mtime > SOURCE.stat().st_mtime:
         return module
     made = module.with_suffix(".new")
     flags = ["-std=c11", "-O2", "-Wall", "-Wextra", "-fPIC", "-shared", *shlex.split(os.environ.get("CFLAGS", ""))]
     headers = {f"-I{sysconfig.get_path(name)}" for name in ("include", "platinclude")}
-    command = [*shlex.split(os.environ.get("CC", "cc")), *flags, *sorted(headers), "-o", str(made), str(SOURCE)]
+    command = [*shlex.split(os.environ.get("CC", "cc")), *flags, *sorted(headers), "-o", str(made), SOURCE.name]
     why = "only CPython takes it"
     if sys.implementation.name == "cpython":
         try:
-            done = subprocess.run(command, capture_output=True, text=True)
+            # From its folder, so that the module has the source's name and not its path.
+            done = subprocess.run(command, cwd=SOURCE.parent, capture_output=True, text=True)
             why = None if done.returncode == 0 else done.stderr
         except OSError as error:
             why = str(error)

@@ -1,12 +1,15 @@
 """The package as pip installs it, and its types."""
 
 import ast
+import contextlib
 import importlib
 import inspect
 import os
+import platform
 import shutil
 import subprocess
 import sys
+import tarfile
 import tempfile
 import unittest
 import venv
@@ -14,6 +17,7 @@ import zipfile
 from pathlib import Path
 
 import build_nodes
+import build_wheel
 import graphql_parser
 
 HERE = Path(__file__).resolve().parent
@@ -70,6 +74,58 @@ class Package(unittest.TestCase):
             self.assertEqual(done.returncode, 1)
             self.assertIn("libgraphql_parser.so.1 is missing", done.stderr)
             self.assertIn("bindings/build.sh", done.stderr)
+
+
+    def test_a_file_has_the_time_that_the_environment_says(self):
+        for seconds, year in (("1000000000", 2001), ("0", 1980)):
+            with self.subTest(seconds=seconds), tempfile.TemporaryDirectory() as folder, epoch(seconds):
+                wheel = build_wheel.build_wheel(folder, {"nodes": "no"})
+                self.assertEqual({entry.date_time[0] for entry in zipfile.ZipFile(Path(folder, wheel)).infolist()}, {year})
+                first = Path(folder, build_wheel.build_sdist(folder)).read_bytes()
+                self.assertEqual(Path(folder, build_wheel.build_sdist(folder)).read_bytes(), first)
+
+    @unittest.skipIf(platform.libc_ver()[0] != "glibc", "the C library is another")
+    def test_a_wheel_is_named_for_the_oldest_c_library(self):
+        machine = platform.machine()
+        for named, wanted in (
+            (b"GLIBC_2.2.5\0GLIBC_2.14\0", ["manylinux2014", "manylinux_2_17"]),
+            (b"GLIBC_2.9\0GLIBC_PRIVATE\0", ["manylinux2014", "manylinux_2_17"]),
+            (b"GLIBC_2.34\0GLIBC_2.4\0", ["manylinux_2_34"]),
+        ):
+            self.assertEqual(build_wheel.platforms_of([b"", named]), [f"{one}_{machine}" for one in wanted])
+        with tempfile.TemporaryDirectory() as folder:
+            name = build_wheel.build_wheel(folder, {"nodes": "no", "platform": "manylinux"})
+            wheel = zipfile.ZipFile(Path(folder, name))
+            about = f"graphql_parser-{graphql_parser.__version__}.dist-info"
+            tags = [line.split(" ")[1] for line in wheel.read(f"{about}/WHEEL").decode().splitlines() if line.startswith("Tag: ")]
+            held = wheel.namelist()
+        self.assertTrue(name.startswith(f"graphql_parser-{graphql_parser.__version__}-py3-none-manylinux"), name)
+        self.assertEqual(name, f"graphql_parser-{graphql_parser.__version__}-py3-none-{'.'.join(tag.split('-')[2] for tag in tags)}.whl")
+        self.assertLessEqual({f"{about}/LICENSE-APACHE", f"{about}/LICENSE-MIT"}, set(held))
+
+    def test_the_sources_have_all_but_the_library(self):
+        with tempfile.TemporaryDirectory() as folder:
+            name = build_wheel.build_sdist(folder)
+            top = f"graphql_parser-{graphql_parser.__version__}"
+            self.assertEqual(name, f"{top}.tar.gz")
+            held = tarfile.open(Path(folder, name)).getnames()
+        modules = {f"{top}/graphql_parser/{path.name}" for path in (HERE / "graphql_parser").iterdir() if path.is_file()}
+        beside = {f"{top}/{one}" for one in ("PKG-INFO", "pyproject.toml", "build_nodes.py", "build_wheel.py", "README.md", "LICENSE-MIT")}
+        self.assertLessEqual(modules | beside, set(held))
+        self.assertFalse([one for one in held if ".so" in one])
+
+
+@contextlib.contextmanager
+def epoch(seconds):
+    """With this SOURCE_DATE_EPOCH."""
+    kept = os.environ.get("SOURCE_DATE_EPOCH")
+    os.environ["SOURCE_DATE_EPOCH"] = seconds
+    try:
+        yield
+    finally:
+        del os.environ["SOURCE_DATE_EPOCH"]
+        if kept is not None:
+            os.environ["SOURCE_DATE_EPOCH"] = kept
 
 
 class GraphqlCore(unittest.TestCase):
