@@ -6,7 +6,8 @@
 #                                       `libgraphql_parser.so` are links to it
 #   _nodes_c.*.so                       the module in C of the Python package, for the `python3` at hand, if it has headers
 #
-# Both libraries show what the header declares, and nothing else.
+# Both libraries show what the header declares, and nothing else. With the word --is-built it makes nothing, and its status is 0 if
+# there is no library to make.
 #
 # The first call proves and compiles the crate and all below it, which takes as long as README says of the programs; later calls do nothing until a
 # source changes. Needs the kit (`rt`) and a C compiler (`cc`, with `ar` and `objcopy`). The callers need neither the kit
@@ -27,6 +28,10 @@ is_built() {
             -newer "$shared" | head -n 1)" ]
 }
 
+if [ "${1-}" = --is-built ]; then
+    is_built
+    exit
+fi
 mkdir -p "$out"
 if command -v python3 >/dev/null 2>&1; then
     python3 -B "$here/python/build_nodes.py" "$out"
