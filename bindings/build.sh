@@ -6,8 +6,8 @@
 #                                       `libgraphql_parser.so` are links to it
 #   _nodes_c.*.so                       the module in C of the Python package, for the `python3` at hand, if it has headers
 #
-# Both libraries show what the header declares, and nothing else. With the word --is-built it makes nothing, and its status is 0 if
-# there is no library to make.
+# Both libraries show what the header declares, and nothing else. With the word --is-built it makes nothing, and its status
+# is 0 if there is no library to make.
 #
 # The first call proves and compiles the crate and all below it, which takes as long as README says of the programs; later calls do nothing until a
 # source changes. Needs the kit (`rt`) and a C compiler (`cc`, with `ar` and `objcopy`). The callers need neither the kit

@@ -3,9 +3,9 @@
 #
 #   tests/install.sh [FOLDER]        FOLDER is `dist`, if none is named
 #
-# The programs and the library for C run in a root of their own, with this machine's C library; the packages for Python in new virtual
-# environments; the package for Rust from its unpacked sources. What a missing tool forbids is skipped. The last line says what passed
-# and what was skipped; the status is 1 if anything failed.
+# The programs and the library for C run in a root of their own, with this machine's C library; the packages for Python in
+# new virtual environments; the package for Rust from its unpacked sources. What a missing tool forbids is skipped. The
+# last line says what passed and what was skipped; the status is 1 if anything failed.
 set -u
 export LC_ALL=C
 top=$(dirname -- "$(dirname -- "$(readlink -f -- "$0")")")
@@ -65,7 +65,7 @@ in_root() {
 # Makes a root that has the C library of this machine, and nothing else.
 new_root() {
     mkdir "$1" || return 1
-    for file in $(ldd "$(readlink -f "$(command -v ls)")" | awk '/libc\.so\.6|ld-linux/ { print ($2 == "=>") ? $3 : $1 }'); do
+    for file in $(ldd "$(command -v ls)" | awk '/libc\.so\.6|ld-linux/ { print ($2 == "=>") ? $3 : $1 }'); do
         mkdir -p "$1$(dirname "$file")" && cp -L "$file" "$1$file" || return 1
     done
 }
@@ -76,7 +76,8 @@ can_change_root() {
 
 sums() {
     (cd "$dist" && sha256sum --quiet -c SHA256SUMS) &&
-        is_same "what has a sum" "$(cut -c 67- "$dist/SHA256SUMS")" "$(find "$dist" -type f ! -name SHA256SUMS -printf '%f\n' | sort)"
+        is_same "what has a sum" "$(cut -c 67- "$dist/SHA256SUMS")" \
+            "$(find "$dist" -type f ! -name SHA256SUMS -printf '%f\n' | sort)"
 }
 
 # The programs in a folder of a root.
@@ -87,7 +88,8 @@ programs_run() {
 }
 
 tarball() {
-    new_root "$work/tarball" && tar -xzf "$dist/gql-$version-x86_64-linux.tar.gz" -C "$work/tarball" --strip-components=1 &&
+    new_root "$work/tarball" &&
+        tar -xzf "$dist/gql-$version-x86_64-linux.tar.gz" -C "$work/tarball" --strip-components=1 &&
         programs_run "$work/tarball" ""
 }
 
@@ -150,10 +152,11 @@ c_library() {
 }
 
 deb_is_removed() {
-    dpkg_in --purge graphql-parser >/dev/null && is_same "what is left" "$(find "$work/deb" -name '*gql*' -o -name '*graphql*')" ""
+    dpkg_in --purge graphql-parser >/dev/null &&
+        is_same "what is left" "$(find "$work/deb" -name '*gql*' -o -name '*graphql*')" ""
 }
 
-# Installs a package for Python in a new environment, and calls it there. `imported` is what has to be there besides.
+# Installs a package for Python in a new environment, and calls it there. The second word is a module that it has to have.
 python_package() {
     environment=$(mktemp -d -p "$work")
     python3 -m venv "$environment" &&
@@ -168,13 +171,20 @@ print(module.__file__.startswith(sys.prefix), graphql_parser.__version__, graphq
 }
 
 python_sources() {
-    (export GRAPHQL_PARSER_LIB="$work/unpacked/usr/lib" && python_package "$dist/graphql_parser-$version.tar.gz" graphql_parser)
+    (
+        export GRAPHQL_PARSER_LIB="$work/unpacked/usr/lib"
+        python_package "$dist/graphql_parser-$version.tar.gz" graphql_parser
+    )
 }
 
 rust_crate() {
-    tar -xzf "$dist/graphql_parser-$version.crate" -C "$work" &&
-        is_same "its example" "$(cd "$work/graphql_parser-$version" && printf '{a}' |
-            CARGO_TARGET_DIR="$work/cargo" GRAPHQL_PARSER_LIB="$work/unpacked/usr/lib" cargo run --quiet --offline --example read query)" "$tree"
+    tar -xzf "$dist/graphql_parser-$version.crate" -C "$work" || return 1
+    found=$(
+        cd "$work/graphql_parser-$version" || exit 1
+        export CARGO_TARGET_DIR="$work/cargo" GRAPHQL_PARSER_LIB="$work/unpacked/usr/lib"
+        printf '{a}' | cargo run --quiet --offline --example read query
+    )
+    is_same "its example" "$found" "$tree"
 }
 
 try_programs() {

@@ -2,12 +2,12 @@
 where it can be compiled.
 
 The shared object is taken from the folder that the environment variable GRAPHQL_PARSER_LIB names, or from `bindings/out`,
-where `bindings/build.sh` leaves it. This is a build backend, as PEP 517 has it, that makes a wheel, as PEP 427 has it, and a source
-distribution, which has no shared object. Both are the same byte for byte if what goes into them is: their files have the time
-SOURCE_DATE_EPOCH.
+where `bindings/build.sh` leaves it. This is a build backend, as PEP 517 has it, that makes a wheel, as PEP 427 has it, and
+a source distribution, which has no shared object. Both are the same byte for byte if what goes into them is: their files
+have the time SOURCE_DATE_EPOCH.
 
-`tools/release` has two settings: `nodes=no` leaves the module in C out, for a wheel that any Python 3 takes, and `platform=manylinux`
-names the oldest C library that the wheel runs with, as PEP 600 has it, in place of this machine.
+`tools/release` has two settings: `nodes=no` leaves the module in C out, for a wheel that any Python 3 takes, and
+`platform=manylinux` names the oldest C library that the wheel runs with, as PEP 600 has it, in place of this machine.
 """
 
 import base64
@@ -51,7 +51,8 @@ Generator: graphql_parser
 Root-Is-Purelib: false
 {tags}"""
 
-# The oldest C library that wheels are named for: what needs an older one is named for this, which older versions of pip know too.
+# The oldest C library that wheels are named for: what needs an older one is named for this, which older versions of pip
+# know too.
 OLDEST_GLIBC = (2, 17)
 
 
@@ -83,7 +84,7 @@ def metadata():
 
 
 def licences():
-    """The names and the bytes of the licences, which are beside this file in a source distribution, and else at the top."""
+    """The names and the bytes of the licences: beside this file in a source distribution, and else at the top."""
     folder = HERE if (HERE / LICENCES[0]).exists() else HERE.parent.parent
     return {name: (folder / name).read_bytes() for name in LICENCES}
 
@@ -134,15 +135,19 @@ def build_wheel(wheel_directory, config_settings=None, metadata_directory=None):
 
 def build_sdist(sdist_directory, config_settings=None):
     name = f"graphql_parser-{version()}"
-    files = {path: (HERE / path).read_bytes() for path in ("README.md", "build_nodes.py", "build_wheel.py", "pyproject.toml")}
-    files.update({f"graphql_parser/{path.name}": path.read_bytes() for path in sorted(PACKAGE.iterdir()) if path.is_file()})
+    beside = ("README.md", "build_nodes.py", "build_wheel.py", "pyproject.toml")
+    modules = (path for path in PACKAGE.iterdir() if path.is_file())
+    files = {path: (HERE / path).read_bytes() for path in beside}
+    files.update({f"graphql_parser/{path.name}": path.read_bytes() for path in modules})
     files.update(licences())
     files["PKG-INFO"] = metadata()
-    with open(Path(sdist_directory) / f"{name}.tar.gz", "wb") as written, gzip.GzipFile("", "wb", mtime=0, fileobj=written) as packed:
-        with tarfile.open(fileobj=packed, mode="w", format=tarfile.PAX_FORMAT) as archive:
-            for path, held in sorted(files.items()):
-                entry = tarfile.TarInfo(f"{name}/{path}")
-                entry.size = len(held)
-                entry.mtime = time_of_files()
-                archive.addfile(entry, io.BytesIO(held))
+    archived = io.BytesIO()
+    with tarfile.open(fileobj=archived, mode="w", format=tarfile.PAX_FORMAT) as archive:
+        for path, held in sorted(files.items()):
+            entry = tarfile.TarInfo(f"{name}/{path}")
+            entry.size = len(held)
+            entry.mtime = time_of_files()
+            archive.addfile(entry, io.BytesIO(held))
+    packed = gzip.compress(archived.getvalue(), mtime=0)
+    (Path(sdist_directory) / f"{name}.tar.gz").write_bytes(packed)
     return f"{name}.tar.gz"
