@@ -9,7 +9,7 @@ mod text;
 pub use map::{IndexMap, IntoIter, Iter, IterMut};
 pub use name::Name;
 pub use number::{NotANumber, Number};
-pub(crate) use shown::Quoted;
+pub(crate) use shown::Printed;
 pub(crate) use text::ShortText;
 
 /// Declares a type of values, with the cases that it has beside those of every value.

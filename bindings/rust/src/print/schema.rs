@@ -6,7 +6,7 @@ use crate::types::{
     InputValueDefinition, OperationType, SchemaDefinition, ServiceDocument, TypeDefinition,
     TypeKind, TypeSystemDefinition,
 };
-use crate::value::{Name, Quoted};
+use crate::value::{Name, Printed};
 
 impl Print for ServiceDocument {
     fn print(&self, out: &mut Tokens) {
@@ -28,7 +28,7 @@ impl Print for TypeSystemDefinition {
 impl Print for String {
     fn print(&self, out: &mut Tokens) {
         if !is_in_block(self) {
-            out.part(&Quoted(self));
+            out.part(&Printed(self));
             return;
         }
         // The library writes other line ends beside the quotes. A first line that begins one would lose its indent.
@@ -38,14 +38,15 @@ impl Print for String {
     }
 }
 
-// Whether a block string has this value, and it isn't empty (section 2.9.4): no line ends in a carriage return, the first and
-// the last aren't blank, and where there are more than one, they have no indent in common.
+// Whether a block string has this value, shows no control character but tabs and line feeds, and isn't empty (section 2.9.4): the
+// first line and the last aren't blank, and if there are more than one, they have no indent in common.
 fn is_in_block(text: &str) -> bool {
     let blanks = ['\t', ' '];
     let is_blank = |line: &&str| line.trim_start_matches(blanks).is_empty();
     let begins_in_text = |line: &&str| !line.is_empty() && !line.starts_with(blanks);
+    let is_clear = |c: char| !c.is_control() || matches!(c, '\t' | '\n');
     let lines: Vec<&str> = text.split('\n').collect();
-    !text.contains('\r')
+    text.chars().all(is_clear)
         && !lines.first().is_some_and(is_blank)
         && !lines.last().is_some_and(is_blank)
         && (lines.len() == 1 || lines.iter().any(begins_in_text))

@@ -2,7 +2,7 @@
 use super::{Print, Tokens, NO_TOKEN};
 use crate::pos::Positioned;
 use crate::types::{BaseType, ConstDirective, Directive, OperationType, Type};
-use crate::value::{ConstValue, Name, Quoted, Value};
+use crate::value::{ConstValue, Name, Printed, Value};
 
 impl Tokens {
     // A name, if it is valid and none of those that mean something else where it stands.
@@ -31,7 +31,7 @@ impl Print for Name {
 }
 
 // A string in quotes.
-impl Print for Quoted<'_> {
+impl Print for Printed<'_> {
     fn print(&self, out: &mut Tokens) {
         out.token(&self.to_string());
     }
@@ -56,7 +56,7 @@ macro_rules! values {
                     $($value::$variable(name) => out.token("$").part(name),)?
                     $value::Null => out.token("null"),
                     $value::Number(number) => out.token(number.as_str()),
-                    $value::String(text) => out.part(&Quoted(text)),
+                    $value::String(text) => out.part(&Printed(text)),
                     $value::Boolean(false) => out.token("false"),
                     $value::Boolean(true) => out.token("true"),
                     $value::Enum(name) => out.name_but(&["true", "false", "null"], name),

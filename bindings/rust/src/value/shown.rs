@@ -56,52 +56,47 @@ fn write_object<V: Display>(fields: &IndexMap<Name, V>, f: &mut Formatter<'_>) -
     f.write_str("}")
 }
 
-/// The string in quotes that stands for a text.
+/// The string in quotes that stands for a text in a value that is shown.
 pub(crate) struct Quoted<'a>(pub &'a str);
 
 impl Display for Quoted<'_> {
     fn fmt(&self, f: &mut Formatter<'_>) -> fmt::Result {
-        f.write_str("\"")?;
-        for c in self.0.chars() {
-            match c {
-                '"' | '\\' => write!(f, "\\{c}")?,
-                '\n' => f.write_str("\\n")?,
-                '\r' => f.write_str("\\r")?,
-                '\t' => f.write_str("\\t")?,
-                '\u{8}' => f.write_str("\\b")?,
-                '\u{c}' => f.write_str("\\f")?,
-                c if c < ' ' => write!(f, "\\u{:04x}", u32::from(c))?,
-                c => f.write_char(c)?,
-            }
-        }
-        f.write_str("\"")
+        write_quoted(self.0, f, |c, f| match c {
+            c if c < ' ' => write!(f, "\\u{:04x}", u32::from(c)),
+            c => f.write_char(c),
+        })
     }
 }
 
-#[cfg(test)]
-mod tests {
-    use super::super::{IndexMap, Name, Value};
+/// The same in a printed tree, where control characters up to U+009F are escaped, with capital digits.
+pub(crate) struct Printed<'a>(pub &'a str);
 
-    #[test]
-    fn a_value_is_shown_as_graphql_writes_it() {
-        let list: Value = vec![
-            Value::Null,
-            true.into(),
-            (-7).into(),
-            "a\"\\\n\u{1}é".into(),
-        ]
-        .into();
-        assert_eq!(list.to_string(), r#"[null, true, -7, "a\"\\\n\u0001é"]"#);
-        let fields = [
-            ("v", Value::Variable(Name::new("x"))),
-            ("e", Name::new("RED").into()),
-        ];
-        let object: Value = fields
-            .map(|(name, value)| (Name::new(name), value))
-            .into_iter()
-            .collect::<IndexMap<_, _>>()
-            .into();
-        assert_eq!(object.to_string(), "{v: $x, e: RED}");
-        assert_eq!(object.into_const(), None);
+impl Display for Printed<'_> {
+    fn fmt(&self, f: &mut Formatter<'_>) -> fmt::Result {
+        write_quoted(self.0, f, |c, f| match c {
+            c if c.is_control() => write!(f, "\\u{:04X}", u32::from(c)),
+            c => f.write_char(c),
+        })
     }
+}
+
+// Writes a text in quotes, in which `write_other` writes the characters that have no letter after a backslash.
+fn write_quoted(
+    text: &str,
+    f: &mut Formatter<'_>,
+    write_other: fn(char, &mut Formatter<'_>) -> fmt::Result,
+) -> fmt::Result {
+    f.write_str("\"")?;
+    for c in text.chars() {
+        match c {
+            '"' | '\\' => write!(f, "\\{c}")?,
+            '\n' => f.write_str("\\n")?,
+            '\r' => f.write_str("\\r")?,
+            '\t' => f.write_str("\\t")?,
+            '\u{8}' => f.write_str("\\b")?,
+            '\u{c}' => f.write_str("\\f")?,
+            c => write_other(c, f)?,
+        }
+    }
+    f.write_str("\"")
 }
