@@ -23,6 +23,7 @@ mod Checks
 mod ReportParts
 mod Escapes
 mod StringTexts
+mod NumberParts
 mod Carets
 mod Apart
 mod ValueProductions

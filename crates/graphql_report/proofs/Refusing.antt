@@ -206,7 +206,7 @@ pub known-lent : (language : Language) (limits : Limits) (text : List ℕ) (read
 known-lent language limits text read token lent is known = one-lent lent known.1.0 (sym is ∙ known.1.1) ∙ known.1.2
 
 -- where it starts, that one does
-at-lent : (P : ℕ → Type 0) (language : Language) (limits : Limits) (text : List ℕ) (read : ReadUpTo) (token : Token) (lent : LentToken) → read.token ≡ Some lent → IsKnown language limits text read token → P token.start → P lent.start
+pub at-lent : (P : ℕ → Type 0) (language : Language) (limits : Limits) (text : List ℕ) (read : ReadUpTo) (token : Token) (lent : LentToken) → read.token ≡ Some lent → IsKnown language limits text read token → P token.start → P lent.start
 at-lent P language limits text read token lent is known h = subst P (sym (ap (λ (t : Token). t.start) (known-lent language limits text read token lent is known))) h
 
 -- a place that is that of its offset

@@ -42,8 +42,14 @@ limit-told bytes (Err refused) style file text is_refused place is told = tt
 pub go-on : (front message more rest : List ℕ) → (front ++ message) ++ (more ++ rest) ≡ (front ++ (message ++ more)) ++ rest
 go-on front message more rest = sym (append_assoc (front ++ message) more rest) ∙ ap (λ (l : List ℕ). l ++ rest) (append_assoc front message more)
 
+-- and its line ends
+pub go-on-line : (front message more shown rest : List ℕ) → rest ≡ more ++ 10 ∷ shown → (front ++ message) ++ rest ≡ (front ++ ((message ++ more) ++ 10 ∷ [])) ++ shown
+go-on-line front message more shown rest e =
+    ap (λ (l : List ℕ). (front ++ message) ++ l) (e ∙ sym (append_assoc more (10 ∷ []) shown)) ∙ go-on front message (more ++ 10 ∷ []) shown
+    ∙ ap (λ (l : List ℕ). (front ++ l) ++ shown) (sym (append_assoc message more (10 ∷ [])))
+
 -- what is told of a refused token
 pub syntax-told : {A E : Type 0} (bytes : A → List ℕ) (result : Result A E) (style : Style) (file : List ℕ) (is_refused : Token → Type 0) (language : Language) (limits : Limits) (text : List ℕ) (from : ReadFrom) (start place : Pos) (details message : List ℕ) → IsToldAt is_refused text start place → AreDetails is_refused language limits text from details
-    → message ≡ (codes "syntax " ++ styled style Word (codes "error") ++ codes ": ") ++ details → IfOk result (λ report. Tells style file place message (bytes report)) → IfOk result (λ report. TellsSyntax style file is_refused language limits text from start (bytes report))
-syntax-told bytes (Ok report) style file is_refused language limits text from start place details message at are is (rest, e) = (place, details, at, are, (rest, e ∙ ap (λ (l : List ℕ). styled style Place (place_text file place) ++ codes " " ++ l ++ rest) is))
+    → message ≡ (codes "syntax " ++ styled style Word (codes "error") ++ codes ": ") ++ details → IfOk result (λ report. Tells style file place (message ++ 10 ∷ []) (bytes report)) → IfOk result (λ report. TellsSyntax style file is_refused language limits text from start (bytes report))
+syntax-told bytes (Ok report) style file is_refused language limits text from start place details message at are is (rest, e) = (place, details, at, are, (rest, e ∙ ap (λ (l : List ℕ). styled style Place (place_text file place) ++ codes " " ++ (l ++ 10 ∷ []) ++ rest) is))
 syntax-told bytes (Err refused) style file is_refused language limits text from start place details message at are is told = tt

@@ -20,6 +20,7 @@ use Rattle.graphql_tokens.specs.tokens.Strings.{StringMeans, IsContent}
 use Rattle.graphql_report.specs.inner.Strings.{IsSplit, HasNoUnit, IsBad, Ends, Passes}
 use Rattle.graphql_report.specs.inner.Carets.{TellsEscape}
 use Rattle.graphql_report.specs.reports.Escapes.{HasBadEscape}
+use Rattle.graphql_report.specs.reports.Faults.{IsBlockQuoted}
 use Rattle.graphql_report.proofs.Escapes.{Walked, none-bad, found-bad, no-string, begun}
 
 -- ---- the first characters
@@ -152,6 +153,10 @@ walked-bytes text rest passed u v e =
 pub rest-within : (text rest : List ℕ) → IsUtf8 text → IsUtf8 rest → Walked (chars text) (chars rest) → length rest ≤ length text
 rest-within text rest u v w = omega (arith, ap length (walked-bytes text rest w.passed u v w.whole), length-append (encode_utf8_all w.passed) rest)
 
+-- the quote was passed
+pub after-quote : (text rest : List ℕ) → IsUtf8 text → IsUtf8 rest → Walked (chars text) (chars rest) → 1 ≤ length text - length rest
+after-quote text rest u v w = omega (arith, ap length (walked-bytes text rest w.passed u v w.whole), length-append (encode_utf8_all w.passed) rest)
+
 pub tells-bad : (text rest : List ℕ) (offset : ℕ) → IsUtf8 text → IsUtf8 rest → Walked (chars text) (chars rest) → IsBad (chars rest) → offset ≡ length text - length rest → TellsEscape (chars text) offset
 tells-bad text rest offset u v w bad e =
     let found = found-bad (chars text) w.passed (chars rest) w.good w.whole bad in
@@ -207,3 +212,37 @@ at-escape text offset u bad e =
       back = sym (chars_from_encodes (92 ∷ bad.next ∷ bad.rest) (drop offset text) (IsUtf8-drop text offset u boundary) (next ∙ sym (ap (drop offset) is ∙ drop_at front (92 ∷ after) offset long)));
       byte = byte;
     }
+
+-- the first bad escape stands at the front of this rest
+pub record EscapeAt (text rest : List ℕ) : Type 0 where
+  pub bad : HasBadEscape (chars text)
+  pub is : chars rest ≡ 92 ∷ bad.next ∷ bad.rest
+
+pub escape-at : (text rest : List ℕ) (offset : ℕ) → IsUtf8 text → TellsEscape (chars text) offset → 1 ≤ offset → (IsCharBoundary text offset → rest ≡ drop offset text) → EscapeAt text rest
+escape-at text rest offset u (inl (none, good)) some back = absurd (omega (arith, none, some))
+escape-at text rest offset u (inr (bad, e)) some back = let at = at-escape text offset u bad e in record { bad = bad; is = ap chars (back at.boundary) ∙ at.back }
+
+pub no-escape : (text : List ℕ) → TellsEscape text 0 → HasBadEscape text → ⊥
+no-escape text (inl (none, good)) = good
+no-escape text (inr (bad, e)) = absurd (omega (arith, e))
+
+-- ---- block strings
+
+quote-bytes : (cs : List ℕ) → encode_utf8_all (34 ∷ cs) ≡ 34 ∷ encode_utf8_all cs
+quote-bytes cs = ap (λ (l : List ℕ). l ++ encode_utf8_all cs) (encode_ascii 34 (omega arith))
+
+after-a-quote : (text rest : List ℕ) → IsUtf8 text → text ≡ 34 ∷ rest → IsUtf8 rest × (chars text ≡ 34 ∷ chars rest)
+after-a-quote text rest u e =
+    let is : text ≡ encode_utf8 34 ++ rest = e ∙ ap (λ (l : List ℕ). l ++ rest) (sym (encode_ascii 34 (omega arith))) in
+    (IsUtf8-past_char text rest 34 u is, chars_past_char text rest 34 u is)
+
+pub block-quoted : (text rest : List ℕ) → IsUtf8 text → text ≡ 34 ∷ 34 ∷ 34 ∷ rest → IsBlockQuoted (chars text)
+block-quoted text rest u e =
+    let one = after-a-quote text (34 ∷ 34 ∷ rest) u e in
+    let two = after-a-quote (34 ∷ 34 ∷ rest) (34 ∷ rest) one.0 refl in
+    let three = after-a-quote (34 ∷ rest) rest two.0 refl in
+    (chars rest, one.1 ∙ ap (λ (l : List ℕ). 34 ∷ l) (two.1 ∙ ap (λ (l : List ℕ). 34 ∷ l) three.1))
+
+pub not-block : (text : List ℕ) → IsUtf8 text → ((rest : List ℕ) → text ≢ 34 ∷ 34 ∷ 34 ∷ rest) → IsBlockQuoted (chars text) → ⊥
+not-block text u other (rest, e) = other (encode_utf8_all rest)
+    (sym (encodes-chars text u) ∙ ap encode_utf8_all e ∙ quote-bytes (34 ∷ 34 ∷ rest) ∙ ap (λ (l : List ℕ). 34 ∷ l) (quote-bytes (34 ∷ rest) ∙ ap (λ (l : List ℕ). 34 ∷ l) (quote-bytes rest)))

@@ -1,5 +1,6 @@
 //! The line of a place, with a caret under it.
-ghost use Rattle.std.specs.Prelude.{◌≡◌};
+ghost use Rattle.std.specs.Prelude.{◌≡◌, ◌++◌, map, OnOk, string_bytes};
+ghost use Rattle.std.specs.Str.{chars, encode_utf8_all};
 ghost use Rattle.graphql_tokens.specs.tokens.Place.{is_line_end as ends_line};
 ghost use Rattle.graphql_report.specs.reports.Words.{shown_for, turns_text as turns_its_text};
 
@@ -117,7 +118,10 @@ pub fn excerpt_of(
 }
 
 /// Adds a text as it is shown.
-pub fn push_shown(out: &mut String, text: &str) -> Result<(), AllocError> {
+pub fn push_shown(out: &mut String, text: &str) -> Result<(), AllocError>
+    ensures { OnOk result (string_bytes out.new ≡
+        string_bytes out.old ++ encode_utf8_all (map shown_for (chars text.now))) }
+{
     for c in text.chars() {
         out.push(shown(c))?;
     }

@@ -1,12 +1,15 @@
 //! What is wrong where no token begins, in a person's words.
-ghost use Rattle.std.specs.Prelude.{◌≡◌, ◌≤◌, ◌==◌, ℕ, List, [], ◌∷◌, ◌++◌, length, take, IfOk, IfSome, IfNone, unwrap_or};
-ghost use Rattle.std.specs.Str.{chars, IsUtf8, NonePass};
+ghost use Rattle.std.specs.Prelude.{◌≡◌, ◌≢◌, ◌≤◌, ◌==◌, ◌&&◌, if◌then◌else◌, ℕ, Bool, true, false, List, [], ◌∷◌, ◌++◌, length, map, take, codes, IfOk, IfSome, IfNone, MatchOption, string_bytes, unwrap_or};
+ghost use Rattle.std.specs.Str.{chars, encode_utf8_all, IsUtf8, NonePass};
+ghost use Rattle.graphql_tokens.specs.tokens.Numbers.{AllDigits, is_e, is_sign as is_sign_char, IsExponent, IsFraction, IsOptional};
 ghost use Rattle.graphql_tokens.specs.tokens.Strings.{is_plain as is_plain_char};
-ghost use Rattle.graphql_report.specs.inner.Strings.{IsSplit, HasNoUnit, Passes, TellsAhead};
+ghost use Rattle.graphql_report.specs.inner.Strings.{HasBareExponent, HasBarePoint, HasNoUnit, IsAfter, IsShownEscape, IsSplit, Passes, TellsAhead};
 ghost use Rattle.graphql_report.specs.inner.Carets.{TellsEscape};
+ghost use Rattle.graphql_report.specs.reports.Faults.{begins_with_digit as digit_first, digit_after_dots as digit_follows, is_invisible as is_unseen, is_other_quote as is_quote, has_leading_zero as leading_zero, IsToldOfCharacter, IsToldOfDigits, IsToldOfFault};
+ghost use Rattle.graphql_report.specs.reports.Words.{shown_for};
 
 use crate::excerpt::{is_line_end, push_shown, shown};
-use crate::refused::{after, before};
+use crate::refused::after;
 use graphql_parser::text::string_value;
 use std::alloc::{AllocError, Global};
 
@@ -23,102 +26,266 @@ pub struct Fault {
 ///
 /// What is told first is told: of a string the first bad escape, or else that it is not closed.
 pub fn fault_of(alloc: Global, text: &str, is_value: bool) -> Result<Fault, AllocError>
-    ensures { IfOk result (λ fault. TellsEscape (chars text.now) fault.offset) }
+    ensures escape { IfOk result (λ fault. TellsEscape (chars text.now) fault.offset) }
+    ensures told { IfOk result (λ fault. IsToldOfFault is_value (chars text.now) (string_bytes fault.message)) }
 {
-    if text.starts_with('"') {
+    let Some((first, rest)) = split_first(text) else {
+        let nothing = String::from_str(alloc, "no token begins here")?;
+        return Ok(Fault {
+            message: nothing,
+            offset: 0,
+        });
+    };
+    if first == '"' {
         return string_fault(alloc, text);
     }
-    let message = other_fault(alloc, text, is_value)?;
+    if first == '-' {
+        let minus = minus_fault(alloc, rest, is_value)?;
+        return Ok(Fault {
+            message: minus,
+            offset: 0,
+        });
+    }
+    let message = other_fault(alloc, text, first, is_value)?;
     Ok(Fault { message, offset: 0 })
 }
 
-// What is wrong with a text that is no string.
-fn other_fault(alloc: Global, text: &str, is_value: bool) -> Result<String, AllocError> {
-    match text.chars().next() {
-        Some('.') => String::from_str(alloc, dots_fault(text, is_value)),
-        Some('-') if !is_value => String::from_str(alloc, "no name contains a minus sign"),
-        Some('+') if is_value => String::from_str(alloc, "a number has no plus sign"),
-        Some(c) if c == '-' || c.is_ascii_digit() => number_fault(alloc, text),
-        Some(c) => character_fault(alloc, c),
-        None => String::from_str(alloc, "no token begins here"),
-    }
+// The first character of a text, and the rest.
+fn split_first(text: &str) -> Option<(char, &str)>
+    ensures cases { MatchOption result (chars text.now ≡ [])
+        (λ parts. chars text.now ≡ parts.0 ∷ chars parts.1.now) }
+    ensures utf8 { IfSome result (λ parts. IsUtf8 parts.1.now) }
+{
+    let mut rest = text.chars();
+    let Some(c) = rest.next() else {
+        return None;
+    };
+    Some((c, rest.as_str()))
 }
 
-fn dots_fault(text: &str, is_value: bool) -> &'static str {
-    let rest = text.trim_start_matches('.');
-    if is_value && begins_with_digit(rest) {
+// What is wrong with a minus sign before this text.
+fn minus_fault(alloc: Global, unsigned: &str, is_value: bool) -> Result<String, AllocError>
+    ensures { IfOk result (λ told. (text : List ℕ) → text ≡ 45 ∷ chars unsigned.now →
+        IsToldOfFault is_value text (string_bytes told)) }
+{
+    if !is_value {
+        return String::from_str(alloc, "no name contains a minus sign");
+    }
+    if !begins_with_digit(unsigned) {
+        return String::from_str(alloc, "a digit has to follow the minus sign");
+    }
+    digits_fault(alloc, unsigned)
+}
+
+// What is wrong with a text that begins with this character, which is neither a quote nor a minus sign.
+fn other_fault(alloc: Global, text: &str, first: char, is_value: bool) -> Result<String, AllocError>
+    requires first { (rest : List ℕ) × (chars text.now ≡ first ∷ rest) }
+    requires other { (first == 34 ≡ false) × (first == 45 ≡ false) }
+    ensures { IfOk result (λ told. IsToldOfFault is_value (chars text.now) (string_bytes told)) }
+{
+    if first == '.' {
+        return String::from_str(alloc, dots_fault(text, is_value));
+    }
+    if is_value && first == '+' {
+        return String::from_str(alloc, "a number has no plus sign");
+    }
+    if first.is_ascii_digit() {
+        return digits_fault(alloc, text);
+    }
+    character_fault(alloc, first)
+}
+
+fn dots_fault(text: &str, is_value: bool) -> &'static str
+    ensures { result.now ≡ (if is_value && digit_follows (chars text.now) then
+        codes "a digit has to stand before the point of a number" else
+        codes "a spread is written with three dots") }
+{
+    if is_value && digit_after_dots(text) {
         "a digit has to stand before the point of a number"
     } else {
         "a spread is written with three dots"
     }
 }
 
-fn character_fault(alloc: Global, c: char) -> Result<String, AllocError> {
-    match c {
-        '\'' | '`' | '\u{2018}' | '\u{2019}' | '\u{201c}' | '\u{201d}' => {
-            format!(in alloc; "{c} begins no token (a string stands between double quotes)")
+// Whether a digit is next but for dots.
+fn digit_after_dots(text: &str) -> bool
+    ensures { result ≡ digit_follows (chars text.now) }
+{
+    let mut rest = text;
+    loop {
+        let Some((c, after)) = split_first(rest) else {
+            return false;
+        };
+        if c != '.' {
+            return c.is_ascii_digit();
         }
-        '/' => String::from_str(
-            alloc,
-            "the character / begins no token (a comment begins with #)",
-        ),
-        _ if is_invisible(c) => {
-            let code = u32::from(c);
-            format!(in alloc; "the character U+{code:04X} begins no token")
-        }
-        _ => format!(in alloc; "the character {c} begins no token"),
+        rest = after;
     }
 }
 
+// What is wrong with a character that begins nothing.
+fn character_fault(alloc: Global, c: char) -> Result<String, AllocError>
+    ensures { IfOk result (λ told. IsToldOfCharacter c (string_bytes told)) }
+{
+    if is_other_quote(c) {
+        return format!(in alloc; "{c} begins no token (a string stands between double quotes)");
+    }
+    if c == '/' {
+        return String::from_str(
+            alloc,
+            "the character / begins no token (a comment begins with #)",
+        );
+    }
+    if is_invisible(c) {
+        return invisible_fault(alloc, c);
+    }
+    format!(in alloc; "the character {c} begins no token")
+}
+
+// What is wrong with a character that a person can't see.
+fn invisible_fault(alloc: Global, c: char) -> Result<String, AllocError>
+    ensures { IfOk result (λ told. (number : List ℕ) ×
+        (string_bytes told ≡ codes "the character U+" ++ (number ++ codes " begins no token"))) }
+{
+    let code = u32::from(c);
+    let number = format!(in alloc; "{code:04X}")?;
+    let shown = number.as_str();
+    format!(in alloc; "the character U+{shown} begins no token")
+}
+
+// Whether this is a quote that begins no string.
+fn is_other_quote(c: char) -> bool
+    ensures { result ≡ is_quote c }
+{
+    matches!(
+        c,
+        '\'' | '`' | '\u{2018}' | '\u{2019}' | '\u{201c}' | '\u{201d}'
+    )
+}
+
 // Whether a person can't see the character, or may take it for a blank.
-fn is_invisible(c: char) -> bool {
+fn is_invisible(c: char) -> bool
+    ensures { result ≡ is_unseen c }
+{
     shown(c) != c || c.is_whitespace() || ('\u{200b}'..='\u{200d}').contains(&c)
 }
 
 // ---- numbers
 
-// The digits at the front, and the rest.
-fn after_digits(text: &str) -> &str {
-    text.trim_start_matches(|c: char| c.is_ascii_digit())
-}
-
-fn begins_with_digit(text: &str) -> bool {
-    text.starts_with(|c: char| c.is_ascii_digit())
-}
-
-fn number_fault(alloc: Global, text: &str) -> Result<String, AllocError> {
-    let unsigned = text.strip_prefix('-').unwrap_or(text);
-    if !begins_with_digit(unsigned) {
-        return String::from_str(alloc, "a digit has to follow the minus sign");
+fn begins_with_digit(text: &str) -> bool
+    ensures { result ≡ digit_first (chars text.now) }
+{
+    match split_first(text) {
+        Some((c, _)) => c.is_ascii_digit(),
+        None => false,
     }
-    let rest = match unsigned.strip_prefix('0') {
-        Some(rest) if begins_with_digit(rest) => {
-            return String::from_str(alloc, "no digit may follow a 0 that begins a number");
+}
+
+// The rest after the digits at the front.
+fn after_digits(text: &str) -> &str
+    ensures after { IsAfter AllDigits (chars text.now) (chars result.now) }
+    ensures all { digit_first (chars result.now) ≡ false }
+{
+    let mut rest = text;
+    loop {
+        let Some((c, after)) = split_first(rest) else {
+            return rest;
+        };
+        if !c.is_ascii_digit() {
+            return rest;
         }
-        Some(rest) => rest,
-        None => after_digits(unsigned),
+        rest = after;
+    }
+}
+
+fn is_sign(c: char) -> bool
+    ensures { result ≡ is_sign_char c }
+{
+    c == '+' || c == '-'
+}
+
+fn is_exponent(c: char) -> bool
+    ensures { result ≡ is_e c }
+{
+    c == 'e' || c == 'E'
+}
+
+// The rest after a plus or minus sign, if there is one.
+fn after_sign(text: &str) -> &str
+    ensures { IsAfter (IsOptional is_sign_char) (chars text.now) (chars result.now) }
+{
+    let Some((c, rest)) = split_first(text) else {
+        return text;
     };
-    let rest = match rest.strip_prefix('.') {
-        Some(fraction) if !begins_with_digit(fraction) => {
-            return String::from_str(alloc, "a digit has to follow the point of a number");
-        }
-        Some(fraction) => after_digits(fraction),
-        None => rest,
+    if is_sign(c) {
+        return rest;
+    }
+    text
+}
+
+// The rest after the fraction, if there is one; None of a point without a digit.
+fn after_fraction(text: &str) -> Option<&str>
+    ensures cases { MatchOption result (HasBarePoint (chars text.now))
+        (λ rest. IsAfter IsFraction (chars text.now) (chars rest.now)) }
+    ensures utf8 { IfSome result (λ rest. IsUtf8 rest.now) }
+{
+    let Some((c, digits)) = split_first(text) else {
+        return Some(text);
     };
-    let rest = match rest.strip_prefix(|c: char| c == 'e' || c == 'E') {
-        Some(exponent) => {
-            let digits = exponent
-                .strip_prefix(|c: char| c == '+' || c == '-')
-                .unwrap_or(exponent);
-            if !begins_with_digit(digits) {
-                return String::from_str(alloc, "the exponent of a number has to have a digit");
-            }
-            after_digits(digits)
-        }
-        None => rest,
+    if c != '.' {
+        return Some(text);
+    }
+    if !begins_with_digit(digits) {
+        return None;
+    }
+    Some(after_digits(digits))
+}
+
+// The rest after the exponent, if there is one; None of one without a digit.
+fn after_exponent(text: &str) -> Option<&str>
+    ensures cases { MatchOption result (HasBareExponent (chars text.now))
+        (λ rest. IsAfter IsExponent (chars text.now) (chars rest.now)) }
+    ensures utf8 { IfSome result (λ rest. IsUtf8 rest.now) }
+{
+    let Some((c, exponent)) = split_first(text) else {
+        return Some(text);
     };
-    match rest.chars().next() {
-        Some(c) => format!(in alloc; "{c} may not follow a number at once"),
+    if !is_exponent(c) {
+        return Some(text);
+    }
+    let digits = after_sign(exponent);
+    if !begins_with_digit(digits) {
+        return None;
+    }
+    Some(after_digits(digits))
+}
+
+// Whether a text begins with a zero and another digit.
+fn has_leading_zero(text: &str) -> bool
+    ensures { result ≡ leading_zero (chars text.now) }
+{
+    match split_first(text) {
+        Some((c, rest)) => c == '0' && begins_with_digit(rest),
+        None => false,
+    }
+}
+
+// What is wrong with a text that begins with a digit.
+fn digits_fault(alloc: Global, text: &str) -> Result<String, AllocError>
+    requires { digit_first (chars text.now) ≡ true }
+    ensures { IfOk result (λ told. IsToldOfDigits (chars text.now) (string_bytes told)) }
+{
+    if has_leading_zero(text) {
+        return String::from_str(alloc, "no digit may follow a 0 that begins a number");
+    }
+    let Some(rest) = after_fraction(after_digits(text)) else {
+        return String::from_str(alloc, "a digit has to follow the point of a number");
+    };
+    let Some(rest) = after_exponent(rest) else {
+        return String::from_str(alloc, "the exponent of a number has to have a digit");
+    };
+    match split_first(rest) {
+        Some((c, _)) => format!(in alloc; "{c} may not follow a number at once"),
         None => String::from_str(alloc, "this is no number"),
     }
 }
@@ -227,20 +394,26 @@ fn ahead_in<'a>(alloc: Global, text: &'a str) -> Result<Ahead<'a>, AllocError>
 }
 
 // What is shown of a bad escape.
-fn shown_escape(text: &str) -> &str {
+fn shown_escape(text: &str) -> &str
+    requires { 1 ≤ length (chars text.now) }
+    ensures { IsShownEscape (chars text.now) (chars result.now) }
+{
     if text.starts_with("\\u{") {
         split_chars(split_at_brace(text).0, 12).0
     } else if text.starts_with("\\u") {
         let digits = text.strip_prefix("\\u").unwrap_or("");
         let rest = digits.trim_start_matches(|c: char| c.is_ascii_hexdigit());
         let length = digits.len().saturating_sub(rest.len()).min(4);
-        before(text, length.saturating_add(2))
+        split_chars(text, length + 2).0
     } else {
         split_chars(text, 2).0
     }
 }
 
-fn escape_fault(alloc: Global, escape: &str) -> Result<String, AllocError> {
+fn escape_fault(alloc: Global, escape: &str) -> Result<String, AllocError>
+    ensures { IfOk result (λ told. string_bytes told ≡ codes "the escape " ++
+        (encode_utf8_all (map shown_for (chars escape.now)) ++ codes " in this string stands for no character")) }
+{
     let mut message = String::from_str(alloc, "the escape ")?;
     push_shown(&mut message, escape)?;
     message.push_str(" in this string stands for no character")?;
@@ -249,7 +422,8 @@ fn escape_fault(alloc: Global, escape: &str) -> Result<String, AllocError> {
 
 // Where the first bad escape of a string begins, if the string has one before it or its line ends.
 fn bad_escape(alloc: Global, text: &str) -> Result<Option<usize>, AllocError>
-    ensures { IfOk result (λ found. TellsEscape (chars text.now) (unwrap_or found 0)) }
+    ensures escape { IfOk result (λ found. TellsEscape (chars text.now) (unwrap_or found 0)) }
+    ensures some { IfOk result (λ found. IfSome found (λ offset. 1 ≤ offset)) }
 {
     let Some(mut rest) = text.strip_prefix('"') else {
         return Ok(None);
@@ -263,20 +437,41 @@ fn bad_escape(alloc: Global, text: &str) -> Result<Option<usize>, AllocError>
     }
 }
 
+// What is wrong with a text that begins with a quote.
 fn string_fault(alloc: Global, text: &str) -> Result<Fault, AllocError>
-    ensures { IfOk result (λ fault. TellsEscape (chars text.now) fault.offset) }
+    requires { (rest : List ℕ) × (chars text.now ≡ 34 ∷ rest) }
+    ensures escape { IfOk result (λ fault. TellsEscape (chars text.now) fault.offset) }
+    ensures told { IfOk result (λ fault. (value : Bool) →
+        IsToldOfFault value (chars text.now) (string_bytes fault.message)) }
 {
-    if let Some(offset) = bad_escape(alloc, text)? {
-        let message = escape_fault(alloc, shown_escape(after(text, offset)))?;
-        return Ok(Fault { message, offset });
-    }
-    let message = if text.starts_with("\"\"\"") {
-        "this block string is not closed by \"\"\""
-    } else {
-        "this string is not closed before the end of its line"
+    let Some(offset) = bad_escape(alloc, text)? else {
+        return open_fault(alloc, text);
     };
+    let message = escape_fault(alloc, shown_escape(after(text, offset)))?;
+    Ok(Fault { message, offset })
+}
+
+// What is wrong with a text that begins with a quote, if no escape is bad.
+fn open_fault(alloc: Global, text: &str) -> Result<Fault, AllocError>
+    requires quote { (rest : List ℕ) × (chars text.now ≡ 34 ∷ rest) }
+    requires good { TellsEscape (chars text.now) 0 }
+    ensures escape { IfOk result (λ fault. TellsEscape (chars text.now) fault.offset) }
+    ensures told { IfOk result (λ fault. (value : Bool) →
+        IsToldOfFault value (chars text.now) (string_bytes fault.message)) }
+{
+    if text.starts_with("\"\"\"") {
+        let block = String::from_str(alloc, "this block string is not closed by \"\"\"")?;
+        return Ok(Fault {
+            message: block,
+            offset: 0,
+        });
+    }
+    let line = String::from_str(
+        alloc,
+        "this string is not closed before the end of its line",
+    )?;
     Ok(Fault {
-        message: String::from_str(alloc, message)?,
+        message: line,
         offset: 0,
     })
 }

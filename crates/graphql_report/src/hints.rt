@@ -5,12 +5,13 @@ ghost use Rattle.graphql_tokens.specs.tokens.Seen.{seen};
 ghost use Rattle.graphql_report.specs.inner.Called.{texts};
 ghost use Rattle.graphql_report.specs.inner.Told.{Adds, AddsHint, AddsMeant};
 ghost use Rattle.graphql_report.specs.reports.Expected.{quoted};
+ghost use Rattle.graphql_report.specs.reports.Faults.{expects_value as is_value_expected};
 ghost use Rattle.graphql_report.specs.reports.Hints.{IsWordOf, begins_in_schemas as begins_schemas, is_among, is_of_other_language as is_of_other, other_language};
 ghost use Rattle.graphql_report.specs.reports.Words.{is_no_enum_value as is_no_value};
 
 use crate::fronts::Language;
 use crate::refused::after;
-use crate::samples::{END, LOCATION, NAME};
+use crate::samples::{END, LOCATION, NAME, NUMBER, VALUE};
 use graphql_parser::Pos;
 use graphql_parser::lexer::{Token, TokenKind, Tokens};
 use graphql_parser::types::DirectiveLocation;
@@ -133,6 +134,13 @@ fn push_other_language(
             " (\"{word}\" begins a definition of a request, and this text is read as a schema file)"
         ),
     }
+}
+
+/// Whether a value is expected.
+pub fn expects_value(expected: &[&'static str]) -> bool
+    ensures { result ≡ is_value_expected (texts expected.now) }
+{
+    expects(expected, VALUE) || expects(expected, NUMBER)
 }
 
 fn expects(expected: &[&'static str], name: &str) -> bool

@@ -16,14 +16,15 @@
 //! the refused token from [`refused_token_from`], and hands it on with what it knows ([`ReadUpTo`], [`explain_from`],
 //! [`finding_from`]).
 //!
-//! Proved of it, unless memory runs out: `is_front` answers true exactly where the tokens of a text are a viable front, in
-//! both languages and at all limits; the token that is given is the one at which the text is refused; what is expected is
-//! exactly those of the samples, in their order, that can stand after the text before the refused token, a keyword only
-//! where a name can't, and the end of the text where that text is a whole document; where that text has no fault, every
-//! token that can stand after it is called by one of the names that are told, and every name by which no end is meant is
-//! that of such a token; a report begins with the place of the error, or of the first bad escape of the refused string, and
-//! its message, and a finding stands at that place; and every call is safe and ends. What a report says in words besides is
-//! tested, in `conformance`.
+//! Proved of it, unless memory runs out: `is_front` answers true exactly where the tokens of a text are a viable
+//! front, in both languages and at all limits; the token that is given is the one at which the text is refused; what
+//! is expected is exactly those of the samples, in their order, that can stand after the text before the refused
+//! token, a keyword only where a name can't, and the end of the text where that text is a whole document; where that
+//! text has no fault, every token that can stand after it is called by one of the names that are told, and every name
+//! by which no end is meant is that of such a token; a hint has one of a few forms, and the word that it asks for is
+//! expected; what is wrong where no token begins is told in the words of a table; a report begins with the place of
+//! the error, or of the first bad escape of the refused string, and its message, and a finding stands at that place;
+//! and every call is safe and ends. What a report says in words besides is tested, in `conformance`.
 #![tactic(auto)]
 
 mod definitions;

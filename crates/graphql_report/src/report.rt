@@ -17,10 +17,9 @@ use crate::excerpt::excerpt_of;
 use crate::expected::expected_after;
 use crate::faults::fault_of;
 use crate::fronts::{Language, end_of};
-use crate::hints::{push_hint, push_unclosed};
+use crate::hints::{expects_value, push_hint, push_unclosed};
 use crate::refused::{Depth, before, reached_limit, split};
 use crate::rests::{ReadUpTo, read_before};
-use crate::samples::{NUMBER, VALUE};
 use crate::style::{Part, Style};
 use crate::words::{push_expected, push_found};
 use graphql_parser::lexer::{Token, TokenKind};
@@ -153,7 +152,7 @@ struct Source<'a> {
     read: &'a ReadUpTo<'a>,
 }
 
-// A message with its place, which goes on so, and the line of the place.
+// A message with its place, which goes on so to the end of its line, and the line of the place.
 fn told_at(
     alloc: Global,
     source: &Source<'_>,
@@ -165,7 +164,7 @@ fn told_at(
     ensures begins { IfOk result (λ part.
         Tells source.now.style source.now.file_name.now place message.now (string_bytes part)) }
     ensures goes_on { IfOk result (λ part. Tells source.now.style source.now.file_name.now place
-        (message.now ++ more.now) (string_bytes part)) }
+        ((message.now ++ more.now) ++ 10 ∷ []) (string_bytes part)) }
 {
     let file = named(alloc, source.file_name, ":")?;
     let file = file.as_str();
@@ -304,13 +303,13 @@ fn push_wrong(
     token: &Token<'_>,
     expected: &[&'static str],
 ) -> Result<usize, AllocError>
-    ensures told { OnOk result (IsWrong (seen token.now).bare (string_bytes out.old) (string_bytes out.new)) }
+    ensures told { OnOk result (IsWrong text.now (texts expected.now) (seen token.now)
+        (string_bytes out.old) (string_bytes out.new)) }
     ensures caret { IfOk result (λ passed. IsWrongAfter text.now (seen token.now) passed) }
 {
     if matches!(token.kind, TokenKind::Fault) {
-        let is_value = expected.contains(&VALUE) || expected.contains(&NUMBER);
         let (_, rest) = split(text, token.start);
-        let fault = fault_of(alloc, rest, is_value)?;
+        let fault = fault_of(alloc, rest, expects_value(expected))?;
         out.push_str(fault.message.as_str())?;
         return Ok(fault.offset);
     }

@@ -1,7 +1,8 @@
 -- What the check of a text tells; and what its error tells: whether the text can be completed, where its end stands at a
 -- place of its own, and whether it has a tree.
 -- Source: this project's choice.
-use Rattle.std.specs.Prelude.{◌≡◌, ◌≢◌, ◌↔◌, ◌⊎◌, ℕ, List, [], ◌++◌, codes, Bool, true, false, IsTrue, Option, None, string_bytes, Result, Ok, Err}
+use Rattle.std.specs.Prelude.{◌≡◌, ◌≢◌, ◌↔◌, ◌⊎◌, ℕ, List, [], ◌++◌, drop, codes, Bool, true, false, IsTrue, Option, None, string_bytes, Result, Ok, Err}
+use Rattle.std.specs.Str.{chars, IsCharBoundary}
 use Rattle.std.specs.declared.alloc.AllocError.{AllocError}
 use Rattle.graphql_tokens.specs.declared.lexer.Token.{Token as LentToken}
 use Rattle.graphql_tokens.specs.declared.pos.Pos.{Pos}
@@ -20,6 +21,7 @@ use Rattle.graphql_parser.specs.Checking.{checked}
 use Rattle.graphql_report.specs.declared.findings.Finding.{Finding}
 use Rattle.graphql_report.specs.declared.fronts.Language.{Language}
 use Rattle.graphql_report.specs.reports.Findings.{first_of, status_of}
+use Rattle.graphql_report.specs.reports.Faults.{IsToldOfFault, expects_value}
 use Rattle.graphql_report.specs.reports.Hints.{IsExpectedWord, IsHint}
 use Rattle.graphql_report.specs.reports.Words.{found}
 use Rattle.graphql_report.specs.declared.fronts.Language.TheVariants.{Requests, Schemas}
@@ -67,8 +69,10 @@ abbrev pub IsGuess : List (List ℕ) → List ℕ → Type 0
 IsGuess names word = (word ≡ []) ⊎ IsExpectedWord names word
 
 -- what was found is told, or what is wrong
-abbrev pub IsWrong : Bare → List ℕ → List ℕ → Type 0
-IsWrong token old new = (wrong : List ℕ) × (new ≡ old ++ wrong) × ((token.kind ≡ Fault → ⊥) → wrong ≡ codes "found " ++ found token)
+abbrev pub IsWrong : List ℕ → List (List ℕ) → Token → List ℕ → List ℕ → Type 0
+IsWrong text names token old new =
+    (wrong : List ℕ) × (new ≡ old ++ wrong) × ((token.bare.kind ≡ Fault → ⊥) → wrong ≡ codes "found " ++ found token.bare)
+    × (token.bare.kind ≡ Fault → IsCharBoundary text token.start → IsToldOfFault (expects_value names) (chars (drop token.start text)) wrong)
 
 -- what a finding says of an error that names no refused token
 abbrev pub TellsBreach : Error → Finding → Type 0

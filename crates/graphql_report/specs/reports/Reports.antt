@@ -19,6 +19,7 @@ use Rattle.graphql_report.specs.declared.style.Part.{Part}
 use Rattle.graphql_report.specs.declared.style.Part.TheVariants.{Place, Error as Word, Caret}
 use Rattle.graphql_report.specs.reports.Escapes.{IsBadEscapeOf}
 use Rattle.graphql_report.specs.reports.Expected.{AreExpected}
+use Rattle.graphql_report.specs.reports.Faults.{IsToldOfFault, expects_value}
 use Rattle.graphql_report.specs.reports.Hints.{IsHint}
 use Rattle.graphql_report.specs.reports.Words.{found, expected}
 
@@ -85,6 +86,7 @@ pub record TellsToken (language : Language) (limits : Limits) (text : List ℕ) 
   pub more : List ℕ
   pub is : details ≡ wrong ++ expected language token.bare names ++ more
   pub found : (token.bare.kind ≡ Fault → ⊥) → wrong ≡ codes "found " ++ found token.bare
+  pub faults : token.bare.kind ≡ Fault → IsToldOfFault (expects_value names) (chars (drop token.start text)) wrong
   pub hints : IsHint language token.bare names more
 
 -- these details are of the token that is the refused one
@@ -102,7 +104,7 @@ TellsSyntax style file is_refused language limits text from start report =
     (place : Pos) × (details : List ℕ)
     × IsToldAt is_refused text start place
     × AreDetails is_refused language limits text from details
-    × Tells style file place ((codes "syntax " ++ styled style Word (codes "error") ++ codes ": ") ++ details) report
+    × Tells style file place (((codes "syntax " ++ styled style Word (codes "error") ++ codes ": ") ++ details) ++ 10 ∷ []) report
 
 abbrev pub TellsLimit : Style → List ℕ → (Token → Type 0) → List ℕ → List ℕ → Type 0
 TellsLimit style file is_refused text report =

@@ -1,5 +1,6 @@
 use Rattle.std.proofs.Common.{◌≡◌, ◌-◌, ◌<◌, ◌^◌, ℕ, List, length, arith, ◌++◌, take, drop, sym, ap, ◌∙◌, subst}
 use Rattle.std.specs.Borrow.{Bor}
+use Rattle.std.specs.Str.{IsCharBoundary}
 use Rattle.std.specs.String.{string_bytes}
 use Rattle.graphql_tokens.specs.tokens.Token.{Token}
 use Rattle.graphql_tokens.specs.tokens.Seen.{seen}
@@ -9,7 +10,7 @@ use Rattle.graphql_report.specs.reports.Refused.{IsKnown}
 use Rattle.graphql_report.specs.reports.Reports.{TellsToken}
 use Rattle.graphql_report.specs.reports.Words.{expected}
 use Rattle.graphql_report.proofs.Carets.{caret-at}
-use Rattle.graphql_report.proofs.Refusing.{its-boundary, known-lent, read-front}
+use Rattle.graphql_report.proofs.Refusing.{at-lent, its-boundary, known-lent, read-front}
 use Rattle.graphql_report.proofs.report.details_of.Goals as goal
 
 pub returns-clause-told : goal.returns-clause-told
@@ -26,6 +27,7 @@ returns-clause-told c token known =
       more = c.in_ok-meant.ensures.0;
       is = c.in_ok-meant.ensures.1 ∙ ap (λ (l : List ℕ). l ++ c.in_ok-meant.ensures.0) (c.in_ok-push_expected.ensures ∙ ap (λ (l : List ℕ). l ++ expected c.args.language (seen lent).bare (texts c.as_slice-expected.result.now)) (c.in_ok-offset.ensures.told.1 ∙ ap (λ (l : List ℕ). l ++ c.in_ok-offset.ensures.told.0) c.new-message.ensures.bytes));
       found = c.in_ok-offset.ensures.told.2;
+      faults = λ fault. c.in_ok-offset.ensures.told.3 fault (at-lent (IsCharBoundary text) c.args.language c.args.limits text read token lent c.in-Some.is known (its-boundary c.args.language c.args.limits text read.from token c.utf8.text c.requires known.0));
       hints = c.in_ok-meant.ensures.2;
     })
 

@@ -2,7 +2,7 @@ use Rattle.std.proofs.Common.{◌≡◌, ℕ, List, [], ◌∷◌, ◌++◌, ap,
 use Rattle.std.specs.String.{string_bytes}
 use Rattle.graphql_report.specs.reports.Reports.{styled, place_text}
 use Rattle.graphql_report.specs.declared.style.Part.TheVariants.{Place}
-use Rattle.graphql_report.proofs.ReportParts.{go-on, place-shown}
+use Rattle.graphql_report.proofs.ReportParts.{go-on-line, place-shown}
 use Rattle.graphql_report.proofs.report.told_at.Goals as goal
 
 -- what is written before the message
@@ -22,4 +22,4 @@ pub returns-clause-begins : goal.returns-clause-begins
 returns-clause-begins c = (c.as_str-2.result.now, written c)
 
 pub returns-clause-goes_on : goal.returns-clause-goes_on
-returns-clause-goes_on c = (_, written c ∙ ap (λ (l : List ℕ). (front c ++ c.args.message.now) ++ l) (c.as_str-2.ensures.value ∙ c.in_ok-rest.ensures.ok) ∙ go-on (front c) c.args.message.now c.args.more.now _)
+returns-clause-goes_on c = (_, written c ∙ go-on-line (front c) c.args.message.now c.args.more.now _ c.as_str-2.result.now (c.as_str-2.ensures.value ∙ c.in_ok-rest.ensures.ok))

@@ -1,0 +1,1 @@
+use Rattle.graphql_report.proofs.faults.dots_fault.Goals as goal
