@@ -1,1 +1,0 @@
-use Rattle.graphql_report.proofs.faults.dots_fault.Goals as goal
