@@ -127,16 +127,30 @@ impl Walk {
                 self.end_part()?;
             }
         }
+        let depth = self.depth_inside();
         self.outer.push(self.level)?;
         self.level = Level {
             bracket,
             closer,
             start: word.start,
             content: None,
-            depth: self.level.depth.saturating_add(1),
+            depth,
             member: None,
         };
         Ok(())
+    }
+
+    // How many symbols something inside of the member is in: it is in the member's symbol, if that has one.
+    fn depth_inside(&self) -> usize {
+        match self.level.member {
+            Some(
+                Member {
+                    symbol: Some(_),
+                    ..
+                },
+            ) => self.level.depth.saturating_add(1),
+            _ => self.level.depth,
+        }
     }
 
     // Closes the innermost bracket by this word, or one around it if that is what it closes.
