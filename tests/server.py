@@ -10,6 +10,7 @@ GQL is the program, as crates/gql/out/gql. Without a PART all are tried:
   changes    100,000 changes of a text of 100 KB (CHANGES=N for others), and what memory the server takes meanwhile
   closed     200 texts of 1 MB opened and closed: nothing is kept of them
   times      from a key stroke to its diagnostics, for texts of 100 KB and 2 MB with one mistake
+  costs      what an outline and queued changes cost in key strokes
 The status is 0 where all is as it has to be. Times are printed, and judged by the reader."""
 import json, os, queue, random, re, statistics, subprocess, sys, threading, time
 from pathlib import Path
@@ -110,6 +111,10 @@ class Server:
     def change(self, version, *changes):
         self.send(change(version, *changes))
 
+    def spent(self):
+        """Seconds of the processor that the server has taken."""
+        return int(Path(f"/proc/{self.process.pid}/schedstat").read_text().split()[0]) / 1e9
+
     def memory(self, what="VmRSS"):
         """Bytes of memory that the server has now (VmRSS), or had at most (VmHWM)."""
         status = Path(f"/proc/{self.process.pid}/status").read_text()
@@ -155,7 +160,8 @@ def with_places(text):
 
 
 def dialogue(file):
-    """The turns of a dialogue: the bytes that are sent, whether the input ends, and the messages that are to come; and the status."""
+    """The turns of a dialogue: the bytes that are sent, whether the input ends, and the messages that are to come, each with whether it
+    comes also if the next message has arrived; and the status."""
     text = re.sub(r"(?m)^\+ (.*)\n", lambda part: (DATA / "parts" / part[1]).read_text(), file.read_text())
     turns, status = [], None
     for line in text.replace("\n  ", " ").split("\n"):
@@ -169,8 +175,8 @@ def dialogue(file):
             turns.append((rest.encode(), False, []))
         elif sign == "$":
             turns.append((b"", True, []))
-        elif sign == "<":
-            turns[-1][2].append(json.loads(with_places('{"jsonrpc": "2.0", ' + rest[1:])))
+        elif sign in ("<", "<?"):
+            turns[-1][2].append((json.loads(with_places('{"jsonrpc": "2.0", ' + rest[1:])), sign == "<"))
         elif sign == "=":
             status = int(rest)
         elif sign not in ("", "--"):
@@ -207,11 +213,21 @@ def try_dialogues(program):
             server.send(sent)
             if is_last:
                 server.process.stdin.close()
-            for each in wanted:
+            for each, _ in wanted:
                 judge(name, number, server.next(), each)
                 count += 1
         judge(name, "the end", list(server.end()), [[], 1 if status is None else status])
     print(f"dialogues: {len(dialogues())} with {count} messages out, as they have to be")
+
+
+def chosen(found, wanted):
+    """The messages found, without those that come only if the next one hasn't arrived."""
+    found, left = list(found), []
+    for each, is_sure in wanted:
+        if found and is_like(found[0], each):
+            first = found.pop(0)
+            left += [first] if is_sure else []
+    return left + found
 
 
 def try_pieces(program, rounds=5):
@@ -220,6 +236,7 @@ def try_pieces(program, rounds=5):
     for name, turns, status in dialogues():
         data = b"".join(sent for sent, _, _ in turns)
         wanted = [each for _, _, messages in turns for each in messages]
+        sure = [each for each, is_sure in wanted if is_sure]
         for _ in range(rounds):
             server = Server(program)
             most = chance.choice([1, 3, 20, 200, 4000])
@@ -230,7 +247,9 @@ def try_pieces(program, rounds=5):
                 while_left = while_left[size:]
                 if chance.random() < 0.02:
                     time.sleep(0.001)
-            judge(name, "in pieces", list(server.end()), [wanted, 1 if status is None else status])
+            rest, ended = server.end()
+            found = chosen(rest, wanted)
+            judge(name, "in pieces", [found, ended], [sure, 1 if status is None else status])
     print(f"pieces: each dialogue {rounds} times in random pieces, the same")
 
 
@@ -483,8 +502,41 @@ def try_times(program, strokes=100):
         server.end()
 
 
+def try_costs(program, rounds=50):
+    """What else is asked for costs not much more than key strokes."""
+    text = request_text(100_000)
+    server = Server(program)
+    server.begin(textDocument={"documentSymbol": {"hierarchicalDocumentSymbolSupport": True}})
+    server.open(text)
+    server.told()
+    asked = {"textDocument": {"uri": URI}}
+
+    def cost(*data):
+        """The processor's time for what is sent in one piece, up to its last message, and how many messages come before that."""
+        before, number = server.spent(), 0
+        server.send(b"".join(data) + message(id=2, method="gql/unknown"))
+        while server.next().get("id") != 2:
+            number += 1
+        return server.spent() - before, number
+
+    def middle(make):
+        return statistics.median(cost(*make(each))[0] for each in range(rounds))
+
+    def key(each):
+        return ranged((0, 2), (0, 2), "x") if each % 2 == 0 else ranged((0, 2), (0, 3), "")
+
+    stroke = middle(lambda each: [change(each, key(each))])
+    outline = middle(lambda each: [message(id=1, method="textDocument/documentSymbol", params=asked)])
+    queued, number = cost(*[change(each, key(each)) for each in range(100)])
+    print(f"costs: a key stroke {stroke * 1000:.2f} ms of the processor, an outline {outline / stroke:.1f} key strokes (wanted: 2), "
+          f"100 queued changes {queued / stroke:.1f}")
+    if number != 1:
+        sys.exit(f"costs: of 100 queued changes {number} are published")
+    server.end()
+
+
 PARTS = {"dialogues": try_dialogues, "pieces": try_pieces, "garbage": try_garbage, "limits": try_limits, "alone": try_alone,
-         "changes": try_changes, "closed": try_closed, "times": try_times}
+         "changes": try_changes, "closed": try_closed, "times": try_times, "costs": try_costs}
 
 
 def main():

@@ -12,7 +12,7 @@ use text_edits::Encoding;
 /// It fails only where memory runs out.
 pub fn write_folds(alloc: Global, text: &str, json: &mut JsonWriter) -> Result<(), AllocError> {
     let structure = Structure::new(alloc, text)?;
-    let places = Places::new(alloc, Encoding::Utf8, text)?;
+    let mut places = Places::new(alloc, Encoding::Utf8, text)?;
     json.begin_list();
     for fold in structure.folds() {
         let first = places.position_of(fold.span.start).line;

@@ -48,7 +48,7 @@ pub fn write_references(
 ) -> Result<(), AllocError> {
     let text = document.text();
     let structure = Structure::new(alloc, text)?;
-    let places = Places::new(alloc, encoding, text)?;
+    let mut places = Places::new(alloc, encoding, text)?;
     json.begin_list();
     if let Some(name) = structure.name_at(document.offset_of(encoding, position)) {
         for occurrence in structure.occurrences_of(alloc, text, name)? {

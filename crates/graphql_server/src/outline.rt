@@ -19,21 +19,75 @@ pub fn write_outline(
     json: &mut JsonWriter,
 ) -> Result<(), AllocError> {
     let structure = Structure::new(alloc, text)?;
-    let places = Places::new(alloc, client.encoding, text)?;
+    let symbols = structure.symbols();
+    let mut places = Places::new(alloc, client.encoding, text)?;
+    let ranges = ranges_of(alloc, symbols, &mut places)?;
     let outline = Outline {
         uri,
         text,
         kinds: &client.kinds,
-        places: &places,
     };
     json.begin_list();
     if client.nests_symbols {
-        outline.write_nested(structure.symbols(), json);
+        outline.write_nested(symbols, ranges.as_slice(), json);
     } else {
-        outline.write_flat(alloc, structure.symbols(), json)?;
+        outline.write_flat(alloc, symbols, ranges.as_slice(), json)?;
     }
     json.end_list();
     Ok(())
+}
+
+// The ranges of a symbol.
+#[derive(Clone, Copy)]
+struct Ranges {
+    whole: Range,
+    name: Range,
+}
+
+// The ranges of symbols. Their offsets rise: each symbol ends after those inside of it.
+fn ranges_of(
+    alloc: Global,
+    symbols: &[Symbol],
+    places: &mut Places<'_>,
+) -> Result<Vec<Ranges>, AllocError> {
+    let mut ranges = Vec::with_capacity(alloc, symbols.len())?;
+    // The symbols that are open, the inmost last.
+    let mut open = Vec::new(alloc);
+    for (index, symbol) in symbols.iter().enumerate() {
+        end_to(
+            symbol.depth,
+            symbols,
+            &mut open,
+            ranges.as_mut_slice(),
+            places,
+        );
+        let start = places.position_of(symbol.whole.start);
+        ranges.push(Ranges {
+            whole: Range { start, end: start },
+            name: places.range_of(symbol.name.start, symbol.name.end),
+        })?;
+        open.push(index)?;
+    }
+    end_to(0, symbols, &mut open, ranges.as_mut_slice(), places);
+    Ok(ranges)
+}
+
+// Finds where each symbol ends that is open and not around this depth.
+fn end_to(
+    depth: usize,
+    symbols: &[Symbol],
+    open: &mut Vec<usize>,
+    ranges: &mut [Ranges],
+    places: &mut Places<'_>,
+) {
+    for _ in depth..open.len() {
+        if let Some(index) = open.pop()
+            && let Some(symbol) = symbols.get(index)
+            && let Some(ranges) = ranges.get_mut(index)
+        {
+            ranges.whole.end = places.position_of(symbol.whole.end);
+        }
+    }
 }
 
 // What symbols are written with.
@@ -43,32 +97,31 @@ struct Outline<'a> {
     text: &'a str,
     // Those that the client knows.
     kinds: &'a SymbolKinds,
-    places: &'a Places<'a>,
 }
 
 impl Outline<'_> {
     // Writes each symbol with those inside of it.
-    fn write_nested(&self, symbols: &[Symbol], json: &mut JsonWriter) {
+    fn write_nested(&self, symbols: &[Symbol], ranges: &[Ranges], json: &mut JsonWriter) {
         // How many symbols are open: the one that was met last, and those around it.
         let mut open = 0usize;
-        for symbol in symbols {
+        for (symbol, ranges) in symbols.iter().zip(ranges) {
             close_to(symbol.depth, open, json);
-            self.begin_symbol(symbol, json);
+            self.begin_symbol(symbol, ranges, json);
             open = open.min(symbol.depth).saturating_add(1);
         }
         close_to(0, open, json);
     }
 
     // Writes a "DocumentSymbol" up to those inside of it.
-    fn begin_symbol(&self, symbol: &Symbol, json: &mut JsonWriter) {
+    fn begin_symbol(&self, symbol: &Symbol, ranges: &Ranges, json: &mut JsonWriter) {
         json.begin_object();
         json.text_member("name", slice_of(self.text, symbol.name));
         if let Some(detail) = symbol.detail {
             json.text_member("detail", slice_of(self.text, detail));
         }
         json.size_member("kind", self.kind_of(symbol));
-        write_range("range", self.range_of(symbol.whole), json);
-        write_range("selectionRange", self.range_of(symbol.name), json);
+        write_range("range", ranges.whole, json);
+        write_range("selectionRange", ranges.name, json);
         json.name("children");
         json.begin_list();
     }
@@ -78,10 +131,11 @@ impl Outline<'_> {
         &self,
         alloc: Global,
         symbols: &[Symbol],
+        ranges: &[Ranges],
         json: &mut JsonWriter,
     ) -> Result<(), AllocError> {
         let mut around: Vec<&str> = Vec::new(alloc);
-        for symbol in symbols {
+        for (symbol, ranges) in symbols.iter().zip(ranges) {
             let name = slice_of(self.text, symbol.name);
             around.truncate(symbol.depth);
             json.begin_object();
@@ -90,7 +144,7 @@ impl Outline<'_> {
             json.name("location");
             let location = Location {
                 uri: self.uri,
-                range: self.range_of(symbol.whole),
+                range: ranges.whole,
             };
             write_location(location, json);
             if let Some(outer) = around.last() {
@@ -115,10 +169,6 @@ impl Outline<'_> {
             STRUCT | TYPE_PARAMETER => CLASS,
             _ => kind,
         }
-    }
-
-    fn range_of(&self, span: Span) -> Range {
-        self.places.range_of(span.start, span.end)
     }
 }
 

@@ -41,7 +41,8 @@ const START: Position = Position {
 };
 
 impl Params {
-    fn new(alloc: Global) -> Params {
+    /// Those of which nothing was read.
+    pub fn new(alloc: Global) -> Params {
         Params {
             uri: String::new(alloc),
             version: None,
@@ -61,7 +62,7 @@ impl Params {
     }
 }
 
-/// Reads the parameters of a message.
+/// Reads the parameters of a message from its content.
 pub fn params_of(alloc: Global, method: Method, content: &str) -> Result<Params, Failure> {
     let mut scratch = Scratch::new(alloc);
     let mut reader = JsonReader::new(alloc, content, &mut scratch)?;
@@ -137,7 +138,8 @@ fn wanted(method: Method) -> &'static [Member] {
     }
 }
 
-fn read_params(reader: &mut JsonReader<'_>, method: Method, params: &mut Params) {
+/// Reads the parameters of a method, which are the next value.
+pub fn read_params(reader: &mut JsonReader<'_>, method: Method, params: &mut Params) {
     let wanted = wanted(method);
     let mut members = reader.begin_object(wanted, DEEPEST - 2);
     for _ in 0..u64::MAX {

@@ -6,14 +6,17 @@ use text_edits::{Encoding, Position, Range};
 // The position is kept of each so many bytes.
 const STEP: usize = 256;
 
-/// The positions of a text's offsets, each found in the same time however long its line is. (A `text_edits::Document` goes over the
-/// line; the positions are the same.)
+/// The positions of a text's offsets, each found in the same time however long its line is, and those of offsets that rise in one
+/// pass over the text. (A `text_edits::Document` goes over the line; the positions are the same.)
 #[derive(Drop)]
 pub struct Places<'a> {
     text: &'a str,
     encoding: Encoding,
     // The positions of the offsets 0, STEP, 2 * STEP ..
     marks: Vec<Position>,
+    // The offset that was found last, and its position.
+    last: usize,
+    found: Position,
 }
 
 impl<'a> Places<'a> {
@@ -42,31 +45,40 @@ impl<'a> Places<'a> {
             text,
             encoding,
             marks,
+            last: 0,
+            found: Position {
+                line: 0,
+                character: 0,
+            },
         })
     }
 
     /// The position of an offset in bytes. One beyond the end of the text is its end, one inside of a character is where the character
     /// begins, and one inside of a `\r\n` is where that begins.
-    pub fn position_of(&self, offset: usize) -> Position {
+    pub fn position_of(&mut self, offset: usize) -> Position {
         let text = self.text;
         let end = text.floor_char_boundary(offset);
-        let start = text.floor_char_boundary(end - end % STEP);
-        let Some(mark) = self.marks.as_slice().get(end / STEP) else {
-            return Position {
-                line: 0,
-                character: 0,
-            };
-        };
-        let mut here = *mark;
+        let (start, mut here) = self.nearest(end);
         for (at, c) in text.get(start..end).unwrap_or("").char_indices() {
             let passed = start.saturating_add(at).saturating_add(c.len_utf8());
             here = after(here, c, byte_at(text, passed), self.encoding);
         }
+        self.last = end;
+        self.found = here;
         here
     }
 
+    // The nearest offset up to this one whose position is known: that which was found last, or that of a mark.
+    fn nearest(&self, end: usize) -> (usize, Position) {
+        let start = self.text.floor_char_boundary(end - end % STEP);
+        match self.marks.as_slice().get(end / STEP) {
+            Some(mark) if self.last < start || end < self.last => (start, *mark),
+            _ => (self.last, self.found),
+        }
+    }
+
     /// The range between two offsets.
-    pub fn range_of(&self, start: usize, end: usize) -> Range {
+    pub fn range_of(&mut self, start: usize, end: usize) -> Range {
         Range {
             start: self.position_of(start),
             end: self.position_of(end),

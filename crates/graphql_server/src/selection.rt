@@ -27,11 +27,11 @@ pub fn write_selections(
     json: &mut JsonWriter,
 ) -> Result<(), AllocError> {
     let text = document.text();
-    let places = Places::new(alloc, encoding, text)?;
+    let mut places = Places::new(alloc, encoding, text)?;
     json.begin_list();
     for position in positions {
         let offset = document.offset_of(encoding, *position);
-        write_selection(alloc, text, &places, offset, json)?;
+        write_selection(alloc, text, &mut places, offset, json)?;
     }
     json.end_list();
     Ok(())
@@ -41,7 +41,7 @@ pub fn write_selections(
 fn write_selection(
     alloc: Global,
     text: &str,
-    places: &Places<'_>,
+    places: &mut Places<'_>,
     offset: usize,
     json: &mut JsonWriter,
 ) -> Result<(), AllocError> {

@@ -24,15 +24,26 @@ impl Server {
     }
 
     /// Takes the bytes that arrived, in whatever parts, does what the messages that are whole then ask for, and adds what is to be
-    /// sent back to `out`, each message with its header part.
+    /// sent back to `out`: [`Server::add`], and then [`Server::answer`] until no message is left.
     ///
-    /// A request is answered before the next message is read. A header part that is wrong, or a length beyond 64 MiB, is logged, and
-    /// reading goes on at the next `Content-Length:`. A content that is no JSON is answered by an error without id. Either may have been
-    /// a change, so no text is open from then on.
-    ///
-    /// It fails only where there is no memory for the bytes, or even for an error in the place of an answer. The server goes on then:
-    /// the next bytes may be given to it. Where a message is lost that may have changed a text, no text is open from then on.
+    /// It fails where one of these does, and the other messages are answered all the same.
     pub fn receive(&mut self, bytes: &[u8], out: &mut Vec<u8>) -> Result<(), AllocError> {
+        self.add(bytes)?;
+        let mut taken = Ok(());
+        for _ in 0..u64::MAX {
+            match self.answer(out) {
+                Ok(true) => {}
+                Ok(false) => break,
+                Err(error) => taken = Err(error),
+            }
+        }
+        taken
+    }
+
+    /// Takes the bytes that arrived.
+    ///
+    /// It fails only where there is no memory for them. The server goes on then, and no text is open, since one of them may be changed.
+    pub fn add(&mut self, bytes: &[u8]) -> Result<(), AllocError> {
         if self.has_ended().is_some() {
             return Ok(());
         }
@@ -40,10 +51,33 @@ impl Server {
         if added.is_err() {
             self.session.forget();
         }
-        added?;
-        let taken = self.take_pieces(out);
-        self.frames.settle();
-        taken
+        added
+    }
+
+    /// Does what the next message asks for that is whole, and adds what is to be sent back to `out`, each message with its header
+    /// part. Whether there was one; if there was none, what is wrong with a text that was changed is added, unless it was before.
+    ///
+    /// A request is answered before the next message is read. A header part that is wrong, or a length beyond 64 MiB, is logged, and
+    /// reading goes on at the next `Content-Length:`. A content that is no JSON is answered by an error without id. Either may have been
+    /// a change, so no text is open from then on.
+    ///
+    /// It fails only where there is no memory even for an error in the place of an answer. The server goes on then. If a message is
+    /// lost that may have changed a text, no text is open from then on.
+    pub fn answer(&mut self, out: &mut Vec<u8>) -> Result<bool, AllocError> {
+        if self.session.status().is_some() {
+            return Ok(false);
+        }
+        match self.frames.next() {
+            Some(piece) => {
+                self.take(piece, out)?;
+                Ok(true)
+            }
+            None => {
+                self.frames.settle();
+                self.session.publish_changed(out)?;
+                Ok(false)
+            }
+        }
     }
 
     /// The input has ended. Unless the client said `exit` before, the status is 1.
@@ -57,24 +91,6 @@ impl Server {
         ensures { IfSome result (λ status. status ≤ 1) }
     {
         self.session.status()
-    }
-
-    // Handles each piece that is whole. Where one has no answer for want of memory, the others have theirs.
-    fn take_pieces(&mut self, out: &mut Vec<u8>) -> Result<(), AllocError> {
-        let mut taken = Ok(());
-        for _ in 0..u64::MAX {
-            if self.session.status().is_some() {
-                break;
-            }
-            let Some(piece) = self.frames.next() else {
-                break;
-            };
-            let handled = self.take(piece, out);
-            if handled.is_err() {
-                taken = handled;
-            }
-        }
-        taken
     }
 
     fn take(&mut self, piece: Piece, out: &mut Vec<u8>) -> Result<(), AllocError> {

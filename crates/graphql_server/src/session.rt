@@ -6,7 +6,7 @@ use crate::answers::{Failure, Weight, begin_answer, begin_notice, log, refuse, s
 use crate::capabilities::write_initialized;
 use crate::client::Client;
 use crate::diagnostics::diagnostics_of;
-use crate::envelope::{Message, message_of};
+use crate::envelope::{Asked, Message, message_of};
 use crate::fixes::write_fixes;
 use crate::folding::write_folds;
 use crate::formatting::{write_formatted, write_formatted_range};
@@ -44,6 +44,8 @@ pub struct Session {
     phase: Phase,
     client: Client,
     texts: Texts,
+    // The text that was changed last, unless its diagnostics are published.
+    changed: Option<String>,
 }
 
 // What is logged of a text.
@@ -70,6 +72,7 @@ impl Session {
             phase: Phase::Fresh,
             client: Client::new(),
             texts: Texts::new(alloc),
+            changed: None,
         }
     }
 
@@ -121,9 +124,13 @@ impl Session {
     }
 
     fn take_text(&mut self, content: &str, out: &mut Vec<u8>) -> Result<(), AllocError> {
-        match message_of(self.alloc, content) {
-            Ok(Message::Request(id, method)) => self.answer_request(content, method, &id, out),
-            Ok(Message::Notice(method)) => self.take_notice(content, method, out),
+        let message = message_of(self.alloc, content);
+        if !matches!(&message, Ok(message) if message.is_change()) {
+            self.publish_changed(out)?;
+        }
+        match message {
+            Ok(Message::Request(id, asked)) => self.answer_request(content, asked, &id, out),
+            Ok(Message::Notice(asked)) => self.take_notice(content, asked, out),
             Ok(Message::Answer) => Ok(()),
             Ok(Message::Wrong(id)) => self.refuse_message(id, Failure::NotMessage, out),
             Err(failure) => self.refuse_content(failure, out),
@@ -132,6 +139,7 @@ impl Session {
 
     /// Logs what is wrong with a header part. The message may have changed a text: none is open from then on.
     pub fn take_fault(&mut self, why: &str, out: &mut Vec<u8>) -> Result<(), AllocError> {
+        self.publish_changed(out)?;
         self.log(Weight::Error, why, out)?;
         self.lose_all(out)
     }
@@ -146,6 +154,7 @@ impl Session {
         if failure.is_of_memory() {
             self.forget();
         }
+        self.publish_changed(out)?;
         let is_unread = failure.is_unread();
         self.refuse_message(Id::Null, failure, out)?;
         if is_unread {
@@ -178,15 +187,15 @@ impl Session {
     fn answer_request(
         &mut self,
         content: &str,
-        method: Method,
+        asked: Asked,
         id: &Id,
         out: &mut Vec<u8>,
     ) -> Result<(), AllocError> {
         let before = out.len();
-        let outcome = match (self.phase, method) {
-            (Phase::Fresh, Method::Initialize) => self.initialize(content, id, out),
+        let outcome = match (self.phase, asked.method) {
+            (Phase::Fresh, Method::Initialize) => self.initialize(content, asked, id, out),
             (Phase::Fresh, _) => Err(Failure::NotInitialized),
-            (Phase::Running, _) => self.answer_running(content, method, id, out),
+            (Phase::Running, _) => self.answer_running(content, asked, id, out),
             (Phase::ShutDown | Phase::Ended | Phase::CutShort, _) => Err(Failure::ShutDown),
         };
         match outcome {
@@ -200,8 +209,8 @@ impl Session {
         }
     }
 
-    fn initialize(&mut self, content: &str, id: &Id, out: &mut Vec<u8>) -> Outcome {
-        let params = params_of(self.alloc, Method::Initialize, content)?;
+    fn initialize(&mut self, content: &str, asked: Asked, id: &Id, out: &mut Vec<u8>) -> Outcome {
+        let params = asked.params(self.alloc, content)?;
         let mut answer = begin_answer(self.alloc, id);
         write_initialized(&params.client, &mut answer);
         send(self.alloc, answer, out)?;
@@ -213,11 +222,11 @@ impl Session {
     fn answer_running(
         &mut self,
         content: &str,
-        method: Method,
+        asked: Asked,
         id: &Id,
         out: &mut Vec<u8>,
     ) -> Outcome {
-        match method {
+        match asked.method {
             Method::Shutdown => {
                 let mut answer = begin_answer(self.alloc, id);
                 answer.null();
@@ -229,7 +238,7 @@ impl Session {
             Method::Initialize => Err(Failure::InitializedTwice),
             Method::Exit | Method::DidOpen | Method::DidChange | Method::DidClose | Method::Other =>
                 Err(Failure::NoSuchRequest),
-            _ => self.answer_about_text(content, method, id, out),
+            _ => self.answer_about_text(content, asked, id, out),
         }
     }
 
@@ -237,11 +246,12 @@ impl Session {
     fn answer_about_text(
         &self,
         content: &str,
-        method: Method,
+        asked: Asked,
         id: &Id,
         out: &mut Vec<u8>,
     ) -> Outcome {
-        let params = params_of(self.alloc, method, content)?;
+        let method = asked.method;
+        let params = asked.params(self.alloc, content)?;
         let text = self.text(params.uri.as_str(), out)?;
         self.log_places(method, &params, &text.document, out)?;
         let mut answer = begin_answer(self.alloc, id);
@@ -395,9 +405,10 @@ impl Session {
     fn take_notice(
         &mut self,
         content: &str,
-        method: Method,
+        asked: Asked,
         out: &mut Vec<u8>,
     ) -> Result<(), AllocError> {
+        let method = asked.method;
         if let Method::Exit = method {
             self.phase = match self.phase {
                 Phase::ShutDown => Phase::Ended,
@@ -409,10 +420,10 @@ impl Session {
             return Ok(());
         };
         let before = out.len();
-        let (name, outcome) = match method {
-            Method::DidOpen => ("textDocument/didOpen", self.did_open(content, out)),
-            Method::DidChange => ("textDocument/didChange", self.did_change(content, out)),
-            Method::DidClose => ("textDocument/didClose", self.did_close(content, out)),
+        let outcome = match method {
+            Method::DidOpen => self.did_open(content, asked, out),
+            Method::DidChange => self.did_change(content, asked, out),
+            Method::DidClose => self.did_close(content, asked, out),
             _ => return Ok(()),
         };
         match outcome {
@@ -421,10 +432,7 @@ impl Session {
                 if failure.is_of_memory() {
                     out.truncate(before);
                 }
-                let alloc = self.alloc;
-                let why = failure.message();
-                let message = format!(in alloc; "{name}: {why}")?;
-                self.log(Weight::Error, message.as_str(), out)?;
+                self.log_failure(method, &failure, out)?;
                 if !failure.is_of_memory() {
                     self.lose_changed(content, method, out)?;
                 }
@@ -433,8 +441,26 @@ impl Session {
         }
     }
 
-    fn did_open(&mut self, content: &str, out: &mut Vec<u8>) -> Outcome {
-        let params = params_of(self.alloc, Method::DidOpen, content)?;
+    // Logs why a notification has no effect.
+    fn log_failure(
+        &self,
+        method: Method,
+        failure: &Failure,
+        out: &mut Vec<u8>,
+    ) -> Result<(), AllocError> {
+        let alloc = self.alloc;
+        let name = match method {
+            Method::DidOpen => "textDocument/didOpen",
+            Method::DidChange => "textDocument/didChange",
+            _ => "textDocument/didClose",
+        };
+        let why = failure.message();
+        let message = format!(in alloc; "{name}: {why}")?;
+        self.log(Weight::Error, message.as_str(), out)
+    }
+
+    fn did_open(&mut self, content: &str, asked: Asked, out: &mut Vec<u8>) -> Outcome {
+        let params = asked.params(self.alloc, content)?;
         let Params {
             uri,
             version,
@@ -453,9 +479,10 @@ impl Session {
         self.publish(uri.as_str(), out)
     }
 
-    fn did_change(&mut self, content: &str, out: &mut Vec<u8>) -> Outcome {
+    // Changes a text, whose diagnostics are published before the next message that is no change of it, or once no message is left.
+    fn did_change(&mut self, content: &str, asked: Asked, out: &mut Vec<u8>) -> Outcome {
         let (alloc, encoding) = (self.alloc, self.client.encoding);
-        let params = params_of(alloc, Method::DidChange, content);
+        let params = asked.params(alloc, content);
         if let Err(failure) = &params
             && failure.is_of_memory()
         {
@@ -467,25 +494,28 @@ impl Session {
             changes,
             ..
         } = params?;
-        let uri = uri.as_str();
-        let Some(text) = self.texts.get_mut(uri) else {
-            let _ = self.warn(NOT_OPEN, uri, out)?;
+        if !self.is_changed(uri.as_str()) {
+            self.publish_changed(out)?;
+        }
+        let Some(text) = self.texts.get_mut(uri.as_str()) else {
+            let _ = self.warn(NOT_OPEN, uri.as_str(), out)?;
             return Ok(());
         };
         let changed = change_all(alloc, encoding, &mut text.document, changes);
         text.version = version;
         if changed.is_err() {
             // The text is no longer the client's.
-            let _ = self.texts.close(uri);
+            let _ = self.texts.close(uri.as_str());
         }
         for _ in 0..changed? {
-            let _ = self.warn(RANGE_CLIPPED, uri, out)?;
+            let _ = self.warn(RANGE_CLIPPED, uri.as_str(), out)?;
         }
-        self.publish(uri, out)
+        self.changed = Some(uri);
+        Ok(())
     }
 
-    fn did_close(&mut self, content: &str, out: &mut Vec<u8>) -> Outcome {
-        let params = params_of(self.alloc, Method::DidClose, content)?;
+    fn did_close(&mut self, content: &str, asked: Asked, out: &mut Vec<u8>) -> Outcome {
+        let params = asked.params(self.alloc, content)?;
         let uri = params.uri.as_str();
         if !self.texts.close(uri) {
             let _ = self.warn(NOT_OPEN, uri, out)?;
@@ -558,6 +588,31 @@ impl Session {
             self.client.encoding,
             &text.document,
         )
+    }
+
+    // Whether this text is changed, and its diagnostics are to be published.
+    fn is_changed(&self, uri: &str) -> bool {
+        match &self.changed {
+            Some(changed) => changed.as_str() == uri,
+            None => false,
+        }
+    }
+
+    /// Publishes what is wrong with the text that was changed last, unless that was published.
+    ///
+    /// It fails only where there is no memory for a message that says so.
+    pub fn publish_changed(&mut self, out: &mut Vec<u8>) -> Result<(), AllocError> {
+        let Some(uri) = self.changed.take() else {
+            return Ok(());
+        };
+        let before = out.len();
+        match self.publish(uri.as_str(), out) {
+            Ok(()) => Ok(()),
+            Err(failure) => {
+                out.truncate(before);
+                self.log_failure(Method::DidChange, &failure, out)
+            }
+        }
     }
 
     // Publishes what is wrong with a text that is open.

@@ -13,6 +13,7 @@
 //!
 //! - `> ` a message of the editor, with a right header before it, and `< ` one that the server writes then, after those above it.
 //!   Each has the member `"jsonrpc": "2.0"` too, which isn't written.
+//! - `<? ` a message that the server writes if the next one of the editor hasn't arrived yet
 //! - `>= ` the content of a message, to which nothing is added but the header
 //! - `>> ` bytes as they are, without a header
 //! - `$` the input ends
@@ -32,8 +33,10 @@ use std::alloc::Global;
 pub struct Dialogue {
     // What arrives.
     given: Shown,
-    // Each message that the server has to write, as `write_plain` writes it, and a line feed after it.
+    // Each message that the server has to write, as `write_plain` writes it, and a line feed after it; the same if all that arrives
+    // does at once.
     wanted: Shown,
+    wanted_at_once: Shown,
     turns: Vec<Turn>,
     status: Option<u8>,
 }
@@ -56,6 +59,7 @@ impl Dialogue {
         let mut dialogue = Dialogue {
             given: Shown::new(alloc, true),
             wanted: Shown::new(alloc, true),
+            wanted_at_once: Shown::new(alloc, true),
             turns: Vec::new(alloc),
             status: None,
         };
@@ -68,7 +72,9 @@ impl Dialogue {
 
     /// Whether nothing was left out of it.
     pub fn is_whole(&self) -> bool {
-        self.given.whole().is_some() && self.wanted.whole().is_some()
+        self.given.whole().is_some()
+            && self.wanted.whole().is_some()
+            && self.wanted_at_once.whole().is_some()
     }
 
     /// The text that arrives.
@@ -79,6 +85,11 @@ impl Dialogue {
     /// Each message that the server has to write, as `write_plain` writes it, and a line feed after it.
     pub fn wanted(&self) -> &str {
         self.wanted.whole().unwrap_or("")
+    }
+
+    /// The same if all that arrives does at once.
+    pub fn wanted_at_once(&self) -> &str {
+        self.wanted_at_once.whole().unwrap_or("")
     }
 
     /// Its turns.
@@ -118,7 +129,7 @@ impl Dialogue {
                 self.given.word(rest);
                 self.end_turn(false);
             }
-            "<" => self.expect(rest),
+            "<" | "<?" => self.expect(rest, sign == "<"),
             "=" => self.status = rest.parse::<u8>().ok(),
             _ => self.given.leave_out(),
         }
@@ -155,12 +166,17 @@ impl Dialogue {
         self.end_turn(false);
     }
 
-    // Adds a message of the server to what it has to write in the last turn.
-    fn expect(&mut self, text: &str) {
+    // Adds a message of the server to what it has to write in the last turn, and to what it has to write if all arrives at once.
+    fn expect(&mut self, text: &str, is_sure: bool) {
         let mut message = Shown::new(self.given.alloc(), true);
         write_message(&mut message, text);
-        write_plain(&mut self.wanted, message.whole().unwrap_or(""));
+        let message = message.whole().unwrap_or("");
+        write_plain(&mut self.wanted, message);
         self.wanted.word("\n");
+        if is_sure {
+            write_plain(&mut self.wanted_at_once, message);
+            self.wanted_at_once.word("\n");
+        }
         let end = self.wanted().len();
         match self.turns.last_mut() {
             Some(turn) => turn.wanted = end,

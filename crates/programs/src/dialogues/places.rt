@@ -52,7 +52,7 @@ fn write_differing(
     let text = document.text();
     let mut wrong = 0usize;
     match Places::new(shown.alloc(), encoding, text) {
-        Ok(places) => {
+        Ok(mut places) => {
             for offset in 0..=text.len() {
                 if places.position_of(offset) != document.position_of(encoding, offset) {
                     shown.word(file);

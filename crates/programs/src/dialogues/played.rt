@@ -22,6 +22,8 @@ struct Way<'a> {
     file: &'a str,
     name: &'a str,
     turns: &'a [Turn],
+    // The messages that the server has to write.
+    wanted: &'a str,
     pieces: Pieces,
 }
 
@@ -41,6 +43,7 @@ pub fn write_played(shown: &mut Shown, file: &str, dialogue: &Dialogue) -> usize
         file,
         name: "message by message",
         turns: dialogue.turns(),
+        wanted: dialogue.wanted(),
         pieces: Pieces::Whole,
     };
     let wrong = play(shown, dialogue, by_turns);
@@ -66,13 +69,14 @@ fn play_joined(shown: &mut Shown, file: &str, dialogue: &Dialogue) -> usize {
     let end = dialogue.given().len();
     let joined = [Turn {
         given: end,
-        wanted: dialogue.wanted().len(),
+        wanted: dialogue.wanted_at_once().len(),
         is_last,
     }];
     let at_once = Way {
         file,
         name: "in one piece",
         turns: &joined,
+        wanted: dialogue.wanted_at_once(),
         pieces: Pieces::Whole,
     };
     let mut wrong = play(shown, dialogue, at_once);
@@ -110,7 +114,7 @@ fn play(shown: &mut Shown, dialogue: &Dialogue, way: Way<'_>) -> usize {
     let (mut given, mut wanted) = (0usize, 0usize);
     for turn in way.turns {
         let now = bytes.split_at_checked(turn.given.saturating_sub(given));
-        match (now, part_of(dialogue.wanted(), wanted, turn.wanted)) {
+        match (now, part_of(way.wanted, wanted, turn.wanted)) {
             (Some((now, later)), Some(messages)) => {
                 if !play_turn(shown, &mut server, way, *turn, now, messages) {
                     wrong = wrong.saturating_add(1);
