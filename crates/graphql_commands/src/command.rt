@@ -49,6 +49,8 @@ pub struct Call<'a> {
     pub limits: Limits,
     /// `--memory`: how many bytes the check of a text may take; None where it may take what there is.
     pub memory: Option<usize>,
+    /// `--no-ignore`: all of a folder is searched.
+    pub takes_all: bool,
     /// `--check`: no file is written, and those that would be are listed.
     pub only_checks: bool,
     /// `-v`: a line for each good text, or each that is written.
@@ -139,6 +141,7 @@ pub fn command_of<'a>(alloc: Global, words: &'a [String]) -> Result<Asked<'a>, A
         language: None,
         limits: Limits::default(),
         memory: None,
+        takes_all: false,
         only_checks: false,
         is_verbose: false,
         takes_fragments: true,
@@ -291,6 +294,7 @@ fn takes(command: Command, word: &str) -> bool {
             !matches!(command, Command::Minify | Command::Print)
         }
         "--check" => command == Command::Format,
+        "--no-ignore" => matches!(command, Command::Check | Command::Format),
         _ => !matches!(command, Command::Format | Command::Minify | Command::Print),
     }
 }
@@ -304,6 +308,7 @@ fn read_option<'a>(call: &mut Call<'a>, word: &'a str) -> Result<Next, Wrong<'a>
     match word {
         "--query" => call.language = Some(Language::Requests),
         "--schema" => call.language = Some(Language::Schemas),
+        "--no-ignore" => call.takes_all = true,
         "--check" => call.only_checks = true,
         "-v" | "--verbose" => call.is_verbose = true,
         "-q" | "--quiet" => call.is_quiet = true,

@@ -1,7 +1,7 @@
 //! The work of the program `gql`, over any source of texts and any writers.
 //!
 //! [`run`] does all that a call of the program asks for. The modules have its parts: what a call asks for ([`command`]),
-//! where texts come from and go to ([`texts`]), which files are good ([`check`]), what is reported of them ([`telling`]), files that
+//! where texts come from and go to ([`texts`]), what of a folder is ignored ([`ignoring`]), which files are good ([`check`]), what is reported of them ([`telling`]), files that
 //! are written anew ([`rewriting`]), and lists of tokens ([`listed`]). What is done with one text is `graphql_texts`.
 //!
 //! Proved of it: it is safe and ends on every input; the status is 0, 1 or 2; a text is found good only where its tokens
@@ -12,6 +12,7 @@
 
 pub mod check;
 pub mod command;
+pub mod ignoring;
 pub mod listed;
 mod output;
 mod program;
@@ -19,6 +20,7 @@ mod replacing;
 pub mod rewriting;
 pub mod telling;
 pub mod texts;
+mod walking;
 
 pub use command::is_server;
 pub use graphql_report::{Language, Style};

@@ -1,5 +1,6 @@
 //! The program's work, over any source of texts and any writers.
-ghost use Rattle.std.specs.Prelude.{◌≡◌, ◌≤◌, IfOk};
+ghost use Rattle.std.specs.Prelude.{◌≡◌, ◌≤◌, ◌<◌, ◌⊎◌, IfOk};
+ghost use Rattle.graphql_commands.specs.declared.texts.Unread.TheVariants.{Forbidden, BadName};
 
 use crate::check::{check_files, is_blank, names_of, tell_tally};
 use crate::command::{Asked, Call, Command, Format, Wrong, command_of};
@@ -7,7 +8,7 @@ use crate::listed::token_lines;
 use crate::output::{complain, complain_of_call, put, shown_name};
 use crate::rewriting::{format_files, tell_format_tally, written_anew};
 use crate::telling::Teller;
-use crate::texts::Texts;
+use crate::texts::{Listing, Passed, Texts, Unread};
 use graphql_json::{Places, request_json, schema_json};
 use graphql_parser::{Error, parse_query_limited, parse_schema_limited};
 use graphql_report::{Language, Style};
@@ -27,8 +28,8 @@ const NO_SERVER: &str = "gql: an editor is served by the program alone\n";
 const HELP: &str = "usage: gql COMMAND [OPTION].. [FILE]..
 
 Commands:
-  check    tells what is wrong with each file, and with each file named *.graphql, *.graphqls or *.gql below a folder:
-           the first error of each definition, 100 of a file at most
+  check    tells what is wrong with each file, and with each file named *.graphql, *.graphqls, *.gqls, *.gql or *.sdl
+           below a folder: the first error of each definition, 100 of a file at most
   format   lays out each file anew in its place, with its comments, and each such file below a folder; a file with an
            error stays, and is told as by check. Standard input is laid out on standard output
   minify   prints a file without comments, and without blanks and line ends that it doesn't need
@@ -39,7 +40,9 @@ Commands:
   lsp      serves an editor on standard input and output, by the Language Server Protocol; takes no file. The options
            --stdio and --clientProcessId=N, which editors give to every server, change nothing
 
-Without a file, and for the file -, standard input is read.
+Without a file, and for the file -, standard input is read. Below a folder no link is followed to a folder or out of it,
+and what can't be read, or is no file, is reported and skipped. Hidden folders, those named node_modules, and what the file
+.gitignore in the folder excludes are not searched.
 
 Options:
   --query          the texts are requests
@@ -48,6 +51,7 @@ Options:
   --limits S,V,T   how deep selection sets, values and list types may nest; 64,64,64 without it, 256 at most
   --memory BYTES   check: how much memory the check of a file may take; one that needs more counts as not read. No request
                    of N bytes needs more than 1105 N + 1161, and no schema file more than 57
+  --no-ignore      check, format: searches all of a folder
   --check          format: writes no file, and prints the names of those that it would; where it would, the status is 1
   --executable     check: a request needs an operation; without it fragments alone are good, as --fragments says, and so
                    is a file that is empty or has nothing but comments
@@ -245,8 +249,16 @@ fn each<T: Texts, E: Write>(
     let unlisted = push_files(call, texts, &mut files, &mut teller, err)?;
     let names = texts_of(teller.alloc, &files)?;
     let status = status_of(call, &names, unlisted, texts, &mut teller, err)?;
-    let status = if unlisted > 0 { 2 } else { status };
-    Ok(told(status, teller))
+    Ok(told(status_beside(status, unlisted), teller))
+}
+
+// The status of a call whose files end with this one, and beside which so much should have been read.
+fn status_beside(status: u8, unlisted: usize) -> u8
+    ensures unlisted { 0 < unlisted → result ≡ 2 }
+    ensures listed { unlisted ≡ 0 → result ≡ status }
+    ensures most { status ≤ 2 → result ≤ 2 }
+{
+    if unlisted > 0 { 2 } else { status }
 }
 
 // The same of the files of these names, beside so many folders that can't be read.
@@ -296,8 +308,8 @@ fn texts_of<'a>(alloc: Global, strings: &'a Vec<String>) -> Result<Vec<&'a str>,
     Ok(texts)
 }
 
-// Adds the files that are read: those of the call, and in place of a folder those below it. Tells of each folder that
-// has none or can't be listed, and gives how many there were.
+// Adds the files that are read: those of the call, and in place of a folder those below it. Tells what can't be read there or
+// is skipped, and of each folder that has no file or can't be listed; gives how much of that should have been read.
 fn push_files<T: Texts, E: Write>(
     call: &Call<'_>,
     texts: &mut T,
@@ -308,21 +320,52 @@ fn push_files<T: Texts, E: Write>(
     let alloc = teller.alloc;
     let mut unlisted = 0usize;
     for name in &call.files {
-        match texts.files_below(alloc, name) {
-            Ok(Some(found)) => {
-                for file in found {
-                    files.push(file)?;
-                }
+        let unread = match texts.files_below(alloc, name, call.takes_all) {
+            Ok(Some(found)) => push_found(name, found, files, teller, err)?,
+            Ok(None) => {
+                files.push(String::from_str(alloc, name)?)?;
+                0
             }
-            Ok(None) => files.push(String::from_str(alloc, name)?)?,
-            Err(why) => {
-                let shown = shown_name(alloc, name)?;
-                teller.tell_unread(names_of(name, shown.as_str()), why, err)?;
-                unlisted = unlisted.saturating_add(1);
-            }
-        }
+            Err(why) => tell_passed(name, why, teller, err)?,
+        };
+        unlisted = unlisted.saturating_add(unread);
     }
     Ok(unlisted)
+}
+
+// The same of what was found below the folder of this name.
+fn push_found<E: Write>(
+    name: &str,
+    found: Listing,
+    files: &mut Vec<String>,
+    teller: &mut Teller,
+    err: &mut E,
+) -> Result<usize, AllocError> {
+    let mut unread = 0usize;
+    for Passed { name, why } in &found.passed {
+        unread = unread.saturating_add(tell_passed(name.as_str(), *why, teller, err)?);
+    }
+    if found.files.is_empty() && unread == 0 {
+        return tell_passed(name, Unread::NoFiles, teller, err);
+    }
+    for file in found.files {
+        files.push(file)?;
+    }
+    Ok(unread)
+}
+
+// Tells why there is no text under this name, and gives 1, or 0 where it is only skipped.
+fn tell_passed<E: Write>(
+    name: &str,
+    why: Unread,
+    teller: &mut Teller,
+    err: &mut E,
+) -> Result<usize, AllocError>
+    ensures { (why ≡ Forbidden) ⊎ (why ≡ BadName) → IfOk result (λ unread. unread ≡ 1) }
+{
+    let shown = shown_name(teller.alloc, name)?;
+    teller.tell_unread(names_of(name, shown.as_str()), why, err)?;
+    Ok(if why.is_skipped() { 0 } else { 1 })
 }
 
 // `tokens`: the tokens of the text.

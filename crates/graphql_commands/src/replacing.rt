@@ -1,24 +1,48 @@
-//! Replacing files of the machine: each by a new one beside it, which is renamed once it is whole.
-use crate::texts::Unwritten;
-use std::alloc::Global;
-use std::fs::{File, Metadata, OpenOptions};
-use std::io::{Error, ErrorKind, Write};
-use std::os::unix::fs::{MetadataExt, OpenOptionsExt, chown};
-use std::{fs, io};
+//! Writing texts into the files of the machine, each in its place, so that its owner, its permissions and its links stay.
+//!
+//! Before a byte of a file goes, a copy of its old text is on the disk: beside it, or else in the folder for temporary files. So
+//! nothing is lost where the run ends in the middle. Where a write fails, the old text is put back.
+ghost use Rattle.std.specs.Prelude.{◌≤◌, length};
 
-// So many names are tried for the new file.
+use crate::texts::Unwritten;
+use std::alloc::{AllocError, Global};
+use std::fs::{File, OpenOptions};
+use std::io::{Error, ErrorKind, Read, Write};
+use std::os::unix::fs::{FileExt, OpenOptionsExt};
+use std::{env, fs, io};
+
+// So many names are tried for a copy.
 const MOST_NAMES: usize = 100;
 
-// Until it has the permissions of the old one, nobody else may read the new file.
+// A file whose name has more bytes isn't named in that of its copy, which no system then finds too long.
+const LONGEST_NAME: usize = 128;
+
+// Nobody else may read a copy.
 const OWNERS_ONLY: u32 = 0o600;
 
-/// Replaces the contents of the file of this name by this text: the file has its old contents or the whole text at each
-/// moment, and its owner, its group and its permissions afterwards. Where the name is a link, the file is replaced that it leads
-/// to, and the link stays. A file that the user may not write to is not replaced.
+// Why a text isn't written, and whether the old one is there.
+#[derive(Clone, Copy)]
+struct Failed {
+    kind: ErrorKind,
+    is_back: bool,
+}
+
+/// Writes this text into the file of this name in place of its old one. Where that fails, the file has its old text; or else the
+/// error names the copy that has it.
 pub fn replace(rt: &HostRuntime, alloc: Global, name: &str, text: &str) -> Result<(), Unwritten> {
-    match replaced(rt, alloc, name, text) {
-        Ok(()) => Ok(()),
-        Err(error) => Err(reason(error.kind())),
+    let mut old = Vec::new(alloc);
+    let file = match opened(rt, name, &mut old) {
+        Ok(file) => file,
+        Err(error) => return Err(reason(error.kind())),
+    };
+    let copy = copied(rt, alloc, name, old.as_slice())?;
+    match written_over(&file, old.as_slice(), text.as_bytes()) {
+        Err(Failed { is_back: false, .. }) => return Err(Unwritten::HalfWritten(copy)),
+        written => {
+            // The text is where it belongs, and so is the old one where it isn't.
+            let _ = fs::remove_file(rt, copy.as_str());
+            written.map_err(|failed| reason(failed.kind))
+        }
     }
 }
 
@@ -33,45 +57,60 @@ fn reason(kind: ErrorKind) -> Unwritten {
     }
 }
 
-fn replaced(rt: &HostRuntime, alloc: Global, name: &str, text: &str) -> io::Result<()> {
-    let path = fs::canonicalize(rt, name)?;
-    let path = path.as_str();
-    let old = fs::metadata(rt, path)?;
-    if !old.is_file() {
+// Opens the file of this name, if it may be written, and adds its bytes to `old`.
+fn opened(rt: &HostRuntime, name: &str, old: &mut Vec<u8>) -> io::Result<File> {
+    if !fs::metadata(rt, name)?.is_file() {
         return Err(Error::from(ErrorKind::InvalidInput));
     }
-    // Fails where the user may not write to it.
-    OpenOptions::new().write(true).open(rt, path)?;
-    let (new, mut file) = created(rt, alloc, path)?;
-    let written = match filled(rt, &mut file, new.as_str(), text, &old) {
-        Ok(()) => fs::rename(rt, new.as_str(), path),
-        failed => failed,
+    let mut file = OpenOptions::new().read(true).write(true).open(rt, name)?;
+    file.read_to_end(old)?;
+    Ok(file)
+}
+
+// ---- the copy
+
+// Makes a copy of a file's bytes that is on the disk, beside it or in the folder for temporary files, and returns its name.
+fn copied(rt: &HostRuntime, alloc: Global, name: &str, bytes: &[u8]) -> Result<String, Unwritten> {
+    let (folder, name) = match name.rsplit_once('/') {
+        Some((folder, name)) => (folder, name),
+        None => (".", name),
     };
-    match written {
-        Ok(()) => Ok(()),
-        Err(error) => {
-            // What was begun is taken away, if it can be.
-            let _ = fs::remove_file(rt, new.as_str());
-            Err(error)
-        }
+    match copied_into(rt, alloc, folder, name, bytes) {
+        Ok(copy) => return Ok(copy),
+        Err(error) if error.kind() == ErrorKind::OutOfMemory => return Err(Unwritten::NoMemory),
+        Err(_) => {}
+    }
+    let temporary = env::temp_dir(rt).map_err(|error| reason(error.kind()))?;
+    match copied_into(rt, alloc, temporary.as_str(), name, bytes) {
+        Ok(copy) => Ok(copy),
+        Err(error) if error.kind() == ErrorKind::OutOfMemory => Err(Unwritten::NoMemory),
+        Err(_) => Err(Unwritten::NoCopy),
     }
 }
 
-// A new file beside the file of this path, and its name.
-fn created(rt: &HostRuntime, alloc: Global, path: &str) -> io::Result<(String, File)> {
-    let (folder, name) = path.rsplit_once('/').unwrap_or((".", path));
+// The same in one folder, in which nothing is left where it fails.
+fn copied_into(
+    rt: &HostRuntime,
+    alloc: Global,
+    folder: &str,
+    name: &str,
+    bytes: &[u8],
+) -> io::Result<String> {
     for count in 0..MOST_NAMES {
-        let mut new = format!(in alloc; "{folder}/.{name}.gql-format")?;
-        if count > 0 {
-            write!(new, "{count}")?;
-        }
+        let copy = copy_name(alloc, folder, name, count)?;
         let made = OpenOptions::new()
             .write(true)
             .create_new(true)
             .mode(OWNERS_ONLY)
-            .open(rt, new.as_str());
+            .open(rt, copy.as_str());
         match made {
-            Ok(file) => return Ok((new, file)),
+            Ok(mut file) => {
+                if let Err(error) = filled(rt, folder, &mut file, bytes) {
+                    let _ = fs::remove_file(rt, copy.as_str());
+                    return Err(error);
+                }
+                return Ok(copy);
+            }
             Err(error) if error.kind() == ErrorKind::AlreadyExists => {}
             Err(error) => return Err(error),
         }
@@ -79,19 +118,86 @@ fn created(rt: &HostRuntime, alloc: Global, path: &str) -> io::Result<(String, F
     Err(Error::from(ErrorKind::AlreadyExists))
 }
 
-// Writes the whole text into the new file, and makes it as open as the old one was.
-fn filled(
-    rt: &HostRuntime,
-    file: &mut File,
-    new: &str,
-    text: &str,
-    old: &Metadata,
-) -> io::Result<()> {
-    file.write_all(text.as_bytes())?;
-    let made = file.metadata()?;
-    if made.uid() != old.uid() || made.gid() != old.gid() {
-        chown(rt, new, Some(old.uid()), Some(old.gid()))?;
+fn copy_name(alloc: Global, folder: &str, name: &str, count: usize) -> Result<String, AllocError> {
+    let name = short(name);
+    let mut copy = format!(in alloc; "{folder}/.{name}.gql-format")?;
+    if count > 0 {
+        write!(copy, "{count}")?;
     }
-    file.set_permissions(old.permissions())?;
+    Ok(copy)
+}
+
+// A name, or none for one that is long.
+fn short(name: &str) -> &str
+    ensures { length result.now ≤ 128 }
+{
+    if name.len() > LONGEST_NAME { "" } else { name }
+}
+
+// Writes a copy, and waits until it and its folder are on the disk.
+fn filled(rt: &HostRuntime, folder: &str, file: &mut File, bytes: &[u8]) -> io::Result<()> {
+    file.write_all(bytes)?;
+    file.sync_all()?;
+    // Not every system can wait for a folder.
+    if let Ok(folder) = File::open(rt, folder) {
+        let _ = folder.sync_all();
+    }
+    Ok(())
+}
+
+// ---- the file
+
+// Writes a text over the old one of a file, and puts that back where it fails. The file keeps its permissions.
+fn written_over(file: &File, old: &[u8], text: &[u8]) -> Result<(), Failed> {
+    let permissions = match file.metadata() {
+        Ok(metadata) => metadata.permissions(),
+        Err(error) => {
+            return Err(Failed {
+                kind: error.kind(),
+                is_back: true,
+            });
+        }
+    };
+    let written = written_or_back(file, old, text);
+    // What is written loses the right to run as its owner. Only the owner may give it back.
+    if let Ok(metadata) = file.metadata()
+        && metadata.permissions() != permissions
+    {
+        let _ = file.set_permissions(permissions);
+    }
+    written
+}
+
+fn written_or_back(file: &File, old: &[u8], text: &[u8]) -> Result<(), Failed> {
+    if let Err(error) = lengthened(file, old.len(), text) {
+        return Err(Failed {
+            kind: error.kind(),
+            is_back: file.set_len(old.len() as u64).is_ok(),
+        });
+    }
+    if let Err(error) = written(file, text) {
+        return Err(Failed {
+            kind: error.kind(),
+            is_back: written(file, old).is_ok(),
+        });
+    }
+    Ok(())
+}
+
+// Writes what of a text is beyond the length of the old one, so that there is room before a byte of that goes.
+fn lengthened(file: &File, length: usize, text: &[u8]) -> io::Result<()> {
+    match text.get(length..) {
+        Some(rest) if !rest.is_empty() => {
+            file.write_all_at(rest, length as u64)?;
+            file.sync_all()
+        }
+        _ => Ok(()),
+    }
+}
+
+// Writes a text from the beginning of a file on, which has nothing else then.
+fn written(file: &File, text: &[u8]) -> io::Result<()> {
+    file.write_all_at(text, 0)?;
+    file.set_len(text.len() as u64)?;
     file.sync_all()
 }

@@ -196,7 +196,7 @@ fn format_file<T: Texts, E: Write>(
     match texts.replace(teller.alloc, name, formatted.as_str()) {
         Ok(()) => Ok(Done::Changed),
         Err(why) => {
-            teller.tell_unwritten(names, why, err)?;
+            teller.tell_unwritten(names, &why, err)?;
             Ok(Done::Unwritten)
         }
     }

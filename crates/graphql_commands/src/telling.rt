@@ -2,7 +2,7 @@
 ghost use Rattle.graphql_report.specs.reports.Rests.{BeginsAt};
 
 use crate::command::Format;
-use crate::output::complain;
+use crate::output::{complain, shown_name};
 use crate::texts::{Unread, Unwritten};
 use graphql_parser::{Error, Pos};
 use graphql_report::{Finding, ReadUpTo, Style, explain_from, finding_from};
@@ -114,7 +114,7 @@ impl Teller {
         self.push_finding(names, &finding)
     }
 
-    /// Tells why there is no text in a file.
+    /// Tells why there is no text in a file; people alone, where it is only skipped.
     pub fn tell_unread<E: Write>(
         &mut self,
         names: Names<'_>,
@@ -125,7 +125,7 @@ impl Teller {
         if self.is_quiet {
             return Ok(());
         }
-        if self.format == Format::Text {
+        if self.format == Format::Text || why.is_skipped() {
             return complain_of_file(self.alloc, names, why_told, err);
         }
         let finding = Finding {
@@ -138,14 +138,19 @@ impl Teller {
         self.push_finding(names, &finding)
     }
 
-    /// Tells people why a file isn't written.
+    /// Tells people why a file isn't written. Where its old text is elsewhere, that is told even if all else is quiet.
     pub fn tell_unwritten<E: Write>(
         &mut self,
         names: Names<'_>,
-        why: Unwritten,
+        why: &Unwritten,
         err: &mut E,
     ) -> Result<(), AllocError> {
         let why_told = why.words().ok_or(AllocError)?;
+        if let Unwritten::HalfWritten(copy) = why {
+            let copy = shown_name(self.alloc, copy.as_str())?;
+            let why_told = format!(in self.alloc; "{why_told} {copy}")?;
+            return complain_of_file(self.alloc, names, why_told.as_str(), err);
+        }
         if self.is_quiet {
             return Ok(());
         }

@@ -1,13 +1,15 @@
 //! Where the texts come from, and where they are written: files, and standard input.
-ghost use Rattle.std.specs.Prelude.{ℕ, List, Result};
+ghost use Rattle.std.specs.Prelude.{◌≡◌, ◌⊎◌, false, ℕ, List, Result};
 ghost use Rattle.std.specs.declared.alloc.Global.{Global};
 ghost use Rattle.std.specs.declared.string.String.{String as Text};
 ghost use Rattle.graphql_commands.specs.declared.texts.Unread.{Unread};
+ghost use Rattle.graphql_commands.specs.declared.texts.Unread.TheVariants.{Forbidden, BadName};
 
 use crate::replacing::replace;
+use crate::walking::walk;
 use std::alloc::{AllocError, Global};
+use std::fs;
 use std::io::{ErrorKind, Read};
-use std::{fs, io};
 
 /// Why there is no text, or it isn't checked.
 #[derive(Clone, Copy)]
@@ -22,6 +24,16 @@ pub enum Unread {
     NoFiles,
     /// It can't be read for another reason.
     Unreadable,
+    /// It is named as a GraphQL file, and the name isn't UTF-8, so that it can't be read.
+    BadName,
+    /// Its name isn't UTF-8, and it isn't named as a GraphQL file; it may be a folder.
+    OddName,
+    /// It is named as a GraphQL file, and is a pipe, a socket or a device.
+    Special,
+    /// It is a link that leads to no file.
+    LinkToNothing,
+    /// It is a link that leads out of the folder that is searched.
+    LinkOutside,
     /// It isn't UTF-8.
     NotText,
     /// Its check needs more memory than it may take.
@@ -37,12 +49,29 @@ impl Unread {
             Unread::Missing => Some("cannot be read: no such file"),
             Unread::Forbidden => Some("cannot be read: permission denied"),
             Unread::Folder => Some("cannot be read: is a directory"),
-            Unread::NoFiles => Some("has no file named *.graphql, *.graphqls or *.gql"),
+            Unread::NoFiles => {
+                Some("has no file named *.graphql, *.graphqls, *.gqls, *.gql or *.sdl")
+            }
             Unread::Unreadable => Some("cannot be read"),
+            Unread::BadName => Some("cannot be read: its name is not UTF-8"),
+            Unread::OddName => Some("is skipped: its name is not UTF-8"),
+            Unread::Special => Some("is skipped: not a regular file"),
+            Unread::LinkToNothing => Some("is skipped: the link leads to no file"),
+            Unread::LinkOutside => Some("is skipped: the link leads out of the folder"),
             Unread::NotText => Some("is not UTF-8"),
             Unread::OverBudget => Some("needs more memory than --memory allows"),
             Unread::NoMemory => None,
         }
+    }
+
+    /// Whether it is only skipped where a folder is searched, so that it doesn't count as a file that isn't read.
+    pub fn is_skipped(self) -> bool
+        ensures { (self ≡ Forbidden) ⊎ (self ≡ BadName) → result ≡ false }
+    {
+        matches!(
+            self,
+            Unread::OddName | Unread::Special | Unread::LinkToNothing | Unread::LinkOutside
+        )
     }
 
     /// The name of its status, for programs.
@@ -62,34 +91,57 @@ impl From<AllocError> for Unread {
 }
 
 /// Why a file isn't written.
-#[derive(Clone, Copy)]
+#[derive(Drop)]
 pub enum Unwritten {
     /// It isn't there any more.
     Missing,
-    /// It may not be written, or no file beside it.
+    /// It may not be written.
     Forbidden,
     /// Nothing may be written where it is.
     ReadOnly,
     /// There is no room.
     Full,
+    /// No copy of its old text could be made.
+    NoCopy,
     /// It can't be written for another reason.
     Unwritable,
+    /// It has a part of the new text, and its old text, which couldn't be put back, is in the file of this name.
+    HalfWritten(String),
     /// Memory was refused.
     NoMemory,
 }
 
 impl Unwritten {
-    /// What is said of it after the file's name; None where memory was refused, which stops the program.
-    pub fn words(self) -> Option<&'static str> {
+    /// What is said of it after the file's name, and before that of a copy; None where memory was refused, which stops the program.
+    pub fn words(&self) -> Option<&'static str> {
         match self {
             Unwritten::Missing => Some("cannot be written: no such file"),
             Unwritten::Forbidden => Some("cannot be written: permission denied"),
             Unwritten::ReadOnly => Some("cannot be written: read-only file system"),
             Unwritten::Full => Some("cannot be written: no space left"),
+            Unwritten::NoCopy => Some("cannot be written: no copy of it can be made first"),
             Unwritten::Unwritable => Some("cannot be written"),
+            Unwritten::HalfWritten(_) => Some("is half written: its old text is in"),
             Unwritten::NoMemory => None,
         }
     }
+}
+
+/// What is found below a folder.
+#[derive(Drop)]
+pub struct Listing {
+    /// The names of the GraphQL files, in their order.
+    pub files: Vec<String>,
+    /// What can't be read there, or is skipped.
+    pub passed: Vec<Passed>,
+}
+
+/// What is passed over where a folder is searched.
+#[derive(Drop)]
+pub struct Passed {
+    /// Its name, with U+FFFD for what of it isn't UTF-8.
+    pub name: String,
+    pub why: Unread,
 }
 
 /// What texts are read from by their names, and written to.
@@ -101,25 +153,27 @@ pub trait Texts {
     fn text(&mut self, alloc: Global, name: &str) -> Result<String, Unread>
         ensures { Self.gives self.old name.now result self.new };
 
-    /// The names of the GraphQL files below the folder of this name, in their order; None where it isn't a folder.
-    fn files_below(&mut self, alloc: Global, name: &str) -> Result<Option<Vec<String>>, Unread>;
+    /// What is found below the folder of this name, of all that is there or only of what isn't ignored; None where it isn't a
+    /// folder.
+    fn files_below(
+        &mut self,
+        alloc: Global,
+        name: &str,
+        takes_all: bool,
+    ) -> Result<Option<Listing>, Unread>;
 
-    /// Puts this text in the place of the one under this name, which is no standard input. Where that fails, the old one is there.
+    /// Puts this text in the place of the one under this name, which is no standard input. Where that fails, the old one is there,
+    /// unless the error says where else it is.
     fn replace(&mut self, alloc: Global, name: &str, text: &str) -> Result<(), Unwritten>;
 }
-
-// The extensions of the files that are looked for in folders.
-const EXTENSIONS: [&str; 3] = [".graphql", ".graphqls", ".gql"];
-
-// So many folders lie in one another at most: the name of a path has at most 4,096 bytes.
-const MOST_FOLDERS: usize = 2048;
 
 /// The text that these bytes are.
 pub fn text_of(bytes: Vec<u8>) -> Result<String, Unread> {
     String::from_utf8(bytes).map_err(|_| Unread::NotText)
 }
 
-fn reason(kind: ErrorKind) -> Unread {
+/// Why there is no text where a system's call failed in this way.
+pub fn reason(kind: ErrorKind) -> Unread {
     match kind {
         ErrorKind::NotFound => Unread::Missing,
         ErrorKind::PermissionDenied => Unread::Forbidden,
@@ -155,7 +209,12 @@ impl Texts for Disk<'_> {
         }
     }
 
-    fn files_below(&mut self, alloc: Global, name: &str) -> Result<Option<Vec<String>>, Unread> {
+    fn files_below(
+        &mut self,
+        alloc: Global,
+        name: &str,
+        takes_all: bool,
+    ) -> Result<Option<Listing>, Unread> {
         let is_folder = match fs::metadata(self.rt, name) {
             Ok(metadata) => metadata.is_dir(),
             Err(_) => false,
@@ -163,66 +222,13 @@ impl Texts for Disk<'_> {
         if name == "-" || !is_folder {
             return Ok(None);
         }
-        let mut files = match listed(self.rt, alloc, name) {
-            Ok(files) => files,
-            Err(error) => return Err(reason(error.kind())),
-        };
-        if files.is_empty() {
-            return Err(Unread::NoFiles);
+        match walk(self.rt, alloc, name, takes_all) {
+            Ok(found) => Ok(Some(found)),
+            Err(error) => Err(reason(error.kind())),
         }
-        files.sort()?;
-        Ok(Some(files))
     }
 
     fn replace(&mut self, alloc: Global, name: &str, text: &str) -> Result<(), Unwritten> {
         replace(self.rt, alloc, name, text)
     }
-}
-
-// The GraphQL files below a folder. Links to folders aren't followed, so that none is entered twice.
-fn listed(rt: &HostRuntime, alloc: Global, name: &str) -> io::Result<Vec<String>> {
-    let mut files = Vec::new(alloc);
-    let mut folders = Vec::new(alloc);
-    folders.push(String::from_str(alloc, name)?)?;
-    // The folders that lie so deep.
-    for _ in 0..MOST_FOLDERS {
-        let mut inner = Vec::new(alloc);
-        for folder in &folders {
-            list(rt, alloc, folder.as_str(), &mut files, &mut inner)?;
-        }
-        if inner.is_empty() {
-            break;
-        }
-        folders = inner;
-    }
-    Ok(files)
-}
-
-// Adds the GraphQL files in a folder, and the folders in it.
-fn list(
-    rt: &HostRuntime,
-    alloc: Global,
-    folder: &str,
-    files: &mut Vec<String>,
-    folders: &mut Vec<String>,
-) -> io::Result<()> {
-    for entry in fs::read_dir(rt, folder)? {
-        let entry = entry?;
-        let path = String::from_str(alloc, entry.path().as_str())?;
-        if entry.file_type()?.is_dir() {
-            folders.push(path)?;
-        } else if is_graphql(path.as_str()) {
-            files.push(path)?;
-        }
-    }
-    Ok(())
-}
-
-fn is_graphql(path: &str) -> bool {
-    for end in EXTENSIONS {
-        if path.ends_with(end) {
-            return true;
-        }
-    }
-    false
 }

@@ -2,6 +2,7 @@
 mod diagnoses;
 mod fakes;
 mod findings;
+mod ignored;
 mod listings;
 mod outputs;
 mod pieces;
@@ -20,6 +21,7 @@ use std::io::ErrorKind;
 /// What a part of the program makes of a text, over the files that `listed` has.
 ///
 /// - `language`: what the text of a file is read as; the file's name stands before it, with ` | ` between them
+/// - `ignored`: whether the patterns of a `.gitignore` exclude a path, which stands before them, with ` | ` between them
 /// - `help`, `cut short`, `closed`, `unheard`, `unheard bytes`: of arguments, the status, and what is written besides
 /// - `unclosed string`, `unclosed string from`, `opening`: which block string isn't closed
 /// - `rest`, `later line`: what is told of a text that is read from a later line on
@@ -28,6 +30,7 @@ use std::io::ErrorKind;
 pub fn answer(shown: &mut Shown, listed: &str, part: &str, text: &str) {
     match part {
         "language" => write_language(shown, text),
+        "ignored" => ignored::judged(shown, text),
         "help" => outputs::help(shown, listed, text),
         "cut short" => outputs::cut_short(shown, listed, ErrorKind::Other, text),
         "closed" => outputs::cut_short(shown, listed, ErrorKind::BrokenPipe, text),

@@ -1,5 +1,5 @@
 //! Texts and writers over memory.
-use graphql_commands::texts::{Texts, Unread, Unwritten, text_of};
+use graphql_commands::texts::{Listing, Passed, Texts, Unread, Unwritten, text_of};
 use rows::meant;
 use std::alloc::{AllocError, Global};
 use std::io::{Error, ErrorKind, Result as IoResult, Write};
@@ -82,6 +82,38 @@ fn is_meant(alloc: Global, known: &str, name: &str) -> bool {
     }
 }
 
+// Adds what is only skipped where a folder is searched.
+fn pass_links(alloc: Global, passed: &mut Vec<Passed>) -> Result<(), AllocError> {
+    pass(alloc, passed, "mixed/\u{fffd}.txt", Unread::OddName)?;
+    pass(alloc, passed, "mixed/pipe.gql", Unread::Special)?;
+    pass(alloc, passed, "mixed/nowhere.gqls", Unread::LinkToNothing)?;
+    pass(alloc, passed, "mixed/outside.sdl", Unread::LinkOutside)
+}
+
+// Adds what can't be read there.
+fn pass_unread(alloc: Global, passed: &mut Vec<Passed>) -> Result<(), AllocError> {
+    pass(alloc, passed, "mixed/\u{fffd}.graphql", Unread::BadName)?;
+    pass(alloc, passed, "mixed/\u{1b}locked", Unread::Forbidden)
+}
+
+fn pass(
+    alloc: Global,
+    passed: &mut Vec<Passed>,
+    name: &str,
+    why: Unread,
+) -> Result<(), AllocError> {
+    let name = String::from_str(alloc, name)?;
+    passed.push(Passed { name, why })?;
+    Ok(())
+}
+
+fn half_written(alloc: Global) -> Unwritten {
+    match String::from_str(alloc, "./.half.graphql.gql-format") {
+        Ok(copy) => Unwritten::HalfWritten(copy),
+        Err(_) => Unwritten::NoMemory,
+    }
+}
+
 impl Texts for Files<'_> {
     ghost gives = { λ _ _ _ _. Unit {0} };
 
@@ -104,14 +136,33 @@ impl Texts for Files<'_> {
         }
     }
 
-    fn files_below(&mut self, alloc: Global, name: &str) -> Result<Option<Vec<String>>, Unread> {
+    fn files_below(
+        &mut self,
+        alloc: Global,
+        name: &str,
+        takes_all: bool,
+    ) -> Result<Option<Listing>, Unread> {
+        let mut listing = Listing {
+            files: Vec::new(alloc),
+            passed: Vec::new(alloc),
+        };
         match name {
-            "folder" => Ok(Some(self.names_below(alloc, "folder/")?)),
-            "sources" => Ok(Some(self.names_below(alloc, "sources/")?)),
-            "empty" => Err(Unread::NoFiles),
-            "locked" => Err(Unread::Forbidden),
-            _ => Ok(None),
+            "folder" => listing.files = self.names_below(alloc, "folder/")?,
+            "sources" => listing.files = self.names_below(alloc, "sources/")?,
+            "hidden" if takes_all => listing.files = self.names_below(alloc, "folder/")?,
+            "empty" | "hidden" => {}
+            "links" => pass_links(alloc, &mut listing.passed)?,
+            "linked" | "mixed" => {
+                listing.files = self.names_below(alloc, "sources/c")?;
+                pass_links(alloc, &mut listing.passed)?;
+                if name == "mixed" {
+                    pass_unread(alloc, &mut listing.passed)?;
+                }
+            }
+            "locked" => return Err(Unread::Forbidden),
+            _ => return Ok(None),
         }
+        Ok(Some(listing))
     }
 
     fn replace(&mut self, alloc: Global, name: &str, text: &str) -> Result<(), Unwritten> {
@@ -121,6 +172,8 @@ impl Texts for Files<'_> {
             "fixed.graphql" => Err(Unwritten::ReadOnly),
             "full.graphql" => Err(Unwritten::Full),
             "odd.graphql" => Err(Unwritten::Unwritable),
+            "alone.graphql" => Err(Unwritten::NoCopy),
+            "half.graphql" => Err(half_written(alloc)),
             "spent.graphql" => Err(Unwritten::NoMemory),
             _ => match self.keep(alloc, name, text) {
                 Ok(()) => Ok(()),

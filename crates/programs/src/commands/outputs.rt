@@ -5,7 +5,7 @@ use rows::{Shown, pair};
 use std::io::ErrorKind;
 
 // What help speaks of.
-const TOLD: [&str; 17] = [
+const TOLD: [&str; 18] = [
     "check",
     "format",
     "minify",
@@ -17,6 +17,7 @@ const TOLD: [&str; 17] = [
     "--schema",
     "--limits S,V,T",
     "--memory BYTES",
+    "--no-ignore",
     "--check",
     "--executable",
     "--format FORMAT",
