@@ -2,7 +2,8 @@
 """Tries a built language server over pipes: tests/server.py GQL [PART..]
 
 GQL is the program, as crates/gql/out/gql. Without a PART all are tried:
-  dialogues  each dialogue of crates/programs, message by message
+  dialogues  each file of tests/dialogues: message by message, byte by byte, at once, and if its name begins with cut_ in two pieces, cut
+             at each byte after the first message. ONLY=NAME,NAME in the environment tries these alone
   pieces     the same in random pieces (SEED=N in the environment for others)
   garbage    random bytes, dialogues with random damage, and contents that are no UTF-8: the server goes on, and ends by itself
   limits     messages of 64 MiB, and one byte more
@@ -12,10 +13,11 @@ GQL is the program, as crates/gql/out/gql. Without a PART all are tried:
   times      from a key stroke to its diagnostics, for texts of 100 KB and 2 MB with one mistake
   costs      what an outline and queued changes cost in key strokes
 The status is 0 where all is as it has to be. Times are printed, and judged by the reader."""
-import json, os, queue, random, re, statistics, subprocess, sys, threading, time
+import fcntl, json, os, queue, random, re, statistics, struct, subprocess, sys, termios, threading, time
 from pathlib import Path
 
-DATA = Path(__file__).resolve().parent.parent / "crates/programs/data"
+DIALOGUES = Path(__file__).resolve().parent / "dialogues"
+ONLY = [name for name in os.environ.get("ONLY", "").split(",") if name]
 SEED = int(os.environ.get("SEED", "1"))
 CHANGES = int(os.environ.get("CHANGES", "100000"))
 PATIENCE = 60
@@ -63,6 +65,13 @@ class Server:
             self.process.stdin.flush()
         except BrokenPipeError:
             pass
+
+    def send_alone(self, data):
+        """Sends this, and goes on when the server has read it."""
+        self.send(data)
+        pipe, left = self.process.stdin.fileno(), struct.pack("i", 1)
+        while left != struct.pack("i", 0) and self.process.poll() is None:
+            left = fcntl.ioctl(pipe, termios.FIONREAD, struct.pack("i", 0))
 
     def next(self):
         """The next message; None where the output has ended."""
@@ -132,7 +141,24 @@ def ranged(start, end, text):
     return {"range": {"start": start, "end": end}, "text": text}
 
 
-# ---- Dialogues, in the notation of crates/programs/src/dialogues/notation.rt
+# ---- Dialogues
+#
+# A line has what its first sign says, and goes on in each line that begins with two blanks:
+#
+#   >   a message of the editor, with a right header before it
+#   >=  the content of a message, to which nothing is added but the header
+#   >>  bytes as they are, without a header
+#   <   a message that the server has to write then, after those above it
+#   <?  the same, but it isn't written if the next message has arrived
+#   $   the input ends
+#   =   the status with which the server ends; without such a line it goes on, and ends with 1 at the end of the input
+#   --  a remark
+#   +   the name of a file of tests/dialogues/parts whose lines stand here
+#
+# Messages after > and < have the member "jsonrpc": "2.0" too, which isn't written. In JSON, but in no string, @0:12 is the position of
+# line 0 and character 12, and @0:12-1:0 a range. In what the server writes a string that ends in … is any that begins so: the protocol
+# leaves the words of most messages to the server. All else has to be the same value: the order of members doesn't count, and each counts.
+# Signs for characters that are not seen, and for many of them, are those of the crate rows.
 
 def meant(text):
     """The text that the notation of the rows stands for."""
@@ -162,7 +188,7 @@ def with_places(text):
 def dialogue(file):
     """The turns of a dialogue: the bytes that are sent, whether the input ends, and the messages that are to come, each with whether it
     comes also if the next message has arrived; and the status."""
-    text = re.sub(r"(?m)^\+ (.*)\n", lambda part: (DATA / "parts" / part[1]).read_text(), file.read_text())
+    text = re.sub(r"(?m)^\+ (.*)\n", lambda part: (DIALOGUES / "parts" / part[1]).read_text(), file.read_text())
     turns, status = [], None
     for line in text.replace("\n  ", " ").split("\n"):
         sign, _, rest = line.partition(" ")
@@ -196,7 +222,8 @@ def is_like(found, wanted):
 
 
 def dialogues():
-    return [(file.name, *dialogue(file)) for file in sorted((DATA / "dialogues").iterdir())]
+    files = sorted(file for file in DIALOGUES.iterdir() if file.is_file() and (not ONLY or file.name in ONLY))
+    return [(file.name, *dialogue(file)) for file in files]
 
 
 def judge(name, number, found, wanted):
@@ -204,19 +231,48 @@ def judge(name, number, found, wanted):
         sys.exit(f"{name}, turn {number}:\n  wanted: {json.dumps(wanted, ensure_ascii=False)}\n  found: {json.dumps(found, ensure_ascii=False)}")
 
 
-def try_dialogues(program):
-    """Message by message: an answer comes before more is sent. A server that goes on ends with 1 at the end of the input."""
+def play(program, name, turns, status):
+    """Plays a dialogue message by message. Returns how many messages came out."""
     count = 0
-    for name, turns, status in dialogues():
-        server = Server(program)
-        for number, (sent, is_last, wanted) in enumerate(turns):
-            server.send(sent)
-            if is_last:
-                server.process.stdin.close()
-            for each, _ in wanted:
-                judge(name, number, server.next(), each)
-                count += 1
-        judge(name, "the end", list(server.end()), [[], 1 if status is None else status])
+    server = Server(program)
+    for number, (sent, is_last, wanted) in enumerate(turns):
+        server.send(sent)
+        if is_last:
+            server.process.stdin.close()
+        for each, _ in wanted:
+            judge(name, number, server.next(), each)
+            count += 1
+    judge(name, "the end", list(server.end()), [[], status])
+    return count
+
+
+def play_pieces(program, name, pieces, wanted, status):
+    """Plays a dialogue in these pieces, each of which arrives by itself."""
+    server = Server(program)
+    for piece in pieces:
+        server.send_alone(piece)
+    rest, ended = server.end()
+    judge(name, f"in {len(pieces)} pieces", [rest, ended], [wanted, status])
+
+
+def try_dialogues(program):
+    """A server that goes on ends with 1 at the end of the input."""
+    count = 0
+    for name, turns, ended in dialogues():
+        status = 1 if ended is None else ended
+        count += play(program, name, turns, status)
+        data = b"".join(sent for sent, _, _ in turns)
+        messages = [each for _, _, wanted in turns for each in wanted]
+        all_of_them, sure = [each for each, _ in messages], [each for each, is_sure in messages if is_sure]
+        play_pieces(program, name, [data[at:at + 1] for at in range(len(data))], all_of_them, status)
+        play_pieces(program, name, [data], sure, status)
+        if name.startswith("cut_"):
+            for at in range(len(turns[0][0]), len(data)):
+                server = Server(program)
+                server.send_alone(data[:at])
+                server.send_alone(data[at:])
+                rest, found = server.end()
+                judge(name, f"cut at byte {at}", [chosen(rest, messages), found], [sure, status])
     print(f"dialogues: {len(dialogues())} with {count} messages out, as they have to be")
 
 
@@ -260,15 +316,15 @@ def damaged(chance, data):
     data = bytearray(data)
     for _ in range(chance.choice([1, 2, 10, 100])):
         place = chance.randrange(len(data))
-        match chance.randrange(4):
-            case 0:
-                data[place] = chance.randrange(256)
-            case 1:
-                del data[place:place + chance.choice([1, 5, 50])]
-            case 2:
-                data[place:place] = data[place:place + chance.choice([1, 20, 300])]
-            case 3:
-                data[place:place] = bytes(chance.choices(b'{}[]",:0\\\r\n\xff\xc3\xf0', k=chance.choice([1, 4])))
+        kind = chance.randrange(4)
+        if kind == 0:
+            data[place] = chance.randrange(256)
+        elif kind == 1:
+            del data[place:place + chance.choice([1, 5, 50])]
+        elif kind == 2:
+            data[place:place] = data[place:place + chance.choice([1, 20, 300])]
+        else:
+            data[place:place] = bytes(chance.choices(b'{}[]",:0\\\r\n\xff\xc3\xf0', k=chance.choice([1, 4])))
         data = data or bytearray(b"\n")
     return bytes(data)
 

@@ -6,6 +6,7 @@ mod ignored;
 mod listings;
 mod outputs;
 mod pieces;
+mod places;
 mod rests;
 mod runs;
 mod spellings;
@@ -26,6 +27,7 @@ use std::io::ErrorKind;
 /// - `unclosed string`, `unclosed string from`, `opening`: which block string isn't closed
 /// - `rest`, `later line`: what is told of a text that is read from a later line on
 /// - `diagnoses`, `mended`: what is wrong with a text as data, and what the first fix makes of it
+/// - `places`: how many offsets it has, if the server finds the position of each
 /// - `findings`, `made findings`, `many findings`, `spelling`, `made spellings`: whether it is as it was before
 pub fn answer(shown: &mut Shown, listed: &str, part: &str, text: &str) {
     match part {
@@ -40,6 +42,7 @@ pub fn answer(shown: &mut Shown, listed: &str, part: &str, text: &str) {
         "unclosed string from" => strings::unclosed_from(shown, text),
         "opening" => strings::opening(shown, text),
         "later line" => rests::later_line(shown, text),
+        "places" => places::write_offsets(shown, text),
         "spelling" => spellings::spelled(shown, text),
         "made spellings" => spellings::made_spelled(shown, text),
         "made findings" => findings::made_told(shown, text),

@@ -1,17 +1,15 @@
-//! What the programs do: the runs of `gql` and `gqlparse`, what `gql` tells of a text in parts, and the dialogues of an editor with
-//! the server. The answers were worked out by hand from `gql --help`, the rules of `docs/GRAMMAR.md` and the Language Server
-//! Protocol 3.17, and never taken from what the programs write.
+//! What the programs do: the runs of `gql` and `gqlparse`, and what `gql` makes of a text in parts. The answers were worked out by
+//! hand from `gql --help`, the rules of `docs/GRAMMAR.md` and the Language Server Protocol 3.17, and never taken from what the
+//! programs write. The dialogues of an editor with the server are those of `tests/dialogues`, which `tests/server.py` plays.
 //!
 //! The tables are the files of `data/tables`, in the notation of the crate `rows`; the runs are the files of `data/runs`, those of
-//! `gql` over the files that `data/sources` lists. The program prints how many rows and messages each file has, and what doesn't
-//! hold: the file `stdout` has the counts, and nothing else. Words of the program name the files to judge.
+//! `gql` over the files that `data/sources` lists. The program prints how many rows each file has, and what doesn't hold: the file
+//! `stdout` has the counts, and nothing else. Words of the program name the files to judge.
 #![tactic(auto)]
 
 mod commands;
-mod dialogues;
 
 use commands::judge_runs;
-use dialogues::judge_dialogues;
 use rows::{Shown, Subject, ended, judge, pair};
 use std::fs;
 use std::test::Fail;
@@ -35,6 +33,5 @@ fn main(rt: HostRuntime) -> Result<(), Fail> {
         sources: fs::read_to_string(&rt, "sources")?,
     };
     let wrong = judge(&rt, "tables", &calls)?;
-    let wrong = wrong.saturating_add(judge_runs(&rt, calls.sources.as_str())?);
-    ended(wrong.saturating_add(judge_dialogues(&rt)?))
+    ended(wrong.saturating_add(judge_runs(&rt, calls.sources.as_str())?))
 }
