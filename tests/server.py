@@ -1,6 +1,8 @@
 #!/usr/bin/env python3
 """Tries a built language server over pipes: tests/server.py GQL [PART..]
 
+tests/server.py quick [NAME..] tries the dialogues of these names, or all, at once and without a proof or a built program, by `rt try`.
+
 GQL is the program, as crates/gql/out/gql. Without a PART all are tried:
   dialogues  each file of tests/dialogues: message by message, byte by byte, at once, and if its name begins with cut_ in two pieces, cut
              at each byte after the first message. ONLY=NAME,NAME in the environment tries these alone
@@ -13,7 +15,7 @@ GQL is the program, as crates/gql/out/gql. Without a PART all are tried:
   times      from a key stroke to its diagnostics, for texts of 100 KB and 2 MB with one mistake
   costs      what an outline and queued changes cost in key strokes
 The status is 0 where all is as it has to be. Times are printed, and judged by the reader."""
-import fcntl, json, os, queue, random, re, statistics, struct, subprocess, sys, termios, threading, time
+import fcntl, json, os, queue, random, re, statistics, struct, subprocess, sys, tempfile, termios, threading, time
 from pathlib import Path
 
 DIALOGUES = Path(__file__).resolve().parent / "dialogues"
@@ -309,6 +311,43 @@ def try_pieces(program, rounds=5):
     print(f"pieces: each dialogue {rounds} times in random pieces, the same")
 
 
+def messages_in(written):
+    """The messages that a server wrote."""
+    found = []
+    while written:
+        header = re.match(rb"Content-Length: (\d+)\r\n\r\n", written)
+        if not header:
+            return [*found, f"no message: {written[:200]!r}"]
+        end = header.end() + int(header[1])
+        found.append(json.loads(written[header.end():end]))
+        written = written[end:]
+    return found
+
+
+def quick(names):
+    """Plays dialogues at once, each to a server that `rt try` runs. Prints those that don't hold. Returns how many these are."""
+    played = [it for it in dialogues() if not names or it[0] in names]
+    with tempfile.TemporaryDirectory() as folder:
+        for name, turns, _ in played:
+            Path(folder, name).write_bytes(b"".join(sent for sent, _, _ in turns))
+        words = ["rt", "try", "--seconds", "900", "--cases", folder, "--", "lsp"]
+        ran = subprocess.run(words, cwd=DIALOGUES.parent.parent / "crates/gql", capture_output=True)
+    said = ran.stderr.decode(errors="replace")
+    statuses = {name: int(status) for name, status in re.findall(r"^case=(\S+) run=ended status=(\d+)", said, re.M)}
+    parts = re.split(rb"^== (\w+)\n", ran.stdout, flags=re.M)
+    written = {name.decode(): out for name, out in zip(parts[1::2], parts[2::2])}
+    if not statuses:
+        print(said[-2000:])
+    wrong = 0
+    for name, turns, ended in played:
+        wanted = [[each for _, _, messages in turns for each, is_sure in messages if is_sure], 1 if ended is None else ended]
+        found = [messages_in(written.get(name, b"").removesuffix(b"\n")), statuses.get(name)]
+        if not is_like(found, wanted):
+            wrong += 1
+            print(f"tests/dialogues/{name}:\n  expected: {json.dumps(wanted, ensure_ascii=False)}\n  found:    {json.dumps(found, ensure_ascii=False)}")
+    return wrong
+
+
 # ---- What no dialogue has
 
 def damaged(chance, data):
@@ -596,6 +635,8 @@ PARTS = {"dialogues": try_dialogues, "pieces": try_pieces, "garbage": try_garbag
 
 
 def main():
+    if sys.argv[1:2] == ["quick"]:
+        sys.exit(quick(sys.argv[2:]) > 0)
     if len(sys.argv) < 2 or not set(sys.argv[2:]) <= PARTS.keys():
         sys.exit(__doc__)
     for part in sys.argv[2:] or PARTS:
