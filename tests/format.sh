@@ -68,6 +68,11 @@ has() {
 ." ]
 }
 
+# The file has its old text, without a final line feed.
+keeps() {
+    holds "$1 keeps its text: $(cat "$1")" [ "$(cat "$1"; echo .)" = "$2." ]
+}
+
 # No file of a name that begins with a dot is left in the folder.
 is_clean() {
     holds "nothing is left in $1" [ -z "$(find "$1" -name '.?*')" ]
@@ -137,8 +142,8 @@ says "gql: links/a.graphql is skipped: the link leads out of the folder"
 says "gql: links/d.graphql is skipped: the link leads to no file"
 says "gql: links/e.graphql is skipped: the link leads to no file"
 says "1 file: 1 formatted"
-has elsewhere/target '{a}'
-has elsewhere/b.graphql '{a}'
+keeps elsewhere/target '{a}'
+keeps elsewhere/b.graphql '{a}'
 has links/c "$laid_out"
 ends_with 2 format links/d.graphql
 says "gql: links/d.graphql cannot be read: no such file"
@@ -215,11 +220,11 @@ chmod 555 locked
     exit "$failures"
 )
 failures=$?
-has locked/a.graphql '{a}'
+keeps locked/a.graphql '{a}'
 user_ends_with 2 format kept locked
 says "gql: kept/a.graphql cannot be written: permission denied"
 says "2 files: 1 formatted, 1 not written"
-has kept/a.graphql '{a}'
+keeps kept/a.graphql '{a}'
 has locked/a.graphql "$laid_out"
 is_clean kept
 
@@ -244,7 +249,7 @@ if [ "$(id -u)" -eq 0 ] && mkdir full && mount -t tmpfs -o size=16k tmpfs full 2
     says "gql: full/b.graphql cannot be written: no space left"
     says "2 files: 1 formatted, 1 not written"
     has full/a.graphql "$laid_out"
-    has full/b.graphql "$nested"
+    keeps full/b.graphql "$nested"
     is_clean full
     mount -o remount,ro full
     ends_with 2 format full
@@ -273,14 +278,14 @@ printf %s "$nested" >short/a.graphql
     exit "$failures"
 )
 failures=$?
-has short/a.graphql "$nested"
+keeps short/a.graphql "$nested"
 is_clean short
 (
     ulimit -c 0
     ulimit -f 1
     "$gql" format short
 ) >told 2>&1
-has short/.a.graphql.gql-format "$nested"
+keeps short/.a.graphql.gql-format "$nested"
 holds "the copy is the owner's alone" [ "$(stat -c %a short/.a.graphql.gql-format)" = 600 ]
 
 # What is blank.
@@ -326,7 +331,7 @@ ends_with 0 format --schema found
 has found/sub/d.sdl 'type A {
   b: C
 }'
-has found/left/b/a.graphql 'type A{b:C}'
+keeps found/left/b/a.graphql 'type A{b:C}'
 mkdir found/none
 ends_with 2 check found/none
 says "gql: found/none has no file named *.graphql, *.graphqls, *.gqls, *.gql or *.sdl"
