@@ -248,13 +248,12 @@ def play(program, name, turns, status):
     return count
 
 
-def play_pieces(program, name, pieces, wanted, status):
-    """Plays a dialogue in these pieces, each of which arrives by itself."""
+def played(program, pieces):
+    """What a server writes, and its status, if each of these pieces arrives by itself."""
     server = Server(program)
     for piece in pieces:
         server.send_alone(piece)
-    rest, ended = server.end()
-    judge(name, f"in {len(pieces)} pieces", [rest, ended], [wanted, status])
+    return list(server.end())
 
 
 def try_dialogues(program):
@@ -266,14 +265,11 @@ def try_dialogues(program):
         data = b"".join(sent for sent, _, _ in turns)
         messages = [each for _, _, wanted in turns for each in wanted]
         all_of_them, sure = [each for each, _ in messages], [each for each, is_sure in messages if is_sure]
-        play_pieces(program, name, [data[at:at + 1] for at in range(len(data))], all_of_them, status)
-        play_pieces(program, name, [data], sure, status)
+        judge(name, "byte by byte", played(program, [data[at:at + 1] for at in range(len(data))]), [all_of_them, status])
+        judge(name, "at once", played(program, [data]), [sure, status])
         if name.startswith("cut_"):
             for at in range(len(turns[0][0]), len(data)):
-                server = Server(program)
-                server.send_alone(data[:at])
-                server.send_alone(data[at:])
-                rest, found = server.end()
+                rest, found = played(program, [data[:at], data[at:]])
                 judge(name, f"cut at byte {at}", [chosen(rest, messages), found], [sure, status])
     print(f"dialogues: {len(dialogues())} with {count} messages out, as they have to be")
 
@@ -326,9 +322,9 @@ def messages_in(written):
 
 def quick(names):
     """Plays dialogues at once, each to a server that `rt try` runs. Prints those that don't hold. Returns how many these are."""
-    played = [it for it in dialogues() if not names or it[0] in names]
+    asked = [it for it in dialogues() if not names or it[0] in names]
     with tempfile.TemporaryDirectory() as folder:
-        for name, turns, _ in played:
+        for name, turns, _ in asked:
             Path(folder, name).write_bytes(b"".join(sent for sent, _, _ in turns))
         words = ["rt", "try", "--seconds", "900", "--cases", folder, "--", "lsp"]
         ran = subprocess.run(words, cwd=DIALOGUES.parent.parent / "crates/gql", capture_output=True)
@@ -339,7 +335,7 @@ def quick(names):
     if not statuses:
         print(said[-2000:])
     wrong = 0
-    for name, turns, ended in played:
+    for name, turns, ended in asked:
         wanted = [[each for _, _, messages in turns for each, is_sure in messages if is_sure], 1 if ended is None else ended]
         found = [messages_in(written.get(name, b"").removesuffix(b"\n")), statuses.get(name)]
         if not is_like(found, wanted):
