@@ -62,7 +62,7 @@ def plain(text):
 
 
 def meant(text):
-    """What a text of a row stands for (the notation of `crates/rows`)."""
+    """What a text of a row stands for (the notation is said at `crates/conformance/src/rows.rt`)."""
 
     def inside(match):
         count, cross, part = match[1].partition("×")

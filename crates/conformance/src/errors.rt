@@ -1,9 +1,9 @@
 //! Errors: what they print, and the places that they name.
 use crate::parser::write_error;
+use crate::rows::{Shown, pair};
 use graphql_parser::types::OperationType;
 use graphql_parser::value::Name;
 use graphql_parser::{Error, ErrorPositions, Pos};
-use rows::{Shown, pair};
 use std::alloc::{AllocError, Global};
 
 const A: Pos = Pos { line: 1, column: 2 };

@@ -9,10 +9,10 @@ mod paths;
 use crate::errors::named;
 use crate::made::lone_type;
 use crate::parser::{OTHERWISE, are_alike};
+use crate::rows::Shown;
 use graphql_json::{Places, error_json, request_json, schema_json};
 use graphql_parser::{check_query, check_schema, parse_query, parse_schema};
 use inside::{Inside, WHOLE, between};
-use rows::Shown;
 use std::alloc::AllocError;
 use std::str;
 

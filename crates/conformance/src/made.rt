@@ -1,12 +1,12 @@
 //! Values that programs make: limits, sets of selections, places of directives, trees.
 use crate::parser::limits_of;
+use crate::rows::Shown;
 use graphql_parser::types::{
     DirectiveLocation, SelectionSet, ServiceDocument, TypeDefinition, TypeKind,
     TypeSystemDefinition,
 };
 use graphql_parser::value::Name;
 use graphql_parser::{Limits, Pos, Positioned};
-use rows::Shown;
 use std::alloc::Global;
 
 /// Writes what is said of a value that a program makes.

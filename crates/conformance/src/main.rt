@@ -1,15 +1,18 @@
 //! Tables of cases with expected answers: tokens, values, requests and schema files, what the calls of their trees and of their
 //! errors give, their JSON, what they are minified and formatted to, what their trees are printed as, the reports of refused
-//! texts, positions and edits, what an editor asks of a text, random texts, and calls that run out of memory. The answers were
-//! worked out by hand from the rules of `docs/GRAMMAR.md`, or come from where a table says, and were never taken from what the
-//! crates print.
+//! texts, positions and edits, what an editor asks of a text, random texts, what `gql` makes of a text in parts, runs of `gql` and
+//! `gqlparse`, and calls that run out of memory. The answers were worked out by hand from the rules of `docs/GRAMMAR.md`, from
+//! `gql --help` and the Language Server Protocol 3.17, or come from where a table says, and were never taken from what the crates
+//! print.
 //!
-//! The tables are the files of `data/tables` and, for the module `refused`, of `data/refused`, in the notation of the crate
+//! The tables are the files of `data/tables`, `data/runs` and, for the module `refused`, `data/refused`, in the notation of the module
 //! `rows`. The program prints how many rows each has, and the rows that do not hold: the file `stdout` has the counts, and no
 //! such row. So a new row is a line of a table, and counts there. Words of the program name the tables to judge; those that
-//! begin with `random` or `once` are for the modules `roundtrip` and `refused`.
+//! begin with `random`, `once` or `bench` are for the modules `roundtrip`, `refused` and `bench`, of which the last measures.
 #![tactic(auto)]
 
+mod bench;
+mod commands;
 mod compared;
 mod errors;
 mod json;
@@ -18,44 +21,63 @@ mod made;
 mod parser;
 mod parts;
 mod printed;
+mod random;
 mod readme;
 mod refused;
 mod reports;
 mod rewritten;
 mod roundtrip;
+mod rows;
 mod seeds;
 mod trees;
 
 use parser::Parser;
 use rewritten::Rewriting;
-use rows::{Shown, Subject, ended, judge, pair};
+use rows::{Shown, ended, judge, pair};
 use std::test::Fail;
-use std::{env, io};
+use std::{env, fs, io};
 
-/// The calls that the tables are about.
-struct Calls;
+/// What the rows of a folder are about.
+#[derive(Clone, Copy)]
+pub enum Subject<'a> {
+    /// Calls of the libraries, and of `gql` over the files that are listed here.
+    Calls { sources: &'a str },
+    /// Calls at the end of memory, if it has one.
+    Refused { has_end: bool },
+}
 
-impl Subject for Calls {
-    fn answer(&self, shown: &mut Shown, call: &str, text: &str) {
-        match pair(call, " ") {
-            ("minified", asked) => rewritten::answer(shown, Rewriting::Minified, asked, text),
-            ("formatted", asked) => rewritten::answer(shown, Rewriting::Formatted, asked, text),
-            ("printed", what) => printed::answer(shown, what, text),
-            ("query", asked) => parser::write_asked(shown, Parser::Query, asked, text),
-            ("schema", "kept") => kept::write_file(shown, text),
-            ("schema", "long") => kept::write_long_file(shown, text),
-            ("schema", asked) => parser::write_asked(shown, Parser::Schema, asked, text),
-            ("error", part) => errors::write_part(shown, part, text),
-            ("json", part) => json::answer(shown, part, text),
-            ("report", limits) => reports::of_text(shown, limits, text),
-            ("front", limits) => reports::front(shown, limits, text),
-            ("exact", what) => reports::exact(shown, what, text),
-            ("made", what) => made::write_made(shown, what, text),
-            ("seeds", what) => seeds::write_seeds(shown, what, text),
-            ("readme", example) => readme::write_example(shown, example, text),
-            ("random", _) => roundtrip::write_found(shown, text),
-            _ => parts::answer(shown, call, text),
+impl Subject<'_> {
+    /// Writes what the call of this name makes of a text.
+    pub fn answer(self, shown: &mut Shown, call: &str, text: &str) {
+        match self {
+            Subject::Calls { sources } => answer(shown, sources, call, text),
+            Subject::Refused { has_end } => refused::answer(shown, has_end, call, text),
         }
+    }
+}
+
+fn answer(shown: &mut Shown, sources: &str, call: &str, text: &str) {
+    match pair(call, " ") {
+        ("minified", asked) => rewritten::answer(shown, Rewriting::Minified, asked, text),
+        ("formatted", asked) => rewritten::answer(shown, Rewriting::Formatted, asked, text),
+        ("printed", what) => printed::answer(shown, what, text),
+        ("query", asked) => parser::write_asked(shown, Parser::Query, asked, text),
+        ("schema", "kept") => kept::write_file(shown, text),
+        ("schema", "long") => kept::write_long_file(shown, text),
+        ("schema", asked) => parser::write_asked(shown, Parser::Schema, asked, text),
+        ("error", part) => errors::write_part(shown, part, text),
+        ("json", part) => json::answer(shown, part, text),
+        ("report", limits) => reports::of_text(shown, limits, text),
+        ("front", limits) => reports::front(shown, limits, text),
+        ("exact", what) => reports::exact(shown, what, text),
+        ("made", what) => made::write_made(shown, what, text),
+        ("seeds", what) => seeds::write_seeds(shown, what, text),
+        ("readme", example) => readme::write_example(shown, example, text),
+        ("bench", what) => bench::write_digest(shown, what, text),
+        ("random", _) => roundtrip::write_found(shown, text),
+        ("gql", part) => commands::answer(shown, sources, part, text),
+        ("run", program) => commands::write_run(shown, sources, program, text),
+        _ => parts::answer(shown, call, text),
     }
 }
 
@@ -67,7 +89,10 @@ fn main(rt: HostRuntime) -> Result<(), Fail> {
     match words.whole() {
         Some("once") => refused::make_once(&rt),
         Some(words) if words.starts_with("random ") => roundtrip::run(&rt, words),
-        Some(_) => judge_all(&rt),
+        Some(words) => match words.strip_prefix("bench ") {
+            Some(asked) => Ok(bench::run(&rt, asked)?),
+            None => judge_all(&rt, words),
+        },
         None => Ok(println!(rt; "{}", refused::REFUSED)?),
     }
 }
@@ -81,7 +106,15 @@ fn write_words(rt: &HostRuntime, words: &mut Shown) -> io::Result<()> {
     Ok(())
 }
 
-fn judge_all(rt: &HostRuntime) -> Result<(), Fail> {
-    let wrong = judge(rt, "tables", &Calls)?;
-    ended(wrong.saturating_add(refused::judge_rows(rt)?))
+fn judge_all(rt: &HostRuntime, words: &str) -> Result<(), Fail> {
+    let sources = fs::read_to_string(rt, "sources")?;
+    judge_folders(rt, words, sources.as_str())
+}
+
+fn judge_folders(rt: &HostRuntime, words: &str, sources: &str) -> Result<(), Fail> {
+    let subject = Subject::Calls { sources };
+    let of_tables = judge(rt, words, "tables", subject)?;
+    let of_runs = judge(rt, words, "runs", subject)?;
+    let of_refused = refused::judge_rows(rt, words)?;
+    ended(of_tables.saturating_add(of_runs).saturating_add(of_refused))
 }

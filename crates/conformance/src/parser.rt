@@ -11,4 +11,5 @@ mod views;
 
 pub use answers::{OTHERWISE, Parser, are_alike};
 pub use asked::{limits_of, write_asked};
+pub use budgets::refused_within;
 pub use errors::write_error;

@@ -14,8 +14,8 @@ mod tokens;
 mod type_texts;
 mod written;
 
+use crate::rows::Shown;
 use graphql_tokens::text::{block_string_value, string_value};
-use rows::Shown;
 
 /// Writes what the call of this name makes of a text.
 pub fn answer(shown: &mut Shown, call: &str, text: &str) {

@@ -1,9 +1,9 @@
 //! Documents, printed.
+use crate::rows::{Shown, pair};
 use graphql_parser::types::{DocumentOperations, TypeSystemDefinition};
 use graphql_parser::value::Name;
 use graphql_parser::{Pos, parse_query, parse_schema};
 use graphql_printer::{print_query, print_schema};
-use rows::{Shown, pair};
 
 /// What is printed of the document of a text, between quotes.
 ///

@@ -1,7 +1,7 @@
 //! The longer example of docs/USING.md, as it stands there, and the one that its text names.
+use crate::rows::Shown;
 use graphql_parser::types::{Selection, TypeKind, TypeSystemDefinition};
 use graphql_parser::{Error, parse_query, parse_schema};
-use rows::Shown;
 use std::alloc::Global;
 
 /// Writes what an example makes of a text, in one line: the outline of a request, or the types of a schema file that implement

@@ -16,12 +16,14 @@ mod row;
 mod trees;
 mod trying;
 
+use crate::Subject;
+use crate::rows::{files_in, judge};
 use little_memory::all_but;
 pub use row::REFUSED;
-use rows::{files_in, judge};
 use std::io;
 use std::test::Fail;
-use trying::{Calls, once};
+pub use trying::answer;
+use trying::once;
 
 /// How many bytes are left for the tables, for what the calls are given, and for their answers.
 const ROOM_FOR_ROWS: usize = 1 << 25;
@@ -37,15 +39,15 @@ pub fn make_once(rt: &HostRuntime) -> Result<(), Fail> {
 
 /// Judges the tables that the program's words name, or all, and returns how many rows don't hold. Most of the memory is taken once,
 /// for all rows.
-pub fn judge_rows(rt: &HostRuntime) -> Result<usize, Fail> {
-    if files_in(rt, "refused")?.is_empty() {
+pub fn judge_rows(rt: &HostRuntime, words: &str) -> Result<usize, Fail> {
+    if files_in(rt, words, "refused")?.is_empty() {
         return Ok(0);
     }
     let Some(held) = all_but(rt.alloc(), ROOM_FOR_ROWS)? else {
-        judge(rt, "refused", &Calls { has_end: false })?;
+        judge(rt, words, "refused", Subject::Refused { has_end: false })?;
         return Err(Fail::new("memory has no end here: each call was made once"));
     };
-    let wrong = judge(rt, "refused", &Calls { has_end: true });
+    let wrong = judge(rt, words, "refused", Subject::Refused { has_end: true });
     drop(held);
     wrong
 }

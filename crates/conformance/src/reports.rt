@@ -3,12 +3,12 @@
 //! In a row the lines of a report stand one after another, and in a line that begins with a blank, as those with a line of
 //! the text and with the caret do, a `·` stands for each blank. The file is called `f`.
 use crate::parser::{OTHERWISE, are_alike, limits_of};
+use crate::rows::{Shown, pair};
 use graphql_parser::{
     Error, Limits, Result as Answer, check_query_limited, check_schema_limited,
     parse_query_limited, parse_schema_limited,
 };
 use graphql_report::{Language, explain, finding_of, is_front};
-use rows::{Shown, pair};
 use std::alloc::{AllocError, Global};
 
 /// The report of a text that is read in a language and at limits, as `query 64 64 64`, whose first line is told by the

@@ -1,8 +1,8 @@
 //! Texts written anew: without what is ignored in them and isn't needed, and laid out.
 use crate::parser::{Parser, limits_of, write_error};
+use crate::rows::{Shown, pair};
 use graphql_parser::{Limits, Result as Answer};
 use graphql_printer::{format_query, format_schema, minify_query, minify_schema};
-use rows::{Shown, pair};
 use std::alloc::Global;
 
 /// What is done to a text.

@@ -21,10 +21,10 @@ mod texts;
 mod values;
 
 use crate::parser::Parser;
+use crate::rows::{Shown, ended, pair};
 use checking::run as check;
 use languages::{Calls, Mistake, grammar_of};
 use mistakes::overlooked;
-use rows::{Shown, ended, pair};
 use std::io;
 use std::test::Fail;
 use texts::Source;

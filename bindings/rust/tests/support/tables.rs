@@ -1,7 +1,7 @@
 //! The texts of the library's own tests.
 //!
 //! Their files have tables, with a text before the arrow of each row, and whole texts. How they are written, and what the
-//! marks of a row stand for, is said at `crates/rows`.
+//! marks of a row stand for, is said at `crates/conformance/src/rows.rt`.
 use std::fs;
 use std::path::{Path, PathBuf};
 

@@ -1,8 +1,8 @@
 //! Long texts, whose JSON another reader of JSON takes.
 use super::text_of;
+use crate::rows::{Shown, pair};
 use graphql_json::{Places, request_json, schema_json};
 use graphql_parser::{check_query, check_schema, parse_query, parse_schema};
-use rows::{Shown, pair};
 use serde_json::Value;
 use std::alloc::AllocError;
 

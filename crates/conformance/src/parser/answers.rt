@@ -1,6 +1,7 @@
 //! The answers of the two parsers and of their checks, as text.
 use super::errors::write_error;
 use super::views::Document;
+use crate::rows::Shown;
 use graphql_parser::lexer::{Token, Tokens};
 use graphql_parser::{
     Limits, Memory, Result as Answer, check_query, check_query_from, check_query_limited,
@@ -8,7 +9,6 @@ use graphql_parser::{
     parse_query, parse_query_from, parse_query_limited, parse_schema, parse_schema_from,
     parse_schema_limited,
 };
-use rows::Shown;
 use std::alloc::Global;
 
 /// What is seen of an answer if the check answers otherwise.

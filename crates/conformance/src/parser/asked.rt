@@ -2,8 +2,8 @@
 use super::answers::Parser;
 use super::views::VIEWS;
 use super::{budgets, hostile, taken};
+use crate::rows::{Shown, pair, three_numbers};
 use graphql_parser::Limits;
-use rows::{Shown, pair, three_numbers};
 
 /// Writes what a parser gives that is asked so.
 ///

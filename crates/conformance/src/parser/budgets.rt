@@ -1,11 +1,11 @@
 //! What a parser and its check answer where they may take only so much memory.
 use super::answers::Parser;
 use super::errors::write_error;
+use crate::rows::Shown;
 use graphql_parser::{
     Error, Limits, Memory, check_query_within, check_schema_within, parse_query_within,
     parse_schema_within,
 };
-use rows::Shown;
 
 // How many steps a budget grows by, and how many bytes each of them is: 64 KiB in all.
 const STEPS: usize = 1024;
@@ -53,8 +53,8 @@ fn write_within(shown: &mut Shown, parser: Parser, is_check: bool, budget: usize
     }
 }
 
-// The error of a parser or of its check, if it gives one.
-fn refused_within(
+/// The error of a parser or of its check within a budget and the default limits, if it gives one.
+pub fn refused_within(
     memory: &mut Memory,
     parser: Parser,
     is_check: bool,

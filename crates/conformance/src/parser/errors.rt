@@ -1,7 +1,7 @@
 //! Errors as text.
+use crate::rows::Shown;
 use graphql_parser::value::Name;
 use graphql_parser::{Error, Pos};
-use rows::Shown;
 
 /// Writes an error, with its fields. One of syntax with the usual message and no end is `syntax 1:4`.
 pub fn write_error(shown: &mut Shown, error: &Error) {

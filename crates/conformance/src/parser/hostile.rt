@@ -1,9 +1,9 @@
 //! Cut texts, open quotes, other blanks, and every short list of tokens.
 use super::answers::Parser;
 use super::taken::write_counted;
+use crate::rows::Shown;
 use graphql_parser::Pos;
 use graphql_parser::lexer::{TokenKind, Tokens};
-use rows::Shown;
 
 fn is_refused_at(answer: &Shown, place: Pos) -> bool {
     let mut wanted = Shown::new(answer.alloc(), true);

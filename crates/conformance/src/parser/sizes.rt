@@ -2,6 +2,7 @@
 //!
 //! Of a tree with huge parts the lengths of its first name, description and argument are written, and the length of
 //! each list in its first definition that has more than one node.
+use crate::rows::Shown;
 use graphql_parser::Positioned;
 use graphql_parser::types::{
     DirectiveDefinition, ExecutableDocument, Field, FieldDefinition, InputValueDefinition,
@@ -9,7 +10,6 @@ use graphql_parser::types::{
     TypeSystemDefinition,
 };
 use graphql_parser::value::{ConstValue, Name, Value};
-use rows::Shown;
 
 fn write_count(shown: &mut Shown, before: &str, count: usize) {
     if count > 1 {

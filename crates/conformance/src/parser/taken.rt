@@ -1,9 +1,9 @@
 //! How many tokens a parser takes of those that it is handed, and what is left of them. Its check has a list of them of its
 //! own, and takes as many. The last token that is taken of a text is the one at which the check refuses it.
 use super::answers::{OTHERWISE, Parser};
+use crate::rows::Shown;
 use graphql_parser::Error;
 use graphql_parser::lexer::Tokens;
-use rows::Shown;
 use std::alloc::Global;
 
 /// Writes what a parser gives over fresh tokens of a text, and how many it takes.

@@ -1,5 +1,6 @@
 //! What the calls of a tree give, as text.
 use super::sizes::{write_file_sizes, write_request_sizes};
+use crate::rows::Shown;
 use crate::trees::{Written, write_default_value, write_directives, write_value};
 use graphql_parser::Positioned;
 use graphql_parser::types::{
@@ -7,7 +8,6 @@ use graphql_parser::types::{
     Selection, ServiceDocument,
 };
 use graphql_parser::value::{ConstValue, Name, Value, ValueView};
-use rows::Shown;
 use std::alloc::{AllocError, Global};
 
 /// What is looked at in a tree, beside the whole tree and whether there is one. Of a schema file only its sizes are.

@@ -1,8 +1,8 @@
 //! Values as block strings, and sheets.
+use crate::rows::{Shown, pair};
 use graphql_layout::blocks::{may_be_block, push_block};
 use graphql_layout::sheet::Sheet;
 use graphql_tokens::lexer::TokenKind;
-use rows::{Shown, pair};
 use std::alloc::AllocError;
 
 /// Writes the block string of a value; before it the word `kept` if it has the value, and else `lost`. The number of blanks before

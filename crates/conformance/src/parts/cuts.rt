@@ -1,7 +1,7 @@
 //! The spans that an editor is given of texts that are cut anywhere.
 use super::editor::cut;
+use crate::rows::Shown;
 use graphql_editor::{Span, Structure, selection_at};
-use rows::Shown;
 
 /// Writes the words `in order`, or the texts of which a span is not: of the fronts and the backs of a text, and of the text without
 /// one character.

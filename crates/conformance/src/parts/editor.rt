@@ -1,6 +1,6 @@
 //! What an editor asks of a text.
+use crate::rows::{Shown, pair};
 use graphql_editor::{Occurrence, Span, Structure, Symbol, selection_at};
-use rows::{Shown, pair};
 
 /// Writes what there is in a text, in turn, or the word `nothing`.
 ///

@@ -1,5 +1,5 @@
 //! Positions as editors count them, the offsets of them, and texts of which a part is replaced.
-use rows::{Shown, pair};
+use crate::rows::{Shown, pair};
 use std::alloc::{AllocError, Global};
 use std::fmt::Debug;
 use text_edits::{

@@ -1,7 +1,7 @@
 //! How answers show. Showing takes no memory, and each function says whether there was an answer to show: else memory was refused.
+use crate::rows::Shown;
 use crate::trees::Written;
 use graphql_parser::{Error, Result as Answer};
-use rows::Shown;
 use serde::Serialize;
 use std::alloc::AllocError;
 use std::fmt;

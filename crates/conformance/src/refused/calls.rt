@@ -5,6 +5,7 @@ use super::answers::{
 use super::free;
 use super::inputs::Input;
 use super::row::Row;
+use crate::rows::{Shown, pair};
 use graphql_parser::lexer::Tokens;
 use graphql_parser::text::{block_string_value, string_value};
 use graphql_parser::types::Type;
@@ -15,7 +16,6 @@ use graphql_parser::{
     parse_schema_from, parse_schema_limited,
 };
 use graphql_printer::{format_query, format_schema, minify_query, minify_schema};
-use rows::{Shown, pair};
 
 /// Nothing but the text of the row.
 #[derive(Drop)]

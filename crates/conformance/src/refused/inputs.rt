@@ -3,10 +3,10 @@ use super::calls::Text;
 use super::listing::try_listing;
 use super::row::Row;
 use super::trying::try_call;
+use crate::rows::Shown;
 use graphql_parser::types::{ConstDirective, Directive, ExecutableDocument, Field, Selection};
 use graphql_parser::value::{ConstValue, Value};
 use graphql_parser::{Error, parse_query, parse_schema};
-use rows::Shown;
 use std::alloc::{AllocError, Global};
 
 /// What a call is given besides the text of its row.

@@ -2,8 +2,8 @@
 use super::inputs::Input;
 use super::row::Row;
 use super::trying::try_call;
+use crate::rows::Shown;
 use graphql_listing::run;
-use rows::Shown;
 use std::alloc::AllocError;
 
 // How many bytes a run may write.

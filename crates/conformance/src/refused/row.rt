@@ -1,6 +1,6 @@
 //! A row, and how its call may end.
 use super::little_memory::ATTEMPTS;
-use rows::pair;
+use crate::rows::pair;
 
 /// Stands behind what a call shows that is refused memory.
 pub const REFUSED: &str = "out of memory";

@@ -3,11 +3,11 @@ use super::answers::{show_constant, show_copy, show_json, show_made, show_node};
 use super::free;
 use super::inputs::Input;
 use super::row::Row;
+use crate::rows::Shown;
 use graphql_parser::Error;
 use graphql_parser::types::{ConstDirective, Directive, ExecutableDocument, ServiceDocument};
 use graphql_parser::value::{ConstValue, Value};
 use graphql_printer::{print_query, print_schema};
-use rows::Shown;
 
 impl Input for ExecutableDocument {
     fn make(&mut self, row: &Row<'_>, shown: &mut Shown) -> bool {

@@ -2,26 +2,17 @@
 use super::inputs::{Input, try_row};
 use super::little_memory::{Attempt, attempts};
 use super::row::{End, REFUSED, Row};
-use rows::{Shown, Subject, meant, pair};
+use crate::rows::{Shown, meant, pair};
 use std::alloc::Global;
 
 // Room for the longest answer.
 const ROOM: usize = 4096;
 
-/// The calls of the tables, each made again and again at the end of memory.
-#[derive(Drop)]
-pub struct Calls {
-    /// Whether memory has an end, as it hasn't in `rt try`; without one each call is made once.
-    pub has_end: bool,
-}
-
-impl Subject for Calls {
-    /// Writes the answer where there is memory, unless the call ends in another way at the end of memory, or not in each way in
-    /// which it may end.
-    fn answer(&self, shown: &mut Shown, call: &str, text: &str) {
-        if !try_row(&Row::new(call, text, self.has_end), shown) {
-            shown.leave_out();
-        }
+/// Writes the answer where there is memory, unless the call ends in another way at the end of memory, or not in each way in which
+/// it may end. Where memory has no end, as in `rt try`, the call is made once.
+pub fn answer(shown: &mut Shown, has_end: bool, call: &str, text: &str) {
+    if !try_row(&Row::new(call, text, has_end), shown) {
+        shown.leave_out();
     }
 }
 

@@ -2,8 +2,8 @@
 use super::languages::{Calls, Form, Kind, Seen, grammar_of, is_same};
 use super::texts::Source;
 use crate::rewritten::Rewriting;
+use crate::rows::Shown;
 use graphql_parser::lexer::{TokenKind, Tokens};
-use rows::Shown;
 use std::alloc::Global;
 
 /// How many texts had which answer, up to the first that failed.

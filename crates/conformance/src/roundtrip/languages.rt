@@ -2,6 +2,7 @@
 use super::grammars;
 use crate::parser::Parser;
 use crate::rewritten::{Rewriting, rewritten};
+use crate::rows::Shown;
 use crate::trees::Written;
 use graphql_parser::lexer::Tokens;
 use graphql_parser::types::{ExecutableDocument, ServiceDocument};
@@ -11,7 +12,6 @@ use graphql_parser::{
     parse_query_limited, parse_schema, parse_schema_from, parse_schema_limited,
 };
 use graphql_printer::{print_query, print_schema};
-use rows::Shown;
 use std::alloc::{AllocError, Global};
 
 /// A form of a call, of a parser and of its check.

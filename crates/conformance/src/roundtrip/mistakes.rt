@@ -4,7 +4,7 @@ use super::languages::{Calls, Form, Mistake};
 use super::values::run_values;
 use crate::parser::Parser;
 use crate::rewritten::Rewriting;
-use rows::Shown;
+use crate::rows::Shown;
 use std::alloc::Global;
 
 // A printer of trees with a mistake, then a form of a parser or of its check, and then a minifier or a formatter.

@@ -1,10 +1,10 @@
 //! Random values as trees, and whether their texts are read as them again.
 use super::languages::write_without;
 use super::random::Random;
+use crate::rows::Shown;
 use graphql_parser::types::{DocumentOperations, ExecutableDocument, Selection};
 use graphql_parser::value::{ConstValue, Name, Number, Value};
 use graphql_parser::{check_query, parse_query};
-use rows::Shown;
 use std::alloc::{AllocError, Global};
 use std::mem;
 

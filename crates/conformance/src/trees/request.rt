@@ -1,4 +1,5 @@
 //! The tree of a request, as text.
+use crate::rows::Shown;
 use crate::trees::parts::{
     write_arguments, write_default, write_directives, write_node, write_places,
 };
@@ -9,7 +10,6 @@ use graphql_request_trees::{
 };
 use graphql_syntax::pos::{Pos, Positioned};
 use graphql_syntax::types::Directive;
-use rows::Shown;
 use std::borrow::Cow;
 
 /// The tree of a request: its operations, and then its fragments, each after its name.

@@ -1,4 +1,5 @@
 //! The tree of a schema file, as text.
+use crate::rows::Shown;
 use crate::trees::parts::{write_default, write_directives, write_node};
 use crate::trees::values::Written;
 use graphql_schema_trees::{
@@ -7,7 +8,6 @@ use graphql_schema_trees::{
 };
 use graphql_syntax::pos::Positioned;
 use graphql_syntax::value::Name;
-use rows::Shown;
 
 /// The tree of a schema file: its definitions in order, after the word `file`.
 impl Written for ServiceDocument {
