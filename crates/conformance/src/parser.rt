@@ -13,3 +13,4 @@ pub use answers::{OTHERWISE, Parser, are_alike};
 pub use asked::{limits_of, write_asked};
 pub use budgets::refused_within;
 pub use errors::write_error;
+pub use views::{constant_directive, constant_of};

@@ -15,6 +15,7 @@ mod type_texts;
 mod written;
 
 use crate::rows::Shown;
+pub use edits::document_of;
 use graphql_tokens::text::{block_string_value, string_value};
 
 /// Writes what the call of this name makes of a text.

@@ -1,5 +1,6 @@
 //! Key strokes: a text is changed, and all that is wrong with it is told, as a language server does it.
 use super::texts::{Text, read_texts};
+use crate::parts::document_of;
 use crate::random::Random;
 use graphql_parser::Limits;
 use graphql_texts::{Diagnosis, Language, diagnoses_of};
@@ -40,7 +41,7 @@ fn open(alloc: Global, texts: &Vec<Text>, edited: &mut Vec<Edited>) -> Result<()
     for text in texts {
         edited.push(Edited {
             language: text.language,
-            document: Document::new(alloc, String::from_str(alloc, text.text())?)?,
+            document: document_of(alloc, text.text())?,
             definitions: text.text().lines().count() / LINES,
         })?;
     }

@@ -52,24 +52,46 @@ impl<'a> Files<'a> {
         None
     }
 
-    // The names of the files that begin so.
-    fn names_below(&self, alloc: Global, front: &str) -> Result<Vec<String>, AllocError> {
-        let mut names = Vec::new(alloc);
+    // Lists what there is below the folder of this name. False if there is none.
+    fn list(&self, listing: &mut Listing, name: &str, takes_all: bool) -> Result<bool, Unread> {
+        match name {
+            "folder" => self.list_files(listing, "folder/")?,
+            "sources" => self.list_files(listing, "sources/")?,
+            "hidden" if takes_all => self.list_files(listing, "folder/")?,
+            "empty" | "hidden" => {}
+            "links" => pass_links(&mut listing.passed)?,
+            "linked" | "mixed" => {
+                self.list_files(listing, "sources/c")?;
+                pass_links(&mut listing.passed)?;
+                if name == "mixed" {
+                    pass_unread(&mut listing.passed)?;
+                }
+            }
+            "locked" => return Err(Unread::Forbidden),
+            _ => return Ok(false),
+        }
+        Ok(true)
+    }
+
+    // Lists the files whose names begin so.
+    fn list_files(&self, listing: &mut Listing, front: &str) -> Result<(), AllocError> {
+        let names = &mut listing.files;
         for line in self.listed.lines() {
             if line.starts_with(front)
                 && let Some((name, _)) = line.split_once(" ⇒ ")
             {
-                names.push(String::from_str(alloc, name)?)?;
+                names.push(String::from_str(*names.allocator(), name)?)?;
             }
         }
-        Ok(names)
+        Ok(())
     }
 
     // Keeps what is written to a file.
     fn keep(&mut self, alloc: Global, name: &str, text: &str) -> Result<(), AllocError> {
-        let name = String::from_str(alloc, name)?;
-        let text = String::from_str(alloc, text)?;
-        self.written.push(Written { name, text })?;
+        self.written.push(Written {
+            name: String::from_str(alloc, name)?,
+            text: String::from_str(alloc, text)?,
+        })?;
         Ok(())
     }
 }
@@ -83,26 +105,21 @@ fn is_meant(alloc: Global, known: &str, name: &str) -> bool {
 }
 
 // Adds what is only skipped where a folder is searched.
-fn pass_links(alloc: Global, passed: &mut Vec<Passed>) -> Result<(), AllocError> {
-    pass(alloc, passed, "mixed/\u{fffd}.txt", Unread::OddName)?;
-    pass(alloc, passed, "mixed/pipe.gql", Unread::Special)?;
-    pass(alloc, passed, "mixed/nowhere.gqls", Unread::LinkToNothing)?;
-    pass(alloc, passed, "mixed/outside.sdl", Unread::LinkOutside)
+fn pass_links(passed: &mut Vec<Passed>) -> Result<(), AllocError> {
+    pass(passed, "mixed/\u{fffd}.txt", Unread::OddName)?;
+    pass(passed, "mixed/pipe.gql", Unread::Special)?;
+    pass(passed, "mixed/nowhere.gqls", Unread::LinkToNothing)?;
+    pass(passed, "mixed/outside.sdl", Unread::LinkOutside)
 }
 
 // Adds what can't be read there.
-fn pass_unread(alloc: Global, passed: &mut Vec<Passed>) -> Result<(), AllocError> {
-    pass(alloc, passed, "mixed/\u{fffd}.graphql", Unread::BadName)?;
-    pass(alloc, passed, "mixed/\u{1b}locked", Unread::Forbidden)
+fn pass_unread(passed: &mut Vec<Passed>) -> Result<(), AllocError> {
+    pass(passed, "mixed/\u{fffd}.graphql", Unread::BadName)?;
+    pass(passed, "mixed/\u{1b}locked", Unread::Forbidden)
 }
 
-fn pass(
-    alloc: Global,
-    passed: &mut Vec<Passed>,
-    name: &str,
-    why: Unread,
-) -> Result<(), AllocError> {
-    let name = String::from_str(alloc, name)?;
+fn pass(passed: &mut Vec<Passed>, name: &str, why: Unread) -> Result<(), AllocError> {
+    let name = String::from_str(*passed.allocator(), name)?;
     passed.push(Passed { name, why })?;
     Ok(())
 }
@@ -146,23 +163,8 @@ impl Texts for Files<'_> {
             files: Vec::new(alloc),
             passed: Vec::new(alloc),
         };
-        match name {
-            "folder" => listing.files = self.names_below(alloc, "folder/")?,
-            "sources" => listing.files = self.names_below(alloc, "sources/")?,
-            "hidden" if takes_all => listing.files = self.names_below(alloc, "folder/")?,
-            "empty" | "hidden" => {}
-            "links" => pass_links(alloc, &mut listing.passed)?,
-            "linked" | "mixed" => {
-                listing.files = self.names_below(alloc, "sources/c")?;
-                pass_links(alloc, &mut listing.passed)?;
-                if name == "mixed" {
-                    pass_unread(alloc, &mut listing.passed)?;
-                }
-            }
-            "locked" => return Err(Unread::Forbidden),
-            _ => return Ok(None),
-        }
-        Ok(Some(listing))
+        let is_folder = self.list(&mut listing, name, takes_all)?;
+        Ok(if is_folder { Some(listing) } else { None })
     }
 
     fn replace(&mut self, alloc: Global, name: &str, text: &str) -> Result<(), Unwritten> {

@@ -51,13 +51,20 @@ impl Told {
 
     // Tells the errors of a text as it is done now.
     fn tell_all(&mut self, alloc: Global, source: &Source<'_>) -> Result<(), AllocError> {
-        if let Some(refused) = error_of(&mut Memory::new(alloc), source, true)? {
-            self.reporter.tell_all(source, refused, &mut self.err)?;
-        }
-        if let Some(refused) = error_of(&mut Memory::new(alloc), source, true)? {
-            self.lister.tell_all(source, refused, &mut self.err)?;
-        }
-        Ok(())
+        tell_by(&mut self.reporter, alloc, source, &mut self.err)?;
+        tell_by(&mut self.lister, alloc, source, &mut self.err)
+    }
+}
+
+fn tell_by(
+    teller: &mut Teller,
+    alloc: Global,
+    source: &Source<'_>,
+    err: &mut Sheet,
+) -> Result<(), AllocError> {
+    match error_of(&mut Memory::new(alloc), source, true)? {
+        Some(refused) => teller.tell_all(source, refused, err),
+        None => Ok(()),
     }
 }
 

@@ -1,16 +1,14 @@
 //! Positions of a text that are found in two ways: at each of its offsets, in each encoding, `Places` of the server has the position
 //! that a `Document` has.
+use crate::parts::document_of;
 use crate::rows::Shown;
 use graphql_server::places::Places;
 use text_edits::{Document, Encoding};
 
 /// Writes how many offsets a text has, after each whose positions differ.
 pub fn write_offsets(shown: &mut Shown, text: &str) {
-    match String::from_str(shown.alloc(), text) {
-        Ok(text) => match Document::new(shown.alloc(), text) {
-            Ok(document) => write_of_document(shown, &document),
-            Err(_) => shown.leave_out(),
-        },
+    match document_of(shown.alloc(), text) {
+        Ok(document) => write_of_document(shown, &document),
         Err(_) => shown.leave_out(),
     }
 }

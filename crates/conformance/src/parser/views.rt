@@ -234,8 +234,8 @@ fn write_named(shown: &mut Shown, asked: &str, document: &ExecutableDocument) {
     }
 }
 
-// A value as one without variables, if it has none.
-fn constant_of(alloc: Global, value: &Value) -> Result<Option<ConstValue>, AllocError> {
+/// A value as one without variables, if it has none.
+pub fn constant_of(alloc: Global, value: &Value) -> Result<Option<ConstValue>, AllocError> {
     value.clone()?.into_const(alloc)
 }
 
@@ -269,8 +269,8 @@ fn write_is_same(shown: &mut Shown, is_same: bool) {
     shown.word(if is_same { " equal" } else { " different" });
 }
 
-// A directive as one without variables, if it has none.
-fn constant_directive(
+/// A directive as one without variables, if it has none.
+pub fn constant_directive(
     alloc: Global,
     directive: &Directive,
 ) -> Result<Option<ConstDirective>, AllocError> {

@@ -32,8 +32,8 @@ fn write_edit(shown: &mut Shown, what: &str, asked: &str, encoding: Encoding, te
     }
 }
 
-// The number that is written here. What is no number is beyond each text.
-fn number_in(word: &str) -> usize {
+/// The number that is written here. What is no number is beyond each text.
+pub fn number_in(word: &str) -> usize {
     word.parse().unwrap_or(usize::MAX)
 }
 
@@ -46,7 +46,8 @@ fn position_in(word: &str) -> Position {
     }
 }
 
-fn document_of(alloc: Global, text: &str) -> Result<Document, AllocError> {
+/// A document of a text.
+pub fn document_of(alloc: Global, text: &str) -> Result<Document, AllocError> {
     Document::new(alloc, String::from_str(alloc, text)?)
 }
 

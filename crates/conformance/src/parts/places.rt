@@ -1,4 +1,5 @@
 //! Places: what a calculator returns for offsets that never fall.
+use super::edits::number_in;
 use crate::rows::{Shown, pair};
 use graphql_tokens::pos::PositionCalculator;
 
@@ -9,7 +10,7 @@ pub fn write_places(shown: &mut Shown, row: &str) {
     let mut calculator = PositionCalculator::new(text);
     let mut last = 0usize;
     for word in offsets.split_whitespace() {
-        let offset = offset_in(word);
+        let offset = number_in(word);
         if offset < last || !text.is_char_boundary(offset) {
             return shown.word("no offset to step to");
         }
@@ -25,15 +26,10 @@ pub fn write_places(shown: &mut Shown, row: &str) {
     }
 }
 
-// The offset that is written here. What is no number is beyond each text.
-fn offset_in(word: &str) -> usize {
-    word.parse().unwrap_or(usize::MAX)
-}
-
 /// Writes what a calculator shows to a developer that has stepped to the offset before the text.
 pub fn write_debugged(shown: &mut Shown, row: &str) {
     let (offset, text) = pair(row, " in ");
-    let offset = offset_in(offset);
+    let offset = number_in(offset);
     if !text.is_char_boundary(offset) {
         return shown.word("no offset to step to");
     }

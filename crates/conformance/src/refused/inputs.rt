@@ -3,11 +3,12 @@ use super::calls::Text;
 use super::listing::try_listing;
 use super::row::Row;
 use super::trying::try_call;
+use crate::parser::{constant_directive, constant_of};
 use crate::rows::Shown;
-use graphql_parser::types::{ConstDirective, Directive, ExecutableDocument, Field, Selection};
-use graphql_parser::value::{ConstValue, Value};
+use graphql_parser::types::{Directive, ExecutableDocument, Field, Selection};
+use graphql_parser::value::Value;
 use graphql_parser::{Error, parse_query, parse_schema};
-use std::alloc::{AllocError, Global};
+use std::alloc::AllocError;
 
 /// What a call is given besides the text of its row.
 pub trait Input: Drop {
@@ -83,21 +84,10 @@ fn try_directive(row: &Row<'_>, directive: &Directive, shown: &mut Shown) -> boo
     if row.kind == "directive" {
         return try_copies(row, directive, shown);
     }
-    match constant_directive_of(shown.alloc(), directive) {
+    match constant_directive(shown.alloc(), directive) {
         Ok(Some(constant)) => try_copies(row, &constant, shown),
         _ => false,
     }
-}
-
-fn constant_of(alloc: Global, value: &Value) -> Result<Option<ConstValue>, AllocError> {
-    value.clone()?.into_const(alloc)
-}
-
-fn constant_directive_of(
-    alloc: Global,
-    directive: &Directive,
-) -> Result<Option<ConstDirective>, AllocError> {
-    directive.clone()?.into_const(alloc)
 }
 
 // A conversion lets its value go, so there is a copy for each time that the call is made.

@@ -21,7 +21,8 @@ pub trait Attempt {
 /// False where memory has no end, and then none is made.
 pub fn attempts<A: Attempt>(alloc: Global, attempted: &mut A) -> Result<bool, AllocError> {
     let mut blocks = Vec::with_capacity(alloc, BLOCKS)?;
-    let pieces = pieces(alloc, &mut blocks)?;
+    let mut pieces = Vec::with_capacity(alloc, PIECES)?;
+    take_pieces(alloc, &mut pieces, &mut blocks)?;
     if !take_all(alloc, &mut blocks)? {
         return Ok(false);
     }
@@ -78,13 +79,12 @@ fn take(alloc: Global, blocks: &mut Blocks, size: usize) -> Result<bool, AllocEr
     Ok(true)
 }
 
-// Blocks of growing sizes, and after each of them a small one in `between`, so that what is given back of them
+// Takes blocks of growing sizes, and after each of them a small one in `between`, so that what is given back of them
 // is not joined into larger pieces.
-fn pieces(alloc: Global, between: &mut Blocks) -> Result<Blocks, AllocError> {
-    let mut pieces = Vec::with_capacity(alloc, PIECES)?;
+fn take_pieces(alloc: Global, pieces: &mut Blocks, between: &mut Blocks) -> Result<(), AllocError> {
     for i in 0..PIECES {
         pieces.push(Vec::with_capacity(alloc, 24 + 16 * i)?)?;
         between.push(Vec::with_capacity(alloc, 24)?)?;
     }
-    Ok(pieces)
+    Ok(())
 }
