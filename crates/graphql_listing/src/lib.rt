@@ -5,7 +5,7 @@
 //!
 //! Proved of it: it is safe and ends on every input; the status is 0, 1 or 2; wrong arguments leave input and
 //! output untouched, and `--help` the input; an accepted text leaves standard error as it was, and a refused one
-//! standard output. The lines themselves are tested, in `programs` and `conformance`.
+//! standard output. The lines themselves are tested, in `conformance`.
 #![tactic(auto)]
 
 mod lines;
