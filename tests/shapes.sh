@@ -2,8 +2,8 @@
 # Texts of one shape that grow, and how long the parsers take over them.
 #
 #   tests/shapes.sh SHAPE COUNT    prints the text of a shape with so many parts
-#   tests/shapes.sh                has `conformance bench` read each shape with 100,000 and with 200,000 parts, and prints a
-#                                  line for each: the shape, both times in milliseconds, and the second over the first
+#   tests/shapes.sh                has `conformance bench` read each shape with 100,000 and with 200,000 parts, and
+#                                  prints a line for each: the shape, both times in milliseconds, and the second over the first
 #
 #   tests/shapes.sh memory         has it read each shape with 100,000 parts, and prints a line for each: the shape, how
 #                                  many bytes a parse takes of a budget for each byte of the text, and how many a check

@@ -21,7 +21,7 @@ SIGNS = str.maketrans("␊␍␉␠", "\n\r\t ")
 
 
 def texts_of_rows():
-    """The texts of the library's tables (`crates/conformance/src/rows.rt` says their notation), but for those with marks that repeat."""
+    """The texts of the library's tables (notation: `crates/conformance/src/rows.rt`), but for those with marks that repeat."""
     tables = Path(__file__).resolve().parents[2] / "crates" / "conformance" / "data" / "tables"
     lines = [line for file in sorted(tables.iterdir()) for line in file.read_text().splitlines() if " ⇒" in line]
     texts = {line.partition(" ⇒")[0] for line in lines if not line.startswith("-- ") and "⟨" not in line}

@@ -1,16 +1,16 @@
 //! Measures the libraries as they are built.
 //!
-//! `conformance bench tokens` cuts the text on standard input into its tokens, again and again, and prints a line for each round: `lex
-//! NANOSECONDS COUNT`, the count being that of the tokens. `bench query` reads it as a request, and `bench schema` as a schema
-//! file; they drop the tree, and print `parse NANOSECONDS ANSWER` for each round, the answer being `accepted` or `refused`. `bench
-//! check` and `bench check-schema` make no tree, and print the same. With `memory` after one of these four it is read once, and
-//! `memory BYTES ANSWER` is printed, the bytes being those that it takes of a budget. The modes that write texts print `write
-//! NANOSECONDS BYTES`.
+//! `conformance bench tokens` cuts the text on standard input into its tokens, again and again, and prints a line for
+//! each round: `lex NANOSECONDS COUNT`, the count being that of the tokens. `bench query` reads it as a request, and
+//! `bench schema` as a schema file; they drop the tree, and print `parse NANOSECONDS ANSWER` for each round, the answer
+//! being `accepted` or `refused`. `bench check` and `bench check-schema` make no tree, and print the same. With
+//! `memory` after one of these four it is read once, and `memory BYTES ANSWER` is printed, the bytes being those that
+//! it takes of a budget. The modes that write texts print `write NANOSECONDS BYTES`.
 //!
-//! `bench texts` and `bench editing` take the texts of a workload, which `bench/make_texts.py` makes of a seed, and a number of
-//! rounds. They print a digest of all that was answered, and no times. In each round of `texts` the names in all texts are
-//! changed, and what the file asks for is done with each; so no text is read twice. In each round of `editing` a key is pressed
-//! in each text, and all that is wrong with it is told.
+//! `bench texts` and `bench editing` take the texts of a workload, which `bench/make_texts.py` makes of a seed, and a
+//! number of rounds. They print a digest of all that was answered, and no times. In each round of `texts` the names in
+//! all texts are changed, and what the file asks for is done with each; so no text is read twice. In each round of
+//! `editing` a key is pressed in each text, and all that is wrong with it is told.
 //!
 //! Nothing is claimed of any but that it is safe and ends.
 mod digest;
@@ -52,8 +52,8 @@ fn print_digest(rt: &HostRuntime, asked: &str, text: &str) -> io::Result<()> {
     println!(rt; "{}", told.whole().unwrap_or("out of memory"))
 }
 
-/// Writes the digest of all that is answered to the texts of a workload, after what is done with them and in how many rounds, as
-/// `texts 2`.
+/// Writes the digest of all that is answered to the texts of a workload, after what is done with them and in how many
+/// rounds, as `texts 2`.
 pub fn write_digest(shown: &mut Shown, asked: &str, texts: &str) {
     let (what, rounds) = pair(asked, " ");
     let alloc = shown.alloc();

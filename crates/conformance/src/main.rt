@@ -1,14 +1,15 @@
-//! Tables of cases with expected answers: tokens, values, requests and schema files, what the calls of their trees and of their
-//! errors give, their JSON, what they are minified and formatted to, what their trees are printed as, the reports of refused
-//! texts, positions and edits, what an editor asks of a text, random texts, what `gql` makes of a text in parts, runs of `gql` and
-//! `gqlparse`, and calls that run out of memory. The answers were worked out by hand from the rules of `docs/GRAMMAR.md`, from
-//! `gql --help` and the Language Server Protocol 3.17, or come from where a table says, and were never taken from what the crates
-//! print.
+//! Tables of cases with expected answers: tokens, values, requests and schema files, what the calls of their trees and
+//! of their errors give, their JSON, what they are minified and formatted to, what their trees are printed as, the
+//! reports of refused texts, positions and edits, what an editor asks of a text, random texts, what `gql` makes of a
+//! text in parts, runs of `gql` and `gqlparse`, and calls that run out of memory. The answers were worked out by hand
+//! from the rules of `docs/GRAMMAR.md`, from `gql --help` and the Language Server Protocol 3.17, or come from where a
+//! table says, and were never taken from what the crates print: only the digest of a workload was, which has to stay.
 //!
-//! The tables are the files of `data/tables`, `data/runs` and, for the module `refused`, `data/refused`, in the notation of the module
-//! `rows`. The program prints how many rows each has, and the rows that do not hold: the file `stdout` has the counts, and no
-//! such row. So a new row is a line of a table, and counts there. Words of the program name the tables to judge; those that
-//! begin with `random`, `once` or `bench` are for the modules `roundtrip`, `refused` and `bench`, of which the last measures.
+//! The tables are the files of `data/tables`, `data/runs` and, for the module `refused`, `data/refused`, in the
+//! notation of the module `rows`. The program prints how many rows each has, and the rows that do not hold: the file
+//! `stdout` has the counts, and no such row. So a new row is a line of a table, and counts there. Words of the program
+//! name the tables to judge; those that begin with `random`, `once` or `bench` are for the modules `roundtrip`,
+//! `refused` and `bench`, of which the last measures.
 #![tactic(auto)]
 
 mod bench;

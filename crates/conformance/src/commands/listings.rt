@@ -1,8 +1,8 @@
 //! Runs of the program `gqlparse`.
 //!
-//! After its arguments a run has its input, after `< ` in the notation of the module `rows`, or after `x ` as bytes in hexadecimal.
-//! Where `*` stands before the arguments, each read, each write and each flush is made to fail in turn, too, and the last line has
-//! the number of all these runs.
+//! After its arguments a run has its input, after `< ` in the notation of the module `rows`, or after `x ` as bytes in
+//! hexadecimal. Where `*` stands before the arguments, each read, each write and each flush is made to fail in turn,
+//! too, and the last line has the number of all these runs.
 use super::fakes::Sheet;
 use super::runs::write_lines;
 use crate::rows::{Shown, meant, pair};
@@ -88,8 +88,8 @@ impl Row {
         Ok(())
     }
 
-    // Runs the program, and returns its status. So many reads succeed, so many writes and flushes of its output, and so many of its
-    // complaint, and a later one fails.
+    // Runs the program, and returns its status. So many reads succeed, so many writes and flushes of its output, and so
+    // many of its complaint, and a later one fails.
     fn run(&mut self, alloc: Global, reads: usize, writes: usize, complaints: usize) -> u8 {
         let mut input = Input {
             left: self.input.as_slice(),
@@ -107,8 +107,8 @@ impl Row {
         )
     }
 
-    // Runs the program where so many reads and so many writes and flushes of its output succeed, and so many of its complaint:
-    // first none, and at last all.
+    // Runs the program where so many reads and so many writes and flushes of its output succeed, and so many of its
+    // complaint: first none, and at last all.
     fn complaints_fail_in_turn(
         &mut self,
         alloc: Global,

@@ -1,9 +1,10 @@
 //! Runs of the programs `gql` and `gqlparse`: what each prints, and the status that it ends with.
 //!
-//! The tables of the folder `runs` have them, with an empty line between two. The first line of a run has its arguments, with blanks
-//! between them, after `$`, or after `%` where reports have colours. Then come the lines that it writes to standard output, after
-//! `> `, those that it writes to standard error, after `! `, after `+ ` the name of each file that it writes, with the lines of that
-//! file after `| `, and after `= ` its status. The runs of `gql` are in the notation of the module `rows`.
+//! The tables of the folder `runs` have them, with an empty line between two. The first line of a run has its
+//! arguments, with blanks between them, after `$`, or after `%` where reports have colours. Then come the lines that it
+//! writes to standard output, after `> `, those that it writes to standard error, after `! `, after `+ ` the name of
+//! each file that it writes, with the lines of that file after `| `, and after `= ` its status. The runs of `gql` are
+//! in the notation of the module `rows`.
 use super::fakes::{Files, Sheet};
 use super::listings;
 use crate::rows::Shown;
@@ -57,7 +58,8 @@ impl<'a> Run<'a> {
     }
 }
 
-/// Writes the row that a run of a program makes whose first line is that of this one; of `gqlparse`, whose first two lines are.
+/// Writes the row that a run of a program makes whose first line is that of this one; of `gqlparse`, whose first two
+/// lines are.
 pub fn write_run(shown: &mut Shown, listed: &str, program: &str, row: &str) {
     match program {
         "of gql" => write_made(shown, listed, row),

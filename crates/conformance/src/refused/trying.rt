@@ -8,8 +8,8 @@ use std::alloc::Global;
 // Room for the longest answer.
 const ROOM: usize = 4096;
 
-/// Writes the answer where there is memory, unless the call ends in another way at the end of memory, or not in each way in which
-/// it may end. Where memory has no end, as in `rt try`, the call is made once.
+/// Writes the answer where there is memory, unless the call ends in another way at the end of memory, or not in each
+/// way in which it may end. Where memory has no end, as in `rt try`, the call is made once.
 pub fn answer(shown: &mut Shown, has_end: bool, call: &str, text: &str) {
     if !try_row(&Row::new(call, text, has_end), shown) {
         shown.leave_out();
@@ -46,8 +46,8 @@ fn made_once(alloc: Global, row: &Row<'_>, answer: &str) -> &'static str {
     }
 }
 
-/// Makes the call of a row, and shows its answer. Where memory has an end the call is then made there, and how it must not end
-/// is shown in place of its answer.
+/// Makes the call of a row, and shows its answer. Where memory has an end the call is then made there, and how it must
+/// not end is shown in place of its answer.
 pub fn try_call<I: Input>(row: &Row<'_>, mut input: I, shown: &mut Shown) {
     make(row, &mut input, shown);
     if row.has_end {

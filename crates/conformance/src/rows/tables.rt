@@ -8,8 +8,8 @@ use std::test::Fail;
 // Stands for a line end after which a row goes on, and is a blank in both parts of the row.
 const GOES_ON: &str = "\u{B}";
 
-/// Judges the files in a folder, `tables` mostly: prints how many rows each table has, and before that each row that doesn't hold,
-/// with its file and line, what was expected and what was found. Returns how many rows don't hold.
+/// Judges the files in a folder, `tables` mostly: prints how many rows each table has, and before that each row that
+/// doesn't hold, with its file and line, what was expected and what was found. Returns how many rows don't hold.
 ///
 /// The program's words name the files to judge, as `tokens` for `tables/tokens.rows`; without any, all are judged.
 pub fn judge(
@@ -33,8 +33,8 @@ pub fn ended(wrong: usize) -> Result<(), Fail> {
     Ok(())
 }
 
-/// The files in a folder that the program's words name, in order: a name stands for the file with the ending `.rows` too. Without
-/// words they are all the files in the folder.
+/// The files in a folder that the program's words name, in order: a name stands for the file with the ending `.rows`
+/// too. Without words they are all the files in the folder.
 pub fn files_in(rt: &HostRuntime, words: &str, folder: &str) -> Result<Vec<String>, Fail> {
     let mut files = Vec::new(rt.alloc());
     add_files(rt, words, folder, &mut files)?;
@@ -86,8 +86,8 @@ struct Judged<'a> {
     subject: Subject<'a>,
     file: &'a str,
     report: Shown,
-    // How many lines were gone over, on which of them the row begins, how many rows of the table were judged, and how many rows of
-    // the file don't hold.
+    // How many lines were gone over, on which of them the row begins, how many rows of the table were judged, and how
+    // many rows of the file don't hold.
     line: usize,
     first: usize,
     rows: usize,
