@@ -1,13 +1,13 @@
 //! Tables of cases with expected answers: tokens, values, requests and schema files, what the calls of their trees and of their
 //! errors give, their JSON, what they are minified and formatted to, what their trees are printed as, the reports of refused
-//! texts, positions and edits, what an editor asks of a text, random texts, and calls that run out of memory. The answers were
+//! texts, positions and edits, what an editor asks of a text, and calls that run out of memory. The answers were
 //! worked out by hand from the rules of `docs/GRAMMAR.md`, or come from where a table says, and were never taken from what the
 //! crates print.
 //!
 //! The tables are the files of `data/tables` and, for the module `refused`, of `data/refused`, in the notation of the crate
 //! `rows`. The program prints how many rows each has, and the rows that do not hold: the file `stdout` has the counts, and no
-//! such row. So a new row is a line of a table, and counts there. Words of the program name the tables to judge; those that
-//! begin with `random` or `once` are for the modules `roundtrip` and `refused`.
+//! such row. So a new row is a line of a table, and counts there. Words of the program name the tables to judge; the word `once`
+//! is for the module `refused`.
 #![tactic(auto)]
 
 mod compared;
@@ -22,7 +22,6 @@ mod readme;
 mod refused;
 mod reports;
 mod rewritten;
-mod roundtrip;
 mod seeds;
 mod trees;
 
@@ -53,7 +52,6 @@ impl Subject for Calls {
             ("made", what) => made::write_made(shown, what, text),
             ("seeds", what) => seeds::write_seeds(shown, what, text),
             ("readme", example) => readme::write_example(shown, example, text),
-            ("random", _) => roundtrip::write_found(shown, text),
             _ => parts::answer(shown, call, text),
         }
     }
@@ -66,7 +64,6 @@ fn main(rt: HostRuntime) -> Result<(), Fail> {
     }
     match words.whole() {
         Some("once") => refused::make_once(&rt),
-        Some(words) if words.starts_with("random ") => roundtrip::run(&rt, words),
         Some(_) => judge_all(&rt),
         None => Ok(println!(rt; "{}", refused::REFUSED)?),
     }
