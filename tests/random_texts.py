@@ -1,21 +1,22 @@
 #!/usr/bin/env python3
 """Tries a built gql with random texts and values of both languages: tests/random_texts.py GQL [SEED COUNT]
 
-tests/random_texts.py texts SEED COUNT requests|schemas prints the first COUNT texts of a seed, with the character U+0000 after each.
+tests/random_texts.py texts SEED COUNT requests|schemas prints the first COUNT texts of a seed, with the character
+U+0000 after each.
 
-GQL is the program, as crates/gql/out/gql. Half of the texts are made by the grammars in tests/grammars, and each is accepted or breaks
-a rule for documents; the others have one edit. Of each text:
-  - the check finds good what has a tree, and else the same first error at the same place, as do minify, print and format
+GQL is the program, as crates/gql/out/gql. Half of the texts are made by the grammars in tests/grammars, and each is
+accepted or breaks a rule for documents; the others have one edit. Of each text:
+  - the check finds good what has a tree, and else the same first error at the same place, as do minify, print, format
   - within narrow limits it has the same answer, or nests too deep
   - with each token on a line of its own it has the same tree but for places
   - the printed tree has the same tree, is printed the same again, and is formatted
   - the minified text has the same tree, is no longer, and is minified the same again
   - the formatted text has the same tree and tokens, and is formatted
-Random values are written by a writer and read by a model of their own: of each, as an argument and as a default, the tree is that of the
-model, and so it is once the text is printed, minified or formatted.
+Random values are written by a writer and read by a model of their own: of each, as an argument and as a default, the
+tree is that of the model, and so it is once the text is printed, minified or formatted.
 
-Last, programs with a mistake are tried: each has to be found. One line is printed with how many there were of which kind, and then the
-first text that doesn't hold, with both answers. The status is 0 where all is as it has to be."""
+Last, programs with a mistake are tried: each has to be found. One line is printed with how many there were of which
+kind, and then the first text that doesn't hold, with both answers. The status is 0 where all is as it has to be."""
 import functools, itertools, json, os, re, subprocess, sys, tempfile
 from pathlib import Path
 
@@ -67,17 +68,19 @@ def piece(word):
 
 
 class Grammar:
-    """A rule a line: `Name : Choice | Choice`. A choice is words with blanks between them: `Part`, `Part?`, `Part*` or `Part+`, where a
-    part is the name of a rule, or else text, which may stand in single quotes. The first choice of each rule comes to an end when no
-    optional part and no other choice is taken."""
+    """A rule a line: `Name : Choice | Choice`. A choice is words with blanks between them: `Part`, `Part?`, `Part*` or
+    `Part+`, where a part is the name of a rule, or else text, which may stand in single quotes. The first choice of
+    each rule comes to an end when no optional part and no other choice is taken."""
 
     def __init__(self, name):
         lines = (GRAMMARS / name).read_text(encoding="utf-8").splitlines()
-        rules = (line.split(" : ", 1) for line in lines)
-        self.rules = {rule: [[symbol(word) for word in choice.split(" ")][::-1] for choice in choices.split(" | ")] for rule, choices in rules}
+        # The words of each choice of a rule, the last first.
+        self.rules = {}
+        for rule, choices in (line.split(" : ", 1) for line in lines):
+            self.rules[rule] = [[symbol(word) for word in choice.split(" ")][::-1] for choice in choices.split(" | ")]
 
     def pieces(self, random, rule, growth):
-        """The pieces of one text that this rule describes, which grows in so many steps and then is only brought to its end."""
+        """The pieces of one text of this rule, which grows in so many steps and then is only brought to its end."""
         pieces, left = [], [(rule, ONCE)]
         for step in itertools.count():
             if not left:
@@ -187,11 +190,13 @@ class Program:
             names = self.written(folder, texts)
             parts = [names[start::WORKERS] for start in range(WORKERS)]
             env = {**os.environ, "GQL": self.path, "WORDS": words, "OUT": folder}
-            shells = [subprocess.Popen(["sh", "-c", SHELL, "sh", *part], cwd=folder, env=env, stdout=subprocess.PIPE) for part in parts]
+            how = {"cwd": folder, "env": env, "stdout": subprocess.PIPE}
+            shells = [subprocess.Popen(["sh", "-c", SHELL, "sh", *part], **how) for part in parts]
             statuses = {}
             for part, shell in zip(parts, shells):
                 statuses.update(zip(part, shell.communicate()[0].split()))
-            return [(int(statuses[name]), Path(folder, f"{name}.out").read_bytes(), Path(folder, f"{name}.err").read_bytes()) for name in names]
+            files = [(Path(folder, f"{name}.out"), Path(folder, f"{name}.err")) for name in names]
+            return [(int(statuses[name]), out.read_bytes(), err.read_bytes()) for name, (out, err) in zip(names, files)]
 
     def written(self, folder, texts):
         """The names of the files with these texts, which are written there."""
@@ -204,7 +209,8 @@ class Program:
         """What one call for all texts answers, and each text's file after it."""
         with tempfile.TemporaryDirectory() as folder:
             names = self.written(folder, texts)
-            ran = subprocess.run([self.path, *words.split(), f"--{self.language}", "--", *names], cwd=folder, capture_output=True)
+            words = [self.path, *words.split(), f"--{self.language}", "--", *names]
+            ran = subprocess.run(words, cwd=folder, capture_output=True)
             return ran, [Path(folder, name).read_bytes() for name in names]
 
     def tree(self, texts, limits=None, places=False):
@@ -254,8 +260,8 @@ class Program:
 # ---- What has to hold of texts
 
 def without_places(node):
-    """The tree without places. Operations and then fragments, and the roots of a schema by their kind: the order between these is by
-    places, which a lone carriage return changes."""
+    """The tree without places. Operations and then fragments, and the roots of a schema by their kind: the order
+    between these is by places, which a lone carriage return changes."""
     if isinstance(node, list):
         return [without_places(each) for each in node]
     if not isinstance(node, dict):
@@ -278,25 +284,45 @@ def seen(answer):
     return "syntax" if error.startswith("syntax error: ") else error
 
 
-def is_same_within(answer, other):
-    """Whether two answers within different limits are the same. What a syntax error expects depends on the limits."""
-    if answer[0] == 0:
-        return answer == other
-    return re.sub(rb", expected .*", b"", answer[2]) == re.sub(rb", expected .*", b"", other[2])
+def is_alike(answer, other):
+    return seen(answer) == seen(other)
 
 
-def told(finding, index):
-    """The first line of the report that says the same as a finding of a check."""
-    place = f":{finding['line']}:{finding['column']}" if "line" in finding else ""
-    return f"text{index}{place}: {finding['message']}\n".encode()
-
-
-def agrees(index, answer, finding):
+def agrees(answer, finding):
     """Whether the check of a text says what its tree or error does."""
     status, out, err = answer
     if finding is None:
         return status == 0 and out != b"" and err == b""
-    return status == 1 and out == b"" and err.startswith(told(finding, index))
+    place = f":{finding['line']}:{finding['column']}" if "line" in finding else ""
+    said = f"{place}: {finding['message']}\n".encode()
+    return status == 1 and out == b"" and re.sub(rb"^text\d+", b"", err).startswith(said)
+
+
+def kind_of(finding):
+    """What became of a text by the first finding of its check: 0 if it is accepted, 1 if it breaks a rule for
+    documents, 2 if it is refused."""
+    if finding is None:
+        return 0
+    return 2 if finding["status"] in ("SYNTAX", "RECURSION_LIMIT_EXCEEDED") else 1
+
+
+def is_same_within(answer, narrow):
+    """Whether the answer within narrow limits is the same, or that the text nests too deep. What a syntax error expects
+    depends on the limits."""
+    if narrow[0] == 1 and b": recursion limit exceeded: " in narrow[2].split(b"\n")[0]:
+        return True
+    one, other = (re.sub(b", expected .*", b"", err) for _, _, err in (answer, narrow))
+    return narrow[:2] == answer[:2] and one == other
+
+
+def is_anew(answer, written):
+    """Whether a text is written anew if it is good, and has the error of its tree otherwise. A request of fragments
+    alone has no tree, but is good."""
+    status, _, err = written
+    has_no_operation = answer[2].endswith(b": document does not contain an operation\n")
+    if answer[0] == 0 or (has_no_operation and status == 0):
+        return status == 0 and err == b""
+    return status == 1 and err.startswith(answer[2])
 
 
 IGNORED = re.compile("(?:[\ufeff \t\n\r,]|#[^\n\r]*)*")
@@ -309,7 +335,8 @@ def spellings(text, lines):
         at = IGNORED.match(text, at).end()
         kind, shown = re.fullmatch(r"\d+:\d+ (block string|[a-z]+) ?(.*)", line, re.S).groups()
         if kind in ("fault", "end"):
-            return [*found, "?"] if kind == "fault" else found if number == len(lines) and at == len(text) else None
+            is_whole = number == len(lines) and (kind == "fault" or at == len(text))
+            return found + ["?"] * (kind == "fault") if is_whole else None
         begin = at
         while shown:
             sign = {"\n": r"\n", "\r": r"\r"}.get(text[at:at + 1], text[at:at + 1])
@@ -320,21 +347,23 @@ def spellings(text, lines):
     return None
 
 
-def compared(lines):
-    """What tokens have to keep if they are formatted: their kinds, and but for block strings their spelling."""
-    bare = [line.split(" ", 1)[1] for line in lines]
-    return ["block string" if line.startswith("block string ") else line for line in bare]
+def has_kept(lines, others):
+    """Whether tokens are the same in two texts: their kinds, and but for block strings their spelling."""
+    def kept(lines):
+        bare = [line.split(" ", 1)[1] for line in lines]
+        return ["block string" if line.startswith("block string ") else line for line in bare]
+    return kept(lines) == kept(others)
 
 
 class Failure(Exception):
     """A text that doesn't hold: its number, what is wrong, and two answers that had to agree."""
 
 
-def hold(each):
-    """Fails by the first of these, each a number, whether it holds, what is wrong, and two answers."""
-    for index, holds, *rest in each:
-        if not holds:
-            raise Failure(index, *rest)
+def hold(wrong, numbers, ones, others, agree):
+    """Fails by the first text of these numbers whose two answers don't agree."""
+    for number, one, other in zip(numbers, ones, others):
+        if not agree(one, other):
+            raise Failure(number, wrong, one, other)
 
 
 class Trial:
@@ -345,88 +374,77 @@ class Trial:
         self.every = range(len(texts))
         self.answers = program.tree(texts, places=True)
 
-    def kinds(self):
-        """What became of each text: 0 if it is accepted, 1 if it breaks a rule for documents, 2 if it is refused."""
-        found = self.program.check(self.texts)
-        hold((i, agrees(i, self.answers[i], found[i]), "the check differs", self.answers[i], found[i]) for i in self.every)
-        kinds = [0 if it is None else 2 if it["status"] in ("SYNTAX", "RECURSION_LIMIT_EXCEEDED") else 1 for it in found]
-        hold((i, kinds[i] < 2 or not self.meant[i], "a text of the grammar is refused", self.answers[i], None) for i in self.every)
-        return kinds
-
-    def check_limits(self):
-        """The default limits change nothing; within narrow ones a text has the same answer, or nests too deep."""
-        limited = self.program.check(self.texts, ALL)
-        hold((i, agrees(i, self.answers[i], limited[i]), "the check within limits differs", self.answers[i], limited[i]) for i in self.every)
-        narrow, checked = self.program.tree(self.texts, NARROW, places=True), self.program.check(self.texts, NARROW)
-        hold((i, agrees(i, narrow[i], checked[i]), "the check within narrow limits differs", narrow[i], checked[i]) for i in self.every)
-        is_deep = [it is not None and it["status"] == "RECURSION_LIMIT_EXCEEDED" for it in checked]
-        hold((i, is_deep[i] or is_same_within(narrow[i], self.answers[i]), "narrow limits differ", self.answers[i], narrow[i]) for i in self.every)
+    def check_answers(self):
+        """The check answers as the tree, also within limits; within narrow ones the answer is the same, or that a text
+        nests too deep. Returns the kinds of the texts."""
+        program, texts, every = self.program, self.texts, self.every
+        found = program.check(texts)
+        hold("the check differs", every, self.answers, found, agrees)
+        hold("the check within limits differs", every, self.answers, program.check(texts, ALL), agrees)
+        wrong = "a text of the grammar is refused"
+        hold(wrong, every, self.meant, found, lambda meant, it: not meant or kind_of(it) < 2)
+        narrow = program.tree(texts, NARROW, places=True)
+        hold("the check within narrow limits differs", every, narrow, program.check(texts, NARROW), agrees)
+        hold("narrow limits differ", every, self.answers, narrow, is_same_within)
+        return [kind_of(it) for it in found]
 
     def check_tree(self, wrong, numbers, texts):
         """Each of these texts has the tree of the text of that number, or its error, but for places."""
-        trees = self.program.tree(texts, ALL)
-        hold((i, seen(tree) == seen(self.answers[i]), wrong, self.answers[i], (text, tree)) for i, text, tree in zip(numbers, texts, trees))
+        hold(wrong, numbers, [self.answers[i] for i in numbers], self.program.tree(texts, ALL), is_alike)
 
     def check_tokens(self):
-        """With a token a line a text has the same tree."""
+        """With a token a line a text has the same tree. Returns the tokens of each text."""
         lines = self.program.tokens(self.texts)
         tokens = [spellings(*each) for each in zip(self.texts, lines)]
-        hold((i, tokens[i] is not None, "these are not its tokens", lines[i], None) for i in self.every)
-        self.check_tree("a token a line differs", self.every, ["".join(f"{token}\n" for token in each).encode() for each in tokens])
+        hold("these are not its tokens", self.every, lines, tokens, lambda _, found: found is not None)
+        apart = ["".join(f"{token}\n" for token in each).encode() for each in tokens]
+        self.check_tree("a token a line differs", self.every, apart)
         return lines
 
-    def anew(self, answers, wrong):
-        """The numbers of texts that were written anew, and what they became. The others have the error that their tree has."""
-        hold((i, status == 0 or (status == 1 and err.startswith(self.answers[i][2]) and self.answers[i][0] == 1), wrong, self.answers[i], (out, err))
-             for i, (status, out, err) in enumerate(answers))
-        done = [(i, out) for i, (status, out, _) in enumerate(answers) if status == 0]
-        return [i for i, _ in done], [text for _, text in done]
-
     def check_written(self, name, answers, again=None):
-        """Texts that were written anew have the same tree, and are written so again; or where it isn't said what becomes of them, they are
-        formatted."""
-        numbers, texts = self.anew(answers, f"the error of {name} differs")
+        """What a command writes has the same tree, is written so again if that is asked, and is formatted unless it is
+        minified. Returns the numbers of the texts that are written anew, and what they became."""
+        hold(f"{name} differs", self.every, self.answers, answers, is_anew)
+        numbers = [i for i in self.every if answers[i][0] == 0]
+        texts = [answers[i][1] for i in numbers]
         self.check_tree(f"the text by {name} differs", numbers, texts)
         if again:
-            hold((i, once == (0, text, b""), f"by {name} again it differs", text, once) for i, text, once in zip(numbers, texts, again(texts)))
-        if not again or name == "print":
-            changed = self.program.unformatted(texts)
-            hold((i, at not in changed, f"the text by {name} is not formatted", texts[at], None) for at, i in enumerate(numbers))
+            hold(f"by {name} again it differs", numbers, texts, again(texts), lambda text, once: once == (0, text, b""))
+        if name != "minify":
+            others = self.program.unformatted(texts)
+            wrong = f"the text by {name} is not formatted"
+            hold(wrong, numbers, texts, range(len(texts)), lambda _, at: at not in others)
         return numbers, texts
 
     def check_rewritten(self, lines):
         """What print, minify and format make of the texts."""
         program = self.program
-        numbers, _ = self.check_written("print", program.print(self.texts), program.print)
-        hold((i, (i in set(numbers)) == (self.answers[i][0] == 0), "print differs", self.answers[i], None) for i in self.every)
+        self.check_written("print", program.print(self.texts), program.print)
         numbers, texts = self.check_written("minify", program.minify(self.texts), program.minify)
-        hold((i, len(text) <= len(self.texts[i]) + 1, "the minified text is longer", text, None) for i, text in zip(numbers, texts))
+        before = [self.texts[i] for i in numbers]
+        hold("the minified text is longer", numbers, before, texts, lambda text, after: len(after) <= len(text) + 1)
         # A text without a token stays as it is.
-        answers = [each if len(lines[i]) > 1 else self.answers[i] for i, each in enumerate(program.format(self.texts))]
-        numbers, texts = self.check_written("format", answers)
-        hold((i, compared(after) == compared(lines[i]), "the formatted tokens differ", lines[i], after)
-             for i, after in zip(numbers, program.tokens(texts)))
-
-    def check_all(self):
-        """All of it. Returns the kinds of the texts."""
-        kinds = self.kinds()
-        self.check_limits()
-        self.check_rewritten(self.check_tokens())
-        return kinds
+        formatted = program.format(self.texts)
+        formatted = [each if len(lines[i]) > 1 else self.answers[i] for i, each in enumerate(formatted)]
+        numbers, texts = self.check_written("format", formatted)
+        hold("the formatted tokens differ", numbers, [lines[i] for i in numbers], program.tokens(texts), has_kept)
 
 
 def check_texts(program, source, count):
-    """How many of so many texts are accepted, break a rule, and are refused, and what is wrong with the first that doesn't hold."""
+    """How many of so many texts are accepted, break a rule, and are refused, and what is wrong with the first that
+    doesn't hold."""
     tally = [0, 0, 0]
     for start in range(0, count, CHUNK):
-        made = [source.next() for _ in range(min(CHUNK, count - start))]
-        texts, meant = zip(*made)
+        texts, meant = zip(*(source.next() for _ in range(min(CHUNK, count - start))))
         try:
-            for kind in Trial(program, texts, meant).check_all():
+            trial = Trial(program, texts, meant)
+            for kind in trial.check_answers():
                 tally[kind] += 1
+            trial.check_rewritten(trial.check_tokens())
         except Failure as failure:
             index, wrong, *answers = failure.args
-            return tally, "\n".join([f"{program.language}, text {start + index}: {wrong}: {texts[index]!r}", *(f"--- {it!r}" for it in answers)])
+            said = [f"{program.language}, text {start + index}: {wrong}: {texts[index]!r}"]
+            return tally, "\n--- ".join(said + [repr(it) for it in answers])
     return tally, ""
 
 
@@ -434,11 +452,14 @@ def check_texts(program, source, count):
 
 NAMES = ["a", "on", "true", "null", "query", "_0", "__typename", "aNameOfMoreThanSixteenBytes"]
 ENUM_NAMES = ["A", "on", "True", "nulls", "mutation"]
-NUMBERS = ["0", "-0", "7", "-12", "9223372036854775808", "1.50", "1e3", "-1E+10", "0.0e-0", "-123456789012345678901234567890.5"]
-# Characters of strings: those that are escaped, those that look like a token, and those at the ends of the ranges that are encoded alike.
+NUMBERS = ["0", "-0", "7", "-12", "9223372036854775808", "1.50", "1e3", "-1E+10", "0.0e-0"]
+NUMBERS += ["-123456789012345678901234567890.5"]
+# Characters of strings: those that are escaped, those that look like a token, and those at the ends of the ranges that
+# are encoded alike.
 CHARACTERS = '"\\\n\r\t\0\x01\x08\x0b\x0c\x1f au/{$#\x7f\x80\u07ff\u2028\ud7ff\ue000\ufeff\uffff😀\U0010ffff'
 ESCAPES = {'"': '\\"', "\\": "\\\\", "/": "\\/", "\b": "\\b", "\f": "\\f", "\n": "\\n", "\r": "\\r", "\t": "\\t"}
-BLOCK_UNITS = ["a", " ", "\t", "\n", "\n  ", "\r", "\r\n", '\\"""', "\\n", '"x', '""\n', "#", "ü", "😀", "\0", ",", "\n    b", "\n   c"]
+BLOCK_UNITS = ["a", " ", "\t", "\n", "\n  ", "\r", "\r\n", '\\"""', "\\n", '"x', '""\n', "#", "ü", "😀", "\0", ","]
+BLOCK_UNITS += ["\n    b", "\n   c"]
 IGNORED_UNITS = ["", "", "", " ", "\n", ",", "\r", "\t", "\ufeff", "#\"{\n"]
 DEPTH, GROUP = 4, 50
 
@@ -499,7 +520,8 @@ class Values:
 
     def list(self, depth, has_variables):
         items = [self.value(depth, has_variables) for _ in range(self.random.below(5))]
-        return ["[", *itertools.chain(*(tokens for tokens, _ in items)), "]"], node("ListValue", values=[tree for _, tree in items])
+        tokens = ["[", *itertools.chain(*(tokens for tokens, _ in items)), "]"]
+        return tokens, node("ListValue", values=[tree for _, tree in items])
 
     def object(self, depth, has_variables):
         """An object has each name once, where it first occurs, with its last value."""
@@ -508,7 +530,8 @@ class Values:
             name = self.random.one_of(NAMES)
             value, fields[name] = self.value(depth, has_variables)
             tokens += [name, ":", *value]
-        return [*tokens, "}"], node("ObjectValue", fields=[node("ObjectField", name=name_node(name), value=tree) for name, tree in fields.items()])
+        fields = [node("ObjectField", name=name_node(name), value=tree) for name, tree in fields.items()]
+        return [*tokens, "}"], node("ObjectValue", fields=fields)
 
     def string(self):
         value = "".join(self.random.one_of(CHARACTERS) for _ in range(self.random.below(9)))
@@ -545,9 +568,9 @@ class Values:
 
 def request(text, variables, selections):
     """The text and the JSON of a request of one operation."""
-    selections = node("SelectionSet", selections=selections)
-    operation = node("OperationDefinition", operation="query", variableDefinitions=variables, directives=[], selectionSet=selections)
-    return text.encode(), node("Document", definitions=[operation])
+    parts = {"variableDefinitions": variables, "directives": []}
+    parts["selectionSet"] = node("SelectionSet", selections=selections)
+    return text.encode(), node("Document", definitions=[node("OperationDefinition", operation="query", **parts)])
 
 
 def field(name, arguments):
@@ -562,13 +585,15 @@ def arguments(values):
 
 def defaults(values):
     """A request with each value as a default."""
-    variable, type = node("Variable", name=name_node("a")), node("NamedType", name=name_node("T"))
-    variables = [node("VariableDefinition", variable=variable, type=type, defaultValue=tree, directives=[]) for _, tree, _ in values]
-    return request("query(" + " ".join(f"$a:T={text}" for text, _, _ in values) + "){b}", variables, [field("b", [])])
+    parts = {"variable": node("Variable", name=name_node("a")), "type": node("NamedType", name=name_node("T"))}
+    variables = [node("VariableDefinition", **parts, defaultValue=tree, directives=[]) for _, tree, _ in values]
+    text = "query(" + " ".join(f"$a:T={text}" for text, _, _ in values) + "){b}"
+    return request(text, variables, [field("b", [])])
 
 
 def wrong_request(program, requests):
-    """The number of the first of these requests that isn't read as its JSON, what is wrong, and the answer; None if all are."""
+    """The number of the first of these requests that isn't read as its JSON, what is wrong, and the answer; None if all
+    are."""
     texts, trees = zip(*requests)
     for index, finding in enumerate(program.check(texts)):
         if finding:
@@ -582,7 +607,7 @@ def wrong_request(program, requests):
 
 
 def check_values(program, place, values):
-    """What is wrong with the first value that is read as another in such a place; empty if all are read as they have to be."""
+    """What is wrong with the first value that is read as another in such a place; empty if none is."""
     groups = [values[start:start + GROUP] for start in range(0, len(values), GROUP)]
     found = wrong_request(program, list(map(place, groups)))
     if found is None:
