@@ -21,9 +21,9 @@ import functools, itertools, json, os, re, subprocess, sys, tempfile
 from pathlib import Path
 
 GRAMMARS = Path(__file__).resolve().parent / "grammars"
-SEED, COUNT = 20261123, 2000
-# What is accepted, breaks a rule, and is refused of the texts of that seed and count, so that the same texts are made.
-KNOWN = {"query": (1053, 125, 822), "schema": (1076, 67, 857)}
+SEED, COUNT = 20261123, 1000
+# How many of the first 2,000 texts of that seed are accepted, break a rule, and are refused: the same texts are made.
+KNOWN = {"query": [1053, 125, 822], "schema": [1076, 67, 857]}
 # So many texts are tried at once.
 CHUNK = 500
 
@@ -448,6 +448,13 @@ def check_texts(program, source, count):
     return tally, ""
 
 
+def are_known(program):
+    """Whether the first texts of the known seed are of the kinds that are known."""
+    source = Source(program.language, SEED)
+    kinds = [kind_of(it) for it in program.check([source.next()[0] for _ in range(2000)])]
+    return [kinds.count(kind) for kind in range(3)] == KNOWN[program.language]
+
+
 # ---- Random values
 
 NAMES = ["a", "on", "true", "null", "query", "_0", "__typename", "aNameOfMoreThanSixteenBytes"]
@@ -606,13 +613,17 @@ def wrong_request(program, requests):
     return None
 
 
+def in_groups(place, values):
+    """The requests with these values in such a place, some in each."""
+    return [place(values[start:start + GROUP]) for start in range(0, len(values), GROUP)]
+
+
 def check_values(program, place, values):
     """What is wrong with the first value that is read as another in such a place; empty if none is."""
-    groups = [values[start:start + GROUP] for start in range(0, len(values), GROUP)]
-    found = wrong_request(program, list(map(place, groups)))
+    found = wrong_request(program, in_groups(place, values))
     if found is None:
         return ""
-    for value in groups[found[0]]:
+    for value in values[found[0] * GROUP:][:GROUP]:
         alone = wrong_request(program, [place([value])])
         if alone:
             return f"value {value[0]!r} in {place.__name__}: {alone[1]}\n--- {value[1]!r}\n--- {alone[2]!r}"
@@ -675,7 +686,7 @@ def overlooked(programs, seed, count, values):
     for part in FORGOTTEN:
         wrong = Mistaken(programs[0], "print", forgets(part))
         for place in (arguments, defaults) if part != "$" else (arguments,):
-            if not check_values(wrong, place, values[place]):
+            if not wrong_request(wrong, in_groups(place, values[place])):
                 missed.append(f"{place.__name__}: a printer that forgets {part}")
     return missed
 
@@ -689,8 +700,7 @@ def run(path, seed, count):
         tally, failure = check_texts(program, Source(program.language, seed), count)
         said.append("{}: {} accepted, {} broke a rule, {} refused".format(name, *tally))
         wrong += [failure] if failure else []
-        if (seed, count) == (SEED, COUNT) and not failure and tuple(tally) != KNOWN[program.language]:
-            wrong.append(f"{name}: {KNOWN[program.language]} are known")
+        wrong += [] if are_known(program) else [f"{name}: those of seed {SEED} are of other kinds than are known"]
     source = Values(seed)
     every = [source.next() for _ in range(count)]
     values = {arguments: every, defaults: [it for it in every if it[2]]}
