@@ -3,14 +3,14 @@
 
     tests/layout.py [COUNT [SEED]]
 
-Texts are the rows of the tables of `conformance`, and COUNT random texts of each language (2,000 without it) that
-that program makes. GraphQL.js prints those that it reads. The tokens of what it prints, one blank apart, have to be
+Texts are the rows of the tables of `conformance`, and COUNT random texts of each language (2,000 without it) of
+`tests/random_texts.py`. GraphQL.js prints those that it reads. The tokens of what it prints, one blank apart, have to be
 formatted to that again, byte for byte, and so has what it prints itself: the block strings among them are spelled as in the
 text, where the two have the same tokens. No minified text may be longer than what `stripIgnoredCharacters` gives. It prints
 the texts for which that doesn't hold, and last how many there were of which kind; its status is 1 if there was one.
 
-It needs node with the package graphql (Debian's node-graphql, 16.6), and the programs of `crates/gql` and
-`crates/conformance`, which `rt run` builds there. It isn't part of `rt ci`, since that needs the kit alone.
+It needs node with the package graphql (Debian's node-graphql, 16.6), and the program of `crates/gql`, which `rt run` builds there.
+It isn't part of `rt ci`, since that needs the kit alone.
 """
 import json
 import os
@@ -20,9 +20,10 @@ import subprocess
 import sys
 import tempfile
 
+from random_texts import Source
+
 ROOT = pathlib.Path(__file__).resolve().parent.parent
 GQL = ROOT / "crates/gql/out/gql"
-CONFORMANCE = ROOT / "crates/conformance/out/conformance"
 
 # Prints, for each text of a list: null if it isn't read, else what is printed, its tokens one blank apart, and the text
 # without ignored characters.
@@ -95,9 +96,8 @@ def texts_of_rows():
 
 
 def random_texts(language, seed, count):
-    word = {"query": "requests", "schema": "schemas"}[language]
-    made = subprocess.run([CONFORMANCE, "random", str(seed), str(count), word], capture_output=True, check=True)
-    return made.stdout.decode().split("\0")[:-1]
+    source = Source(language, seed)
+    return [source.next()[0].decode() for _ in range(count)]
 
 
 def printed_by_node(texts):

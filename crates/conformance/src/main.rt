@@ -1,6 +1,6 @@
 //! Tables of cases with expected answers: tokens, values, requests and schema files, what the calls of their trees and
 //! of their errors give, their JSON, what they are minified and formatted to, what their trees are printed as, the
-//! reports of refused texts, positions and edits, what an editor asks of a text, random texts, what `gql` makes of a
+//! reports of refused texts, positions and edits, what an editor asks of a text, what `gql` makes of a
 //! text in parts, runs of `gql` and `gqlparse`, and calls that run out of memory. The answers were worked out by hand
 //! from the rules of `docs/GRAMMAR.md`, from `gql --help` and the Language Server Protocol 3.17, or come from where a
 //! table says, and were never taken from what the crates print: only the digest of a workload was, which has to stay.
@@ -8,8 +8,8 @@
 //! The tables are the files of `data/tables`, `data/runs` and, for the module `refused`, `data/refused`, in the
 //! notation of the module `rows`. The program prints how many rows each has, and the rows that do not hold: the file
 //! `stdout` has the counts, and no such row. So a new row is a line of a table, and counts there. Words of the program
-//! name the tables to judge; those that begin with `random`, `once` or `bench` are for the modules `roundtrip`,
-//! `refused` and `bench`, of which the last measures.
+//! name the tables to judge; those that begin with `once` or `bench` are for the modules `refused` and `bench`, of which
+//! the last measures.
 #![tactic(auto)]
 
 mod bench;
@@ -27,7 +27,6 @@ mod readme;
 mod refused;
 mod reports;
 mod rewritten;
-mod roundtrip;
 mod rows;
 mod seeds;
 mod trees;
@@ -75,7 +74,6 @@ fn answer(shown: &mut Shown, sources: &str, call: &str, text: &str) {
         ("seeds", what) => seeds::write_seeds(shown, what, text),
         ("readme", example) => readme::write_example(shown, example, text),
         ("bench", what) => bench::write_digest(shown, what, text),
-        ("random", _) => roundtrip::write_found(shown, text),
         ("gql", part) => commands::answer(shown, sources, part, text),
         ("run", program) => commands::write_run(shown, sources, program, text),
         _ => parts::answer(shown, call, text),
@@ -89,7 +87,6 @@ fn main(rt: HostRuntime) -> Result<(), Fail> {
     }
     match words.whole() {
         Some("once") => refused::make_once(&rt),
-        Some(words) if words.starts_with("random ") => roundtrip::run(&rt, words),
         Some(words) => match words.strip_prefix("bench ") {
             Some(asked) => Ok(bench::run(&rt, asked)?),
             None => judge_all(&rt, words),

@@ -6,7 +6,7 @@ use graphql_printer::{format_query, format_schema, minify_query, minify_schema};
 use std::alloc::Global;
 
 /// What is done to a text.
-#[derive(Clone, Copy, PartialEq)]
+#[derive(Clone, Copy)]
 pub enum Rewriting {
     Minified,
     Formatted,
@@ -64,8 +64,8 @@ fn is_text(written: &Answer<String>, text: &str) -> bool {
     }
 }
 
-/// What a text of a language becomes, or its error.
-pub fn rewritten(
+// What a text of a language becomes, or its error.
+fn rewritten(
     alloc: Global,
     rewriting: Rewriting,
     language: Parser,

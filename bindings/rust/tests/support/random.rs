@@ -1,4 +1,4 @@
-//! Random texts, made by the grammars that `crates/conformance` makes its own by.
+//! Random texts, made by the grammars that `tests/random_texts.py` makes its own by.
 use super::tables;
 use std::collections::HashMap;
 use std::fs;
@@ -104,14 +104,12 @@ fn meant(word: &str) -> &str {
 
 /// Has `take` called with so many random texts of each language, and with whether it is that of requests.
 pub fn texts(seed: u64, count: usize, mut take: impl FnMut(&str, bool)) {
-    let source = fs::read_to_string(tables::path("crates/conformance/src/roundtrip/grammars.rt")).unwrap();
-    let [requests, schemas, tokens] = tables::raw_strings(&source)[..] else {
-        panic!("three grammars");
-    };
-    let tokens = Grammar::read(tokens);
+    let [requests, schemas, tokens] = ["requests", "schemas", "tokens"]
+        .map(|name| fs::read_to_string(tables::path("tests/grammars").join(name)).unwrap());
+    let tokens = Grammar::read(&tokens);
     let mut random = Random(seed);
     for (phrases, is_request) in [(requests, true), (schemas, false)] {
-        let phrases = Grammar::read(phrases);
+        let phrases = Grammar::read(&phrases);
         for _ in 0..count {
             take(&text(&phrases, &tokens, &mut random), is_request);
         }

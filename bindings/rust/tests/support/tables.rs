@@ -39,26 +39,6 @@ fn files(folder: &Path) -> Vec<PathBuf> {
     found
 }
 
-/// The raw strings of a source: what stands between `r"` and `"`, or between `r#"` and `"#`, and so on.
-pub fn raw_strings(source: &str) -> Vec<&str> {
-    let mut found = Vec::new();
-    let mut rest = source;
-    while let Some((before, after)) = rest.split_once('r') {
-        let opening = after.trim_start_matches('#');
-        let end = format!("\"{}", &after[..after.len() - opening.len()]);
-        let is_word = before.ends_with(|c: char| c.is_ascii_alphanumeric() || c == '_');
-        rest = match opening.strip_prefix('"').filter(|_| !is_word) {
-            Some(inside) => {
-                let (text, behind) = inside.split_once(&end).unwrap();
-                found.push(text);
-                behind
-            }
-            None => after,
-        };
-    }
-    found
-}
-
 /// The rows of a table whose answers stand between quotes: each text, and its answer.
 pub fn answers(file: &str, call: &str) -> Vec<(String, String)> {
     let path = path("crates/conformance/data/tables").join(file);

@@ -2,12 +2,12 @@
 use super::sizes::{write_file_sizes, write_request_sizes};
 use crate::rows::Shown;
 use crate::trees::{Written, write_default_value, write_directives, write_value};
-use graphql_parser::Positioned;
 use graphql_parser::types::{
     ConstDirective, Directive, ExecutableDocument, Field, OperationDefinition, OperationsIter,
     Selection, ServiceDocument,
 };
 use graphql_parser::value::{ConstValue, Name, Value, ValueView};
+use graphql_parser::{Positioned, parse_query};
 use std::alloc::{AllocError, Global};
 
 /// What is looked at in a tree, beside the whole tree and whether there is one. Of a schema file only its sizes are.
@@ -25,7 +25,8 @@ use std::alloc::{AllocError, Global};
 /// - `equality`: how the first two arguments compare, as values and as values without variables
 /// - `directive into const`: the first directive of the first field as one without variables, and that as one with them again
 /// - `sets of selections`: the selection sets of the selections of the first operation, by their places
-/// - `text`: the first argument as GraphQL text, and the same of it as a value without variables
+/// - `text`: the first argument as GraphQL text, the same of it as a value without variables, and whether the text is read as
+///   another value
 /// - `viewed`: the first argument through its view, and the same of it as a value without variables
 /// - `field viewed`: the field of a name in the first argument, through its view
 pub const VIEWS: [&str; 14] = [
@@ -310,6 +311,39 @@ fn write_text(shown: &mut Shown, value: &Value) {
         Ok(Some(constant)) => shown.item(" and ", &constant),
         Ok(None) => shown.word(" and none"),
         Err(_) => shown.leave_out(),
+    }
+    if !is_read_back(shown.alloc(), value) {
+        shown.word(", read as another value");
+    }
+}
+
+// Whether the text of a value is read as it again where it stands for an argument.
+fn is_read_back(alloc: Global, value: &Value) -> bool {
+    let mut request = Shown::new(alloc, true);
+    request.item("{f(a: ", value);
+    request.word(")}");
+    match parse_query(alloc, request.whole().unwrap_or("")) {
+        Ok(document) => has_argument(&document, value),
+        Err(_) => false,
+    }
+}
+
+// Whether the argument `a` of a request's first field is this value.
+fn has_argument(document: &ExecutableDocument, value: &Value) -> bool {
+    let Some((_, operation)) = document.operations.iter().next() else {
+        return false;
+    };
+    match operation.node.selection_set.node.items.first() {
+        Some(
+            Positioned {
+                node: Selection::Field(field),
+                ..
+            },
+        ) => match field.node.get_argument("a") {
+            Some(argument) => argument.node == *value,
+            None => false,
+        },
+        _ => false,
     }
 }
 
