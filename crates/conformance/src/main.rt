@@ -12,6 +12,7 @@
 
 mod compared;
 mod errors;
+mod example;
 mod json;
 mod kept;
 mod made;
@@ -52,6 +53,7 @@ impl Subject for Calls {
             ("exact", what) => reports::exact(shown, what, text),
             ("made", what) => made::write_made(shown, what, text),
             ("seeds", what) => seeds::write_seeds(shown, what, text),
+            ("example", limit) => example::write_checked(shown, limit, text),
             ("readme", example) => readme::write_example(shown, example, text),
             ("random", _) => roundtrip::write_found(shown, text),
             _ => parts::answer(shown, call, text),
