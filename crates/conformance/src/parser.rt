@@ -12,3 +12,4 @@ mod views;
 pub use answers::{OTHERWISE, Parser, are_alike};
 pub use asked::{limits_of, write_asked};
 pub use errors::write_error;
+pub use views::{constant_directive, constant_of};

@@ -3,11 +3,11 @@ use super::calls::Text;
 use super::listing::try_listing;
 use super::row::Row;
 use super::trying::try_call;
-use graphql_parser::types::{ConstDirective, Directive, ExecutableDocument, Field, Selection};
-use graphql_parser::value::{ConstValue, Value};
+use crate::parser::{constant_directive, constant_of};
+use graphql_parser::types::{ExecutableDocument, Field, Selection};
 use graphql_parser::{Error, parse_query, parse_schema};
 use rows::Shown;
-use std::alloc::{AllocError, Global};
+use std::alloc::AllocError;
 
 /// What a call is given besides the text of its row.
 pub trait Input: Drop {
@@ -23,18 +23,16 @@ pub fn try_row(row: &Row<'_>, shown: &mut Shown) -> bool {
             try_call(row, Text, shown);
             true
         }
-        "schema tree" => try_schema(row, shown),
+        "schema tree" => match parse_schema(shown.alloc(), row.text) {
+            Ok(document) => {
+                try_call(row, document, shown);
+                true
+            }
+            Err(_) => false,
+        },
         "listing" => try_listing(row, shown),
         _ => try_query(row, shown),
     }
-}
-
-fn try_schema(row: &Row<'_>, shown: &mut Shown) -> bool {
-    let Some(document) = parse_schema(shown.alloc(), row.text).ok() else {
-        return false;
-    };
-    try_call(row, document, shown);
-    true
 }
 
 // A call that is given a request, a part of one, or the error of a text that is none.
@@ -60,44 +58,28 @@ fn try_field(row: &Row<'_>, document: &ExecutableDocument, shown: &mut Shown) ->
     let Some(field) = first_field(document) else {
         return false;
     };
-    if let Some(argument) = field.arguments.first() {
-        try_argument(row, &argument.1.node, shown)
-    } else if let Some(directive) = field.directives.first() {
-        try_directive(row, &directive.node, shown)
-    } else {
-        false
-    }
-}
-
-fn try_argument(row: &Row<'_>, value: &Value, shown: &mut Shown) -> bool {
-    if row.kind == "value" {
-        return try_copies(row, value, shown);
-    }
-    match constant_of(shown.alloc(), value) {
-        Ok(Some(constant)) => try_copies(row, &constant, shown),
+    let alloc = shown.alloc();
+    match (field.arguments.first(), field.directives.first()) {
+        (Some(argument), _) if row.kind == "value" => try_copies(row, &argument.1.node, shown),
+        (Some(argument), _) => try_constant(row, constant_of(alloc, &argument.1.node), shown),
+        (_, Some(it)) if row.kind == "directive" => try_copies(row, &it.node, shown),
+        (_, Some(it)) => try_constant(row, constant_directive(alloc, &it.node), shown),
         _ => false,
     }
 }
 
-fn try_directive(row: &Row<'_>, directive: &Directive, shown: &mut Shown) -> bool {
-    if row.kind == "directive" {
-        return try_copies(row, directive, shown);
-    }
-    match constant_directive_of(shown.alloc(), directive) {
+fn try_constant<T: Clone + Drop>(
+    row: &Row<'_>,
+    made: Result<Option<T>, AllocError>,
+    shown: &mut Shown,
+) -> bool
+where
+    Vec<T>: Input,
+{
+    match made {
         Ok(Some(constant)) => try_copies(row, &constant, shown),
         _ => false,
     }
-}
-
-fn constant_of(alloc: Global, value: &Value) -> Result<Option<ConstValue>, AllocError> {
-    value.clone()?.into_const(alloc)
-}
-
-fn constant_directive_of(
-    alloc: Global,
-    directive: &Directive,
-) -> Result<Option<ConstDirective>, AllocError> {
-    directive.clone()?.into_const(alloc)
 }
 
 // A conversion lets its value go, so there is a copy for each time that the call is made.
