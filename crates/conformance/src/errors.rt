@@ -147,27 +147,19 @@ fn write_steps(shown: &mut Shown, mut places: ErrorPositions, steps: &str) {
     }
 }
 
-// What is left, by a copy, and whether its number is told.
+// What is left, by a copy, and that its number is another, if it is.
 fn write_left(shown: &mut Shown, left: &ErrorPositions) {
-    match left.clone() {
-        Ok(copy) => {
-            let count = write_each(shown, copy);
-            if left.len() != count || left.size_hint() != (count, Some(count)) {
-                shown.word(" (not counted)");
-            }
-        }
-        Err(_) => shown.leave_out(),
-    }
-}
-
-// Writes the places that are left, and gives how many there are.
-fn write_each(shown: &mut Shown, places: ErrorPositions) -> usize {
+    let Ok(copy) = left.clone() else {
+        return shown.leave_out();
+    };
     let mut count = 0usize;
     shown.word(" [");
-    for place in places {
+    for place in copy {
         shown.place(" ", &place);
         count = count.saturating_add(1);
     }
     shown.word(" ]");
-    count
+    if left.len() != count || left.size_hint() != (count, Some(count)) {
+        shown.word(" (not counted)");
+    }
 }

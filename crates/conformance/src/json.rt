@@ -8,12 +8,12 @@ mod paths;
 
 use crate::errors::named;
 use crate::made::lone_type;
-use crate::parser::{OTHERWISE, are_alike};
+use crate::parser::{OTHERWISE, Parser, are_alike};
 use crate::rows::Shown;
 use graphql_json::{Places, error_json, request_json, schema_json};
-use graphql_parser::{check_query, check_schema, parse_query, parse_schema};
+use graphql_parser::{Result as Answer, parse_query, parse_schema};
 use inside::{Inside, WHOLE, between};
-use std::alloc::AllocError;
+use std::alloc::{AllocError, Global};
 use std::str;
 
 /// The JSON that is asked for so.
@@ -25,12 +25,12 @@ use std::str;
 /// - any other: a part of a request
 pub fn answer(shown: &mut Shown, part: &str, text: &str) {
     match part {
-        "query" => write_request(shown, &WHOLE, text, Places::LeftOut),
-        "query with places" => write_request(shown, &WHOLE, text, Places::Written),
-        "query at paths" => paths::of_request(shown, text),
-        "schema" => write_file(shown, text, Places::LeftOut),
-        "schema with places" => write_file(shown, text, Places::Written),
-        "schema at paths" => paths::of_file(shown, text),
+        "query" => write_text(shown, Parser::Query, &WHOLE, text, Places::LeftOut),
+        "query with places" => write_text(shown, Parser::Query, &WHOLE, text, Places::Written),
+        "query at paths" => paths::write_at_paths(shown, Parser::Query, text),
+        "schema" => write_text(shown, Parser::Schema, &WHOLE, text, Places::LeftOut),
+        "schema with places" => write_text(shown, Parser::Schema, &WHOLE, text, Places::Written),
+        "schema at paths" => paths::write_at_paths(shown, Parser::Schema, text),
         "error" => write_named(shown, text),
         "built" => write_built(shown, text),
         part => write_part(shown, part, text),
@@ -63,40 +63,29 @@ fn write_part(shown: &mut Shown, part: &str, text: &str) {
     request.word(around.before);
     request.word(text);
     request.word(around.after);
-    write_request(
-        shown,
-        &around,
-        request.whole().unwrap_or(""),
-        Places::LeftOut,
-    );
+    let text = request.whole().unwrap_or("");
+    write_text(shown, Parser::Query, &around, text, Places::LeftOut);
 }
 
-// Writes the JSON of a request, but for what stands around a part of it, or that of its error.
-fn write_request(shown: &mut Shown, around: &Inside, text: &str, places: Places) {
+// Writes the JSON of a text's tree, but for what stands around a part of it, or that of its error.
+fn write_text(shown: &mut Shown, language: Parser, around: &Inside, text: &str, places: Places) {
     let alloc = shown.alloc();
-    let answer = parse_query(alloc, text);
-    if !are_alike(&answer, &check_query(alloc, text)) {
-        shown.word(OTHERWISE);
-    } else {
-        match &answer {
-            Ok(document) => write_json(shown, around, request_json(alloc, document, places)),
-            Err(error) => write_json(shown, around, error_json(alloc, error)),
-        }
+    let answer = json_of(alloc, language, text, places);
+    if !are_alike(&answer, &language.checked(alloc, text)) {
+        return shown.word(OTHERWISE);
+    }
+    match answer {
+        Ok(json) => write_json(shown, around, Ok(json)),
+        Err(error) => write_json(shown, around, error_json(alloc, &error)),
     }
 }
 
-// Writes the JSON of a schema file, or that of its error.
-fn write_file(shown: &mut Shown, text: &str, places: Places) {
-    let alloc = shown.alloc();
-    let answer = parse_schema(alloc, text);
-    if !are_alike(&answer, &check_schema(alloc, text)) {
-        shown.word(OTHERWISE);
-    } else {
-        match &answer {
-            Ok(file) => write_json(shown, &WHOLE, schema_json(alloc, file, places)),
-            Err(error) => write_json(shown, &WHOLE, error_json(alloc, error)),
-        }
-    }
+// The JSON of a text's tree.
+fn json_of(alloc: Global, language: Parser, text: &str, places: Places) -> Answer<Vec<u8>> {
+    Ok(match language {
+        Parser::Query => request_json(alloc, &parse_query(alloc, text)?, places)?,
+        Parser::Schema => schema_json(alloc, &parse_schema(alloc, text)?, places)?,
+    })
 }
 
 // Writes the definitions in this JSON as the rows do, but for what stands around a part of them.

@@ -16,6 +16,7 @@ mod bench;
 mod commands;
 mod compared;
 mod errors;
+mod example;
 mod json;
 mod kept;
 mod made;
@@ -72,6 +73,7 @@ fn answer(shown: &mut Shown, sources: &str, call: &str, text: &str) {
         ("exact", what) => reports::exact(shown, what, text),
         ("made", what) => made::write_made(shown, what, text),
         ("seeds", what) => seeds::write_seeds(shown, what, text),
+        ("example", limit) => example::write_checked(shown, limit, text),
         ("readme", example) => readme::write_example(shown, example, text),
         ("bench", what) => bench::write_digest(shown, what, text),
         ("gql", part) => commands::answer(shown, sources, part, text),

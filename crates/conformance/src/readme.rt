@@ -1,8 +1,10 @@
 //! The longer example of docs/USING.md, as it stands there, and the one that its text names.
 use crate::rows::Shown;
-use graphql_parser::types::{Selection, TypeKind, TypeSystemDefinition};
+use graphql_parser::types::{
+    ExecutableDocument, Selection, ServiceDocument, TypeKind, TypeSystemDefinition,
+};
 use graphql_parser::{Error, parse_query, parse_schema};
-use std::alloc::Global;
+use std::alloc::{AllocError, Global};
 
 /// Writes what an example makes of a text, in one line: the outline of a request, or the types of a schema file that implement
 /// `Node`.
@@ -26,8 +28,12 @@ fn write_lines(shown: &mut Shown, lines: &str) {
 
 /// What a request selects at the top, a line for each, with its place.
 fn outline(alloc: Global, text: &str) -> Result<String, Error> {
-    let document = parse_query(alloc, text)?;
     let mut lines = String::new(alloc);
+    write_outline(&mut lines, &parse_query(alloc, text)?)?;
+    Ok(lines)
+}
+
+fn write_outline(lines: &mut String, document: &ExecutableDocument) -> Result<(), AllocError> {
     for (_, operation) in document.operations.iter() {
         for selection in &operation.node.selection_set.node.items {
             let place = selection.pos;
@@ -45,13 +51,21 @@ fn outline(alloc: Global, text: &str) -> Result<String, Error> {
             }
         }
     }
-    Ok(lines)
+    Ok(())
 }
 
 /// The types that implement an interface, a line for each, with the place where they name it.
 fn implementors(alloc: Global, text: &str, interface: &str) -> Result<String, Error> {
-    let document = parse_schema(alloc, text)?;
     let mut lines = String::new(alloc);
+    write_implementors(&mut lines, &parse_schema(alloc, text)?, interface)?;
+    Ok(lines)
+}
+
+fn write_implementors(
+    lines: &mut String,
+    document: &ServiceDocument,
+    interface: &str,
+) -> Result<(), AllocError> {
     for definition in &document.definitions {
         let TypeSystemDefinition::TypeDef(ty) = definition else {
             continue;
@@ -69,5 +83,5 @@ fn implementors(alloc: Global, text: &str, interface: &str) -> Result<String, Er
             }
         }
     }
-    Ok(lines)
+    Ok(())
 }

@@ -2,11 +2,11 @@
 //!
 //! In a row the lines of a report stand one after another, and in a line that begins with a blank, as those with a line of
 //! the text and with the caret do, a `·` stands for each blank. The file is called `f`.
-use crate::parser::{OTHERWISE, are_alike, limits_of};
+use crate::parser::{OTHERWISE, limits_of};
 use crate::rows::{Shown, pair};
 use graphql_parser::{
-    Error, Limits, Result as Answer, check_query_limited, check_schema_limited,
-    parse_query_limited, parse_schema_limited,
+    Error, Limits, check_query_limited, check_schema_limited, parse_query_limited,
+    parse_schema_limited,
 };
 use graphql_report::{Language, explain, finding_of, is_front};
 use std::alloc::{AllocError, Global};
@@ -15,25 +15,23 @@ use std::alloc::{AllocError, Global};
 /// finding too. The check of the text gives the same error, or accepts it as well.
 pub fn of_text(shown: &mut Shown, reading: &str, text: &str) {
     let Some((language, limits)) = read_as(reading) else {
-        shown.word("no such reading");
-        return;
+        return shown.word("no such reading");
     };
     let alloc = shown.alloc();
-    let answer = parsed(alloc, language, text, limits);
-    if !are_alike(&answer, &checked(alloc, language, text, limits)) {
-        shown.word(OTHERWISE);
-    } else if let Err(error) = &answer {
-        write_report(shown, language, text, limits, error);
-    } else {
-        shown.word("accepted");
+    let error = refused(alloc, language, text, limits);
+    if error != refused_by_check(alloc, language, text, limits) {
+        return shown.word(OTHERWISE);
+    }
+    match &error {
+        Some(error) => write_report(shown, language, text, limits, error),
+        None => shown.word("accepted"),
     }
 }
 
 /// Whether some document goes on from a text, in a language and within limits.
 pub fn front(shown: &mut Shown, reading: &str, text: &str) {
     let Some((language, limits)) = read_as(reading) else {
-        shown.word("no such reading");
-        return;
+        return shown.word("no such reading");
     };
     match is_viable(shown.alloc(), language, text, limits) {
         Ok(true) => shown.word("a front"),
@@ -61,7 +59,7 @@ pub fn exact(shown: &mut Shown, reading: &str, row: &str) {
     if reading == "no memory" {
         write_exact(shown, Language::Schemas, file, text, &Error::OutOfMemory);
     } else if let Some((language, limits)) = read_as(reading)
-        && let Err(error) = parsed(alloc, language, text, limits)
+        && let Some(error) = refused(alloc, language, text, limits)
     {
         write_exact(shown, language, file, text, &error);
     } else {
@@ -87,25 +85,24 @@ pub fn read_as(reading: &str) -> Option<(Language, Limits)> {
     Some((language, limits_of(limits)?))
 }
 
-// The answer of the parser to a text, without the tree.
-fn parsed(alloc: Global, language: Language, text: &str, limits: Limits) -> Answer<()> {
+// The error of a text, if it is refused.
+fn refused(alloc: Global, language: Language, text: &str, limits: Limits) -> Option<Error> {
     match language {
-        Language::Requests => match parse_query_limited(alloc, text, limits) {
-            Ok(_) => Ok(()),
-            Err(error) => Err(error),
-        },
-        Language::Schemas => match parse_schema_limited(alloc, text, limits) {
-            Ok(_) => Ok(()),
-            Err(error) => Err(error),
-        },
+        Language::Requests => parse_query_limited(alloc, text, limits).err(),
+        Language::Schemas => parse_schema_limited(alloc, text, limits).err(),
     }
 }
 
-// The answer of its check.
-fn checked(alloc: Global, language: Language, text: &str, limits: Limits) -> Answer<()> {
+// The same by the check.
+fn refused_by_check(
+    alloc: Global,
+    language: Language,
+    text: &str,
+    limits: Limits,
+) -> Option<Error> {
     match language {
-        Language::Requests => check_query_limited(alloc, text, limits),
-        Language::Schemas => check_schema_limited(alloc, text, limits),
+        Language::Requests => check_query_limited(alloc, text, limits).err(),
+        Language::Schemas => check_schema_limited(alloc, text, limits).err(),
     }
 }
 

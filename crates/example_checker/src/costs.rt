@@ -18,7 +18,7 @@ use graphql_parser::value::Name;
 use std::alloc::{AllocError, Global};
 
 /// Why a request has no cost within a limit.
-#[derive(Clone, Copy, Debug, PartialEq, Eq)]
+#[derive(Clone, Copy)]
 pub enum Refusal {
     /// It costs more than the limit.
     TooDear,

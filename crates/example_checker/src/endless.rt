@@ -10,7 +10,7 @@ use std::alloc::{AllocError, Global};
 use std::mem;
 
 /// What is wrong with the spread of a fragment.
-#[derive(Debug, Drop)]
+#[derive(Clone, Copy)]
 pub enum Fault<'a> {
     /// There is no fragment of this name.
     Missing(&'a Name),
@@ -25,50 +25,37 @@ pub fn first_fault<'a>(
 ) -> Result<Option<Fault<'a>>, AllocError> {
     let prices = prices_of_fragments(alloc, document, 0)?;
     let mut seen = vec![in alloc; false; document.fragments.len()]?;
-    Ok(fault_of(document, prices.as_slice(), &mut seen))
+    for (_, operation) in document.operations.iter() {
+        let set = &operation.node.selection_set.node;
+        if let Some(name) = first_in(set, document, prices.as_slice()) {
+            return Ok(Some(fault_from(name, document, prices.as_slice(), &mut seen)));
+        }
+    }
+    Ok(None)
 }
 
-// The fault to which a walk comes, where no fragment was seen before.
-fn fault_of<'a>(
+// The fault to which a walk from a spread of this name comes, where no fragment was seen before.
+fn fault_from<'a>(
+    first: &'a Name,
     document: &'a ExecutableDocument,
     prices: &[Option<u64>],
     seen: &mut [bool],
-) -> Option<Fault<'a>> {
-    let mut name = first_of_operations(document, prices)?;
+) -> Fault<'a> {
+    let mut name = first;
     for _ in 0..=document.fragments.len() {
-        let Some(place) = document.fragments.get_index_of(name) else {
-            return Some(Fault::Missing(name));
+        let Some((place, _, fragment)) = document.fragments.get_full(name) else {
+            return Fault::Missing(name);
         };
-        if mem::replace(seen.get_mut(place)?, true) {
-            return Some(Fault::SpreadsItself(name));
-        }
-        name = next_of(document, prices, place)?;
-    }
-    None
-}
-
-// The first name that the fragment at this place spreads and that has no price.
-fn next_of<'a>(
-    document: &'a ExecutableDocument,
-    prices: &[Option<u64>],
-    place: usize,
-) -> Option<&'a Name> {
-    let (_, fragment) = document.fragments.get_index(place)?;
-    first_in(&fragment.node.selection_set.node, document, prices)
-}
-
-// The first name that an operation spreads and that has no price.
-fn first_of_operations<'a>(
-    document: &'a ExecutableDocument,
-    prices: &[Option<u64>],
-) -> Option<&'a Name> {
-    for (_, operation) in document.operations.iter() {
-        let found = first_in(&operation.node.selection_set.node, document, prices);
-        if found.is_some() {
-            return found;
+        if let Some(was_seen) = seen.get_mut(place)
+            && !mem::replace(was_seen, true)
+            && let Some(next) = first_in(&fragment.node.selection_set.node, document, prices)
+        {
+            name = next;
+        } else {
+            break;
         }
     }
-    None
+    Fault::SpreadsItself(name)
 }
 
 // The first name that a set spreads and that has no price.

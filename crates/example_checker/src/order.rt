@@ -5,13 +5,13 @@
 use graphql_parser::types::{ExecutableDocument, Selection, SelectionSet};
 use std::alloc::{AllocError, Global};
 
-// How far a fragment is from standing in the order.
+// Which fragments spread which, by their places.
 #[derive(Drop)]
-struct Waiting {
-    // how many of its spreads name a fragment that doesn't stand there yet, or none at all
-    spreads: usize,
-    // the places of the fragments that spread it, once for each spread
-    spread_by: Vec<usize>,
+struct Spreads {
+    // for each fragment, those that spread it, once for each spread
+    users: Vec<Vec<usize>>,
+    // for each fragment, how many of its spreads name one that isn't in the order, or none at all
+    waiting: Vec<usize>,
 }
 
 /// The places of the fragments, each after those of the fragments that it spreads. Those are left out that lead to a
@@ -20,116 +20,77 @@ pub(crate) fn order_of(
     alloc: Global,
     document: &ExecutableDocument,
 ) -> Result<Vec<usize>, AllocError> {
-    let mut fragments = waiting_fragments(alloc, document)?;
+    let mut spreads = Spreads {
+        users: Vec::new(alloc),
+        waiting: Vec::new(alloc),
+    };
+    note_fragments(&mut spreads, document)?;
     let mut order = Vec::new(alloc);
-    put_in_order(&mut order, &mut fragments)?;
+    put_in_order(&mut order, &mut spreads)?;
     Ok(order)
 }
 
-fn put_in_order(order: &mut Vec<usize>, fragments: &mut [Waiting]) -> Result<(), AllocError> {
-    for (place, fragment) in fragments.iter().enumerate() {
-        if fragment.spreads == 0 {
-            order.push(place)?;
-        }
-    }
-    for next in 0..fragments.len() {
-        let Some(place) = order.get(next).copied() else {
-            break;
-        };
-        put_users(order, fragments, place)?;
-    }
-    Ok(())
-}
-
-// Puts those in order that waited for the fragment at this place alone.
-fn put_users(
-    order: &mut Vec<usize>,
-    fragments: &mut [Waiting],
-    place: usize,
-) -> Result<(), AllocError> {
-    for spread in 0..users_of(fragments, place).len() {
-        if let Some(user) = users_of(fragments, place).get(spread).copied()
-            && has_no_other_spread(fragments, user)
-        {
-            order.push(user)?;
-        }
-    }
-    Ok(())
-}
-
-// The places of the fragments that spread the one at this place.
-fn users_of(fragments: &[Waiting], place: usize) -> &[usize] {
-    match fragments.get(place) {
-        Some(fragment) => fragment.spread_by.as_slice(),
-        None => &[],
-    }
-}
-
-// One spread of the fragment at this place waits no more. Gives whether that was the last.
-fn has_no_other_spread(fragments: &mut [Waiting], place: usize) -> bool {
-    let Some(fragment) = fragments.get_mut(place) else {
-        return false;
-    };
-    fragment.spreads = fragment.spreads.saturating_sub(1);
-    fragment.spreads == 0
-}
-
-// The fragments, none of which stands in the order.
-fn waiting_fragments(
-    alloc: Global,
-    document: &ExecutableDocument,
-) -> Result<Vec<Waiting>, AllocError> {
-    let mut fragments = Vec::new(alloc);
+fn note_fragments(spreads: &mut Spreads, document: &ExecutableDocument) -> Result<(), AllocError> {
     for _ in 0..document.fragments.len() {
-        fragments.push(Waiting {
-            spreads: 0,
-            spread_by: Vec::new(alloc),
-        })?;
+        spreads.users.push(Vec::new(*spreads.users.allocator()))?;
+        spreads.waiting.push(0)?;
     }
-    note_fragments(document, &mut fragments)?;
-    Ok(fragments)
-}
-
-// Notes what is spread in each fragment.
-fn note_fragments(
-    document: &ExecutableDocument,
-    fragments: &mut [Waiting],
-) -> Result<(), AllocError> {
     for (place, (_, fragment)) in document.fragments.iter().enumerate() {
-        note_set(
-            &fragment.node.selection_set.node,
-            document,
-            place,
-            fragments,
-        )?;
+        note_set(spreads, &fragment.node.selection_set.node, document, place)?;
     }
     Ok(())
 }
 
 // Notes what is spread in a set of the fragment at this place.
 fn note_set(
+    spreads: &mut Spreads,
     set: &SelectionSet,
     document: &ExecutableDocument,
     place: usize,
-    fragments: &mut [Waiting],
 ) -> Result<(), AllocError> {
     for item in &set.items {
         match &item.node {
             Selection::Field(field) => {
-                note_set(&field.node.selection_set.node, document, place, fragments)?;
+                note_set(spreads, &field.node.selection_set.node, document, place)?;
             }
             Selection::InlineFragment(inline) => {
-                note_set(&inline.node.selection_set.node, document, place, fragments)?;
+                note_set(spreads, &inline.node.selection_set.node, document, place)?;
             }
             Selection::FragmentSpread(spread) => {
-                if let Some(fragment) = fragments.get_mut(place) {
-                    fragment.spreads = fragment.spreads.saturating_add(1);
+                if let Some(waiting) = spreads.waiting.get_mut(place) {
+                    *waiting = waiting.saturating_add(1);
                 }
                 let name = &spread.node.fragment_name.node;
                 if let Some(spread_place) = document.fragments.get_index_of(name)
-                    && let Some(fragment) = fragments.get_mut(spread_place)
+                    && let Some(users) = spreads.users.get_mut(spread_place)
                 {
-                    fragment.spread_by.push(place)?;
+                    users.push(place)?;
+                }
+            }
+        }
+    }
+    Ok(())
+}
+
+// Adds each fragment as soon as it waits for no other.
+fn put_in_order(order: &mut Vec<usize>, spreads: &mut Spreads) -> Result<(), AllocError> {
+    for (place, waiting) in spreads.waiting.iter().enumerate() {
+        if *waiting == 0 {
+            order.push(place)?;
+        }
+    }
+    for next in 0..spreads.users.len() {
+        let Some(place) = order.get(next).copied() else {
+            break;
+        };
+        let Some(users) = spreads.users.get(place) else {
+            break;
+        };
+        for user in users {
+            if let Some(waiting) = spreads.waiting.get_mut(*user) {
+                *waiting = waiting.saturating_sub(1);
+                if *waiting == 0 {
+                    order.push(*user)?;
                 }
             }
         }

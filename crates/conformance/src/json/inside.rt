@@ -1,6 +1,6 @@
 //! Parts of requests: what stands around them in the text, and in the JSON of its definitions without places.
 /// What stands before and after a part, in the text and in the JSON.
-#[derive(Clone, Copy)]
+#[derive(Drop)]
 pub struct Inside {
     pub before: &'static str,
     pub after: &'static str,

@@ -1,56 +1,22 @@
 //! Long texts, whose JSON another reader of JSON takes.
-use super::text_of;
+use super::{json_of, text_of};
+use crate::parser::Parser;
 use crate::rows::{Shown, pair};
-use graphql_json::{Places, request_json, schema_json};
-use graphql_parser::{check_query, check_schema, parse_query, parse_schema};
+use graphql_json::Places;
 use serde_json::Value;
-use std::alloc::AllocError;
 
-/// The texts that stand at the paths before a request, in the JSON of it: the same with places as without.
-pub fn of_request(shown: &mut Shown, row: &str) {
+/// Writes the texts at the paths that stand before a text, in the JSON of its tree; and those in the JSON with places, if they are
+/// others.
+pub fn write_at_paths(shown: &mut Shown, language: Parser, row: &str) {
     let (paths, text) = pair(row, " in ");
     let alloc = shown.alloc();
-    if check_query(alloc, text).is_err() {
+    if language.checked(alloc, text).is_err() {
         shown.word("refused by the check; ");
     }
-    match parse_query(alloc, text) {
-        Ok(request) => {
-            let plain = request_json(alloc, &request, Places::LeftOut);
-            let placed = request_json(alloc, &request, Places::Written);
-            write_both(shown, paths, plain, placed);
-        }
-        Err(_) => shown.word("refused"),
-    }
-}
-
-/// The same of a schema file.
-pub fn of_file(shown: &mut Shown, row: &str) {
-    let (paths, text) = pair(row, " in ");
-    let alloc = shown.alloc();
-    if check_schema(alloc, text).is_err() {
-        shown.word("refused by the check; ");
-    }
-    match parse_schema(alloc, text) {
-        Ok(file) => {
-            let plain = schema_json(alloc, &file, Places::LeftOut);
-            let placed = schema_json(alloc, &file, Places::Written);
-            write_both(shown, paths, plain, placed);
-        }
-        Err(_) => shown.word("refused"),
-    }
-}
-
-// Writes the texts at the paths in this JSON, and those in the other where they are not the same.
-fn write_both(
-    shown: &mut Shown,
-    paths: &str,
-    plain: Result<Vec<u8>, AllocError>,
-    placed: Result<Vec<u8>, AllocError>,
-) {
-    let mut in_plain = Shown::new(shown.alloc(), true);
-    let mut in_placed = Shown::new(shown.alloc(), true);
-    write_found(&mut in_plain, paths, plain);
-    write_found(&mut in_placed, paths, placed);
+    let mut in_plain = Shown::new(alloc, true);
+    let mut in_placed = Shown::new(alloc, true);
+    write_found(&mut in_plain, language, paths, text, Places::LeftOut);
+    write_found(&mut in_placed, language, paths, text, Places::Written);
     shown.word(in_plain.whole().unwrap_or("out of memory"));
     if in_placed.whole() != in_plain.whole() {
         shown.word(", with places ");
@@ -58,11 +24,11 @@ fn write_both(
     }
 }
 
-// Writes the texts at the paths in this JSON.
-fn write_found(shown: &mut Shown, paths: &str, json: Result<Vec<u8>, AllocError>) {
-    match json {
+// Writes the texts at the paths in the JSON of a text's tree.
+fn write_found(shown: &mut Shown, language: Parser, paths: &str, text: &str, places: Places) {
+    match json_of(shown.alloc(), language, text, places) {
         Ok(json) => write_read(shown, paths, text_of(&json)),
-        Err(_) => shown.leave_out(),
+        Err(_) => shown.word("refused"),
     }
 }
 

@@ -83,6 +83,14 @@ impl Parser {
         }
     }
 
+    /// What its check answers to a text.
+    pub fn checked(self, alloc: Global, text: &str) -> Answer<()> {
+        match self {
+            Parser::Query => check_query(alloc, text),
+            Parser::Schema => check_schema(alloc, text),
+        }
+    }
+
     /// What its check answers to a text, and the token at which the text is refused, if it is refused at one.
     pub fn checked_to<'a>(self, alloc: Global, text: &'a str) -> (Answer<()>, Option<Token<'a>>) {
         let memory = &mut Memory::new(alloc);

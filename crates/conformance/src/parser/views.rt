@@ -108,11 +108,11 @@ fn write_field(shown: &mut Shown, view: &str, asked: &str, field: &Field) {
         ("response key", _, _) => write_response_key(shown, field),
         ("directive into const", _, Some(directive)) => write_directive(shown, &directive.node),
         ("equality", [one, other], _) => write_equality(shown, &one.1.node, &other.1.node),
-        ("into const", [argument, ..], _) => write_there_and_back(shown, &argument.1.node),
-        ("text", [argument, ..], _) => write_text(shown, &argument.1.node),
-        ("viewed", [argument, ..], _) => write_viewed(shown, &argument.1.node),
         ("field viewed", [argument, ..], _) => {
             write_field_viewed(shown, asked, argument.1.node.as_view());
+        }
+        ("into const" | "text" | "viewed", [argument, ..], _) => {
+            write_with_constant(shown, view, &argument.1.node);
         }
         _ => {}
     }
@@ -190,29 +190,21 @@ fn write_operations(shown: &mut Shown, mut left: OperationsIter<'_>) {
     }
 }
 
-// What is left, by a copy, and whether its number is told.
+// What is left, by a copy, and that its number is another, if it is.
 fn write_left(shown: &mut Shown, left: &OperationsIter<'_>) {
-    match left.clone() {
-        Ok(copy) => {
-            let count = write_each(shown, copy);
-            if left.len() != count || left.size_hint() != (count, Some(count)) {
-                shown.word(" (not counted)");
-            }
-        }
-        Err(_) => shown.leave_out(),
-    }
-}
-
-// Writes the operations that are left, and gives how many there are.
-fn write_each(shown: &mut Shown, operations: OperationsIter<'_>) -> usize {
+    let Ok(copy) = left.clone() else {
+        return shown.leave_out();
+    };
     let mut count = 0usize;
-    for (name, operation) in operations {
+    for (name, operation) in copy {
         shown.word(" ");
         shown.word(name.map(Name::as_str).unwrap_or("unnamed"));
         shown.place("@", &operation.pos);
         count = count.wrapping_add(1);
     }
-    count
+    if left.len() != count || left.size_hint() != (count, Some(count)) {
+        shown.word(" (not counted)");
+    }
 }
 
 fn write_named_twice(shown: &mut Shown, asked: &str, document: &ExecutableDocument) {
@@ -240,9 +232,29 @@ pub fn constant_of(alloc: Global, value: &Value) -> Result<Option<ConstValue>, A
     value.clone()?.into_const(alloc)
 }
 
-fn write_there_and_back(shown: &mut Shown, value: &Value) {
+// What is seen of a value, and of it as one without variables.
+fn write_with_constant(shown: &mut Shown, view: &str, value: &Value) {
+    match view {
+        "text" => shown.item("", value),
+        "viewed" => write_view(shown, value.as_view()),
+        _ => {}
+    }
+    shown.word(if view == "into const" { "" } else { " and" });
     match constant_of(shown.alloc(), value) {
-        Ok(Some(constant)) => {
+        Ok(Some(constant)) => write_constant(shown, view, constant),
+        Ok(None) => shown.word(" none"),
+        Err(_) => shown.leave_out(),
+    }
+    if view == "text" && !is_read_back(shown.alloc(), value) {
+        shown.word(", read as another value");
+    }
+}
+
+fn write_constant(shown: &mut Shown, view: &str, constant: ConstValue) {
+    match view {
+        "text" => shown.item(" ", &constant),
+        "viewed" => write_view(shown, constant.as_view()),
+        _ => {
             constant.write(shown);
             shown.word(" and ");
             match constant.into_value(shown.alloc()) {
@@ -250,8 +262,6 @@ fn write_there_and_back(shown: &mut Shown, value: &Value) {
                 Err(_) => shown.leave_out(),
             }
         }
-        Ok(None) => shown.word("none"),
-        Err(_) => shown.leave_out(),
     }
 }
 
@@ -305,18 +315,6 @@ fn write_sets(shown: &mut Shown, operation: &OperationDefinition) {
     }
 }
 
-fn write_text(shown: &mut Shown, value: &Value) {
-    shown.item("", value);
-    match constant_of(shown.alloc(), value) {
-        Ok(Some(constant)) => shown.item(" and ", &constant),
-        Ok(None) => shown.word(" and none"),
-        Err(_) => shown.leave_out(),
-    }
-    if !is_read_back(shown.alloc(), value) {
-        shown.word(", read as another value");
-    }
-}
-
 // Whether the text of a value is read as it again where it stands for an argument.
 fn is_read_back(alloc: Global, value: &Value) -> bool {
     let mut request = Shown::new(alloc, true);
@@ -344,16 +342,6 @@ fn has_argument(document: &ExecutableDocument, value: &Value) -> bool {
             None => false,
         },
         _ => false,
-    }
-}
-
-fn write_viewed(shown: &mut Shown, value: &Value) {
-    write_view(shown, value.as_view());
-    shown.word(" and");
-    match constant_of(shown.alloc(), value) {
-        Ok(Some(constant)) => write_view(shown, constant.as_view()),
-        Ok(None) => shown.word(" none"),
-        Err(_) => shown.leave_out(),
     }
 }
 

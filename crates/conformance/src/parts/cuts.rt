@@ -62,11 +62,18 @@ fn are_of(text: &str, spans: &[Span]) -> bool {
 }
 
 fn is_in_order(structure: &Structure, text: &str) -> bool {
-    let mut holds = has_symbols_in_order(structure, text);
+    let mut holds = true;
+    let mut last = 0;
+    for symbol in structure.symbols() {
+        let detail = symbol.detail.unwrap_or(symbol.name);
+        holds = holds && is_of(text, last, symbol.whole);
+        holds = holds && is_of(text, 0, symbol.name) && is_of(text, 0, detail);
+        last = symbol.whole.start;
+    }
     for fold in structure.folds() {
         holds = holds && is_of(text, 0, fold.span);
     }
-    let mut last = 0;
+    last = 0;
     for name in structure.names() {
         let has_definition = name.definition < structure.definitions().len();
         holds = holds && has_definition && is_of(text, last, name.span);
@@ -78,19 +85,4 @@ fn is_in_order(structure: &Structure, text: &str) -> bool {
         last = definition.end;
     }
     holds
-}
-
-fn has_symbols_in_order(structure: &Structure, text: &str) -> bool {
-    let mut last = 0;
-    for symbol in structure.symbols() {
-        let detail = symbol.detail.unwrap_or(symbol.name);
-        if !is_of(text, last, symbol.whole)
-            || !is_of(text, 0, symbol.name)
-            || !is_of(text, 0, detail)
-        {
-            return false;
-        }
-        last = symbol.whole.start;
-    }
-    true
 }

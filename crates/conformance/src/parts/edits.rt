@@ -15,16 +15,14 @@ use text_edits::{
 /// - `replaced`: the offsets where the part begins and where it ends, and what is put there
 pub fn write_answer(shown: &mut Shown, what: &str, row: &str) {
     let (asked, text) = pair(row, " in ");
-    match what.split_once(' ') {
-        Some((what, "utf-8")) => write_edit(shown, what, asked, Encoding::Utf8, text),
-        Some((what, "utf-16")) => write_edit(shown, what, asked, Encoding::Utf16, text),
-        Some((what, "utf-32")) => write_edit(shown, what, asked, Encoding::Utf32, text),
-        Some(_) => shown.word("no such encoding"),
-        None => write_replaced(shown, asked, text),
-    }
-}
-
-fn write_edit(shown: &mut Shown, what: &str, asked: &str, encoding: Encoding, text: &str) {
+    let (what, encoding) = pair(what, " ");
+    let encoding = match encoding {
+        "utf-8" => Encoding::Utf8,
+        "utf-16" => Encoding::Utf16,
+        "utf-32" => Encoding::Utf32,
+        "replaced" => return write_replaced(shown, asked, text),
+        _ => return shown.word("no such encoding"),
+    };
     match what {
         "offset" | "position" => write_place(shown, asked, encoding, text),
         "applied" => write_applied(shown, asked, encoding, text),
@@ -53,37 +51,33 @@ pub fn document_of(alloc: Global, text: &str) -> Result<Document, AllocError> {
 
 // Writes the offset of a position, which has a colon, or the position of an offset.
 fn write_place(shown: &mut Shown, asked: &str, encoding: Encoding, text: &str) {
-    match LineIndex::new(shown.alloc(), text) {
-        Ok(index) => match document_of(shown.alloc(), text) {
-            Ok(document) => {
-                if asked.contains(':') {
-                    let position = position_in(asked);
-                    let found = offset_of(text, encoding, position);
-                    let by_index = index.offset_of(text, encoding, position);
-                    shown.item("", &found);
-                    write_others(
-                        shown,
-                        found,
-                        by_index,
-                        document.offset_of(encoding, position),
-                    );
-                } else {
-                    let offset = number_in(asked);
-                    let found = position_of(text, encoding, offset);
-                    let by_index = index.position_of(text, encoding, offset);
-                    shown.item("", &found.line);
-                    shown.item(":", &found.character);
-                    write_others(
-                        shown,
-                        found,
-                        by_index,
-                        document.position_of(encoding, offset),
-                    );
-                }
-            }
-            Err(_) => shown.leave_out(),
-        },
-        Err(_) => shown.leave_out(),
+    let alloc = shown.alloc();
+    let (Ok(index), Ok(document)) = (LineIndex::new(alloc, text), document_of(alloc, text)) else {
+        return shown.leave_out();
+    };
+    if asked.contains(':') {
+        let position = position_in(asked);
+        let found = offset_of(text, encoding, position);
+        let by_index = index.offset_of(text, encoding, position);
+        shown.item("", &found);
+        write_others(
+            shown,
+            found,
+            by_index,
+            document.offset_of(encoding, position),
+        );
+    } else {
+        let offset = number_in(asked);
+        let found = position_of(text, encoding, offset);
+        let by_index = index.position_of(text, encoding, offset);
+        shown.item("", &found.line);
+        shown.item(":", &found.character);
+        write_others(
+            shown,
+            found,
+            by_index,
+            document.position_of(encoding, offset),
+        );
     }
 }
 
@@ -108,32 +102,21 @@ fn write_applied(shown: &mut Shown, asked: &str, encoding: Encoding, text: &str)
         start: position_in(start),
         end: position_in(end),
     };
-    match changed(shown.alloc(), text, encoding, range, new) {
-        Ok(document) => match apply(shown.alloc(), text, encoding, range, new) {
-            Ok(found) => {
-                shown.item("'", &found);
-                if found.as_str() != document.text() {
-                    shown.item("', of a document '", &document.text());
-                }
-                shown.word("'");
-            }
-            Err(_) => shown.leave_out(),
-        },
-        Err(_) => shown.leave_out(),
+    let alloc = shown.alloc();
+    let (Ok(mut document), Ok(found)) = (
+        document_of(alloc, text),
+        apply(alloc, text, encoding, range, new),
+    ) else {
+        return shown.leave_out();
+    };
+    if document.apply(alloc, encoding, range, new).is_err() {
+        shown.leave_out();
     }
-}
-
-// A document of a text, with something else in a range.
-fn changed(
-    alloc: Global,
-    text: &str,
-    encoding: Encoding,
-    range: Range,
-    new: &str,
-) -> Result<Document, AllocError> {
-    let mut document = document_of(alloc, text)?;
-    document.apply(alloc, encoding, range, new)?;
-    Ok(document)
+    shown.item("'", &found);
+    if found.as_str() != document.text() {
+        shown.item("', of a document '", &document.text());
+    }
+    shown.word("'");
 }
 
 fn write_replaced(shown: &mut Shown, asked: &str, text: &str) {

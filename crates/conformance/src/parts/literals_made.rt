@@ -39,13 +39,12 @@ fn equals_its_clone(value: &ConstValue) -> Result<bool, AllocError>
 
 // The value of this name, at a type.
 fn value_of<V: Literal>(alloc: Global, what: &str) -> Result<V, AllocError> {
-    let name = Name::new(alloc, "a")?;
     match what {
-        "example" => example(alloc, name, true),
+        "example" => example(alloc, Name::new(alloc, "a")?, true),
         "yes" => Ok(V::boolean(true)),
         "no" => Ok(V::boolean(false)),
         "string" => Ok(V::string(String::from_str(alloc, "a")?)),
-        _ => Ok(variable_or_enum(name, Name::new(alloc, "b")?)),
+        _ => Ok(variable_or_enum(Name::new(alloc, "a")?, Name::new(alloc, "b")?)),
     }
 }
 

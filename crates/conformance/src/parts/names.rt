@@ -1,5 +1,5 @@
 //! Names: their texts, copies, hashes and order.
-use crate::compared::{hash_of, write_copy};
+use crate::compared::hash_of;
 use crate::rows::{Shown, pair};
 use graphql_tokens::name::Name;
 use std::cmp::Ordering;
@@ -11,7 +11,6 @@ pub fn write_name(shown: &mut Shown, text: &str) {
         Ok(name) => {
             write_texts(shown, &name);
             write_copy(shown, &name);
-            write_hash(shown, &name);
         }
         Err(_) => shown.leave_out(),
     }
@@ -29,14 +28,12 @@ fn write_texts(shown: &mut Shown, name: &Name) {
     }
 }
 
-// Writes that a copy of a name has another hash, if it has.
-fn write_hash(shown: &mut Shown, name: &Name) {
+// Writes that a copy of a name is another, or has another hash, if it has.
+fn write_copy(shown: &mut Shown, name: &Name) {
     match name.clone() {
-        Ok(copy) => shown.word(if hash_of(&copy) == hash_of(name) {
-            ""
-        } else {
-            " with another hash"
-        }),
+        Ok(copy) if copy != *name => shown.word(" with another copy"),
+        Ok(copy) if hash_of(&copy) != hash_of(name) => shown.word(" with another hash"),
+        Ok(_) => {}
         Err(_) => shown.leave_out(),
     }
 }

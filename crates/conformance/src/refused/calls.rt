@@ -68,36 +68,16 @@ fn of_tokens(shown: &mut Shown, call: &str, is_query: bool, text: &str) -> bool 
     for _ in 0..passed.parse::<usize>().unwrap_or(0) {
         tokens.next();
     }
-    match call {
-        "parse from" => parse_rest(shown, is_query, tokens, text),
-        "check from" => check_rest(shown, is_query, tokens, text),
-        _ => show(shown, &"no such call"),
-    }
-}
-
-// The answer of a parse over the tokens that are left of a text.
-fn parse_rest(shown: &mut Shown, is_query: bool, mut tokens: Tokens<'_>, text: &str) -> bool {
     if tokens.is_ended() {
         return show(shown, &"no tokens left");
     }
-    let is_answered = if is_query {
-        show_tree(shown, parse_query_from(shown.alloc(), &mut tokens))
-    } else {
-        show_tree(shown, parse_schema_from(shown.alloc(), &mut tokens))
-    };
-    show_taken(shown, is_answered, tokens, text);
-    is_answered
-}
-
-// The same of a check.
-fn check_rest(shown: &mut Shown, is_query: bool, mut tokens: Tokens<'_>, text: &str) -> bool {
-    if tokens.is_ended() {
-        return show(shown, &"no tokens left");
-    }
-    let is_answered = if is_query {
-        show_checked(shown, check_query_from(shown.alloc(), &mut tokens))
-    } else {
-        show_checked(shown, check_schema_from(shown.alloc(), &mut tokens))
+    let alloc = shown.alloc();
+    let is_answered = match (call, is_query) {
+        ("parse from", true) => show_tree(shown, parse_query_from(alloc, &mut tokens)),
+        ("parse from", false) => show_tree(shown, parse_schema_from(alloc, &mut tokens)),
+        ("check from", true) => show_checked(shown, check_query_from(alloc, &mut tokens)),
+        ("check from", false) => show_checked(shown, check_schema_from(alloc, &mut tokens)),
+        _ => return show(shown, &"no such call"),
     };
     show_taken(shown, is_answered, tokens, text);
     is_answered
@@ -134,7 +114,10 @@ fn of_text(shown: &mut Shown, call: &str, text: &str) -> bool {
         "string value" => show_found(shown, string_value(alloc, text)),
         "block string value" => show_made(shown, block_string_value(alloc, text)),
         "name" => show_made(shown, Name::new(alloc, text)),
-        "name cloned" => of_name(shown, text),
+        "name cloned" => match Name::new(alloc, text) {
+            Ok(name) => show_made(shown, name.clone()),
+            Err(_) => false,
+        },
         "places" => free::show_places(shown, text),
         "tokens" => free::show_tokens(shown, text),
         "number" | "number cloned" => of_number(shown, call, text),
@@ -143,32 +126,18 @@ fn of_text(shown: &mut Shown, call: &str, text: &str) -> bool {
     }
 }
 
-// A copy of a name.
-fn of_name(shown: &mut Shown, text: &str) -> bool {
-    match Name::new(shown.alloc(), text) {
-        Ok(name) => show_made(shown, name.clone()),
-        Err(_) => false,
-    }
-}
-
 fn of_number(shown: &mut Shown, call: &str, text: &str) -> bool {
     match Number::new(shown.alloc(), text) {
+        Ok(Some(number)) if call == "number cloned" => show_made(shown, number.clone()),
         Ok(Some(number)) => {
-            if call == "number cloned" {
-                return show_made(shown, number.clone());
-            }
-            show_number(shown, &number)
+            shown.item("", &number);
+            show_option(shown, " ", number.as_i64());
+            show_option(shown, " ", number.as_u64());
+            true
         }
         Ok(None) => show(shown, &"none"),
         Err(_) => false,
     }
-}
-
-fn show_number(shown: &mut Shown, number: &Number) -> bool {
-    shown.item("", number);
-    show_option(shown, " ", number.as_i64());
-    show_option(shown, " ", number.as_u64());
-    true
 }
 
 fn of_type(shown: &mut Shown, call: &str, text: &str) -> bool {

@@ -5,8 +5,7 @@ use super::row::Row;
 use super::trying::try_call;
 use crate::parser::{constant_directive, constant_of};
 use crate::rows::Shown;
-use graphql_parser::types::{Directive, ExecutableDocument, Field, Selection};
-use graphql_parser::value::Value;
+use graphql_parser::types::{ExecutableDocument, Field, Selection};
 use graphql_parser::{Error, parse_query, parse_schema};
 use std::alloc::AllocError;
 
@@ -24,18 +23,16 @@ pub fn try_row(row: &Row<'_>, shown: &mut Shown) -> bool {
             try_call(row, Text, shown);
             true
         }
-        "schema tree" => try_schema(row, shown),
+        "schema tree" => match parse_schema(shown.alloc(), row.text) {
+            Ok(document) => {
+                try_call(row, document, shown);
+                true
+            }
+            Err(_) => false,
+        },
         "listing" => try_listing(row, shown),
         _ => try_query(row, shown),
     }
-}
-
-fn try_schema(row: &Row<'_>, shown: &mut Shown) -> bool {
-    let Some(document) = parse_schema(shown.alloc(), row.text).ok() else {
-        return false;
-    };
-    try_call(row, document, shown);
-    true
 }
 
 // A call that is given a request, a part of one, or the error of a text that is none.
@@ -61,30 +58,25 @@ fn try_field(row: &Row<'_>, document: &ExecutableDocument, shown: &mut Shown) ->
     let Some(field) = first_field(document) else {
         return false;
     };
-    if let Some(argument) = field.arguments.first() {
-        try_argument(row, &argument.1.node, shown)
-    } else if let Some(directive) = field.directives.first() {
-        try_directive(row, &directive.node, shown)
-    } else {
-        false
-    }
-}
-
-fn try_argument(row: &Row<'_>, value: &Value, shown: &mut Shown) -> bool {
-    if row.kind == "value" {
-        return try_copies(row, value, shown);
-    }
-    match constant_of(shown.alloc(), value) {
-        Ok(Some(constant)) => try_copies(row, &constant, shown),
+    let alloc = shown.alloc();
+    match (field.arguments.first(), field.directives.first()) {
+        (Some(argument), _) if row.kind == "value" => try_copies(row, &argument.1.node, shown),
+        (Some(argument), _) => try_constant(row, constant_of(alloc, &argument.1.node), shown),
+        (_, Some(it)) if row.kind == "directive" => try_copies(row, &it.node, shown),
+        (_, Some(it)) => try_constant(row, constant_directive(alloc, &it.node), shown),
         _ => false,
     }
 }
 
-fn try_directive(row: &Row<'_>, directive: &Directive, shown: &mut Shown) -> bool {
-    if row.kind == "directive" {
-        return try_copies(row, directive, shown);
-    }
-    match constant_directive(shown.alloc(), directive) {
+fn try_constant<T: Clone + Drop>(
+    row: &Row<'_>,
+    made: Result<Option<T>, AllocError>,
+    shown: &mut Shown,
+) -> bool
+where
+    Vec<T>: Input,
+{
+    match made {
         Ok(Some(constant)) => try_copies(row, &constant, shown),
         _ => false,
     }
