@@ -1,4 +1,4 @@
-//! The longer example of docs/USING.md, as it stands there, and the one that its text names.
+//! The examples that docs/USING.md names.
 use graphql_parser::types::{Selection, TypeKind, TypeSystemDefinition};
 use graphql_parser::{Error, parse_query, parse_schema};
 use rows::Shown;
