@@ -65,7 +65,6 @@ NOT_RUN = [
         "print(graphql_parser.print_ast(document))",
         "try:",
         "print(graphql_parser.explain_query(",
-        "print(graphql_parser.minify_query(",
         "try:",
     ]),
     ("bindings/rust/README.md", "a test of the package: bindings/check.sh", [
