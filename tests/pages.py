@@ -1,15 +1,15 @@
 #!/usr/bin/env python3
-"""Runs the commands that the pages show, and compares what they print with what the pages say: tests/pages.py [GQL GQLPARSE]
+"""Runs the commands that pages show, and compares what they print with the pages: tests/pages.py [GQL GQLPARSE]
 
-GQL and GQLPARSE are the built programs, without them crates/gql/out/gql and crates/gqlparse/out/gqlparse. On a page `./gql` and
-`./gqlparse` stand for them. The commands of a page run in turn in a folder of their own:
+GQL and GQLPARSE are the built programs, without them crates/gql/out/gql and crates/gqlparse/out/gqlparse. They are
+`./gql` and `./gqlparse` on a page. The commands of a page run in turn in a folder of their own:
 
 - of a block that begins with `$ `: each such line; the lines after it are what it prints
 - of a block of sh: each line with a comment `# prints: TEXT`
-- of MESSAGES: each text in a file, by `gql check --executable --query`; the lines after it are the messages, up to `core:`
+- of MESSAGES: `gql check --executable --query` with each text in a file; its messages follow it, up to `core:`
 
-Each other block of a page, and each other line of a block of sh that has a command to run, is in NOT_RUN with the reason. A link
-between pages has to lead to a file and to a heading in it. Prints what is wrong; the status is 1 if anything is."""
+NOT_RUN names each other block of a page, and each other line of a block of sh that has a command to run. A link between
+pages has to lead to a file and to a heading in it. Prints what is wrong; the status is 1 if anything is."""
 import re, subprocess, sys, tempfile
 from pathlib import Path
 
@@ -18,10 +18,10 @@ FOLDERS = (".", "docs", "bindings", "bindings/*")
 PAGES = [str(path.relative_to(ROOT)) for folder in FOLDERS for path in sorted(ROOT.glob(f"{folder}/*.md"))]
 PROGRAMS = ("gql", "gqlparse")
 
-# What doesn't run here: the page, the reason, and how the first line of each block begins, or the line in a block of sh.
+# What doesn't run here: the page, the reason, and how the first line of each block begins, or a line of sh.
 BY_TEST_PAGES = "bindings/test_pages.py runs it"
 NOT_RUN = [
-    ("README.md", "proves everything", ["./test "]),
+    ("README.md", "proves everything", ["./test"]),
     ("README.md", "a call that is longer on the pages for its language", [
         "let document = graphql_parser::parse_query(alloc, text)?;",
         'let document = graphql_parser::parse_query("{ hero { name } }")?;',
@@ -113,7 +113,8 @@ def messages():
 
 def printed(command, folder):
     """What a command prints, on standard output and standard error together."""
-    ran = subprocess.run(["sh", "-c", command], cwd=folder, stdin=subprocess.DEVNULL, stdout=subprocess.PIPE, stderr=subprocess.STDOUT)
+    output = {"stdout": subprocess.PIPE, "stderr": subprocess.STDOUT}
+    ran = subprocess.run(["sh", "-c", command], cwd=folder, stdin=subprocess.DEVNULL, **output)
     return ran.stdout.decode(errors="replace")
 
 
@@ -184,7 +185,10 @@ def main():
     if len(sys.argv) not in (1, 3):
         sys.exit(__doc__)
     programs = sys.argv[1:] or [ROOT / "crates" / name / "out" / name for name in PROGRAMS]
-    programs = [Path(program).resolve(strict=True) for program in programs]
+    programs = [Path(program).resolve() for program in programs]
+    for program in programs:
+        if not program.is_file():
+            sys.exit(f"tests/pages.py: {program} isn't built")
     status = 0
     for page in PAGES:
         for what in check_page(page, programs):
