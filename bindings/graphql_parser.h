@@ -1,12 +1,12 @@
 /* graphql_parser: a parser of GraphQL requests and schema files whose every function is proved.
  *
- * Five calls for each language, and two of them within a budget of memory. A check tells by a status, and by up to two
- * places, whether a text is a request or a schema file. A parse tells the same, and hands over the tree, or the error, as
- * JSON. An explanation tells the same, and hands over a report of the error for people. Two more hand over the text of a
- * good one minified or formatted. A sixth, at the end, is for the wrapper in Rust.
+ * Five calls for each language, two of them also within a budget of memory. A check returns a status and up to two places,
+ * which say whether a text is a request or a schema file. A parse also returns the tree, or the error, as JSON, an explanation
+ * a report of the error for people, and two more the accepted text minified or formatted. A sixth, at the end, is for the
+ * wrapper in Rust.
  *
- * After every parse, whatever it tells and whatever stood in its `json` before, `free(json.start)` is right, and so is
- * `free(report.start)` after every explanation, and likewise after every other call that hands over a block.
+ * After every parse, whatever its status and whatever was in its `json` before, `free(json.start)` is right, and so is
+ * `free(report.start)` after every explanation, and likewise after every other call that returns a block.
  *
  * Needs Linux on x86-64-v2 (Intel from Nehalem on, AMD from Bulldozer on). Of the C library it calls `malloc`, `realloc`,
  * `free`, `memcpy`, `memmove` and `memset`, and nothing else. README.md, beside this file, says how to link it.
@@ -34,30 +34,30 @@ extern "C" {
  * any later library of the same first number, the one in the shared object's name. */
 uint32_t graphql_parser_version(void);
 
-/* What a call tells. The numbers never change; a later version may add others. */
+/* What a call returns. The numbers never change; a later version may add others. */
 enum {
     /* The text is a document of the language, within the limits: it has one tree, which breaks no rule. */
     GRAPHQL_PARSER_ACCEPTED = 0,
-    /* `malloc` or `realloc` gave nothing, or a budget was used up. Nothing is known of the text. */
+    /* `malloc` or `realloc` failed, or a budget was used up. Nothing is known of the text. */
     GRAPHQL_PARSER_OUT_OF_MEMORY = 1,
     /* The bytes aren't UTF-8. They weren't read. */
     GRAPHQL_PARSER_NOT_UTF8 = 2,
     /* One of the limits is over GRAPHQL_PARSER_LARGEST_LIMIT. The text wasn't read. */
     GRAPHQL_PARSER_LIMIT_TOO_LARGE = 3,
-    /* The text has no tree. The token at the first place is refused: what stands before it could still become a
-     * document, and together with it that can't. */
+    /* The text has no tree. The token at the first place is rejected: what is before it could still become a document,
+     * but not with it. */
     GRAPHQL_PARSER_SYNTAX = 4,
-    /* The same, but the refused token could go on if the limits were greater. It names no place. */
+    /* The same, but the rejected token could go on if the limits were greater. It has no place. */
     GRAPHQL_PARSER_RECURSION_LIMIT_EXCEEDED = 5,
     /* A request has an operation without a name, at the first place, and another operation, at the second. */
     GRAPHQL_PARSER_MULTIPLE_OPERATIONS = 6,
-    /* Two operations have one name: the later stands at the first place, the earlier at the second. */
+    /* Two operations have one name: the later is at the first place, the earlier at the second. */
     GRAPHQL_PARSER_OPERATION_DUPLICATED = 7,
-    /* Two fragments have one name: the later stands at the first place, the earlier at the second. */
+    /* Two fragments have one name: the later is at the first place, the earlier at the second. */
     GRAPHQL_PARSER_FRAGMENT_DUPLICATED = 8,
-    /* A request has fragments alone. It names no place. */
+    /* A request has only fragments. It has no place. */
     GRAPHQL_PARSER_MISSING_OPERATION = 9,
-    /* A schema names a kind of operation twice: again at the first place. The schema stands at the second. */
+    /* A schema names a kind of operation twice: again at the first place. The schema is at the second. */
     GRAPHQL_PARSER_MULTIPLE_ROOTS = 10,
     /* The schema at the first place has no type for queries. */
     GRAPHQL_PARSER_MISSING_QUERY_ROOT = 11
@@ -83,7 +83,7 @@ graphql_parser_status_name(uint32_t status) {
     }
 }
 
-/* How deep selection sets, values and types may nest where the caller has no limits of its own: the three arguments
+/* How deep selection sets, values and types may nest if the caller has no limits of its own: the three arguments
  * `selections`, `values` and `types` of each call, as in
  *
  *     graphql_parser_check_query(text, length, GRAPHQL_PARSER_DEFAULT_LIMITS, &places)
@@ -104,68 +104,69 @@ typedef struct {
     size_t column;
 } graphql_parser_place;
 
-/* The places that a status is about, the most important first; 0:0 stands for each that there isn't. */
+/* The places of a status, the most important first; each that it doesn't have is 0:0. */
 typedef struct {
     graphql_parser_place first;
     graphql_parser_place second;
 } graphql_parser_places;
 
-/* A text that a call hands over, in UTF-8, or nothing: null, and the length 0. It does not end with a zero byte: `length` is
- * its length in bytes.
+/* A text that a call returns, in UTF-8, or nothing: null, and the length 0. It does not end with a zero byte: `length` is its
+ * length in bytes.
  *
- * A call writes it every time and doesn't look at what stood there, so it needs no first value. The block at `start` is
- * yours then: give it back, once and before the next call into the same place, by `free(json.start)`, of the same C
- * library (or of what took its place) whose `malloc` the program has. */
+ * A call writes it every time and doesn't read what was there, so it needs no first value. Then the block at `start` is
+ * yours: free it, once and before the next call into the same place, by `free(json.start)`, of the C library (or what took
+ * its place) whose `malloc` the program has. */
 typedef struct {
     uint8_t *start;
     size_t length;
 } graphql_parser_block;
 
-/* What a parse hands over: JSON. */
+/* What a parse returns: JSON. */
 typedef graphql_parser_block graphql_parser_json;
 
-/* What an explanation hands over: lines for people, each of which ends in a line feed. */
+/* What an explanation returns: lines for people, each of which ends in a line feed. */
 typedef graphql_parser_block graphql_parser_report;
 
 /* Nothing. */
 #define GRAPHQL_PARSER_NO_JSON { NULL, 0 }
 
-/* Gives back what a parse or an explanation handed over; null is allowed. It is the `free` that goes with the library's
- * `malloc`, for languages that can't name the program's own. */
+/* Frees the block that a call returned; null is allowed. It is the `free` that goes with the library's `malloc`, for languages
+ * that can't name the program's own. */
 void graphql_parser_free(void *block);
 
-/* Tells whether a text is a request, or a schema file.
+/* Checks whether a text is a request, or a schema file.
  *
- * text, length             the text, in UTF-8. Where `length` is 0, `text` may be null: that is the empty text. Nothing changes
+ * text, length             the text, in UTF-8. If `length` is 0, `text` may be null: that is the empty text. Nothing may change
  *                          the text during the call.
  * selections, values,      how deep each of these may nest, 0 to 256: the selection sets inside an operation's or a
  * types                    fragment's own set, the lists and objects of one value, the lists of one type. A schema file
- *                          has no selection sets, so there the first number is looked at and makes no difference.
- * places                   is written on every call, unless it is null. What stood there isn't read.
+ *                          has no selection sets: then the first number only has to be in this range.
+ * places                   is written on every call, unless it is null. What was there isn't read.
  *
- * The answer is one of the statuses above. Where two apply, the limits are told first, then UTF-8, then what the text
- * is. All memory that is taken is given back before the call returns. */
+ * Returns one of the statuses above. If several apply, that of the limits comes first, then that of UTF-8, then that of the
+ * text. All memory is freed before the call returns. */
 uint32_t graphql_parser_check_query(
     const uint8_t *text, size_t length, size_t selections, size_t values, size_t types, graphql_parser_places *places);
 uint32_t graphql_parser_check_schema(
     const uint8_t *text, size_t length, size_t selections, size_t values, size_t types, graphql_parser_places *places);
 
-/* The same, and hands over JSON.
+/* The same, and returns JSON.
  *
  * with_places              whether the nodes of the tree are written with their `line` and `column`. These have none: the
  *                          `Document`, the `Name` of an `OperationDefinition` or a `FragmentDefinition`, the `Name` in
- *                          a `Variable` that is a value, each `OperationTypeDefinition` of a schema, and all that stands
+ *                          a `Variable` that is a value, each `OperationTypeDefinition` of a schema, and all that is
  *                          inside a `ListValue`, an `ObjectValue` or a `ListType`.
- * json                     is written on every call; what stood there isn't read. After GRAPHQL_PARSER_ACCEPTED it is the
- *                          tree, in the form of GraphQL.js. After GRAPHQL_PARSER_OUT_OF_MEMORY, GRAPHQL_PARSER_NOT_UTF8
- *                          and GRAPHQL_PARSER_LIMIT_TOO_LARGE it is null, and its length 0. After any other status it is
- *                          the error, as an entry of `errors` in a response: its `message`, and its `locations` where it
- *                          has places.
+ * json                     is written on every call; what was there isn't read. After GRAPHQL_PARSER_ACCEPTED it is the
+ *                          tree, in the form of GraphQL.js. A field that an object repeats is one field, with the first
+ *                          place and the last value. After GRAPHQL_PARSER_OUT_OF_MEMORY, GRAPHQL_PARSER_NOT_UTF8 and
+ *                          GRAPHQL_PARSER_LIMIT_TOO_LARGE it is null, and its length 0. After any other status it is the
+ *                          error, as an entry of `errors` in a response: its `message`, and its `locations` if it has
+ *                          places.
  *
- * Operations stand in the order of the text, and so do fragments; the next operation stands before the next fragment
- * unless the fragment's place is smaller, by line and then by column, and the roots of a schema stand by their places.
+ * Operations are in the order of the text, and so are fragments; the next operation is before the next fragment unless the
+ * fragment's place is smaller, by line and then by column, and the roots of a schema are in the order of their places.
  * That is the order of the text, except after a lone carriage return: there the columns begin again at 1 on the same line,
- * so a definition, or a root, that stands later can have a smaller place.
+ * so a later definition, or root, can have a smaller place.
  *
  * `text`, `places` and `json` don't overlap. */
 uint32_t graphql_parser_parse_query(
@@ -179,12 +180,10 @@ uint32_t graphql_parser_parse_schema(
  *
  * memory                   how many bytes reading the text may take: those of each block that is asked for, of a block that
  *                          grows those that are added, and of each named operation or fragment those of its place in a map.
- *                          What is given back isn't counted off, and neither are the JSON and what writing it takes
- *                          counted.
+ *                          Freed bytes still count. The JSON and what writing it takes don't.
  *
- * A text that needs more is answered with GRAPHQL_PARSER_OUT_OF_MEMORY, as one for which `malloc` gave nothing. No text of
- * n bytes needs more than 1105 * n + 1161 bytes, and no check of a schema file, or of a request of one definition, more
- * than 57. */
+ * For a text that needs more the status is GRAPHQL_PARSER_OUT_OF_MEMORY, as if `malloc` failed. No text of n bytes needs more
+ * than 1105 * n + 1161 bytes, and no check of a schema file, or of a request of one definition, more than 57. */
 uint32_t graphql_parser_check_query_within(
     const uint8_t *text, size_t length, size_t selections, size_t values, size_t types, size_t memory,
     graphql_parser_places *places);
@@ -198,20 +197,20 @@ uint32_t graphql_parser_parse_schema_within(
     const uint8_t *text, size_t length, size_t selections, size_t values, size_t types, size_t memory, bool with_places,
     graphql_parser_places *places, graphql_parser_json *json);
 
-/* The same as a check, and hands over a report for people, such as
+/* The same as a check, and returns a report for people, such as
  *
  *     1:4: syntax error: found ")", expected a name
  *      1 | {a()}
  *        |    ^
  *
- * report                   is written on every call; what stood there isn't read. After GRAPHQL_PARSER_ACCEPTED,
+ * report                   is written on every call; what was there isn't read. After GRAPHQL_PARSER_ACCEPTED,
  *                          GRAPHQL_PARSER_OUT_OF_MEMORY, GRAPHQL_PARSER_NOT_UTF8 and GRAPHQL_PARSER_LIMIT_TOO_LARGE it is
- *                          null, and its length 0. After any other status it says what is wrong, after the place where that
- *                          has one, with the line of the place and a caret under it; a second place follows in the same
- *                          way. A refused token is told with what was expected in its place. At a bad escape in a string
- *                          the report begins with the place of the escape, and `places` has that of the string.
+ *                          null, and its length 0. After any other status it says what is wrong, after the place if there
+ *                          is one, with the line of the place and a caret under it; a second place follows in the same
+ *                          way. Of a rejected token it says what was found and what was expected. For an invalid escape in a
+ *                          string the report begins with the place of the escape, and `places` has that of the string.
  *
- * The words of a report may change with any version. Explaining a refused text takes at most as long as some five checks of
+ * The words of a report may change with any version. Explaining a rejected text takes at most as long as some five checks of
  * it. `text`, `places` and `report` don't overlap. */
 uint32_t graphql_parser_explain_query(
     const uint8_t *text, size_t length, size_t selections, size_t values, size_t types, graphql_parser_places *places,
@@ -220,13 +219,13 @@ uint32_t graphql_parser_explain_schema(
     const uint8_t *text, size_t length, size_t selections, size_t values, size_t types, graphql_parser_places *places,
     graphql_parser_report *report);
 
-/* The same as a check, and hands over the text without what isn't needed in it: comments, and all blanks, line ends, commas
- * and byte order marks but for one blank where two tokens would be read as others if they touched.
+/* The same as a check, and returns the text without what isn't needed in it: comments, and all blanks, line ends, commas and
+ * byte order marks but for one blank between two tokens that would be read as others if they touched.
  *
- * minified                 is written on every call; what stood there isn't read. After any status but
- *                          GRAPHQL_PARSER_ACCEPTED it is null, and its length 0. What is handed over is UTF-8 with the
- *                          tokens of the text, as they were spelled, but that block strings are written in few characters
- *                          with the same values; and no longer than the text.
+ * minified                 is written on every call; what was there isn't read. After any status but
+ *                          GRAPHQL_PARSER_ACCEPTED it is null, and its length 0. It is UTF-8 with the tokens of the text,
+ *                          as they were spelled, except that block strings are written in few characters with the same
+ *                          values; and no longer than the text.
  *
  * `text`, `places` and `minified` don't overlap. */
 uint32_t graphql_parser_minify_query(
@@ -236,10 +235,10 @@ uint32_t graphql_parser_minify_schema(
     const uint8_t *text, size_t length, size_t selections, size_t values, size_t types, graphql_parser_places *places,
     graphql_parser_block *minified);
 
-/* The same, and hands over the text laid out anew: two blanks for each level, a selection, a field and a value a line, a blank
- * line between definitions, with the comments of the text, and no line end after the last. Block strings are laid out too, with
- * the same values. The layout may change with any version; the other tokens and the comments don't. `formatted` is written as `minified` is; `text`, `places` and `formatted` don't
- * overlap. */
+/* The same as a check, and returns the text laid out anew: two blanks for each level, a selection, a field and a value a line, a
+ * blank line between definitions, with the comments of the text, and no line end after the last. Block strings are laid out
+ * too, with the same values. The layout may change with any version; the other tokens and the comments don't. `formatted` is
+ * written as `minified` is; `text`, `places` and `formatted` don't overlap. */
 uint32_t graphql_parser_format_query(
     const uint8_t *text, size_t length, size_t selections, size_t values, size_t types, graphql_parser_places *places,
     graphql_parser_block *formatted);
@@ -247,7 +246,7 @@ uint32_t graphql_parser_format_schema(
     const uint8_t *text, size_t length, size_t selections, size_t values, size_t types, graphql_parser_places *places,
     graphql_parser_block *formatted);
 
-/* For a wrapper that comes with this library: the same as a parse, and hands over the tree in bytes that mean something to that
+/* For a wrapper that comes with this library: the same as a parse, but it returns the tree in bytes that mean something to that
  * wrapper alone and may change with any version. `packed` is written on every call. It is null, and its length 0, after any
  * status but GRAPHQL_PARSER_ACCEPTED. `text`, `places` and `packed` don't overlap. */
 uint32_t graphql_parser_pack_query(

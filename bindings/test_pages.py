@@ -1,6 +1,6 @@
 """Runs what the pages for C and Python show, and compares what it prints with what the comments beside it say.
 
-In a block of Python a comment says what its line prints or gives, or, after `raises`, what it raises; text after a colon
+In a block of Python a comment says what its line prints or returns, or, after `raises`, what it raises; text after a colon
 explains, and `...` stands for the rest. A block of C is a program, or what stands in one after that program's `text` and
 `places`.
 """
@@ -46,7 +46,7 @@ def says(comment, found):
 
 
 def run_line(statement, source, names):
-    """What a statement prints, or gives, or raises, as lines."""
+    """What a statement prints, or returns, or raises, as lines."""
     code = ast.get_source_segment(source, statement)
     printed = io.StringIO()
     try:

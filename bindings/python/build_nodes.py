@@ -16,7 +16,7 @@ SOURCE = Path(__file__).resolve().parent / "graphql_parser" / "nodes.c"
 
 
 def compiled(folder):
-    """The module in the folder, which is made anew where the source is newer; None where it can't be made."""
+    """The module in the folder, which is made anew if the source is newer; None if it can't be made."""
     module = Path(folder).resolve() / f"_nodes_c{sysconfig.get_config_var('EXT_SUFFIX')}"
     if module.exists() and module.stat().st_mtime > SOURCE.stat().st_mtime:
         return module

@@ -1,5 +1,5 @@
 """Makes the package, for `pip install ./bindings/python`: the modules, their types, the shared object, and the module in C
-where it can be compiled.
+if it can be compiled.
 
 The shared object is taken from the folder that the environment variable GRAPHQL_PARSER_LIB names, or from `bindings/out`,
 where `bindings/build.sh` leaves it. This is a build backend, as PEP 517 has it, that makes a wheel, as PEP 427 has it, and
@@ -69,7 +69,7 @@ def shared_object():
 
 
 def module_in_c():
-    """The name and the bytes of the module in C; none where it can't be compiled."""
+    """The name and the bytes of the module in C; none if it can't be compiled."""
     with tempfile.TemporaryDirectory() as folder:
         module = compiled(folder)
         return {f"graphql_parser/{module.name}": module.read_bytes()} if module else {}

@@ -47,7 +47,7 @@ def measure(text):
 
 
 def measure_writing(text):
-    """The least seconds of each call that gives a text."""
+    """The least seconds of each call that returns a text."""
     tree = graphql.parse(text)
     calls = {}
     for name, module in (("core", graphql), ("ours", graphql_parser)):

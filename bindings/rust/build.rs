@@ -1,4 +1,4 @@
-//! Links the static library that `bindings/build.sh` makes. Where it isn't found a system's library is linked by name, so
+//! Links the static library that `bindings/build.sh` makes. If it isn't found, a system's library is linked by name, so
 //! that the crate is checked and documented without any.
 use std::env;
 use std::path::{Path, PathBuf};

@@ -1,4 +1,4 @@
-"""Tells which fields, arguments and fragments the requests of a log ask for, how often, and by which operations.
+"""Lists which fields, arguments and fragments the requests of a log ask for, how often, and by which operations.
 
     python3 field_usage.py [--processes N | --scheduler tcp://HOST:PORT] LOG..
 
@@ -10,12 +10,12 @@ The output is a line for each, its parts divided by tabs: what it is, its name, 
 operations, as "HeroQuery 12". The most frequent come first.
 
     field     query.hero.name     a field, by the names of the fields from the root of the operation
-    field     Human.friends.name  or from the fragment it stands in, `on` this type
+    field     Human.friends.name  or from the fragment that it is in, `on` this type
     argument  query.hero(id)      an argument of a field
     fragment  HeroParts           a fragment that is spread
-    refused   SYNTAX              texts that are refused, with what is wrong; then an example
+    refused   SYNTAX              texts that are rejected, with what is wrong; then an example
 
-Without a schema nobody can tell the type that a field belongs to, but at a root or in a fragment: hence the paths. Aliases
+Without a schema nobody knows the type that a field belongs to, but at a root or in a fragment: hence the paths. Aliases
 make no difference. A request asks for what its operation reaches, through fragments too; what it asks for twice counts once.
 """
 

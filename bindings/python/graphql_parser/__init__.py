@@ -10,13 +10,12 @@
 `check_query` and `check_schema` raise an error or return None. `explain_query` and `explain_schema` return a report for people
 of what is wrong with a text. `minify_query`, `format_query` and those of schema files return a text written anew.
 `parse_query` and `parse_schema` return the tree in the form of GraphQL.js, as dicts and lists;
-`query_json` and `schema_json` return it as the JSON that it is handed over in. `parse`, `print_ast` and
-`strip_ignored_characters` stand in for those of graphql-core: they take and return its nodes, and raise its errors.
+`query_json` and `schema_json` return it as JSON. `parse`, `print_ast` and `strip_ignored_characters` replace those of
+graphql-core: they take and return its nodes, and raise its errors.
 
 A text is a str, or bytes, a bytearray or a memoryview in UTF-8; anything else is a TypeError. A text that isn't UTF-8, or a
-str with a lone surrogate, which has no UTF-8, is refused like any other, with the kind NOT_UTF8. `selections`, `values` and
-`types` say how deep each may nest, 0 to LARGEST_LIMIT; another number is a ValueError. Other threads run while a text is
-read.
+str with a lone surrogate, which has no UTF-8, is rejected with the kind NOT_UTF8. `selections`, `values` and `types` say how
+deep each may nest, 0 to LARGEST_LIMIT; another number is a ValueError. Other threads run while a text is read.
 
 The shared object, which `bindings/build.sh` makes, is looked for in the folder that the environment variable
 GRAPHQL_PARSER_LIB names, beside this file, and in the folder `bindings/out`.
@@ -54,19 +53,19 @@ for _class in (GraphQLError, Kind):
 
 
 def check_query(text, *, selections=64, values=64, types=64):
-    """Raises a GraphQLError where `text` isn't a request."""
+    """Raises a GraphQLError if `text` isn't a request."""
     _library.check(_library.check_query, text, (selections, values, types))
 
 
 def check_schema(text, *, selections=64, values=64, types=64):
-    """Raises a GraphQLError where `text` isn't a schema file. It has no selection sets: `selections` makes no difference."""
+    """Raises a GraphQLError if `text` isn't a schema file. It has no selection sets: `selections` makes no difference."""
     _library.check(_library.check_schema, text, (selections, values, types))
 
 
 def explain_query(text, *, selections=64, values=64, types=64):
-    """A report for people of what is wrong with a request, a str of lines; None where nothing is.
+    """A report for people of what is wrong with a request, a str of lines; None if nothing is.
 
-    It tells what was found and what was expected, with the line of the place and a caret under it. Its words may change with any
+    It says what was found and what was expected, with the line of the place and a caret under it. Its words may change with any
     version of the library. A text that isn't UTF-8 has no lines to show: it raises a GraphQLError.
 
     >>> print(explain_query("{ hero() }"), end="")
@@ -78,14 +77,14 @@ def explain_query(text, *, selections=64, values=64, types=64):
 
 
 def explain_schema(text, *, selections=64, values=64, types=64):
-    """A report for people of what is wrong with a schema file, as `explain_query` gives one; None where nothing is."""
+    """A report for people of what is wrong with a schema file, as `explain_query` returns one; None if nothing is."""
     return _library.explain(_library.explain_schema, text, (selections, values, types))
 
 
 def minify_query(text, *, selections=64, values=64, types=64):
     """A request without what isn't needed in it: comments, and all blanks, line ends, commas and byte order marks, but for one
-    blank where two tokens would be read as others if they touched. Block strings are written in few characters with the same
-    values, and other tokens as they are spelled, so it means the same.
+    blank between two tokens that would be read as others if they touched. Block strings are written in few characters with the
+    same values, and other tokens as they are spelled, so it means the same.
 
     >>> minify_query("{ hero { name } } # all")
     '{hero{name}}'
@@ -101,7 +100,7 @@ def minify_schema(text, *, selections=64, values=64, types=64):
 def format_query(text, *, selections=64, values=64, types=64):
     """A request laid out anew: two blanks for each level, a selection a line, a blank line between definitions. Its comments
     stay, each between the same tokens. Block strings are laid out too, with the same values, and other tokens are as they were
-    spelled. No line feed stands at the end. The layout may change with any version of the library.
+    spelled. There is no line feed at the end. The layout may change with any version of the library.
 
     >>> print(format_query("{hero(id:7){name}} # all"))
     {
@@ -143,13 +142,13 @@ def parse_schema(text, *, selections=64, values=64, types=64, places=False):
 
 
 def parse(source, no_location=False, *, selections=64, values=64, types=64):
-    """The tree of a request or a schema file, as the DocumentNode that `graphql.parse` of graphql-core 3.2 gives.
+    """The tree of a request or a schema file, as the DocumentNode that `graphql.parse` of graphql-core 3.2 returns.
 
-    `source` is a text, or a Source of graphql-core. Whether it is a request or a schema file is told by its first token; one
-    that is neither is refused. With `no_location` the nodes have no `loc`.
+    `source` is a text, or a Source of graphql-core. Its first token decides whether it is a request or a schema file; one that
+    is neither is rejected. With `no_location` the nodes have no `loc`.
 
-    Raises graphql-core's GraphQLSyntaxError where the text is refused, with a GraphQLError as its `__cause__`, and an
-    ImportError where graphql-core isn't installed, or is older. The message says what was found and what was expected, as
+    Raises graphql-core's GraphQLSyntaxError if the text is rejected, with a GraphQLError as its `__cause__`, and an ImportError
+    if graphql-core isn't installed, or is older. The message says what was found and what was expected, as
     'Syntax Error: found ")", expected a name'; as in a report, its words may change with any version of the library.
     """
     return _beside_graphql_core().parse(source, no_location, (selections, values, types))
@@ -165,7 +164,7 @@ def strip_ignored_characters(source, *, selections=64, values=64, types=64):
 
 
 def print_ast(ast):
-    """A node of graphql-core as text: what `graphql.print_ast` of graphql-core 3.2 gives of the same node."""
+    """A node of graphql-core as text: what `graphql.print_ast` of graphql-core 3.2 returns for it."""
     _beside_graphql_core()
     from . import _printing
 
@@ -173,7 +172,7 @@ def print_ast(ast):
 
 
 def _beside_graphql_core():
-    """The module that reads with graphql-core; an ImportError where that isn't installed, or is older."""
+    """The module that reads with graphql-core; an ImportError if that isn't installed, or is older."""
     try:
         from . import _nodes
     except ModuleNotFoundError as error:

@@ -30,7 +30,7 @@ class Kind(enum.IntEnum):
         return cls._value2member_map_.setdefault(value, other)
 
 
-# What is said where the library gives no message: its message, without the names and places in it.
+# What is said if the library returns no message: its message, without the names and places in it.
 _TEXTS = {
     Kind.NOT_UTF8: "the text isn't UTF-8",
     Kind.SYNTAX: "syntax error",
@@ -51,14 +51,14 @@ def _message(kind, written):
 
 
 class GraphQLError(ValueError):
-    """Why a text is refused. As a str it is the message, and the places where the message doesn't name them itself.
+    """Why a text is rejected. As a str it is the message, and the places if the message doesn't contain them.
 
     kind     what is wrong, a Kind
-    message  the message of `json`, as "operation A is defined twice"; where the text was only checked, what the kind says,
+    message  the message of `json`, as "operation A is defined twice"; if the text was only checked, what the kind says,
              as "an operation is defined twice"
-    places   where, a list of none, one or two pairs of a line and a column, the most important first; both count from 1,
+    places   a list of none, one or two pairs of a line and a column, the most important first; both count from 1,
              columns in characters
-    json     the error as an entry of `errors` in a response, as JSON; None where the text was only checked, or isn't UTF-8
+    json     the error as an entry of `errors` in a response, as JSON; None if the text was only checked, or isn't UTF-8
     """
 
     def __init__(self, kind, places, json):

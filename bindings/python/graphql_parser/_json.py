@@ -37,7 +37,7 @@ def decoded_in_a_loop(written, made=None):
 
 
 def decoded(written, made=None):
-    """The value of a JSON text. `made` gives what stands for an object, from the dict of its members."""
+    """The value of a JSON text. `made` makes what an object becomes, from the dict of its members."""
     try:
         return json.loads(written, object_hook=made)
     except RecursionError:

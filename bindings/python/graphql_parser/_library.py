@@ -18,7 +18,7 @@ class Places(ctypes.Structure):
 
 
 class Block(ctypes.Structure):
-    """A text that the library hands over, in UTF-8, or nothing."""
+    """A text that the library returns, in UTF-8, or nothing."""
 
     _fields_ = [("start", ctypes.c_void_p), ("length", ctypes.c_size_t)]
 
@@ -69,7 +69,7 @@ format_query = _call("format_query", _EXPLAIN, ctypes.c_uint32)
 format_schema = _call("format_schema", _EXPLAIN, ctypes.c_uint32)
 version = _call("version", [], ctypes.c_uint32)
 # The `free` that goes with the library's `malloc`: both are bound in the shared object. A `free` that is looked up from here
-# isn't the same one where another allocator was loaded before the C library.
+# isn't the same one if another allocator was loaded before the C library.
 _free = _call("free", [ctypes.c_void_p], None)
 
 
@@ -108,7 +108,7 @@ def refuse(status, places, json):
 
 
 def _taken(block):
-    """The bytes in a block, which is given back; None where there is none."""
+    """The bytes in a block, which is freed; None if there is none."""
     try:
         return ctypes.string_at(block.start, block.length) if block.start else None
     finally:
@@ -116,7 +116,7 @@ def _taken(block):
 
 
 def check(call, text, limits):
-    """Raises a GraphQLError where a check refuses a text; `limits` are those of selections, values and types."""
+    """Raises a GraphQLError if a check rejects a text; `limits` are those of selections, values and types."""
     asked = _asked(text, limits)
     places = Places()
     status = call(*asked, ctypes.byref(places))
@@ -125,7 +125,7 @@ def check(call, text, limits):
 
 
 def explain(call, text, limits):
-    """The report of a text, or None where it is accepted; a GraphQLError where it isn't UTF-8."""
+    """The report of a text, or None if it is accepted; a GraphQLError if it isn't UTF-8."""
     asked = _asked(text, limits)
     places = Places()
     block = Block()
@@ -137,7 +137,7 @@ def explain(call, text, limits):
 
 
 def rewrite(call, text, limits):
-    """A text minified or formatted; a GraphQLError where it is refused."""
+    """A text minified or formatted; a GraphQLError if it is rejected."""
     asked = _asked(text, limits)
     places = Places()
     block = Block()
@@ -149,7 +149,7 @@ def rewrite(call, text, limits):
 
 
 def parse_bytes(call, text, limits, with_places):
-    """The JSON of a text, in UTF-8; a GraphQLError where it is refused."""
+    """The JSON of a text, in UTF-8; a GraphQLError if it is rejected."""
     asked = _asked(text, limits)
     places = Places()
     block = Block()
@@ -161,5 +161,5 @@ def parse_bytes(call, text, limits, with_places):
 
 
 def parse(call, text, limits, with_places):
-    """The JSON of a text; a GraphQLError where it is refused."""
+    """The JSON of a text; a GraphQLError if it is rejected."""
     return parse_bytes(call, text, limits, with_places).decode()

@@ -1,8 +1,8 @@
 """graphql-core's nodes, from the library's JSON.
 
-The module in C that `nodes.c` is, where there is one, makes them. Else the standard library reads the JSON, and calls a
+The module in C that `nodes.c` is, if there is one, makes them. Else the standard library reads the JSON, and calls a
 function for each object in it, innermost first. That function makes the node from its members. What the library's places leave
-out is found in the text: where the nodes inside lists and objects stand, and which strings are block strings.
+out is found in the text: where the nodes inside lists and objects begin, and which strings are block strings.
 """
 
 import ctypes
@@ -16,7 +16,7 @@ import re
 
 import graphql
 
-# Before what an older one lacks is asked of it.
+# Before what is missing in an older one is asked of it.
 _found = getattr(graphql, "__version__", "a module graphql without a version")
 if [int(number) for number in re.findall("[0-9]+", _found)[:2]] < [3, 2]:
     raise ImportError(f"graphql_parser needs graphql-core 3.2 or later, and found {_found}: pip install 'graphql-core>=3.2,<3.3'")
@@ -47,7 +47,7 @@ _WHOLE_TOKEN = re.compile(
 _OPENS = 2
 _CLOSES = 3
 _CACHE = "_graphql_parser_locations"
-# The first line of a report of a refused token, or of one that nests too deep: its place, and what is said of it.
+# The first line of a report of a rejected token, or of one that nests too deep: its place, and what is said of it.
 _REPORT = re.compile("([0-9]+):([0-9]+): (?:syntax error: )?(.+)")
 
 
@@ -60,7 +60,7 @@ class _Text:
         self.source = source
         self.is_located = is_located
         # The library begins no line at a lone carriage return, so places after one aren't unique. A line feed in its stead
-        # is as good: either ends a comment, or a line of a block string, and neither may stand in a string.
+        # is as good: either ends a comment, or a line of a block string, and neither may be in a string.
         self.body = _LONE_CARRIAGE_RETURN.sub("\n", source.body) if "\r" in source.body else source.body
 
     def find_lines(self):
@@ -78,7 +78,7 @@ def _text_of(source, is_located):
 
 
 def _answer(text, name, take, limits, *options):
-    """What a call of the language that the first token tells gives of a text; graphql-core's error where it is refused."""
+    """What a call of the language that the first token decides returns for a text; graphql-core's error if it is rejected."""
     language = "schema" if _FIRST.match(text.body).group(1) in _SCHEMA_WORDS else "query"
     call, explain = (getattr(_library, f"{word}_{language}") for word in (name, "explain"))
     try:
@@ -88,13 +88,13 @@ def _answer(text, name, take, limits, *options):
 
 
 def parse(source, no_location, limits):
-    """What `graphql_parser.parse` gives."""
+    """What `graphql_parser.parse` returns."""
     text = _text_of(source, not no_location)
     return _document(_answer(text, "parse", _library.parse_bytes, limits, True), text)
 
 
 def strip_ignored_characters(source, limits):
-    """What `graphql_parser.strip_ignored_characters` gives."""
+    """What `graphql_parser.strip_ignored_characters` returns."""
     minified = _answer(_text_of(source, False), "minify", _library.rewrite, limits)
     return _WHOLE_TOKEN.sub(_with_blank, minified)
 
@@ -116,9 +116,9 @@ def _syntax_error(text, message, places):
 def _told(error, text, explain, limits):
     """The message and the places of an error.
 
-    Of a refused token they are those of the library's report, which says what was found and what was expected. Its place is the
+    Of a rejected token they are those of the library's report, which says what was found and what was expected. Its place is the
     error's, but for a bad escape in a string: there it is that of the escape, as in graphql-core. Of a text that nests too deep
-    the message is the report's. Where there is no memory for a report, both are the error's own.
+    the message is the report's. If there is no memory for a report, both are the error's own.
     """
     if error.kind in (Kind.SYNTAX, Kind.RECURSION_LIMIT_EXCEEDED):
         try:
@@ -189,7 +189,7 @@ class _Location(Location):
 
 
 def _whole_locations(source):
-    """graphql-core's locations of the nodes of a text, by where they start and their class; none where it refuses the text."""
+    """graphql-core's locations of the nodes of a text, by where they start and their class; none if it rejects the text."""
     found = getattr(source, _CACHE, None)
     if found is None:
         found = {}
@@ -233,7 +233,7 @@ def _place_document(node, start, text):
 
 
 def _place_name(node, start, text):
-    """Places the name of an operation or a fragment, which stands after its keyword, or that of a variable."""
+    """Places the name of an operation or a fragment, which is after its keyword, or that of a variable."""
     name = node.name
     if name is not None and name.loc is None and text.is_located:
         _place(name, _BEFORE_NAME.match(text.body, start).end(), text)
@@ -258,9 +258,9 @@ def _tell_block(node, start, text):
 
 
 def _place_inside(outermost, start, text):
-    """Places what is inside a list, an object or a type, and tells which strings in it are block strings.
+    """Places what is inside a list, an object or a type, and finds which strings in it are block strings.
 
-    Gives whether each token is of a node. Where an object has a field twice some aren't: the library has it once.
+    Returns whether each token is of a node. If an object has a field twice some aren't: the library has it once.
     """
     source = text.source if text.is_located else None
     waiting = [outermost]
@@ -477,8 +477,8 @@ _MAKERS = {kind: _maker(node_class) for kind, node_class in _KINDS.items()}
 
 
 def _c_module():
-    """The module in C, which was told of graphql-core's classes; None where there is none that this interpreter takes, or where
-    the classes don't keep their attributes in slots."""
+    """The module in C, set up with graphql-core's classes; None if there is none that this interpreter takes, or if the classes
+    don't keep their attributes in slots."""
     name = "_nodes_c"
     paths = _library.paths_of(name + importlib.machinery.EXTENSION_SUFFIXES[0])
     path = next(filter(os.path.exists, paths), None)

@@ -1,6 +1,6 @@
 """graphql-core's nodes as text, as its own `print_ast` prints them, whose visitor copies each node that it passes.
 
-Each kind of node has a function that gives its text, as if it stood at the left: what holds a text indents it. Strings are
+Each kind of node has a function that returns its text, as if it were at the left: what contains a text indents it. Strings are
 written by graphql-core's functions.
 """
 
@@ -8,12 +8,12 @@ import graphql
 from graphql.language.block_string import print_block_string
 from graphql.language.print_string import print_string
 
-# The arguments of a field are broken over lines where it would be longer than this with them.
+# The arguments of a field are broken over lines if it would be longer than this with them.
 _LONGEST = 80
 
 
 def print_ast(node):
-    """What `graphql_parser.print_ast` gives. A tree that nests too deep for Python's stack, a node that lacks a part and one of
+    """What `graphql_parser.print_ast` returns. A tree that nests too deep for Python's stack, a node without a part and one of
     an unknown kind are left to graphql-core, with its answers and errors."""
     try:
         return _text(node)
@@ -40,12 +40,12 @@ def _joined(*texts):
 
 
 def _wrapped(before, text, after=""):
-    """A text between two others; nothing where it is none."""
+    """A text between two others; nothing if it is empty."""
     return f"{before}{text}{after}" if text else ""
 
 
 def _lines(opening, text, closing):
-    """A text on lines of its own, indented; nothing where it is none."""
+    """A text on lines of its own, indented; nothing if it is empty."""
     indented = text.replace("\n", "\n  ")
     return f"{opening}\n  {indented}\n{closing}" if text else ""
 
@@ -115,7 +115,7 @@ def _root(node):
 
 
 def _parameters(node):
-    """The arguments of a definition, each on a line of its own where one has more lines."""
+    """The arguments of a definition, each on a line of its own if one has more lines."""
     texts = [_text(argument) for argument in node.arguments or ()]
     if any("\n" in text for text in texts):
         return _lines("(", "\n".join(texts), ")")

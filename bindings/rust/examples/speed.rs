@@ -1,4 +1,4 @@
-//! Measures how fast a text is parsed, beside the call of the library that it stands on.
+//! Measures how fast a text is parsed, beside the call of the library that it uses.
 //!
 //! ```sh
 //! cargo run --release --example speed -- query|schema < FILE

@@ -1,6 +1,6 @@
 //! What types of texts have in common.
 
-/// Has a type that has a text, by its `as_str`, be a `str` wherever one is wanted, and give a `String`.
+/// Has a type that has a text, by its `as_str`, be a `str` wherever one is wanted, and become a `String`.
 macro_rules! is_a_str {
     ($text:ident) => {
         impl std::ops::Deref for $text {

@@ -1,77 +1,77 @@
-//! Why a text is refused.
+//! Why a text is rejected.
 use crate::pos::Pos;
 use crate::types::OperationType;
 use crate::value::Name;
 use std::fmt::{self, Display, Formatter};
 use std::iter::FusedIterator;
 
-/// Why a text is refused, or couldn't be read. Its display is its message, without the places of
+/// Why a text is rejected, or couldn't be read. Its display is its message, without the places of
 /// [`positions`](Error::positions).
 ///
 /// A later version of this crate may have other errors.
 #[derive(Clone, Debug, PartialEq, Eq)]
 #[non_exhaustive]
 pub enum Error {
-    /// The text has no tree. The token at `start` is refused: what stands before it could still become a document, and
-    /// together with it that can't.
+    /// The text has no tree. The token at `start` is rejected: what is before it could still become a document, but
+    /// not with it.
     Syntax {
         /// `syntax error at `, and the place.
         message: String,
-        /// Where the refused token begins, or the text ends.
+        /// Where the rejected token begins, or the text ends.
         start: Pos,
-        /// None: the token that begins at `start` is refused as a whole.
+        /// None: the token that begins at `start` is rejected as a whole.
         end: Option<Pos>,
     },
     /// A schema names a kind of operation twice.
     MultipleRoots {
         /// The kind.
         root: OperationType,
-        /// Where the schema stands.
+        /// The place of the schema.
         schema: Pos,
         /// Where the kind is named again.
         pos: Pos,
     },
     /// A schema has no type for queries.
     MissingQueryRoot {
-        /// Where the schema stands.
+        /// The place of the schema.
         pos: Pos,
     },
     /// An operation without a name isn't the only operation.
     MultipleOperations {
-        /// Where it stands.
+        /// Its place.
         anonymous: Pos,
-        /// Where another operation stands.
+        /// The place of another operation.
         operation: Pos,
     },
     /// Two operations have one name.
     OperationDuplicated {
         /// The name.
         operation: Name,
-        /// Where the earlier stands.
+        /// The place of the earlier one.
         first: Pos,
-        /// Where the later stands.
+        /// The place of the later one.
         second: Pos,
     },
     /// Two fragments have one name.
     FragmentDuplicated {
         /// The name.
         fragment: Name,
-        /// Where the earlier stands.
+        /// The place of the earlier one.
         first: Pos,
-        /// Where the later stands.
+        /// The place of the later one.
         second: Pos,
     },
     /// A request has fragments alone.
     MissingOperation,
-    /// The text has no tree within the limits, and the token that is refused could go on if they were greater.
+    /// The text has no tree within the limits, and the rejected token could go on if they were greater.
     RecursionLimitExceeded,
     /// Memory was refused. Nothing is known of the text.
     OutOfMemory,
     /// One of the limits is over [`Limits::LARGEST`](crate::Limits::LARGEST). The text wasn't read.
     LimitTooLarge,
-    /// What a later version of the library tells, and this crate has no name for.
+    /// What a later version of the library reports, and this crate has no name for.
     Other {
-        /// The number by which the library tells it.
+        /// The library's number for it.
         status: u32,
         /// The library's message.
         message: String,
@@ -102,7 +102,7 @@ impl Error {
         })
     }
 
-    /// The error as an entry of `errors` in a response (section 7.1.2): its `message`, and its `locations` where it has
+    /// The error as an entry of `errors` in a response (section 7.1.2): its `message`, and its `locations` if it has
     /// places.
     ///
     /// ```
@@ -125,7 +125,7 @@ impl Error {
         json
     }
 
-    // The error that a status stands for, with its places. Without the library's message there is none for a status whose
+    // The error that a status means, with its places. Without the library's message there is none for a status whose
     // error has a name in it, nor for one that isn't known.
     pub(crate) fn of(
         status: u32,
@@ -183,7 +183,7 @@ impl Error {
     }
 }
 
-/// The kind of operation that a keyword stands for.
+/// The kind of operation that a keyword means.
 pub(crate) fn operation_type(word: &str) -> Option<OperationType> {
     match word {
         "query" => Some(OperationType::Query),

@@ -42,7 +42,7 @@ pub fn parse_schema(text: &str, limits: Limits, places: Places) -> Result<Json> 
     parse(raw::graphql_parser_parse_schema, text, limits, places)
 }
 
-// The tree of a text, as a call of the library hands it over.
+// The tree of a text, as a call of the library returns it.
 pub(crate) fn parse(call: ParseCall, text: &str, limits: Limits, places: Places) -> Result<Json> {
     let outcome = raw::parse(call, text, limits, places);
     match (outcome.status, outcome.handed) {

@@ -1,11 +1,11 @@
 //! A parser of GraphQL requests and schema files whose every function is proved, for Rust.
 //!
-//! [`parse_query`] and [`parse_schema`] give the tree of a text, in plain Rust: the types of [`types`] and [`value`], each
+//! [`parse_query`] and [`parse_schema`] return the tree of a text, in plain Rust: the types of [`types`] and [`value`], each
 //! node with its line and its column. They have the names of async-graphql-parser 7.2.1, so that a program that was
-//! written for that crate changes its imports. [`check_query`] and [`check_schema`] tell whether a text is good, and make
-//! no tree. [`explain_query`] and [`explain_schema`] tell people what is wrong with a text. [`minify_query`], [`format_query`]
-//! and those of schema files write a text anew; [`print_query`] and [`print_schema`] give a tree as text. [`json`] hands over
-//! trees as JSON.
+//! written for that crate changes its imports. [`check_query`] and [`check_schema`] check a text without a tree.
+//! [`explain_query`] and [`explain_schema`] return a report for people of what is wrong with a text. [`minify_query`],
+//! [`format_query`] and those of schema files write a text anew; [`print_query`] and [`print_schema`] return a tree as text.
+//! [`json`] returns trees as JSON.
 //!
 //! All of them borrow the text, may be called from any number of threads, and never panic. Selection sets, values and types
 //! nest 64 deep each, unless [`Limits`] say otherwise.
@@ -124,7 +124,7 @@ pub fn parse_schema_limited<T: AsRef<str>>(input: T, limits: Limits) -> Result<S
     read::schema_file(&bytes).ok_or_else(unknown_form)
 }
 
-/// Tells whether a text is a request. It makes no tree, and takes less time and memory than a parse; only an error that has
+/// Checks whether a text is a request. It makes no tree, and takes less time and memory than a parse; only an error that has
 /// a name in it takes a second reading.
 ///
 /// # Errors
@@ -139,7 +139,7 @@ pub fn check_query<T: AsRef<str>>(input: T, limits: Limits) -> Result<()> {
     )
 }
 
-/// Tells whether a text is a schema file. It makes no tree, and takes less time and memory than a parse; only an error that
+/// Checks whether a text is a schema file. It makes no tree, and takes less time and memory than a parse; only an error that
 /// has a name in it takes a second reading.
 ///
 /// # Errors
@@ -154,10 +154,10 @@ pub fn check_schema<T: AsRef<str>>(input: T, limits: Limits) -> Result<()> {
     )
 }
 
-/// A report for people of what is wrong with a request; None where nothing is.
+/// A report for people of what is wrong with a request; None if nothing is.
 ///
-/// It tells what was found and what was expected, with the line of the place and a caret under it, and with a second place
-/// where the error has two. Each line ends in a line feed. The words may change with any version of the library. It takes at
+/// It says what was found and what was expected, with the line of the place and a caret under it, and with a second place
+/// if the error has two. Each line ends in a line feed. The words may change with any version of the library. It takes at
 /// most as long as some five checks.
 ///
 /// ```
@@ -180,7 +180,7 @@ pub fn explain_query<T: AsRef<str>>(input: T, limits: Limits) -> Result<Option<S
     explained(raw::explain_query(input.as_ref(), limits))
 }
 
-/// A report for people of what is wrong with a schema file, as [`explain_query`] gives one of a request; None where nothing
+/// A report for people of what is wrong with a schema file, as [`explain_query`] returns one of a request; None if nothing
 /// is.
 ///
 /// # Errors
@@ -191,8 +191,8 @@ pub fn explain_schema<T: AsRef<str>>(input: T, limits: Limits) -> Result<Option<
 }
 
 /// The request without what isn't needed in it: comments, and all blanks, line ends, commas and byte order marks, but for one
-/// blank where two tokens would be read as others if they touched. Block strings are written in few characters with the same
-/// values, and other tokens as they are spelled, so it means the same.
+/// blank between two tokens that would be read as others if they touched. Block strings are written in few characters with
+/// the same values, and other tokens as they are spelled, so it means the same.
 ///
 /// ```
 /// use graphql_parser::{minify_query, Limits};
@@ -229,7 +229,7 @@ pub fn minify_schema<T: AsRef<str>>(input: T, limits: Limits) -> Result<String> 
 
 /// The request laid out anew: two blanks for each level, a selection a line, a blank line between definitions. Its comments
 /// stay, each between the same tokens. Block strings are laid out too, with the same values, and other tokens are as they were
-/// spelled. No line feed stands at the end. The layout may change with any version of the library.
+/// spelled. There is no line feed at the end. The layout may change with any version of the library.
 ///
 /// ```
 /// use graphql_parser::{format_query, Limits};
@@ -267,7 +267,7 @@ pub fn format_schema<T: AsRef<str>>(input: T, limits: Limits) -> Result<String> 
 
 /// The request as text, laid out as [`format_query`] lays out texts: its operations and fragments in the order of their places,
 /// each string in quotes, a query without a name, variables and directives as its selection set alone, and nothing that may be
-/// left out. A parse of it gives the tree again, but for places.
+/// left out. A parse of it returns the tree again, but for places.
 ///
 /// ```
 /// use graphql_parser::{parse_query, print_query};
@@ -279,15 +279,15 @@ pub fn format_schema<T: AsRef<str>>(input: T, limits: Limits) -> Result<String> 
 ///
 /// # Errors
 ///
-/// [`Error::OutOfMemory`]. If no text has the tree, such as one made by hand with an invalid name, without an operation, or deeper
-/// than [`Limits::LARGEST`], the error of a parse of its tokens; its places mean nothing outside of this call.
+/// [`Error::OutOfMemory`]. If no text has the tree, such as one made by hand with an invalid name, without an operation, or
+/// deeper than [`Limits::LARGEST`], the error of a parse of its tokens; its places mean nothing outside of this call.
 pub fn print_query(document: &ExecutableDocument) -> Result<String> {
     format_query(print::request(document), Limits::MOST)
 }
 
 /// The schema file as text, laid out as [`format_schema`] lays out texts: its definitions in their order, the roots of a schema
-/// in the order of their places, descriptions as block strings where that keeps them, other strings in quotes, and nothing that
-/// may be left out. A parse of it gives the tree again, but for places.
+/// in the order of their places, descriptions as block strings if that keeps them, other strings in quotes, and nothing that
+/// may be left out. A parse of it returns the tree again, but for places.
 ///
 /// # Errors
 ///
@@ -303,7 +303,7 @@ pub fn version() -> (u32, u32, u32) {
     (number / 10000, number / 100 % 100, number % 100)
 }
 
-// A check tells by numbers alone. The name in an error is told by the parse of the same text.
+// A check returns numbers alone. The name in an error comes from a parse of the same text.
 fn check(call: CheckCall, parse: ParseCall, text: &str, limits: Limits) -> Result<()> {
     let (status, places) = raw::check(call, text, limits);
     if status == 0 {
@@ -312,7 +312,7 @@ fn check(call: CheckCall, parse: ParseCall, text: &str, limits: Limits) -> Resul
     Err(named_error(status, places, parse, text, limits))
 }
 
-// A tree that is handed over. The name in an error is told by the parse of the same text.
+// A tree that is returned. The name in an error comes from a parse of the same text.
 fn packed(outcome: Outcome<Block>, parse: ParseCall, text: &str, limits: Limits) -> Result<Block> {
     match (outcome.status, outcome.handed) {
         (0, Some(bytes)) => Ok(bytes),
@@ -320,7 +320,7 @@ fn packed(outcome: Outcome<Block>, parse: ParseCall, text: &str, limits: Limits)
     }
 }
 
-// A text that is written anew. The name in an error is told by the parse of the same text.
+// A text that is written anew. The name in an error comes from a parse of the same text.
 fn rewritten(call: HandingCall, parse: ParseCall, text: &str, limits: Limits) -> Result<String> {
     let outcome = raw::rewrite(call, text, limits);
     match (outcome.status, outcome.handed) {
@@ -329,7 +329,7 @@ fn rewritten(call: HandingCall, parse: ParseCall, text: &str, limits: Limits) ->
     }
 }
 
-// The error that a status other than 0 stands for. Where there is a name in it, the parse of the text tells that.
+// The error that a status other than 0 means. If it has a name, that comes from a parse of the text.
 fn named_error(
     status: u32,
     places: [Option<Pos>; 2],
@@ -354,7 +354,7 @@ fn explained(outcome: Outcome<Text>) -> Result<Option<String>> {
     }
 }
 
-// The error that a status of the library stands for, with the error in JSON that is handed over, if there is one.
+// The error that a status of the library means, with the error in JSON, if there is one.
 fn refusal(status: u32, places: [Option<Pos>; 2], json: Option<&str>) -> Error {
     let message = json.and_then(error::message_of);
     Error::of(status, places, message).unwrap_or_else(|| Error::Other {

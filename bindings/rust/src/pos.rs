@@ -1,4 +1,4 @@
-//! Places in a text, and nodes that keep the place where they stand.
+//! Places in a text, and nodes that keep their place.
 use std::borrow::{Borrow, BorrowMut};
 use std::cmp::Ordering;
 use std::fmt;
@@ -7,7 +7,7 @@ use std::hash::{Hash, Hasher};
 /// A place in a text: the line, and the column in that line, both counted from 1.
 ///
 /// Columns count characters (`char`s), not bytes. A line ends at a line feed; a carriage return starts the column again,
-/// and counts no line of its own (this project's choice). 0:0, the default, is no place of a text: it stands where a tree
+/// and counts no line of its own (this project's choice). 0:0, the default, is no place of a text: it is used where a tree
 /// has a node that the text left out.
 ///
 /// Places are ordered by line, then by column.
@@ -40,13 +40,13 @@ impl From<(usize, usize)> for Pos {
     }
 }
 
-/// A node of a tree, with the place where it stands in the text.
+/// A node of a tree, with its place in the text.
 ///
 /// Comparisons, hashes and the shown text are those of the node alone; its place never matters to them. The default is
 /// the node's default at 0:0.
 #[derive(Clone, Copy, Debug, Default)]
 pub struct Positioned<T: ?Sized> {
-    /// Where the node stands.
+    /// The place of the node.
     pub pos: Pos,
     /// The node itself.
     pub node: T,

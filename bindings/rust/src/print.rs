@@ -1,7 +1,7 @@
 //! Trees as texts.
 //!
 //! A tree is written as its tokens, each with a blank after it, and none that may be left out. The library lays them out. An
-//! invalid name is written as a character that begins no token, and so is a name that means something else where it stands:
+//! invalid name is written as a character that begins no token, and so is a name that means something else there:
 //! whatever text the library accepts has the tree, except for places.
 mod request;
 mod schema;
@@ -57,7 +57,7 @@ impl Tokens {
         self
     }
 
-    // A token and the part after it; nothing where there is no part.
+    // A token and the part after it; nothing if there is no part.
     fn led<T: Print>(&mut self, lead: &str, part: &Option<T>) -> &mut Tokens {
         match part {
             Some(part) => self.token(lead).part(part),

@@ -1,4 +1,4 @@
-//! The functions of C, as `graphql_parser.h` declares them, and what they hand over. All that is unsafe stands here and in
+//! The functions of C, as `graphql_parser.h` declares them, and what they return. All that is unsafe is here and in
 //! `value::text`.
 use crate::json::Places;
 use crate::{Limits, Pos};
@@ -84,7 +84,7 @@ pub fn version() -> u32 {
     unsafe { graphql_parser_version() }
 }
 
-/// Bytes that a call handed over, where the call wrote them: nothing is copied.
+/// Bytes that a call returned, where the call wrote them: nothing is copied.
 pub struct Block {
     start: NonNull<u8>,
     length: usize,
@@ -96,11 +96,11 @@ unsafe impl Send for Block {}
 unsafe impl Sync for Block {}
 
 impl Block {
-    /// Takes over a block; none where it is null.
+    /// Takes over a block; none if it is null.
     ///
     /// # Safety
     ///
-    /// `start` is null, or a block of the library that nobody else gives back or writes to, and that has `length` bytes.
+    /// `start` is null, or a block of the library that nobody else frees or writes to, and that has `length` bytes.
     unsafe fn of(RawBlock { start, length }: RawBlock) -> Option<Block> {
         NonNull::new(start).map(|start| Block { start, length })
     }
@@ -110,31 +110,31 @@ impl Deref for Block {
     type Target = [u8];
 
     fn deref(&self) -> &[u8] {
-        // SAFETY: `of` was given so many bytes, and they stay until `drop`.
+        // SAFETY: `of` took so many bytes, and they stay until `drop`.
         unsafe { slice::from_raw_parts(self.start.as_ptr(), self.length) }
     }
 }
 
 impl Drop for Block {
     fn drop(&mut self) {
-        // SAFETY: the block is the library's and owned, and this is the one time that it is given back.
+        // SAFETY: the block is the library's and owned, and this is the one time that it is freed.
         unsafe { graphql_parser_free(self.start.as_ptr().cast()) }
     }
 }
 
-/// A text that a call handed over.
+/// A text that a call returned.
 pub struct Text(Block);
 
 impl Deref for Text {
     type Target = str;
 
     fn deref(&self) -> &str {
-        // SAFETY: `text_of` was given a block of UTF-8.
+        // SAFETY: `text_of` took a block of UTF-8.
         unsafe { str::from_utf8_unchecked(&self.0) }
     }
 }
 
-/// What a call tells and hands over.
+/// What a call returns.
 pub struct Outcome<T> {
     pub status: u32,
     pub places: [Option<Pos>; 2],
@@ -145,7 +145,7 @@ fn place(RawPlace { line, column }: RawPlace) -> Option<Pos> {
     (line > 0).then_some(Pos { line, column })
 }
 
-/// Has a function called with the limits, one by one, and with room for the places that it tells.
+/// Has a function called with the limits, one by one, and with room for the places that it returns.
 fn told(
     limits: Limits,
     call: impl FnOnce([usize; 3], &mut RawPlaces) -> u32,
@@ -169,7 +169,7 @@ pub fn check(call: CheckCall, text: &str, limits: Limits) -> (u32, [Option<Pos>;
     })
 }
 
-/// The status of a parse, its places, and the JSON that it hands over.
+/// The status of a parse, its places, and the JSON that it returns.
 pub fn parse(
     call: ParseCall,
     text: &str,
@@ -198,7 +198,7 @@ pub fn parse(
     ))
 }
 
-/// The status of an explanation, its places, and the report that it hands over.
+/// The status of an explanation, its places, and the report that it returns.
 pub fn explain_query(text: &str, limits: Limits) -> Outcome<Text> {
     text_of(hand(graphql_parser_explain_query, text, limits))
 }
@@ -231,7 +231,7 @@ fn hand(call: HandingCall, text: &str, limits: Limits) -> Outcome<Block> {
     })
 }
 
-// What is handed over, as text: parses, explanations and texts written anew are UTF-8.
+// What is returned, as text: parses, explanations and texts written anew are UTF-8.
 fn text_of(outcome: Outcome<Block>) -> Outcome<Text> {
     let Outcome {
         status,
@@ -245,7 +245,7 @@ fn text_of(outcome: Outcome<Block>) -> Outcome<Text> {
     }
 }
 
-/// Has a function called as `told` does, with room for what it hands over too.
+/// Has a function called as `told` does, with room for what it returns too.
 fn handed(
     limits: Limits,
     call: impl FnOnce([usize; 3], &mut RawPlaces, &mut RawBlock) -> u32,

@@ -1,7 +1,7 @@
 //! Trees out of the library's bytes.
 //!
 //! The library writes what a tree has part by part, as `crates/graphql_packed` says. That is read in one pass; bytes of another
-//! form are told as `None`.
+//! form become `None`.
 mod request;
 mod schema;
 mod values;
@@ -33,7 +33,7 @@ trait Part: Sized {
     fn read(reader: &mut Reader<'_>) -> Option<Self>;
 }
 
-/// Nodes whose parts stand one after the other, in this order.
+/// Nodes whose parts follow one another, in this order.
 macro_rules! nodes {
     ($($(#[$attribute:meta])* $node:ident { $($part:ident),* })*) => {$(
         impl Part for $node {
@@ -146,7 +146,7 @@ impl Part for Pos {
     }
 }
 
-// A node stands behind its place.
+// A node follows its place.
 impl<T: Part> Part for Positioned<T> {
     #[inline(always)]
     fn read(reader: &mut Reader<'_>) -> Option<Positioned<T>> {

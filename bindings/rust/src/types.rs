@@ -1,7 +1,7 @@
 //! The trees of requests ([`ExecutableDocument`]) and of schema files ([`ServiceDocument`]), by the GraphQL specification,
 //! October 2021.
 //!
-//! A tree keeps each node at its place: a node stands where its first token begins. All fields are public, and a tree that
+//! A tree keeps each node at its place: a node is where its first token begins. All fields are public, and a tree that
 //! a caller builds is as good as one that was read.
 
 mod executable;
@@ -46,9 +46,9 @@ pub struct Type {
 }
 
 impl Type {
-    /// The type reference that a text without blanks stands for, as `[Int!]!`; None where a `[` has no `]`.
+    /// The type reference that a text without blanks spells, as `[Int!]!`; None if a `[` has no `]`.
     ///
-    /// What stands inside the lists and before the `!` is taken for a name, whatever it is.
+    /// What is inside the lists and before the `!` is taken for a name, whatever it is.
     #[must_use]
     pub fn new(ty: &str) -> Option<Type> {
         let (unmarked, nullable) = match ty.strip_suffix('!') {
@@ -93,7 +93,7 @@ impl fmt::Display for BaseType {
 /// The method that looks up an argument, for a type whose arguments have such values.
 macro_rules! get_argument {
     ($value:ident) => {
-        /// The value of the first argument of this name; None where there is none.
+        /// The value of the first argument of this name; None if there is none.
         #[must_use]
         pub fn get_argument(&self, name: &str) -> Option<&Positioned<$value>> {
             let mut arguments = self.arguments.iter();
@@ -110,7 +110,7 @@ macro_rules! directives {
     ($(#[$about:meta])* $directive:ident: $value:ident) => {
         $(#[$about])*
         ///
-        /// The node stands at its `@`.
+        /// The node is at its `@`.
         #[derive(Clone, Debug)]
         pub struct $directive {
             /// The name after the `@`.
@@ -126,12 +126,12 @@ macro_rules! directives {
 }
 
 directives! {
-    /// A directive in whose arguments no variable stands, as in a schema file (section 2.12).
+    /// A directive whose arguments contain no variable, as in a schema file (section 2.12).
     ConstDirective: ConstValue
 }
 
 impl ConstDirective {
-    /// The same directive as one in which variables may stand.
+    /// The same directive as one that may contain variables.
     #[must_use]
     pub fn into_directive(self) -> Directive {
         let arguments = self.arguments.into_iter();
@@ -145,12 +145,12 @@ impl ConstDirective {
 }
 
 directives! {
-    /// A directive in whose arguments variables may stand (section 2.12).
+    /// A directive whose arguments may contain variables (section 2.12).
     Directive: Value
 }
 
 impl Directive {
-    /// The same directive as one without variables; None where a variable stands in one of its arguments at any depth.
+    /// The same directive as one without variables; None if one of its arguments contains a variable at any depth.
     #[must_use]
     pub fn into_const(self) -> Option<ConstDirective> {
         let arguments = self.arguments.into_iter();

@@ -24,7 +24,7 @@ macro_rules! values {
             Null,
             /// A number, by its literal.
             Number(Number),
-            /// What a string or a block string stands for.
+            /// What a string or a block string means.
             String(String),
             /// `true` or `false`.
             Boolean(bool),
@@ -32,7 +32,7 @@ macro_rules! values {
             Enum(Name),
             /// The items of a list, in their order.
             List(Vec<$value>),
-            /// The fields of an object, in the order of their first occurrence. Of a name that is given twice the last value
+            /// The fields of an object, in the order of their first occurrence. Of a repeated name the last value
             /// counts.
             Object(IndexMap<Name, $value>),
         }
@@ -40,17 +40,17 @@ macro_rules! values {
 }
 
 values! {
-    /// A value in which no variable stands, as in the default value of a variable.
+    /// A value without variables, as in the default value of a variable.
     ///
-    /// Two values are equal where they are the same case over equal parts: lists in their order, objects in any order,
+    /// Two values are equal if they are the same case over equal parts: lists in their order, objects in any order,
     /// numbers by their literals.
     ConstValue {}
 }
 
 values! {
-    /// A value in which variables may stand, as in an argument of a field.
+    /// A value that may contain variables, as in an argument of a field.
     ///
-    /// Two values are equal where they are the same case over equal parts, as for [`ConstValue`].
+    /// Two values are equal if they are the same case over equal parts, as for [`ConstValue`].
     Value {
         /// A variable, by its name without the `$`.
         Variable(Name),

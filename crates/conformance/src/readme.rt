@@ -1,4 +1,4 @@
-//! The longer example of docs/USING.md, as it stands there, and the one that its text names.
+//! The examples that docs/USING.md names.
 use crate::rows::Shown;
 use graphql_parser::types::{
     ExecutableDocument, Selection, ServiceDocument, TypeKind, TypeSystemDefinition,

@@ -6,7 +6,7 @@ use crate::types::{
 };
 use crate::value::Name;
 
-// An operation with its name, where it has one, or a fragment with its own.
+// An operation with its name, if it has one, or a fragment with its own.
 #[derive(Clone, Copy)]
 enum Definition<'a> {
     Operation(Option<&'a Name>, &'a OperationDefinition),
@@ -89,7 +89,7 @@ impl Print for TypeCondition {
     }
 }
 
-// An empty one has braces too: a parser rejects it, where an operation or a fragment needs a set.
+// An empty one has braces too: a parser rejects it if an operation or a fragment needs a set.
 impl Print for SelectionSet {
     fn print(&self, out: &mut Tokens) {
         out.token("{").part(&self.items[..]).token("}");

@@ -24,7 +24,7 @@ impl Print for TypeSystemDefinition {
     }
 }
 
-// A description, as a block string where that has its value.
+// A description, as a block string if that has its value.
 impl Print for String {
     fn print(&self, out: &mut Tokens) {
         if !is_in_block(self) {
@@ -117,7 +117,7 @@ fn interfaces(kind: &TypeKind) -> &[Positioned<Name>] {
     }
 }
 
-// What stands after the directives of a type.
+// What comes after the directives of a type.
 impl Print for TypeKind {
     fn print(&self, out: &mut Tokens) {
         match self {

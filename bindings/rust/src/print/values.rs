@@ -5,7 +5,7 @@ use crate::types::{BaseType, ConstDirective, Directive, OperationType, Type};
 use crate::value::{ConstValue, Name, Printed, Value};
 
 impl Tokens {
-    // A name, if it is valid and none of those that mean something else where it stands.
+    // A name, if it is valid and none of those that mean something else there.
     pub(super) fn name_but(&mut self, others: &[&str], name: &Name) -> &mut Tokens {
         let name = name.as_str();
         let is_good = is_name(name) && !others.contains(&name);
@@ -47,7 +47,7 @@ impl Print for OperationType {
     }
 }
 
-/// Has types of values written, with the case of a variable where they have one.
+/// Has types of values written, with the case of a variable if they have one.
 macro_rules! values {
     ($($value:ident { $($variable:ident)? })*) => {$(
         impl Print for $value {

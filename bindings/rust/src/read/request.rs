@@ -36,7 +36,7 @@ impl Part for ExecutableDocument {
     }
 }
 
-// The selection and the node in it stand at one place.
+// The selection and the node in it are at one place.
 impl Part for Positioned<Selection> {
     #[inline(always)]
     fn read(reader: &mut Reader<'_>) -> Option<Positioned<Selection>> {
@@ -52,7 +52,7 @@ impl Part for Positioned<Selection> {
     }
 }
 
-// An operation without a name stands alone.
+// An operation without a name is alone.
 fn operations_of(
     operations: Vec<(Option<Name>, Positioned<OperationDefinition>)>,
 ) -> DocumentOperations {

@@ -3,7 +3,7 @@ use super::{choices, nodes, Part, Reader};
 use crate::types::{BaseType, ConstDirective, Directive, Type};
 use crate::value::{ConstValue, IndexMap, Name, Value};
 
-/// Has a type of values read, in which variables may stand or not.
+/// Has a type of values read, which may contain variables or not.
 macro_rules! values {
     ($($value:ident { variable: $variable:expr })*) => {$(
         impl Part for $value {
@@ -17,7 +17,7 @@ macro_rules! values {
                     5 => $value::Boolean(true),
                     6 => $value::Enum(reader.part()?),
                     7 => $value::List(reader.part()?),
-                    // The library gives each field of an object once.
+                    // The library returns each field of an object once.
                     8 => $value::Object(IndexMap::of_distinct(reader.part()?)),
                     _ => return None,
                 })

@@ -34,13 +34,13 @@ impl DocumentOperations {
     }
 }
 
-/// The operations of a request, each with its name where it has one.
+/// The operations of a request, each with its name if it has one.
 ///
 /// Each operation comes once, and then `None` for good; `len` is how many are left.
 #[derive(Clone, Debug)]
 pub struct OperationsIter<'a>(Left<'a>);
 
-// An operation that stands alone, until it was given, or those of a map that are left.
+// A lone operation, until it was returned, or those of a map that are left.
 #[derive(Clone, Debug)]
 enum Left<'a> {
     Single(Option<&'a Positioned<OperationDefinition>>),
@@ -78,7 +78,7 @@ impl ExactSizeIterator for OperationsIter<'_> {
 
 /// An operation (section 2.3). Its name is the key that a document keeps it under.
 ///
-/// The node stands at its keyword, or at the `{` of the short form.
+/// The node is at its keyword, or at the `{` of the short form.
 #[derive(Clone, Debug)]
 pub struct OperationDefinition {
     /// The kind; `query` in the short form.
@@ -93,21 +93,21 @@ pub struct OperationDefinition {
 
 /// The definition of a variable (section 2.10).
 ///
-/// The node stands at its `$`.
+/// The node is at its `$`.
 #[derive(Clone, Debug)]
 pub struct VariableDefinition {
     /// The name after the `$`.
     pub name: Positioned<Name>,
     /// The type, at its first token.
     pub var_type: Positioned<Type>,
-    /// The directives, in source order. Variables may stand in them (this project's choice).
+    /// The directives, in source order. They may contain variables (this project's choice).
     pub directives: Vec<Positioned<Directive>>,
     /// The value after the `=`, at its first token.
     pub default_value: Option<Positioned<ConstValue>>,
 }
 
 impl VariableDefinition {
-    /// The value of the variable where a request gives none: the default where there is one; else null where the type may
+    /// The value of the variable if a request has none: the default if there is one; else null if the type may
     /// be null; else None.
     #[must_use]
     pub fn default_value(&self) -> Option<&ConstValue> {
@@ -121,17 +121,17 @@ impl VariableDefinition {
 
 /// The selections of an object (section 2.4).
 ///
-/// The node stands at its `{`; the set of a field that has none is empty and stands at 0:0.
+/// The node is at its `{`; the set of a field that has none is empty and at 0:0.
 #[derive(Clone, Debug, Default)]
 pub struct SelectionSet {
     /// The selections, in source order.
     pub items: Vec<Positioned<Selection>>,
 }
 
-/// A selection (section 2.4). The node in it stands at the same place.
+/// A selection (section 2.4). The node in it is at the same place.
 #[derive(Clone, Debug)]
 pub enum Selection {
-    /// A field, at its alias where it has one, else at its name.
+    /// A field, at its alias if it has one, else at its name.
     Field(Positioned<Field>),
     /// A fragment by its name, at the `...`.
     FragmentSpread(Positioned<FragmentSpread>),
@@ -172,12 +172,12 @@ pub struct Field {
     pub arguments: Vec<(Positioned<Name>, Positioned<Value>)>,
     /// The directives, in source order.
     pub directives: Vec<Positioned<Directive>>,
-    /// What is selected of the field's value, at its `{`; empty, at 0:0, where nothing is.
+    /// What is selected of the field's value, at its `{`; empty, at 0:0, if nothing is.
     pub selection_set: Positioned<SelectionSet>,
 }
 
 impl Field {
-    /// The name of the field's value in an answer: the alias where there is one, else the name.
+    /// The name of the field's value in an answer: the alias if there is one, else the name.
     #[must_use]
     pub fn response_key(&self) -> &Positioned<Name> {
         self.alias.as_ref().unwrap_or(&self.name)
@@ -198,7 +198,7 @@ pub struct FragmentSpread {
 /// A fragment that is written where it is used (section 2.8.2).
 #[derive(Clone, Debug)]
 pub struct InlineFragment {
-    /// The type that it applies to, where it names one.
+    /// The type that it applies to, if it names one.
     pub type_condition: Option<Positioned<TypeCondition>>,
     /// The directives, in source order.
     pub directives: Vec<Positioned<Directive>>,
@@ -208,7 +208,7 @@ pub struct InlineFragment {
 
 /// The definition of a fragment (section 2.8). Its name is the key that a document keeps it under.
 ///
-/// The node stands at its keyword.
+/// The node is at its keyword.
 #[derive(Clone, Debug)]
 pub struct FragmentDefinition {
     /// The type that it applies to.
@@ -221,7 +221,7 @@ pub struct FragmentDefinition {
 
 /// The type that a fragment applies to (section 2.8.1).
 ///
-/// The node stands at the name of the type, as the name itself: the tree that the library hands over doesn't keep the place
+/// The node is at the name of the type, as the name itself: the tree that the library returns doesn't keep the place
 /// of `on`.
 #[derive(Clone, Debug)]
 pub struct TypeCondition {

@@ -160,13 +160,13 @@ pub struct DirectiveDefinition {
     pub name: Positioned<Name>,
     /// The arguments that it takes, in source order.
     pub arguments: Vec<Positioned<InputValueDefinition>>,
-    /// Whether one place may have it more than once: `repeatable` stands before `on`.
+    /// Whether one place may have it more than once: `repeatable` is before `on`.
     pub is_repeatable: bool,
-    /// The places where it may stand, in source order.
+    /// The places where it may be used, in source order.
     pub locations: Vec<Positioned<DirectiveLocation>>,
 }
 
-/// A place where a directive may stand (section 3.13).
+/// A place where a directive may be used (section 3.13).
 #[derive(Clone, Copy, Debug, PartialEq, Eq)]
 pub enum DirectiveLocation {
     /// `QUERY`.

@@ -1,8 +1,8 @@
-//! Values in which variables may stand to values in which none does, and back, and values of other types.
+//! Values that may contain variables to values without, and back, and values of other types.
 use super::{ConstValue, IndexMap, Name, Number, Value};
 
 impl ConstValue {
-    /// The same value as one in which variables may stand.
+    /// The same value as one that may contain variables.
     #[must_use]
     pub fn into_value(self) -> Value {
         match self {
@@ -25,13 +25,13 @@ impl ConstValue {
 }
 
 impl Value {
-    /// The same value as one without variables; None exactly where a variable stands in it at any depth.
+    /// The same value as one without variables; None exactly if it contains a variable at any depth.
     #[must_use]
     pub fn into_const(self) -> Option<ConstValue> {
         self.into_const_with(|_| Err(())).ok()
     }
 
-    /// The same value with what `f` gives in the place of each variable.
+    /// The same value with what `f` returns in the place of each variable.
     ///
     /// # Errors
     ///

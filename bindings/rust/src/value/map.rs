@@ -10,7 +10,7 @@ use std::{slice, vec};
 /// A map that keeps its entries in the order in which their keys came, with the calls that such maps have elsewhere.
 ///
 /// It is made for the fields of objects, which are few: a look-up compares the keys one by one. A map of many entries is
-/// best filled by `collect` or `extend`, which hash the keys. Two maps are equal where they have the same entries, in any
+/// best filled by `collect` or `extend`, which hash the keys. Two maps are equal if they have the same entries, in any
 /// order.
 #[derive(Clone)]
 pub struct IndexMap<K, V> {
@@ -90,19 +90,19 @@ impl<K, V> IndexMap<K, V> {
         self.entries.get(index).map(|(key, value)| (key, value))
     }
 
-    /// The first entry; None where there is none.
+    /// The first entry; None if there is none.
     #[must_use]
     pub fn first(&self) -> Option<(&K, &V)> {
         self.get_index(0)
     }
 
-    /// The last entry; None where there is none.
+    /// The last entry; None if there is none.
     #[must_use]
     pub fn last(&self) -> Option<(&K, &V)> {
         self.entries.last().map(|(key, value)| (key, value))
     }
 
-    /// The place of a key in the order, counted from 0; None where the key isn't there.
+    /// The place of a key in the order, counted from 0; None if the key isn't there.
     #[must_use]
     pub fn get_index_of<Q: Eq + ?Sized>(&self, key: &Q) -> Option<usize>
     where
@@ -113,7 +113,7 @@ impl<K, V> IndexMap<K, V> {
             .position(|(other, _)| other.borrow() == key)
     }
 
-    /// The value of a key; None where the key isn't there.
+    /// The value of a key; None if the key isn't there.
     #[must_use]
     pub fn get<Q: Eq + ?Sized>(&self, key: &Q) -> Option<&V>
     where
@@ -123,7 +123,7 @@ impl<K, V> IndexMap<K, V> {
         Some(&self.entries[index].1)
     }
 
-    /// The value of a key, to be changed; None where the key isn't there.
+    /// The value of a key, to be changed; None if the key isn't there.
     pub fn get_mut<Q: Eq + ?Sized>(&mut self, key: &Q) -> Option<&mut V>
     where
         K: Borrow<Q>,
@@ -141,7 +141,7 @@ impl<K, V> IndexMap<K, V> {
         self.get_index_of(key).is_some()
     }
 
-    /// Takes an entry out, and moves those behind it one place up: its value, or None where the key isn't there.
+    /// Takes an entry out, and moves those behind it one place up: its value, or None if the key isn't there.
     pub fn shift_remove<Q: Eq + ?Sized>(&mut self, key: &Q) -> Option<V>
     where
         K: Borrow<Q>,
@@ -150,7 +150,7 @@ impl<K, V> IndexMap<K, V> {
         Some(self.entries.remove(index).1)
     }
 
-    /// Takes an entry out, and puts the last one in its place: its value, or None where the key isn't there.
+    /// Takes an entry out, and puts the last one in its place: its value, or None if the key isn't there.
     pub fn swap_remove<Q: Eq + ?Sized>(&mut self, key: &Q) -> Option<V>
     where
         K: Borrow<Q>,
@@ -166,7 +166,7 @@ impl<K, V> IndexMap<K, V> {
 }
 
 impl<K: Eq, V> IndexMap<K, V> {
-    /// Gives a key a value. A key that is there keeps its place, and its former value is handed back.
+    /// Sets the value of a key. A key that is there keeps its place, and its former value is returned.
     pub fn insert(&mut self, key: K, value: V) -> Option<V> {
         match self.get_mut(&key) {
             Some(former) => Some(std::mem::replace(former, value)),
@@ -239,7 +239,7 @@ impl<K: Hash + Eq, V, const N: usize> From<[(K, V); N]> for IndexMap<K, V> {
     }
 }
 
-/// The value of a key that is there; it panics where the key isn't.
+/// The value of a key that is there; it panics if the key isn't.
 impl<K: Borrow<Q>, V, Q: Eq + ?Sized> Index<&Q> for IndexMap<K, V> {
     type Output = V;
 
@@ -248,7 +248,7 @@ impl<K: Borrow<Q>, V, Q: Eq + ?Sized> Index<&Q> for IndexMap<K, V> {
     }
 }
 
-/// The value of a key that is there; it panics where the key isn't.
+/// The value of a key that is there; it panics if the key isn't.
 impl<K: Borrow<Q>, V, Q: Eq + ?Sized> IndexMut<&Q> for IndexMap<K, V> {
     fn index_mut(&mut self, key: &Q) -> &mut V {
         self.get_mut(key).expect("no entry of this key")

@@ -9,7 +9,7 @@ use std::sync::Arc;
 
 /// A name of a document: of a field, a type, an argument, a variable and the like.
 ///
-/// It is a `str` wherever one is wanted. Names are equal where their texts are, ordered by the bytes of their texts, and
+/// It is a `str` wherever one is wanted. Names are equal if their texts are, ordered by the bytes of their texts, and
 /// hashed as texts, so that a map over names is looked up by a `str`. A name of at most 22 bytes takes no memory but its
 /// own, and the clones of a longer one share its text.
 #[derive(Clone)]

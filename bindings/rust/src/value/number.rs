@@ -6,7 +6,7 @@ use std::str::FromStr;
 
 /// A number, as the literal that was written: nothing is rounded and nothing rewritten.
 ///
-/// Numbers are equal where their literals are, so `1.0` and `1.00` differ, and so do `0` and `-0`.
+/// Numbers are equal if their literals are, so `1.0` and `1.00` differ, and so do `0` and `-0`.
 #[derive(Clone)]
 pub struct Number(ShortText);
 
@@ -17,7 +17,7 @@ impl Number {
         ShortText::at_front(bytes, length).map(Number)
     }
 
-    /// The shortest literal that stands for a float; None for an infinite one and for one that is no number.
+    /// The shortest literal that means a float; None for an infinite one and for one that is no number.
     #[must_use]
     pub fn from_f64(float: f64) -> Option<Number> {
         let literal = format!("{float:?}");
@@ -30,14 +30,14 @@ impl Number {
         self.0.as_str()
     }
 
-    /// The value of a literal that has no fraction and no exponent, where it fits an `i64`; else None. It goes by the
+    /// The value of a literal that has no fraction and no exponent, if it fits an `i64`; else None. It goes by the
     /// literal alone: `1.0` and `1e3` have none, and `-0` is 0.
     #[must_use]
     pub fn as_i64(&self) -> Option<i64> {
         self.as_str().parse().ok()
     }
 
-    /// The value of a literal that has no fraction and no exponent, where it fits a `u64`; else None. It goes by the
+    /// The value of a literal that has no fraction and no exponent, if it fits a `u64`; else None. It goes by the
     /// literal alone: `1.0` and `1e3` have none, and `-0` is 0.
     #[must_use]
     pub fn as_u64(&self) -> Option<u64> {
@@ -47,7 +47,7 @@ impl Number {
         }
     }
 
-    /// The float that lies closest to the literal; None where that is infinite, as for `1e400`.
+    /// The float that lies closest to the literal; None if that is infinite, as for `1e400`.
     #[must_use]
     pub fn as_f64(&self) -> Option<f64> {
         self.as_str()
@@ -56,19 +56,19 @@ impl Number {
             .filter(|float: &f64| float.is_finite())
     }
 
-    /// Whether [`Number::as_i64`] gives a value.
+    /// Whether [`Number::as_i64`] returns a value.
     #[must_use]
     pub fn is_i64(&self) -> bool {
         self.as_i64().is_some()
     }
 
-    /// Whether [`Number::as_u64`] gives a value.
+    /// Whether [`Number::as_u64`] returns a value.
     #[must_use]
     pub fn is_u64(&self) -> bool {
         self.as_u64().is_some()
     }
 
-    /// Whether [`Number::as_f64`] alone gives a value.
+    /// Whether [`Number::as_f64`] alone returns a value.
     #[must_use]
     pub fn is_f64(&self) -> bool {
         !self.is_i64() && !self.is_u64() && self.as_f64().is_some()
@@ -83,7 +83,7 @@ fn digits(bytes: &[u8]) -> usize {
         .count()
 }
 
-// What follows the digits at the front of a text; none where there are no digits.
+// What follows the digits at the front of a text; none if there are no digits.
 fn after_digits(bytes: &[u8]) -> Option<&[u8]> {
     match digits(bytes) {
         0 => None,
@@ -91,7 +91,7 @@ fn after_digits(bytes: &[u8]) -> Option<&[u8]> {
     }
 }
 
-// What follows the number at the front of a text (sections 2.9.1 and 2.9.2); none where there is no number.
+// What follows the number at the front of a text (sections 2.9.1 and 2.9.2); none if there is no number.
 fn after_number(bytes: &[u8]) -> Option<&[u8]> {
     let whole = bytes.strip_prefix(b"-").unwrap_or(bytes);
     let mut rest = match whole {
@@ -126,7 +126,7 @@ impl std::error::Error for NotANumber {}
 impl FromStr for Number {
     type Err = NotANumber;
 
-    /// The number of this literal, or an error where the text is no number literal of the grammar (sections 2.9.1 and
+    /// The number of this literal, or an error if the text is no number literal of the grammar (sections 2.9.1 and
     /// 2.9.2).
     fn from_str(literal: &str) -> Result<Number, NotANumber> {
         match after_number(literal.as_bytes()) {

@@ -2,7 +2,7 @@
 use super::{ConstValue, IndexMap, Name, Value};
 use std::fmt::{self, Display, Formatter, Write};
 
-/// Has a type of values shown, with the case of a variable where it has one.
+/// Has a type of values shown, with the case of a variable if it has one.
 macro_rules! shown {
     ($(#[$about:meta])* $value:ident $(, $variable:ident)?) => {
         $(#[$about])*
@@ -26,8 +26,8 @@ macro_rules! shown {
 shown! {
     /// The value as GraphQL writes it (section 2.9): `{a: [1, 2]}`, on one line.
     ///
-    /// A string stands in quotes. In it `"`, `\` and control characters below U+0020 are escaped, and every other character
-    /// stands for itself (this project's choice).
+    /// A string is in quotes. In it `"`, `\` and control characters below U+0020 are escaped, and every other character
+    /// is itself (this project's choice).
     ConstValue
 }
 
@@ -56,7 +56,7 @@ fn write_object<V: Display>(fields: &IndexMap<Name, V>, f: &mut Formatter<'_>) -
     f.write_str("}")
 }
 
-/// The string in quotes that stands for a text in a value that is shown.
+/// The string in quotes that means a text in a value that is shown.
 pub(crate) struct Quoted<'a>(pub &'a str);
 
 impl Display for Quoted<'_> {

@@ -29,7 +29,7 @@ impl ShortText {
         })
     }
 
-    /// The text that the first bytes are, of which there are so many; none where they aren't UTF-8. They are copied by one
+    /// The text that the first bytes are, of which there are so many; none if they aren't UTF-8. They are copied by one
     /// move of fixed length wherever so many follow.
     #[inline(always)]
     pub(crate) fn at_front(bytes: &[u8], length: usize) -> Option<ShortText> {
