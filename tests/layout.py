@@ -7,7 +7,8 @@ Texts are the rows of the tables of `conformance`, and COUNT random texts of eac
 `tests/random_texts.py`. GraphQL.js prints those that it reads. The tokens of what it prints, one blank apart, have to be
 formatted to that again, byte for byte, and so has what it prints itself: the block strings among them are spelled as in the
 text, where the two have the same tokens. No minified text may be longer than what `stripIgnoredCharacters` gives. It prints
-the texts for which that doesn't hold, and last how many there were of which kind; its status is 1 if there was one.
+the texts for which that doesn't hold, and last how many there were of which kind; its status is 1 if there was one. Texts with
+a line of blanks inside a block string are left out: one that GraphQL.js reads otherwise than `gql` is kept as it is spelled.
 
 It needs node with the package graphql (Debian's node-graphql, 16.6), and the program of `crates/gql`, which `rt run` builds there.
 It isn't part of `rt ci`, since that needs the kit alone.
@@ -25,8 +26,8 @@ from random_texts import Source
 ROOT = pathlib.Path(__file__).resolve().parent.parent
 GQL = ROOT / "crates/gql/out/gql"
 
-# Prints, for each text of a list: null if it isn't read, else what is printed, its tokens one blank apart, and the text
-# without ignored characters.
+# Prints, for each text of a list: null if it isn't read or is left out, else what is printed, its tokens one blank apart, and
+# the text without ignored characters.
 PRINTER = """
 const { parse, print, stripIgnoredCharacters, Lexer, Source, TokenKind } = require("graphql");
 function tokens(text) {
@@ -45,6 +46,9 @@ const seen = texts.map((text) => {
   const printed = print(tree);
   const mine = tokens(printed);
   const theirs = tokens(text);
+  const has_blanks = (token) =>
+    token.kind === TokenKind.BLOCK_STRING && /[\\n\\r][ \\t]+[\\n\\r]/.test(text.slice(token.start, token.end));
+  if (theirs.some(has_blanks)) return null;
   const are_same = mine.length === theirs.length && mine.every((token, at) => token.kind === theirs[at].kind);
   const spelled = mine.map((token, at) =>
     are_same && token.kind === TokenKind.BLOCK_STRING
@@ -157,7 +161,10 @@ def main():
     for language in ("query", "schema"):
         for name, texts in (("rows", rows[language]), ("random texts", random_texts(language, seed, count))):
             alike, different, refused, unread = compare(language, texts)
-            print(f"{language}, {name}: {alike} alike, {different} different, {refused} refused by gql alone, {unread} that GraphQL.js refuses")
+            print(
+                f"{language}, {name}: {alike} alike, {different} different, {refused} refused by gql alone, "
+                f"{unread} left out or refused by GraphQL.js"
+            )
             status = status or (1 if different else 0)
     return status
 

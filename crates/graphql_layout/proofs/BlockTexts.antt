@@ -15,6 +15,7 @@ use Rattle.graphql_tokens.specs.inner.Quoted.{past_block_from, past_block}
 use Rattle.graphql_tokens.proofs.BlockTokens.{block_is}
 use Rattle.graphql_tokens.proofs.Propers.{text_scalars}
 use Rattle.graphql_layout.specs.texts.Blocks.{ends_in_mark, is_wide, leads, trails, blanks, line_break, placed, body, break_if, content, block_of, spelled, may_be_block, HasValue}
+use Rattle.graphql_layout.specs.texts.Specified.{specified_value, specified_value_of_block, HasSpecifiedValue}
 use Rattle.graphql_layout.specs.texts.Shortened.{has, is_mark, is_open, is_hung, escaped, line_feed_if, shortest}
 use Rattle.graphql_layout.proofs.BlockBodies.{blanks_pass, body_passes}
 use Rattle.graphql_layout.proofs.BlockChoices.{kept_if, if_kept, flat_hung}
@@ -23,6 +24,7 @@ use Rattle.graphql_layout.proofs.BlockMeanings.{Kept, Flat, flat, kept_means, me
 use Rattle.graphql_layout.proofs.BlockPushes.{block_bytes}
 use Rattle.graphql_layout.proofs.BlockValues.{value_keeps}
 use Rattle.graphql_layout.proofs.Joined.{scalars_all}
+use Rattle.graphql_layout.proofs.WrittenReadings.{kept_specified, nothing_specified}
 
 -- ---- where the string ends
 
@@ -131,8 +133,14 @@ content_left a b i cs u =
     ∙ ap (λ (s : List ℕ). chars (drop 3 s)) (take-append_seam (three ++ bytes) three)
     ∙ chars-encodes text (scalars_all text (content_scalars a b i cs u))
 
-block_means : (a b : Bool) (i : ℕ) (cs : List ℕ) → AreScalars cs → (k : Kept cs) → Flat a k.line k.lines → value_of_block (block_of a b i cs) ≡ cs
-block_means a b i cs u k f = ap block_value (content_left a b i cs u) ∙ kept_means a b i cs k f
+-- this parser and the specification read these characters
+abbrev pub Means : List ℕ → List ℕ → Type 0
+Means spelling cs = (value_of_block spelling ≡ cs) × (specified_value_of_block spelling ≡ cs)
+
+block_means : (a b : Bool) (i : ℕ) (cs : List ℕ) → AreScalars cs → (k : Kept cs) → Flat a k.line k.lines → Means (block_of a b i cs) cs
+block_means a b i cs u k f =
+    let left = content_left a b i cs u in
+    (ap block_value left ∙ kept_means a b i cs k f, ap specified_value left ∙ kept_specified a b i cs k f)
 
 -- ---- as it is printed
 
@@ -144,12 +152,15 @@ pub block_spelled : (i : ℕ) (value : List ℕ) → IsUtf8 value → Spells Blo
 unfolding spelled
 block_spelled i value u = let cs = chars value in block_spells (leads cs) (trails cs) i cs (text_scalars value u) (spelled_closes cs)
 
-kept_value_is : (i : ℕ) (value : List ℕ) → IsUtf8 value → Kept (chars value) → HasValue (spelled i value) value
+kept_value_is : (i : ℕ) (value : List ℕ) → IsUtf8 value → Kept (chars value) → Means (spelled i value) (chars value)
 unfolding spelled
 kept_value_is i value u k = let cs = chars value in block_means (leads cs) (trails cs) i cs (text_scalars value u) k (flat cs k)
 
 pub value_kept : (value : List ℕ) → IsUtf8 value → may_be_block (chars value) ≡ true → (i : ℕ) → HasValue (spelled i value) value
-value_kept value u h i = kept_value_is i value u (kept_if (chars value) h)
+value_kept value u h i = (kept_value_is i value u (kept_if (chars value) h)).0
+
+pub value_specified : (value : List ℕ) → IsUtf8 value → may_be_block (chars value) ≡ true → (i : ℕ) → HasSpecifiedValue (spelled i value) value
+value_specified value u h i = (kept_value_is i value u (kept_if (chars value) h)).1
 
 pub kept_value : (value : List ℕ) → IsUtf8 value → (i : ℕ) → value ≢ [] → HasValue (spelled i value) value → may_be_block (chars value) ≡ true
 unfolding spelled
@@ -158,20 +169,21 @@ kept_value value u i some h =
     if_kept cs (means_kept i cs (λ e. some (sym (encodes-chars value u) ∙ ap encode_utf8_all e)) (sym (ap block_value (content_left (leads cs) (trails cs) i cs (text_scalars value u))) ∙ h))
 
 -- the empty block string
-nothing_left : (i : ℕ) (cs : List ℕ) → cs ≡ [] → value_of_block (block_of (leads cs) (trails cs) i cs) ≡ cs
-nothing_left i cs e =
-    let none : value_of_block (block_of false false i []) ≡ [] = ap block_value (content_left false false i [] tt) ∙ nothing_means in
-    subst (λ (l : List ℕ). value_of_block (block_of (leads l) (trails l) i l) ≡ l) (sym e) none
+none_means : (i : ℕ) → Means (block_of false false i []) []
+none_means i = let left = content_left false false i [] tt in (ap block_value left ∙ nothing_means, ap specified_value left ∙ nothing_specified)
+
+nothing_left : (i : ℕ) (cs : List ℕ) → cs ≡ [] → Means (block_of (leads cs) (trails cs) i cs) cs
+nothing_left i cs e = subst (λ (l : List ℕ). Means (block_of (leads l) (trails l) i l) l) (sym e) (none_means i)
 
 -- the value of a block string is kept
-pub spelled_means : (i : ℕ) (value raw : List ℕ) → IsUtf8 value → block_value raw ≡ chars value → HasValue (spelled i value) value
+pub spelled_means : (i : ℕ) (value raw : List ℕ) → IsUtf8 value → block_value raw ≡ chars value → Means (spelled i value) (chars value)
 unfolding spelled
 spelled_means i value raw u h = by (chars value) refl
   where
     some : (c : ℕ) (cs : List ℕ) → chars value ≡ c ∷ cs → chars value ≢ []
     some c cs e f = let g : c ∷ cs ≡ [] = sym e ∙ f in cc
 
-    by : (cs : List ℕ) → chars value ≡ cs → HasValue (spelled i value) value
+    by : (cs : List ℕ) → chars value ≡ cs → Means (spelled i value) (chars value)
     by [] e = nothing_left i (chars value) e
     by (c ∷ cs) e = kept_value_is i value u (value_keeps raw (chars value) (some c cs e) h)
 
@@ -199,8 +211,8 @@ shortest_is cs =
 pub shortest_spells : (cs : List ℕ) → AreScalars cs → Spells Block (shortest cs)
 shortest_spells cs u = subst (Spells Block) (sym (shortest_is cs)) (block_spells (is_hung cs) (is_open 0 false cs) 0 cs u (shortest_closes cs))
 
-pub shortest_means : (cs raw : List ℕ) → AreScalars cs → block_value raw ≡ cs → value_of_block (shortest cs) ≡ cs
-shortest_means [] raw u h = ap value_of_block (shortest_is []) ∙ ap block_value (content_left false false 0 [] tt) ∙ nothing_means
+pub shortest_means : (cs raw : List ℕ) → AreScalars cs → block_value raw ≡ cs → Means (shortest cs) cs
+shortest_means [] raw u h = subst (λ (l : List ℕ). Means l []) (sym (shortest_is [])) (none_means 0)
 shortest_means (c ∷ cs) raw u h =
     let k = value_keeps raw (c ∷ cs) (λ e. absurd (cc)) h in
-    ap value_of_block (shortest_is (c ∷ cs)) ∙ block_means (is_hung (c ∷ cs)) (is_open 0 false (c ∷ cs)) 0 (c ∷ cs) u k (flat_hung (c ∷ cs) k)
+    subst (λ (l : List ℕ). Means l (c ∷ cs)) (sym (shortest_is (c ∷ cs))) (block_means (is_hung (c ∷ cs)) (is_open 0 false (c ∷ cs)) 0 (c ∷ cs) u k (flat_hung (c ∷ cs) k))

@@ -18,6 +18,7 @@ pub mod ItemsIn
 pub mod Joined
 pub mod Marks
 pub mod Minified
+pub mod OneReadings
 pub mod Pushes
 pub mod QuotedBlocks
 pub mod Quotes
@@ -29,4 +30,5 @@ pub mod Swizzles
 pub mod Shortenings
 pub mod Takings
 pub mod Trimmed
+pub mod WrittenReadings
 pub mod WrittenTokens

@@ -21,7 +21,7 @@ use Rattle.graphql_layout.specs.texts.Shortened.{shortened}
 use Rattle.graphql_layout.proofs.Joined.{IsSpelled, ArePrintable, printable, joined_written}
 use Rattle.graphql_layout.proofs.Remains.{Remains, none_remain}
 use Rattle.graphql_layout.proofs.Room.{room}
-use Rattle.graphql_layout.proofs.Shortenings.{short_printable, all_alike, twice, joined_fits}
+use Rattle.graphql_layout.proofs.Shortenings.{short_printable, all_alike, all_specified, twice, joined_fits}
 
 -- ---- which tokens may touch
 
@@ -133,6 +133,7 @@ minified text other ts u cut ends proper whole is =
       of_text = (ts, cut, s.is);
       of_other = (r.0, subst (λ (x : List ℕ). IsCutInto x r.0) (sym is) r.1, r.2 ∙ short);
       alike = all_alike s.front (subst ArePrintable s.is p);
+      as_specified = all_specified s.front (subst ArePrintable s.is p);
       tight = subst (IsTight (map shortened s.front)) (sym (is ∙ ap (joined Open) short)) (tight (map shortened s.front) (subst ArePrintable short q));
       no_longer = omega (arith, fits, joined_fits Open (bares ts) p, ap length is, ap length (encodes-chars text u));
     }

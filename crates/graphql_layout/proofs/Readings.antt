@@ -10,6 +10,7 @@ use Rattle.graphql_layout.specs.texts.Items.{Item, comment, word, IsItems, words
 use Rattle.graphql_tokens.specs.tokens.Alike.{AreAlike}
 use Rattle.graphql_layout.specs.inner.Tidied.{tidied}
 use Rattle.graphql_layout.specs.texts.LaidOut.{AreLaid}
+use Rattle.graphql_layout.specs.texts.Specified.{AreAlikeAsSpecified}
 use Rattle.graphql_layout.proofs.Items.{ignored_item, comment_item, past_ignored, past_comment_item}
 
 -- ---- a text in two
@@ -99,7 +100,7 @@ comments_of (p ∷ ps) after h = by h.0 (comments_of ps after h.1)
 pub are_tidied : (xs : List Item) → AreLaid xs (tidied xs)
 are_tidied [] = tt
 are_tidied (comment c ∷ xs) = (refl, are_tidied xs)
-are_tidied (word b ∷ xs) = (inl refl, are_tidied xs)
+are_tidied (word b ∷ xs) = ((inl refl, λ k. refl), are_tidied xs)
 
 pub both_laid : (xs vs ys ws : List Item) → AreLaid xs vs → AreLaid ys ws → AreLaid (xs ++ ys) (vs ++ ws)
 both_laid [] [] ys ws h k = k
@@ -114,4 +115,13 @@ alike_words (x ∷ xs) [] h = absurd h
 alike_words (comment c ∷ xs) (comment d ∷ vs) h = alike_words xs vs h.1
 alike_words (comment c ∷ xs) (word b ∷ vs) h = absurd h.0
 alike_words (word a ∷ xs) (comment d ∷ vs) h = absurd h.0
-alike_words (word a ∷ xs) (word b ∷ vs) h = (h.0, alike_words xs vs h.1)
+alike_words (word a ∷ xs) (word b ∷ vs) h = (h.0.0, alike_words xs vs h.1)
+
+pub specified_words : (xs vs : List Item) → AreLaid xs vs → AreAlikeAsSpecified (words xs) (words vs)
+specified_words [] [] h = tt
+specified_words [] (v ∷ vs) h = absurd h
+specified_words (x ∷ xs) [] h = absurd h
+specified_words (comment c ∷ xs) (comment d ∷ vs) h = specified_words xs vs h.1
+specified_words (comment c ∷ xs) (word b ∷ vs) h = absurd h.0
+specified_words (word a ∷ xs) (comment d ∷ vs) h = absurd h.0
+specified_words (word a ∷ xs) (word b ∷ vs) h = (h.0.1, specified_words xs vs h.1)

@@ -4,7 +4,7 @@ use Rattle.std.proofs.lemmas.Bool.Decides.{nat_tests}
 use lib.Utf8.{scalar}
 use Rattle.std.specs.Char.{IsScalar}
 use Rattle.std.specs.List.{AllByRecursion}
-use Rattle.std.specs.Str.{chars, all_scalars}
+use Rattle.std.specs.Str.{chars, all_scalars, IsUtf8}
 use Rattle.graphql_tokens.specs.tokens.Alike.{inside, value_of_block, IsAlike, AreAlike}
 use Rattle.graphql_tokens.specs.tokens.Edition.{Current}
 use Rattle.graphql_tokens.specs.tokens.Proper.{Spells, IsProperBare}
@@ -17,10 +17,13 @@ use Rattle.graphql_tokens.proofs.Propers.{text_scalars}
 use Rattle.graphql_layout.specs.declared.ending.Ending.{Ending}
 use Rattle.graphql_layout.specs.inner.Endings.{ending_by, ending_of, stops, stops_token, gap_before, joined}
 use Rattle.graphql_layout.specs.texts.SameTokens.{bare_end}
+use Rattle.graphql_layout.specs.texts.OneReading.{has_one_reading}
 use Rattle.graphql_layout.specs.texts.Shortened.{shortest, shorter, shortened}
+use Rattle.graphql_layout.specs.texts.Specified.{specified_value, specified_value_of_block, IsAlikeAsSpecified, AreAlikeAsSpecified}
 use Rattle.graphql_layout.proofs.BlockScalars.{value_all}
 use Rattle.graphql_layout.proofs.BlockTexts.{AreScalars, shortest_spells, shortest_means}
 use Rattle.graphql_layout.proofs.Joined.{IsSpelled, ArePrintable, spelled}
+use Rattle.graphql_layout.proofs.OneReadings.{one_reading}
 use Rattle.graphql_layout.proofs.QuotedBlocks.{quoted, inside_is}
 
 -- ---- two ways
@@ -30,22 +33,23 @@ block spelling = record { kind = Block; spelling = spelling }
 
 -- as it was, or in few characters
 abbrev pub IsShort : Bare → Type 0
-IsShort b = (shortened b ≡ b) ⊎ ((b.kind ≡ Block) × (shortened b ≡ block (shortest (value_of_block b.spelling))) × (length (shortest (value_of_block b.spelling)) ≤ length b.spelling))
+IsShort b = (shortened b ≡ b) ⊎ ((b.kind ≡ Block) × (shortened b ≡ block (shortest (value_of_block b.spelling))) × (length (shortest (value_of_block b.spelling)) ≤ length b.spelling) × (has_one_reading (inside 3 b.spelling) ≡ true))
 
 pub short : (b : Bare) → IsShort b
 short b = by b.kind b.spelling
   where
-    of_two : (spelling one : List ℕ) (t : Bool) → nat_lt (length spelling) (length one) ≡ t
-        → (block (cond t spelling one) ≡ block spelling) ⊎ ((Block ≡ Block) × (block (cond t spelling one) ≡ block one) × (length one ≤ length spelling))
-    of_two spelling one true e = inl refl
-    of_two spelling one false e = inr (refl, refl, grind (arith, nat_tests))
+    of_two : (spelling one : List ℕ) (r t : Bool) → has_one_reading (inside 3 spelling) ≡ r → nat_lt (length spelling) (length one) ≡ t
+        → (block (cond r (cond t spelling one) spelling) ≡ block spelling) ⊎ ((Block ≡ Block) × (block (cond r (cond t spelling one) spelling) ≡ block one) × (length one ≤ length spelling) × (has_one_reading (inside 3 spelling) ≡ true))
+    of_two spelling one false t f e = inl refl
+    of_two spelling one true true f e = inl refl
+    of_two spelling one true false f e = inr (refl, refl, grind (arith, nat_tests), f)
 
     by : (kind : TokenKind) (spelling : List ℕ) → IsShort (record { kind = kind; spelling = spelling })
     by Punct spelling = inl refl
     by Name spelling = inl refl
     by Number spelling = inl refl
     by String spelling = inl refl
-    by Block spelling = of_two spelling (shortest (value_of_block spelling)) (nat_lt (length spelling) (length (shortest (value_of_block spelling)))) refl
+    by Block spelling = of_two spelling (shortest (value_of_block spelling)) (has_one_reading (inside 3 spelling)) (nat_lt (length spelling) (length (shortest (value_of_block spelling)))) refl refl
     by Fault spelling = inl refl
     by End spelling = inl refl
 
@@ -94,8 +98,27 @@ short_alike b s = by (short b)
         inr (record {
           block = h.0;
           other_block = ap (λ (x : Bare). x.kind) h.1;
-          value = sym (ap (λ (x : Bare). value_of_block x.spelling) h.1 ∙ shortest_means value (chars (inside 3 b.spelling)) (value_scalars b.spelling (s h.0)) refl);
+          value = sym (ap (λ (x : Bare). value_of_block x.spelling) h.1 ∙ (shortest_means value (chars (inside 3 b.spelling)) (value_scalars b.spelling (s h.0)) refl).0);
         })
+
+-- by the specification
+pub reads_alike : (spelling : List ℕ) → Spells Block spelling → has_one_reading (inside 3 spelling) ≡ true → specified_value_of_block spelling ≡ value_of_block spelling
+reads_alike spelling s h = let q = quoted spelling s in one_reading (inside 3 spelling) (subst IsUtf8 (sym (inside_is spelling q)) q.utf8) h
+
+short_specified : (b : Bare) → SpellsBlock b → IsAlikeAsSpecified b (shortened b)
+short_specified b s is = by (short b)
+  where
+    by : IsShort b → specified_value_of_block b.spelling ≡ specified_value_of_block (shortened b).spelling
+    by (inl e) = sym (ap (λ (x : Bare). specified_value_of_block x.spelling) e)
+    by (inr h) =
+        let value = value_of_block b.spelling in
+        reads_alike b.spelling (s is) h.3
+        ∙ sym (ap (λ (x : Bare). specified_value_of_block x.spelling) h.1 ∙ (shortest_means value (chars (inside 3 b.spelling)) (value_scalars b.spelling (s is)) refl).1)
+
+pub all_specified : (bs : List Bare) → ArePrintable (bs ++ bare_end ∷ []) → AreAlikeAsSpecified bs (map shortened bs)
+all_specified [] p = tt
+all_specified (b ∷ []) p = (short_specified b (spells_block b p.0.0 p.0.1), tt)
+all_specified (b ∷ c ∷ bs) p = (short_specified b (spells_block b p.0.0 p.0.1), all_specified (c ∷ bs) p.1)
 
 pub all_alike : (bs : List Bare) → ArePrintable (bs ++ bare_end ∷ []) → AreAlike bs (map shortened bs)
 all_alike [] p = tt
@@ -107,9 +130,10 @@ all_alike (b ∷ c ∷ bs) p = (short_alike b (spells_block b p.0.0 p.0.1), all_
 twice_one : (b : Bare) → IsAlike b (shortened b) → shortened (shortened b) ≡ shortened b
 twice_one b a = by (short b) a
   where
-    same : (one : List ℕ) (t : Bool) → cond t one one ≡ one
-    same one true = refl
-    same one false = refl
+    same : (one : List ℕ) (r t : Bool) → cond r (cond t one one) one ≡ one
+    same one true true = refl
+    same one true false = refl
+    same one false t = refl
 
     by : IsShort b → IsAlike b (shortened b) → shortened (shortened b) ≡ shortened b
     by (inl e) a = ap shortened e
@@ -117,7 +141,8 @@ twice_one b a = by (short b) a
     by (inr h) (inr r) =
         let one = shortest (value_of_block b.spelling) in
         let value : value_of_block one ≡ value_of_block b.spelling = sym (r.value ∙ ap (λ (x : Bare). value_of_block x.spelling) h.1) in
-        ap shortened h.1 ∙ ap (λ (v : List ℕ). block (shorter (shortest v) one)) value ∙ ap block (same one (nat_lt (length one) (length one))) ∙ sym h.1
+        ap shortened h.1 ∙ ap (λ (v : List ℕ). block (cond (has_one_reading (inside 3 one)) (shorter (shortest v) one) one)) value
+        ∙ ap block (same one (has_one_reading (inside 3 one)) (nat_lt (length one) (length one))) ∙ sym h.1
 
 pub twice : (bs : List Bare) → AreAlike bs (map shortened bs) → map shortened (map shortened bs) ≡ map shortened bs
 twice [] a = refl

@@ -24,7 +24,7 @@ use Rattle.graphql_layout.proofs.Aheads.{passed_long}
 use Rattle.graphql_layout.proofs.Hashes.{tidied_both}
 use Rattle.graphql_layout.proofs.Items.{word_item, past_word_item, no_items, itemized, items_written}
 use Rattle.graphql_layout.proofs.Joined.{proper_of, spells_of}
-use Rattle.graphql_layout.proofs.Readings.{Seam, seam, comments_of, are_tidied, both_laid, alike_words}
+use Rattle.graphql_layout.proofs.Readings.{Seam, seam, comments_of, are_tidied, both_laid, alike_words, specified_words}
 
 -- ---- the loop
 
@@ -158,6 +158,7 @@ all_laid_out text other rest passed start gap base t more sheet new r n kind e p
         of_other = items_written (chars other) new others [];
         alike = alike_words items new alike;
       };
+      as_specified = specified_words items new alike;
       items = items;
       others = new;
       of_text = are;
@@ -231,7 +232,7 @@ one_read text rest passed start gap from after base l next t sheet new longer r 
     let c = comments_in passed ++ n.items in
     let some : 1 ≤ length t.bare.spelling = omega (arith, ap length w.spelled, length-le-encodes m.word, begins_some Current m.kind m.word m.rest m.begins) in
     let before : AreLaid (r.passed ++ c) (sheet ++ tidied c) = both_laid r.passed sheet c (tidied c) r.laid (are_tidied c) in
-    let laid : AreLaid ((r.passed ++ c) ++ word t.bare ∷ []) ((sheet ++ tidied c) ++ word d.other ∷ []) = both_laid (r.passed ++ c) (sheet ++ tidied c) (word t.bare ∷ []) (word d.other ∷ []) before (d.alike, tt) in
+    let laid : AreLaid ((r.passed ++ c) ++ word t.bare ∷ []) ((sheet ++ tidied c) ++ word d.other ∷ []) = both_laid (r.passed ++ c) (sheet ++ tidied c) (word t.bare ∷ []) (word d.other ∷ []) before ((d.alike, d.as_specified), tt) in
     let seamed : (tail : List Item) → (r.passed ++ (c ++ (word t.bare ∷ tail)) ≡ ((r.passed ++ c) ++ word t.bare ∷ []) ++ tail) =
     λ tail. sym (append_assoc r.passed c (word t.bare ∷ tail)) ∙ sym (append_assoc (r.passed ++ c) (word t.bare ∷ []) tail) in
     record {

@@ -9,7 +9,9 @@ ghost use Rattle.graphql_tokens.specs.declared.lexer.TokenKind.TheVariants as ki
 ghost use Rattle.graphql_layout.specs.texts.Blocks as spec;
 ghost use Rattle.graphql_layout.specs.inner.Marks.{BeginsWithMark, IsMarked};
 ghost use Rattle.graphql_layout.specs.texts.Shortened as short;
+ghost use Rattle.graphql_layout.specs.texts.Specified.{HasSpecifiedValue};
 
+use crate::one_reading::has_one_reading;
 use graphql_tokens::text::block_string_value;
 use memchr::memchr3;
 use std::alloc::{AllocError, Global};
@@ -150,6 +152,9 @@ pub fn may_be_block(value: &str) -> bool
     // The block string means the value,
     ensures means { result ≡ true → (indent : ℕ) →
         spec.HasValue (spec.spelled indent value.now) value.now }
+    // by the specification too,
+    ensures as_specified { result ≡ true → (indent : ℕ) →
+        HasSpecifiedValue (spec.spelled indent value.now) value.now }
     // and that of a value that isn't empty does so only then.
     ensures only { (indent : ℕ) → value.now ≢ [] →
         spec.HasValue (spec.spelled indent value.now) value.now → result ≡ true }
@@ -288,8 +293,8 @@ fn push_shortest(out: &mut String, value: &str) -> Result<(), AllocError>
     push_back(out, is_open, 0)
 }
 
-// What stands between three quotes and three quotes.
-fn inside_quotes(spelling: &str) -> &str
+/// What stands between three quotes and three quotes.
+pub fn inside_quotes(spelling: &str) -> &str
     requires { Spells kinds.Block spelling.now }
     ensures { result.now ≡ inside 3 spelling.now }
 {
@@ -297,17 +302,10 @@ fn inside_quotes(spelling: &str) -> &str
     &front[3..]
 }
 
-/// The value of a block string that is spelled so (GraphQL October 2021, section 2.9.4). It fails only where memory runs out.
-pub fn value_of(alloc: Global, spelling: &str) -> Result<String, AllocError>
-    requires { Spells kinds.Block spelling.now }
-    ensures { IfOk result (λ value. chars (string_bytes value) ≡ value_of_block spelling.now) }
-{
-    block_string_value(alloc, inside_quotes(spelling))
-}
-
 /// Writes a block string that is spelled so in few characters, if these aren't more than it has: a line feed before the value only
 /// where its lines would lose an indent without it, and one after it only where closing quotes would be read with its last
-/// character (this project's choice: as GraphQL.js 16 does where it strips a text of ignored characters).
+/// character (this project's choice: as GraphQL.js 16 does where it strips a text of ignored characters). One whose value the
+/// specification and this parser don't agree on is written as it is spelled.
 ///
 /// It fails only where memory runs out.
 pub fn push_shortened(alloc: Global, out: &mut String, spelling: &str) -> Result<(), AllocError>
@@ -315,7 +313,11 @@ pub fn push_shortened(alloc: Global, out: &mut String, spelling: &str) -> Result
     ensures { OnOk result (string_bytes out.new ≡ string_bytes out.old
         ++ short.shortened_by kinds.Block spelling.now) }
 {
-    let value = value_of(alloc, spelling)?;
+    let raw = inside_quotes(spelling);
+    if !has_one_reading(raw) {
+        return out.push_str(spelling);
+    }
+    let value = block_string_value(alloc, raw)?;
     let mut written = String::with_capacity(alloc, spelling.len())?;
     push_shortest(&mut written, &value)?;
     if written.len() > spelling.len() {

@@ -11,19 +11,21 @@ pub mod gaps;
 pub mod lines;
 pub mod walk;
 
-use crate::blocks::value_of;
+use crate::blocks::inside_quotes;
 use crate::comments::push_ignored;
+use crate::one_reading::has_one_reading;
 use crate::sheet::Sheet;
 use ahead::{Ahead, go_on};
 use gaps::{Layout, Place};
 use graphql_tokens::lexer::{TokenKind, Tokens};
+use graphql_tokens::text::block_string_value;
 use lines::begin_token;
 use std::alloc::{AllocError, Global};
 
 // How many blanks stand before a line, for each broken bracket around it.
 const INDENT: usize = 2;
 
-// Writes a token: a block string anew from its value, as deep as its place is, and another as it is spelled.
+// Writes a token: a block string of one reading anew from its value, as deep as its place is, and another as it is spelled.
 fn push_token(
     alloc: Global,
     sheet: &mut Sheet,
@@ -37,13 +39,18 @@ fn push_token(
     if !kind.is_block() {
         return sheet.token(kind, text);
     }
-    let value = value_of(alloc, text)?;
+    let raw = inside_quotes(text);
+    if !has_one_reading(raw) {
+        return sheet.token(kind, text);
+    }
+    let value = block_string_value(alloc, raw)?;
     sheet.block(&value, place.inside.saturating_mul(INDENT))
 }
 
 /// The text laid out anew, with its comments, less the blanks at their ends. Block strings are laid out too, with the values that
 /// they have, as GraphQL.js 16 prints them: each line after the first is two blanks deeper for each broken bracket around it. Other
-/// tokens are kept as they are spelled. `None` where the text has a fault.
+/// tokens are kept as they are spelled, and so is a block string whose value the specification and this parser don't agree on: a
+/// blank line in it is shorter than the common indent. `None` where the text has a fault.
 ///
 /// It fails only where memory runs out.
 pub fn format(alloc: Global, text: &str) -> Result<Option<String>, AllocError>

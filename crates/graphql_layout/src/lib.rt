@@ -1,12 +1,12 @@
 //! Texts written anew from their tokens. It knows tokens and no grammar.
 //!
 //! Proved: a text that [`minify`] gives has the tokens of the text that it is given, one for one in kind and spelling, but that
-//! block strings are written in few characters and have the same values; and no others; between two of them there is nothing
-//! where they may touch, and else one blank; and it is no longer.
+//! block strings are written in few characters and have the same values, by the specification too; and no others; between two of
+//! them there is nothing where they may touch, and else one blank; and it is no longer.
 //!
 //! A text that [`format`] gives has the tokens of the text that it is given, one for one in kind and spelling, but that block
-//! strings are laid out anew and have the same values; and its comments, each between the same two tokens, less the blanks at its
-//! end; and no others.
+//! strings are laid out anew and have the same values, by the specification too; and its comments, each between the same two
+//! tokens, less the blanks at its end; and no others.
 //!
 //! A [`Sheet`](sheet::Sheet) is a text that is written token after token and comment after comment, with blanks and line feeds
 //! between them. Proved: it has these tokens and comments and no others, however it is laid out.
@@ -29,6 +29,7 @@ pub mod blocks;
 mod comments;
 mod ending;
 mod layout;
+mod one_reading;
 mod scans;
 pub mod sheet;
 
@@ -73,7 +74,8 @@ fn push_token(
 /// The text without its comments, and of the blanks, line ends, commas and byte order marks between its tokens (GraphQL
 /// October 2021, section 2.1.7) without all that aren't needed: a blank is left where two tokens would be read as others if
 /// they touched. Block strings are written in few characters, with the values that they have, where these aren't more than
-/// there are; other tokens are kept as they are spelled. `None` where the text has a fault.
+/// there are, and where the specification and this parser agree on the value; other tokens are kept as they are spelled. `None`
+/// where the text has a fault.
 ///
 /// It fails only where memory runs out.
 pub fn minify(alloc: Global, text: &str) -> Result<Option<String>, AllocError>

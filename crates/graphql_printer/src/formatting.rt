@@ -17,7 +17,8 @@ use std::alloc::Global;
 /// and objects on one line, but where a field with its arguments is longer than 80 columns, and where a list or an object was
 /// broken after its opening bracket. Comments are kept, those on lines of their own and those at the ends of others, and one
 /// blank line where there were some between members. Tokens are kept as they are spelled, but block strings are indented anew:
-/// they keep their values. Selection sets, values and types may nest as deep as the limits say.
+/// they keep their values, by the specification too (section 2.9.4). One that the specification and this parser read differently
+/// is kept as it is spelled. Selection sets, values and types may nest as deep as the limits say.
 ///
 /// Errors are those of `check_query_limited`, of the text that it is given; `OutOfMemory` where memory was refused.
 pub fn format_query(alloc: Global, text: &str, limits: Limits) -> Result<String>

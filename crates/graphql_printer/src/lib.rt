@@ -48,7 +48,8 @@ use std::alloc::Global;
 
 /// The request without what is ignored in it (GraphQL October 2021, section 2.1.7) and isn't needed: comments, and all blanks,
 /// line ends, commas and byte order marks; one blank is left where two tokens would be read as others if they touched. A block
-/// string is written in few characters that have its value (section 2.9.4), as GraphQL.js strips it, unless it has fewer already.
+/// string is written in few characters that have its value (section 2.9.4), as GraphQL.js strips it, unless it has fewer already, or
+/// the specification and this parser read different values in it.
 /// Selection sets, values and types may nest as deep as the limits say.
 ///
 /// Errors are those of `check_query_limited`, of the text that it is given; `OutOfMemory` where memory was refused.

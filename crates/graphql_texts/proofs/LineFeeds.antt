@@ -13,7 +13,7 @@ use Rattle.graphql_layout.specs.texts.Items.{Item, comment, word, IsBlankText, I
 use Rattle.graphql_layout.specs.texts.LaidOut.{IsLaidOut}
 use Rattle.graphql_layout.specs.texts.SameTokens.{HaveAlikeTokens}
 use Rattle.graphql_layout.proofs.Items.{items_written, itemized}
-use Rattle.graphql_layout.proofs.Readings.{alike_words}
+use Rattle.graphql_layout.proofs.Readings.{alike_words, specified_words}
 use Rattle.graphql_reading.proofs.IgnoresPlaces.{alike-same}
 
 and_false : (b : Bool) → (b && false) ≡ false
@@ -80,6 +80,7 @@ laid_out_then text other new u e m =
         of_other = items_written (chars new) m.others items [];
         alike = alike_words m.items m.others m.alike;
       };
+      as_specified = specified_words m.items m.others m.alike;
       items = m.items;
       others = m.others;
       of_text = m.of_text;

@@ -4,12 +4,13 @@
 use Rattle.std.specs.Prelude.{ℕ, zero, suc, Bool, false, not, ◌&&◌, ◌||◌, ◌==◌, nat_lt, if◌then◌else◌, List, [], ◌∷◌, ◌++◌, length, codes}
 use Rattle.std.specs.List.{list_any}
 use Rattle.std.specs.Str.{byte, encode_utf8_all}
-use Rattle.graphql_tokens.specs.tokens.Alike.{value_of_block}
+use Rattle.graphql_tokens.specs.tokens.Alike.{inside, value_of_block}
 use Rattle.graphql_tokens.specs.tokens.Blocks.{closes}
 use Rattle.graphql_tokens.specs.tokens.BlockText.{is_blank_char}
 use Rattle.graphql_tokens.specs.tokens.Token.{Bare}
 use Rattle.graphql_tokens.specs.declared.lexer.TokenKind.{TokenKind}
 use Rattle.graphql_tokens.specs.declared.lexer.TokenKind.TheVariants.{Block}
+use Rattle.graphql_layout.specs.texts.OneReading.{has_one_reading}
 
 -- ---- a value's characters between the quotes
 
@@ -65,9 +66,9 @@ abbrev pub shorter : List ℕ → List ℕ → List ℕ
 shorter one other = if nat_lt (length other) (length one) then other else one
 
 abbrev pub shortened_by : TokenKind → List ℕ → List ℕ
-shortened_by Block spelling = shorter (shortest (value_of_block spelling)) spelling
+shortened_by Block spelling = if has_one_reading (inside 3 spelling) then shorter (shortest (value_of_block spelling)) spelling else spelling
 shortened_by other spelling = spelling
 
--- the token; a block string is written in few characters, if these aren't more than there are
+-- the token; a block string that has one reading is written in few characters, if these aren't more than there are
 abbrev pub shortened : Bare → Bare
 shortened b = record { kind = b.kind; spelling = shortened_by b.kind b.spelling }

@@ -3,6 +3,7 @@
 //! token in it is met twice.
 use crate::blocks::push_block;
 use crate::layout::walk::{Bracket, Role, Step, Walk};
+use crate::one_reading::has_one_reading;
 use graphql_tokens::lexer::{TokenKind, Tokens};
 use graphql_tokens::text::block_string_value;
 use memchr::{memchr, memchr2, memrchr};
@@ -179,17 +180,20 @@ impl Planner {
         Ok(())
     }
 
-    // How long a token is. Only a string has other characters than ASCII, and those past U+FFFF count twice. A block string is
-    // measured as it is written anew.
+    // How long a token is. Only a string has other characters than ASCII, and those past U+FFFF count twice. A block string of one
+    // reading is measured as it is written anew.
     fn width(&self, kind: TokenKind, spelling: &str) -> Result<usize, AllocError> {
         if kind.is_block() {
             let end = spelling.len().saturating_sub(3);
-            let value = block_string_value(self.alloc, spelling.get(3..end).unwrap_or(""))?;
-            let mut written = String::new(self.alloc);
-            push_block(&mut written, &value, 0)?;
-            return Ok(written.encode_utf16().count());
+            let raw = spelling.get(3..end).unwrap_or("");
+            if has_one_reading(raw) {
+                let value = block_string_value(self.alloc, raw)?;
+                let mut written = String::new(self.alloc);
+                push_block(&mut written, &value, 0)?;
+                return Ok(written.encode_utf16().count());
+            }
         }
-        if kind.is_string() {
+        if kind.is_string() || kind.is_block() {
             return Ok(spelling.encode_utf16().count());
         }
         Ok(spelling.len())
