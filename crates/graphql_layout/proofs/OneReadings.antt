@@ -18,7 +18,6 @@ use Rattle.graphql_layout.specs.declared.one_reading.Scan.{Scan}
 use Rattle.graphql_layout.specs.inner.FirstLine.{IsFirstLine}
 use Rattle.graphql_layout.specs.texts.OneReading.{is_short, at_line_end, at_blank, at_text, step, scanned, first_scan, scan, has_one_reading}
 use Rattle.graphql_layout.specs.texts.Specified.{cut, specified_value}
-use Rattle.graphql_layout.proofs.BlockBodies.{and_false}
 use Rattle.graphql_layout.proofs.BlockLayouts.{InLine, or_false}
 
 -- ---- lines that are empty or as long as the indent
@@ -375,7 +374,7 @@ one_reading raw u h =
     let s = lines_some (unquoted cs) in
     let n = common_indent s.1 in
     let pass : (most : ℕ) → n ≤ most → Scanned n (first_scan most) (scan most cs) s.0 s.1 =
-        λ most l. subst (λ (x : Scan). Scanned n (first_scan most) x s.0 s.1) (scanned_unquoted cs (first_scan most)) (scans n (unquoted cs) (first_scan most) s.0 s.1 s.2 l (λ _. omega arith) (deep s.1)) in
+    λ most l. subst (λ (x : Scan). Scanned n (first_scan most) x s.0 s.1) (scanned_unquoted cs (first_scan most)) (scans n (unquoted cs) (first_scan most) s.0 s.1 s.2 l (λ _. omega arith) (deep s.1)) in
     let first = pass (length raw) (common_fits raw s.0 s.1 u s.2) in
     let second = pass (scan (length raw) cs).indent first.most in
     by (scan (length raw) cs).is_cut (scan (scan (length raw) cs).indent cs).is_cut refl refl h s.0 s.1 s.2 (λ e. (first.found e).from refl) (λ e. (second.found e).from refl)
