@@ -1,8 +1,10 @@
 -- A block string that has one reading as far as the pass over its characters tells: by this parser and by the specification it has
 -- the same value.
-use Rattle.std.proofs.Common.{◌≡◌, ℕ, zero, suc, ◌+◌, ◌-◌, ◌≤◌, Bool, true, false, cond, not, eqb, ltb, nat_lt, ◌&&◌, ◌||◌, ◌⊎◌, inl, inr, List, [], ◌∷◌, map, length, drop, get_or, refl, sym, ap, ap₂, ◌∙◌, subst, arith}
+use Rattle.std.proofs.Common.{◌≡◌, ℕ, zero, suc, ◌+◌, ◌-◌, ◌≤◌, Bool, true, false, cond, not, eqb, ltb, nat_lt, ◌&&◌, ◌||◌, ◌⊎◌, inl, inr, List, [], ◌∷◌, ◌++◌, map, length, drop, get_or, refl, sym, ap, ap₂, ◌∙◌, subst, append-nil, arith}
 use Rattle.std.proofs.lemmas.Bool.Decides.{nat_tests}
+use Rattle.std.proofs.lemmas.List.{nil_from_length}
 use Rattle.std.proofs.lemmas.List.Sums.{prefix_len-le-length}
+use Rattle.std.proofs.lemmas.Str.{chars-nil}
 use Rattle.std.specs.List.{AllByRecursion, list_all}
 use Rattle.std.specs.Str.{chars, IsUtf8}
 use Rattle.graphql_tokens.specs.tokens.BlockText.{begins_quotes, unquoted, lines_of, onto_line, is_blank_char, is_blank, indent, least, common_indent, dedented, dedent, from_text, to_text, joined, block_value}
@@ -13,10 +15,10 @@ use Rattle.graphql_tokens.proofs.BlockValue.{IsDeep, AreDeep, deep, same_all, Sa
 use Rattle.graphql_tokens.proofs.Chars.{length-chars}
 use Rattle.graphql_tokens.proofs.EscapeUnits.{both}
 use Rattle.graphql_layout.specs.declared.one_reading.Scan.{Scan}
+use Rattle.graphql_layout.specs.inner.FirstLine.{IsFirstLine}
 use Rattle.graphql_layout.specs.texts.OneReading.{is_short, at_line_end, at_blank, at_text, step, scanned, first_scan, scan, has_one_reading}
 use Rattle.graphql_layout.specs.texts.Specified.{cut, specified_value}
-use Rattle.graphql_layout.proofs.BlockBodies.{and_false}
-use Rattle.graphql_layout.proofs.BlockLayouts.{or_false}
+use Rattle.graphql_layout.proofs.BlockLayouts.{InLine, or_false}
 
 -- ---- lines that are empty or as long as the indent
 
@@ -387,6 +389,24 @@ one_reading raw u h =
     by true true e f t first others is one two = absurd (cc)
 
 -- ---- what the code tells
+
+-- in one line nothing is pending
+never_cut : (cs : List ℕ) (s : Scan) → s.is_pending ≡ false → s.is_cut ≡ false → InLine cs → (scanned s cs).is_cut ≡ false
+never_cut [] s p e h = e
+never_cut (c ∷ cs) s p e h = by (is_line_end c) (is_blank_char c) h.0 (never_cut cs)
+  where
+    by : (a b : Bool) → a ≡ false → ((x : Scan) → x.is_pending ≡ false → x.is_cut ≡ false → InLine cs → (scanned x cs).is_cut ≡ false) → (scanned (cond a (at_line_end s) (cond b (at_blank s) (at_text s))) cs).is_cut ≡ false
+    by true b f r = absurd (cc)
+    by false true f r = r (at_blank s) p e h.1
+    by false false f r = r (at_text s) refl (ap₂ (λ (x y : Bool). x || y) e p) h.1
+
+pub told_one_line : (raw first rest : List ℕ) → IsFirstLine raw first rest → length rest ≡ 0 → true ≡ has_one_reading raw
+unfolding has_one_reading
+told_one_line raw first rest l none =
+    let empty : chars rest ≡ [] = ap chars (nil_from_length rest none) ∙ chars-nil in
+    let whole : chars raw ≡ chars first = l.whole ∙ ap (λ (x : List ℕ). chars first ++ x) empty ∙ append-nil (chars first) in
+    let clean = never_cut (chars raw) (first_scan (length raw)) refl refl (subst InLine (sym whole) l.in_line) in
+    sym (ap (λ (x : Bool). not x || not (scan (scan (length raw) (chars raw)).indent (chars raw)).is_cut) clean)
 
 pub told_first : (raw : List ℕ) (first : Scan) → first ≡ scan (length raw) (chars raw) → not first.is_cut ≡ true → not first.is_cut ≡ has_one_reading raw
 unfolding has_one_reading

@@ -19,7 +19,7 @@ use Rattle.graphql_layout.specs.inner.Endings.{ending_by, ending_of, stops, stop
 use Rattle.graphql_layout.specs.texts.SameTokens.{bare_end}
 use Rattle.graphql_layout.specs.texts.OneReading.{has_one_reading}
 use Rattle.graphql_layout.specs.texts.Shortened.{shortest, shorter, shortened}
-use Rattle.graphql_layout.specs.texts.Specified.{specified_value, specified_value_of_block, IsAlikeAsSpecified, AreAlikeAsSpecified}
+use Rattle.graphql_layout.specs.texts.Specified.{specified_value_of_block, IsAlikeAsSpecified, AreAlikeAsSpecified}
 use Rattle.graphql_layout.proofs.BlockScalars.{value_all}
 use Rattle.graphql_layout.proofs.BlockTexts.{AreScalars, shortest_spells, shortest_means}
 use Rattle.graphql_layout.proofs.Joined.{IsSpelled, ArePrintable, spelled}

@@ -1,5 +1,5 @@
 -- What is written from a value has no line that is shorter than the indent, so by the specification it has the same value.
-use Rattle.std.proofs.Common.{◌≡◌, ℕ, ◌+◌, ◌≤◌, Bool, true, false, cond, inl, inr, List, [], ◌∷◌, map, length, refl, sym, ap, ◌∙◌, subst, length-append, arith}
+use Rattle.std.proofs.Common.{◌≡◌, ℕ, ◌≤◌, Bool, true, false, cond, inl, inr, List, [], ◌∷◌, refl, ap, ◌∙◌, length-append, arith}
 use Rattle.std.proofs.lemmas.List.{length-replicate}
 use Rattle.graphql_tokens.specs.tokens.BlockText.{unquoted, lines_of, is_blank, least, common_indent, from_text, to_text, block_value}
 use Rattle.graphql_tokens.proofs.BlockIndents.{indents_blank}

@@ -37,9 +37,9 @@ fn split_hash(text: &str) -> Option<(&str, &str)>
     }
 }
 
-// The first line of the text, without its end, and the rest.
+/// The first line of the text, without its end, and the rest.
 #[inline(always)]
-fn split_line(text: &str) -> (&str, &str)
+pub fn split_line(text: &str) -> (&str, &str)
     ensures { IsFirstLine text.now result.0.now result.1.now }
 {
     text.split_at(line_length(text.as_bytes()))

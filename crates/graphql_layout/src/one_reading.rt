@@ -7,6 +7,8 @@ ghost use Rattle.graphql_tokens.specs.tokens.BlockText.{is_blank_char};
 ghost use Rattle.graphql_tokens.specs.tokens.Place.{is_line_end};
 ghost use Rattle.graphql_layout.specs.texts.OneReading as spec;
 
+use crate::comments::split_line;
+
 // What is known of a block string's lines up to a character.
 #[derive(Clone, Copy)]
 struct Scan {
@@ -78,6 +80,10 @@ fn scan_lines(raw: &str, most: usize) -> Scan
 pub fn has_one_reading(raw: &str) -> bool
     ensures { result ≡ spec.has_one_reading raw.now }
 {
+    let (_, rest) = split_line(raw);
+    if rest.is_empty() {
+        return true;
+    }
     let first = scan_lines(raw, raw.len());
     !first.is_cut || !scan_lines(raw, first.indent).is_cut
 }
