@@ -243,9 +243,8 @@ class Program:
     def format(self, texts):
         """What each text is formatted to, or its report, as `asked` has them."""
         ran, after = self.over_all("format", texts)
-        reports = [b""] * len(texts)
-        index = 0
-        for line in ran.stderr.splitlines(keepends=True) if ran.stderr else []:
+        reports, index = [b""] * len(texts), 0
+        for line in re.findall(rb".*\n", ran.stderr):
             name = re.match(rb"text(\d+):", line)
             index = int(name[1]) if name else index
             reports[index] += line
