@@ -223,7 +223,7 @@ class Program:
         words = "check --executable --format json" + (f" --limits {limits}" if limits else "")
         ran, _ = self.over_all(words, texts)
         found = {}
-        for line in ran.stdout.decode().splitlines():
+        for line in ran.stdout.decode().split("\n")[:-1]:
             finding = json.loads(line)
             found.setdefault(int(finding["file"].removeprefix("text")), finding)
         if ran.stderr or ran.returncode != (1 if found else 0):
@@ -498,7 +498,7 @@ class Values:
         """The next value: its text, its JSON, and whether it has no variable."""
         has_variables = self.random.one_in(2)
         tokens, tree = self.value(DEPTH, has_variables)
-        return self.spaced(tokens), tree, "Variable" not in json.dumps(tree)
+        return self.spaced(tokens), tree, "$" not in tokens
 
     def value(self, depth, has_variables):
         """The tokens of a value, and its JSON. Two of three values are a list or an object."""
