@@ -223,7 +223,7 @@ class Program:
         words = "check --executable --format json" + (f" --limits {limits}" if limits else "")
         ran, _ = self.over_all(words, texts)
         found = {}
-        for line in ran.stdout.decode().splitlines():
+        for line in ran.stdout.decode().split("\n")[:-1]:
             finding = json.loads(line)
             found.setdefault(int(finding["file"].removeprefix("text")), finding)
         if ran.stderr or ran.returncode != (1 if found else 0):
@@ -243,9 +243,8 @@ class Program:
     def format(self, texts):
         """What each text is formatted to, or its report, as `asked` has them."""
         ran, after = self.over_all("format", texts)
-        reports = [b""] * len(texts)
-        index = 0
-        for line in ran.stderr.splitlines(keepends=True) if ran.stderr else []:
+        reports, index = [b""] * len(texts), 0
+        for line in re.findall(rb".*\n", ran.stderr):
             name = re.match(rb"text(\d+):", line)
             index = int(name[1]) if name else index
             reports[index] += line
@@ -499,7 +498,7 @@ class Values:
         """The next value: its text, its JSON, and whether it has no variable."""
         has_variables = self.random.one_in(2)
         tokens, tree = self.value(DEPTH, has_variables)
-        return self.spaced(tokens), tree, "Variable" not in json.dumps(tree)
+        return self.spaced(tokens), tree, "$" not in tokens
 
     def value(self, depth, has_variables):
         """The tokens of a value, and its JSON. Two of three values are a list or an object."""
