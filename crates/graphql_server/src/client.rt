@@ -43,17 +43,6 @@ pub enum Markup {
     Markdown,
 }
 
-impl Markup {
-    /// The markup of this name.
-    pub fn named(name: &str) -> Option<Markup> {
-        match name {
-            "plaintext" => Some(Markup::Plain),
-            "markdown" => Some(Markup::Markdown),
-            _ => None,
-        }
-    }
-}
-
 // The kinds of the protocol's first version are those up to this one, `Array`.
 const LAST_OF_FIRST: usize = 18;
 

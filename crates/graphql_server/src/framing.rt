@@ -65,8 +65,11 @@ impl Frames {
     }
 
     /// The bytes of a content.
-    pub fn content(&self, start: usize, end: usize) -> &[u8] {
-        self.pending.as_slice().get(start..end).unwrap_or(&[])
+    pub fn content(&mut self, start: usize, end: usize) -> &mut [u8] {
+        self.pending
+            .as_mut_slice()
+            .get_mut(start..end)
+            .unwrap_or(&mut [])
     }
 
     /// What stands next; None where more bytes have to come first.

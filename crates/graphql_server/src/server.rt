@@ -7,6 +7,9 @@ use crate::framing::{Frames, Piece};
 use crate::session::Session;
 use std::alloc::{AllocError, Global};
 
+// So much memory is kept for what is sent.
+const KEPT: usize = 1024 * 1024;
+
 /// A language server for one client, which is written to and read from in bytes (Language Server Protocol 3.17, "Base Protocol").
 #[derive(Drop)]
 pub struct Server {
@@ -23,15 +26,25 @@ impl Server {
         }
     }
 
-    /// Takes the bytes that arrived, in whatever parts, does what the messages that are whole then ask for, and adds what is to be
-    /// sent back to `out`: [`Server::add`], and then [`Server::answer`] until no message is left.
+    /// What is to be sent, messages with their header parts, since [`Server::clear`].
+    pub fn output(&self) -> &[u8] {
+        self.session.outbox.bytes()
+    }
+
+    /// Drops what was sent.
+    pub fn clear(&mut self) {
+        self.session.outbox.clear(KEPT);
+    }
+
+    /// Takes the bytes that arrived, in whatever parts, and does what the messages that are whole then ask for: [`Server::add`], and
+    /// then [`Server::answer`] until no message is left.
     ///
     /// It fails where one of these does, and the other messages are answered all the same.
-    pub fn receive(&mut self, bytes: &[u8], out: &mut Vec<u8>) -> Result<(), AllocError> {
+    pub fn receive(&mut self, bytes: &[u8]) -> Result<(), AllocError> {
         self.add(bytes)?;
         let mut taken = Ok(());
         for _ in 0..u64::MAX {
-            match self.answer(out) {
+            match self.answer() {
                 Ok(true) => {}
                 Ok(false) => break,
                 Err(error) => taken = Err(error),
@@ -54,8 +67,8 @@ impl Server {
         added
     }
 
-    /// Does what the next message asks for that is whole, and adds what is to be sent back to `out`, each message with its header
-    /// part. Whether there was one; if there was none, what is wrong with a text that was changed is added, unless it was before.
+    /// Does what the next message asks for that is whole. Whether there was one; if there was none, what is wrong with a text that was
+    /// changed is published, unless it was before.
     ///
     /// A request is answered before the next message is read. A header part that is wrong, or a length beyond 64 MiB, is logged, and
     /// reading goes on at the next `Content-Length:`. A content that is no JSON is answered by an error without id. Either may have been
@@ -63,20 +76,31 @@ impl Server {
     ///
     /// It fails only where there is no memory even for an error in the place of an answer. The server goes on then. If a message is
     /// lost that may have changed a text, no text is open from then on.
-    pub fn answer(&mut self, out: &mut Vec<u8>) -> Result<bool, AllocError> {
+    pub fn answer(&mut self) -> Result<bool, AllocError> {
         if self.session.status().is_some() {
             return Ok(false);
         }
-        match self.frames.next() {
-            Some(piece) => {
-                self.take(piece, out)?;
-                Ok(true)
-            }
+        let before = self.session.outbox.len();
+        let piece = self.frames.next();
+        let taken = match piece {
+            Some(piece) => self.take(piece),
             None => {
                 self.frames.settle();
-                self.session.publish_changed(out)?;
-                Ok(false)
+                self.session.publish_changed()
             }
+        };
+        if taken.is_err() {
+            self.session.outbox.truncate(before);
+        }
+        taken?;
+        Ok(piece.is_some())
+    }
+
+    fn take(&mut self, piece: Piece) -> Result<(), AllocError> {
+        match piece {
+            Piece::Content { start, end } => self.session.take(self.frames.content(start, end)),
+            Piece::OtherCharset => self.session.refuse_content(Failure::OtherCharset),
+            Piece::Fault(why) => self.session.take_fault(why),
         }
     }
 
@@ -91,16 +115,5 @@ impl Server {
         ensures { IfSome result (λ status. status ≤ 1) }
     {
         self.session.status()
-    }
-
-    fn take(&mut self, piece: Piece, out: &mut Vec<u8>) -> Result<(), AllocError> {
-        match piece {
-            Piece::Content { start, end } => {
-                let content = self.frames.content(start, end);
-                self.session.take(content, out)
-            }
-            Piece::OtherCharset => self.session.refuse_content(Failure::OtherCharset, out),
-            Piece::Fault(why) => self.session.take_fault(why, out),
-        }
     }
 }
