@@ -94,12 +94,10 @@ impl From<Fault> for Failure<'_> {
     }
 }
 
-/// How much a message of the log matters (Language Server Protocol 3.17, "MessageType").
-#[derive(Clone, Copy)]
-pub enum Weight {
-    Error = 1,
-    Warning = 2,
-}
+// How much a message of the log matters (Language Server Protocol 3.17, "MessageType").
+const ERROR: usize = 1;
+
+const WARNING: usize = 2;
 
 /// The messages to the client.
 #[derive(Drop)]
@@ -165,8 +163,7 @@ impl Outbox {
     fn begin_notice(&mut self, method: &str) {
         self.begin();
         self.json.text_member("method", method);
-        self.json.name("params");
-        self.json.begin_object();
+        self.json.object_member("params");
     }
 
     /// Ends a message, and adds it with its header part.
@@ -190,8 +187,7 @@ impl Outbox {
     pub fn refuse(&mut self, id: Id<'_>, failure: Failure<'_>) -> Result<(), AllocError> {
         self.begin();
         id.write(&mut self.json);
-        self.json.name("error");
-        self.json.begin_object();
+        self.json.object_member("error");
         self.json.name("code");
         self.json.integer(failure.code());
         failure.write(&mut self.json);
@@ -202,7 +198,7 @@ impl Outbox {
 
     /// Logs what is odd about a text.
     pub fn warn(&mut self, what: &str, uri: &str) -> Result<(), AllocError> {
-        self.begin_log(Weight::Warning);
+        self.begin_log(WARNING);
         self.json.words(what);
         self.json.words(": ");
         self.json.words(uri);
@@ -211,14 +207,14 @@ impl Outbox {
 
     /// Logs an error.
     pub fn log(&mut self, message: &str) -> Result<(), AllocError> {
-        self.begin_log(Weight::Error);
+        self.begin_log(ERROR);
         self.json.words(message);
         self.end_log()
     }
 
     /// Logs a failure, with the name of its method if it has one.
     pub fn log_failure(&mut self, method: &str, failure: Failure<'_>) -> Result<(), AllocError> {
-        self.begin_log(Weight::Error);
+        self.begin_log(ERROR);
         if !method.is_empty() {
             self.json.words(method);
             self.json.words(": ");
@@ -228,9 +224,9 @@ impl Outbox {
     }
 
     // Begins a message of the log ("window/logMessage").
-    fn begin_log(&mut self, weight: Weight) {
+    fn begin_log(&mut self, kind: usize) {
         self.begin_notice("window/logMessage");
-        self.json.size_member("type", weight as usize);
+        self.json.size_member("type", kind);
         self.json.words("gql: ");
     }
 

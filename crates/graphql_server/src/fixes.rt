@@ -71,12 +71,9 @@ fn write_fix(asked: Asked<'_>, fix: &Fix, json: &mut JsonWriter) -> Result<(), A
         fix.span.end,
     );
     let new = with_line_end(asked.alloc, fix.new.as_str(), line_end_of(asked.text()))?;
-    json.name("edit");
-    json.begin_object();
-    json.name("changes");
-    json.begin_object();
-    json.name(asked.uri);
-    json.begin_list();
+    json.object_member("edit");
+    json.object_member("changes");
+    json.list_member(asked.uri);
     write_edit(range, new.as_str(), json);
     json.end_list();
     json.end_object();

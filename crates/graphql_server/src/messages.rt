@@ -83,8 +83,7 @@ fn write_position(position: Position, json: &mut JsonWriter) {
 
 /// Writes a member that is a range of a text.
 pub fn write_range(name: &str, range: Range, json: &mut JsonWriter) {
-    json.name(name);
-    json.begin_object();
+    json.object_member(name);
     json.name("start");
     write_position(range.start, json);
     json.name("end");
@@ -111,8 +110,7 @@ pub fn write_diagnostics(
     client: &Client,
     json: &mut JsonWriter,
 ) {
-    json.name(name);
-    json.begin_list();
+    json.list_member(name);
     for diagnostic in diagnostics {
         write_diagnostic(diagnostic, client, json);
     }
@@ -129,8 +127,7 @@ fn write_diagnostic(diagnostic: &Diagnostic<'_>, client: &Client, json: &mut Jso
     if client.shows_related
         && let Some(related) = diagnostic.related
     {
-        json.name("relatedInformation");
-        json.begin_list();
+        json.list_member("relatedInformation");
         json.begin_object();
         json.name("location");
         write_location(related.location, json);

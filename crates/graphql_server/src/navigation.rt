@@ -1,7 +1,6 @@
 //! Where names are defined and used, and what they name (Language Server Protocol 3.17, "Goto Definition Request", "Find References
 //! Request", "Hover Request").
 
-use crate::client::Markup;
 use crate::messages::{Location, write_location, write_range};
 use crate::places::Places;
 use crate::results::Asked;
@@ -76,7 +75,6 @@ pub fn write_hover(
         None => json.null(),
         Some(hover) => {
             json.begin_object();
-            json.name("contents");
             write_contents(asked, hover.markdown.as_str(), json);
             let range = places.range_of(hover.span.start, hover.span.end);
             write_range("range", range, json);
@@ -88,16 +86,13 @@ pub fn write_hover(
 
 // Writes a text for people ("MarkupContent").
 fn write_contents(asked: Asked<'_>, markdown: &str, json: &mut JsonWriter) {
-    json.begin_object();
-    match asked.client.markup {
-        Markup::Markdown => {
-            json.text_member("kind", "markdown");
-            json.text_member("value", markdown);
-        }
-        Markup::Plain => {
-            json.text_member("kind", "plaintext");
-            write_plain(markdown, json);
-        }
+    json.object_member("contents");
+    if asked.client.likes_markdown {
+        json.text_member("kind", "markdown");
+        json.text_member("value", markdown);
+    } else {
+        json.text_member("kind", "plaintext");
+        write_plain(markdown, json);
     }
     json.end_object();
 }

@@ -41,8 +41,7 @@ fn write_nested(asked: Asked<'_>, symbols: &[Symbol], places: &Places<'_>, json:
         write_range("range", places.range_of(whole.start, whole.end), json);
         let name = places.range_of(name.start, name.end);
         write_range("selectionRange", name, json);
-        json.name("children");
-        json.begin_list();
+        json.list_member("children");
         open = open.min(symbol.depth).saturating_add(1);
     }
     close_to(0, open, json);

@@ -1,7 +1,7 @@
 //! The parameters of the messages of a client (Language Server Protocol 3.17).
 
 use crate::answers::Failure;
-use crate::client::{Client, Markup, SymbolKinds};
+use crate::client::{Client, SymbolKinds};
 use crate::fixes::QUICK_FIX;
 use crate::members::{Fault, Member};
 use crate::methods::Method;
@@ -174,7 +174,7 @@ pub fn client_of(message: Member<'_, '_>) -> Result<Client, Fault> {
             "params.capabilities.textDocument.documentSymbol.hierarchicalDocumentSymbolSupport",
         )?,
         kinds: kinds_of(message)?,
-        markup: markup_of(message)?,
+        likes_markdown: likes_markdown(message)?,
     })
 }
 
@@ -190,15 +190,11 @@ fn encoding_of(message: Member<'_, '_>) -> Result<Encoding, Fault> {
     })
 }
 
-fn markup_of(message: Member<'_, '_>) -> Result<Markup, Fault> {
-    let known = match message.get("params.capabilities.textDocument.hover.contentFormat")? {
-        None => None,
-        Some(names) => names.first_of(&["plaintext", "markdown"])?,
-    };
-    Ok(match known {
-        Some("markdown") => Markup::Markdown,
-        _ => Markup::Plain,
-    })
+fn likes_markdown(message: Member<'_, '_>) -> Result<bool, Fault> {
+    match message.get("params.capabilities.textDocument.hover.contentFormat")? {
+        None => Ok(false),
+        Some(names) => Ok(names.first_of(&["plaintext", "markdown"])? == Some("markdown")),
+    }
 }
 
 fn kinds_of(message: Member<'_, '_>) -> Result<SymbolKinds, Fault> {

@@ -16,6 +16,7 @@ use crate::texts::{OpenText, are_known, is_known};
 use crate::writer::JsonWriter;
 use graphql_editor::Structure;
 use graphql_texts::Language;
+use graphql_texts::language::read_as;
 use std::alloc::{AllocError, Global};
 use text_edits::{Position, Range};
 
@@ -41,11 +42,11 @@ impl<'s> Asked<'s> {
         self.text.document.text()
     }
 
-    /// What the text is read as.
+    /// What the text is read as: what its `languageId` says, else by the extension of its file, else as the text tells itself.
     ///
     /// It fails only where memory runs out.
     pub fn language(self) -> Result<Language, AllocError> {
-        self.text.language(self.alloc, self.uri)
+        read_as(self.alloc, self.text.said, self.uri, self.text())
     }
 
     /// The byte at a position.

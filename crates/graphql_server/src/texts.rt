@@ -6,7 +6,6 @@ ghost use Rattle.graphql_server.specs.Changes.{AreChanged, IsChanged};
 ghost use Rattle.graphql_server.specs.Ranges.{IsRange};
 
 use graphql_texts::Language;
-use graphql_texts::language::read_as;
 use std::alloc::{AllocError, Global};
 use text_edits::{Document, Encoding, Position, Range};
 
@@ -19,15 +18,6 @@ pub struct OpenText {
     pub version: Option<i64>,
     /// The text.
     pub document: Document,
-}
-
-impl OpenText {
-    /// What the text is read as: what its `languageId` says, else by the extension of its file, else as the text tells itself.
-    ///
-    /// It fails only where memory runs out.
-    pub fn language(&self, alloc: Global, uri: &str) -> Result<Language, AllocError> {
-        read_as(alloc, self.said, uri, self.document.text())
-    }
 }
 
 /// The language that a `languageId` says (this project's choice). `graphql`, which is what editors have, says nothing.

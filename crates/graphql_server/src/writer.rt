@@ -115,6 +115,18 @@ impl JsonWriter {
 
     // ---- Members of an object
 
+    /// Begins a member that is an object.
+    pub fn object_member(&mut self, name: &str) {
+        self.name(name);
+        self.begin_object();
+    }
+
+    /// Begins a member that is a list.
+    pub fn list_member(&mut self, name: &str) {
+        self.name(name);
+        self.begin_list();
+    }
+
     pub fn text_member(&mut self, name: &str, text: &str) {
         self.name(name);
         self.text(text);
