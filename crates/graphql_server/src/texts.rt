@@ -1,6 +1,6 @@
 //! The texts that are open, and how changes change them (Language Server Protocol 3.17, "Text Document Synchronization").
 
-ghost use Rattle.std.specs.Prelude.{◌≡◌, ◌↔◌, IfSome, IsTrue, OnOk, string_bytes};
+ghost use Rattle.std.specs.Prelude.{◌≡◌, ◌↔◌, ◌<◌, IfSome, IsTrue, OnOk, length};
 ghost use Rattle.text_edits.specs.Positions.{IsPosition};
 ghost use Rattle.graphql_server.specs.Changes.{AreChanged, IsChanged};
 ghost use Rattle.graphql_server.specs.Ranges.{IsRange};
@@ -12,12 +12,26 @@ use text_edits::{Document, Encoding, Position, Range};
 /// A text that a client has open.
 #[derive(Drop)]
 pub struct OpenText {
+    /// Its URI.
+    pub uri: String,
     /// The language that its `languageId` says, if it says one.
     pub said: Option<Language>,
     /// Its version, if the client counts versions.
     pub version: Option<i64>,
     /// The text.
     pub document: Document,
+}
+
+/// Where the text of this URI is among those that are open; None if it isn't open.
+pub fn index_of(texts: &[OpenText], uri: &str) -> Option<usize>
+    ensures { IfSome result (λ index. index < length texts.now) }
+{
+    for (index, text) in texts.iter().enumerate() {
+        if text.uri.as_str() == uri {
+            return Some(index);
+        }
+    }
+    None
 }
 
 /// The language that a `languageId` says (this project's choice). `graphql`, which is what editors have, says nothing.
