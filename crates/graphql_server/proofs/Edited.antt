@@ -18,8 +18,7 @@ left-split text start end le =
 pub edited-step : (whole : Type 0) (passed made : ℕ) (old new : List ℕ) (edits rest : List Edit) (edit : Edit) → edits ≡ edit ∷ rest → slice_range old passed edit.start ≡ slice_range new made edit.new_start → made ≤ edit.new_start → edit.new_start ≤ edit.new_end → (drop made new ≡ edited_from passed old new edits → whole) → drop edit.new_end new ≡ edited_from edit.end old new rest → whole
 edited-step whole passed made old new edits rest edit e same a b h r =
     let P : List Edit → Type 0 = λ l. drop made new ≡ edited_from passed old new l in
-    let put : drop edit.new_start new ≡ slice_range new edit.new_start edit.new_end ++ edited_from edit.end old new rest =
-    left-split new edit.new_start edit.new_end b ∙ ap (λ l. slice_range new edit.new_start edit.new_end ++ l) r in
+    let put = left-split new edit.new_start edit.new_end b ∙ ap (λ l. slice_range new edit.new_start edit.new_end ++ l) r in
     h (subst P (sym e) (left-split new made edit.new_start a ∙ ap₂ (λ k l. k ++ l) (sym same) put))
 
 -- edits are in order if those before one are, that one is, and those after it
