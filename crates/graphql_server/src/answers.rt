@@ -119,6 +119,11 @@ impl Outbox {
         }
     }
 
+    /// Drops the messages that are whole.
+    pub fn clear(&mut self) {
+        self.bytes = Vec::new(self.alloc);
+    }
+
     // Begins a message.
     fn begin(&mut self) {
         self.json = JsonWriter::new(self.alloc);

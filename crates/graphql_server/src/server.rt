@@ -30,7 +30,7 @@ impl Server {
 
     /// Drops what was sent.
     pub fn clear(&mut self) {
-        self.session.outbox.bytes.truncate(0);
+        self.session.outbox.clear();
     }
 
     /// Takes the bytes that arrived, in whatever parts, and does what the messages that are whole then ask for. If none is left, what is
