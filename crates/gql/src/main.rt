@@ -41,9 +41,6 @@ fn main(rt: HostRuntime) -> ExitCode {
 // How many bytes are read at once.
 const PART: usize = 65536;
 
-// So much memory is kept for what is sent.
-const KEPT: usize = 1024 * 1024;
-
 // Is a language server for the client at standard input and output until it says `exit`, or one of them ends; gives the exit status.
 fn serve(rt: &HostRuntime) -> u8 {
     let alloc = rt.alloc();
@@ -51,27 +48,23 @@ fn serve(rt: &HostRuntime) -> u8 {
     let mut output = rt.stdout();
     let mut server = Server::new(alloc);
     let mut part = [0u8; PART];
-    let mut out = Vec::new(alloc);
     for _ in 0..u64::MAX {
         match input.read(&mut part) {
             Ok(0) => server.end(),
             Ok(length) => {
                 // Where memory runs out, what has an answer is sent, and the server goes on.
-                let _ = server.receive(part.get(..length).unwrap_or(&[]), &mut out);
+                let _ = server.receive(part.get(..length).unwrap_or(&[]));
             }
             Err(error) if error.kind() == ErrorKind::Interrupted => {}
             Err(_) => server.end(),
         }
-        if output.write_all(out.as_slice()).is_err() || output.flush().is_err() {
+        if output.write_all(server.output()).is_err() || output.flush().is_err() {
             server.end();
         }
         if let Some(status) = server.has_ended() {
             return status;
         }
-        if out.capacity() > KEPT {
-            out = Vec::new(alloc);
-        }
-        out.clear();
+        server.clear();
     }
     1
 }

@@ -1,16 +1,25 @@
 -- Texts that are made edit after edit.
-use Rattle.std.proofs.Common.{◌≡◌, ℕ, ◌≤◌, List, ◌∷◌, ◌++◌, length, drop, slice_range, append_assoc, arith, subst, sym}
+use Rattle.std.proofs.Common.{◌≡◌, ℕ, ◌+◌, ◌-◌, ◌≤◌, List, ◌∷◌, ◌++◌, length, drop, slice_range, arith, ap, ap₂, subst, sym, ◌∙◌}
 use Rattle.std.proofs.Math.Seq.{drop-length}
 use Rattle.std.proofs.lemmas.Grind.{common_steps}
+use Rattle.std.proofs.lemmas.List.{take-append-drop, drop-drop}
 use Rattle.std.proofs.lemmas.List.Edits.{between_none, split_between}
 use Rattle.graphql_server.specs.declared.differences.Edit.{Edit}
 use Rattle.graphql_server.specs.Edited.{edited_from, AreInOrder}
 
--- a text is what was made of it before an edit, what that edit makes, and what those after it make
-pub edited-step : (whole made : List ℕ) (offset : ℕ) (old new : List ℕ) (edits rest : List Edit) (edit : Edit) → edits ≡ edit ∷ rest → whole ≡ made ++ edited_from offset old new edits → whole ≡ ((made ++ slice_range old offset edit.start) ++ slice_range new edit.new_start edit.new_end) ++ edited_from edit.end old new rest
-edited-step whole made offset old new edits rest edit e h =
-    let P : List Edit → Type 0 = λ l. whole ≡ made ++ edited_from offset old new l in
-    simp append_assoc (subst P e h)
+-- what is left of a text is a part of it and what is left after that
+pub left-split : (text : List ℕ) (start end : ℕ) → start ≤ end → drop start text ≡ slice_range text start end ++ drop end text
+left-split text start end le =
+    let more : start + (end - start) ≡ end = omega arith in
+    let left : drop (end - start) (drop start text) ≡ drop end text = drop-drop (end - start) start text ∙ ap (λ n. drop n text) more in
+    sym (take-append-drop (end - start) (drop start text)) ∙ ap (λ l. slice_range text start end ++ l) left
+
+-- what is left of a new text is made of what is left of an old one, if that is so after an edit, and what stands before the edit is in both
+pub edited-step : (whole : Type 0) (passed made : ℕ) (old new : List ℕ) (edits rest : List Edit) (edit : Edit) → edits ≡ edit ∷ rest → slice_range old passed edit.start ≡ slice_range new made edit.new_start → made ≤ edit.new_start → edit.new_start ≤ edit.new_end → (drop made new ≡ edited_from passed old new edits → whole) → drop edit.new_end new ≡ edited_from edit.end old new rest → whole
+edited-step whole passed made old new edits rest edit e same a b h r =
+    let P : List Edit → Type 0 = λ l. drop made new ≡ edited_from passed old new l in
+    let put = left-split new edit.new_start edit.new_end b ∙ ap (λ l. slice_range new edit.new_start edit.new_end ++ l) r in
+    h (subst P (sym e) (left-split new made edit.new_start a ∙ ap₂ (λ k l. k ++ l) (sym same) put))
 
 -- edits are in order if those before one are, that one is, and those after it
 pub order-step : (whole : Type 0) (offset : ℕ) (old : List ℕ) (edits rest : List Edit) (edit : Edit) → edits ≡ edit ∷ rest → offset ≤ edit.start → edit.start ≤ edit.end → (AreInOrder offset old edits → whole) → AreInOrder edit.end old rest → whole

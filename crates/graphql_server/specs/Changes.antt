@@ -1,7 +1,7 @@
 -- A text after the changes of a notification, one after another.
 -- Source: Language Server Protocol 3.17, "DidChangeTextDocumentParams": each change speaks of the text as the one before it left it,
 -- and one without a range is the whole text.
-use Rattle.std.specs.Prelude.{◌≡◌, ℕ, List, [], ◌∷◌, Option, None, Some, string_bytes}
+use Rattle.std.specs.Prelude.{◌≡◌, ℕ, List, [], ◌∷◌, Option, None, Some}
 use Rattle.std.specs.Str.{chars}
 use Rattle.text_edits.specs.declared.Encoding.{Encoding}
 use Rattle.text_edits.specs.declared.Range.{Range}
@@ -17,7 +17,7 @@ IsReplaced encoding text (Some range) new after =
 
 -- the text after a change
 abbrev pub IsChanged : Encoding → List ℕ → Change → List ℕ → Type 0
-IsChanged encoding text change after = IsReplaced encoding text change.range (string_bytes change.text) after
+IsChanged encoding text change after = IsReplaced encoding text change.range change.text.now after
 
 -- the text after changes, from the first on
 abbrev pub AreChanged : Encoding → List ℕ → List Change → List ℕ → Type 0

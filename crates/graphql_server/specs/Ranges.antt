@@ -1,6 +1,6 @@
 -- Ranges of a text, and diagnostics whose ranges are.
 -- Source: Language Server Protocol 3.17, "Range" and "Diagnostic".
-use Rattle.std.specs.Prelude.{ℕ, List, All}
+use Rattle.std.specs.Prelude.{ℕ, List, IfSome}
 use Rattle.text_edits.specs.declared.Encoding.{Encoding}
 use Rattle.text_edits.specs.declared.Range.{Range}
 use Rattle.text_edits.specs.Positions.{IsPosition}
@@ -11,7 +11,7 @@ pub record IsRange (encoding : Encoding) (text : List ℕ) (range : Range) : Typ
   pub starts : IsPosition encoding text range.start
   pub ends : IsPosition encoding text range.end
 
--- the range of the diagnostic is one of the text, and so is that of each place beside it
+-- the range of the diagnostic is one of the text, and so is that of a place beside it
 pub record IsDiagnosticOf (encoding : Encoding) (text : List ℕ) (diagnostic : Diagnostic) : Type 0 where
   pub shown : IsRange encoding text diagnostic.range
-  pub related : All (λ place. IsRange encoding text place.location.range) diagnostic.related_information.items
+  pub related : IfSome diagnostic.related (λ place. IsRange encoding text place.location.range)

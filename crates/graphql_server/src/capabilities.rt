@@ -20,56 +20,38 @@ const PROVIDERS: [&str; 8] = [
 /// Writes what the server can do for a client, and its name ("InitializeResult").
 pub fn write_initialized(client: &Client, json: &mut JsonWriter) {
     json.begin_object();
-    json.name("capabilities");
-    write_capabilities(client, json);
-    json.name("serverInfo");
-    json.begin_object();
+    json.object_member("capabilities");
+    write_options(client, json);
+    for provider in PROVIDERS {
+        json.boolean_member(provider, true);
+    }
+    json.end_object();
+    json.object_member("serverInfo");
     json.text_member("name", "gql");
     json.text_member("version", "1.0.0");
     json.end_object();
     json.end_object();
 }
 
-fn write_capabilities(client: &Client, json: &mut JsonWriter) {
-    json.begin_object();
+fn write_options(client: &Client, json: &mut JsonWriter) {
     json.text_member("positionEncoding", name_of(client.encoding));
-    write_sync_options(json);
-    write_diagnostic_options(json);
-    if client.takes_fixes {
-        write_action_options(json);
-    }
-    for provider in PROVIDERS {
-        json.boolean_member(provider, true);
-    }
-    json.end_object();
-}
-
-fn write_sync_options(json: &mut JsonWriter) {
-    json.name("textDocumentSync");
-    json.begin_object();
+    json.object_member("textDocumentSync");
     json.boolean_member("openClose", true);
     // Changes come by their ranges.
     json.size_member("change", 2);
     json.end_object();
-}
-
-fn write_diagnostic_options(json: &mut JsonWriter) {
-    json.name("diagnosticProvider");
-    json.begin_object();
+    json.object_member("diagnosticProvider");
     json.text_member("identifier", "gql");
     json.boolean_member("interFileDependencies", false);
     json.boolean_member("workspaceDiagnostics", false);
     json.end_object();
-}
-
-fn write_action_options(json: &mut JsonWriter) {
-    json.name("codeActionProvider");
-    json.begin_object();
-    json.name("codeActionKinds");
-    json.begin_list();
-    json.text(QUICK_FIX);
-    json.end_list();
-    json.end_object();
+    if client.takes_fixes {
+        json.object_member("codeActionProvider");
+        json.list_member("codeActionKinds");
+        json.text(QUICK_FIX);
+        json.end_list();
+        json.end_object();
+    }
 }
 
 fn name_of(encoding: Encoding) -> &'static str {

@@ -17,8 +17,8 @@ pub struct Client {
     pub nests_symbols: bool,
     /// The kinds of symbols that it knows.
     pub kinds: SymbolKinds,
-    /// How it wants to have the texts of a hover ("HoverClientCapabilities").
-    pub markup: Markup,
+    /// It wants to have the texts of a hover in Markdown ("HoverClientCapabilities").
+    pub likes_markdown: bool,
 }
 
 impl Client {
@@ -31,25 +31,7 @@ impl Client {
             takes_fixes: false,
             nests_symbols: false,
             kinds: SymbolKinds::first(),
-            markup: Markup::Plain,
-        }
-    }
-}
-
-/// How a text for people is written ("MarkupKind").
-#[derive(Clone, Copy)]
-pub enum Markup {
-    Plain,
-    Markdown,
-}
-
-impl Markup {
-    /// The markup of this name.
-    pub fn named(name: &str) -> Option<Markup> {
-        match name {
-            "plaintext" => Some(Markup::Plain),
-            "markdown" => Some(Markup::Markdown),
-            _ => None,
+            likes_markdown: false,
         }
     }
 }

@@ -14,12 +14,6 @@ use graphql_texts::{Diagnosis, Language, diagnoses_of};
 use std::alloc::{AllocError, Global};
 use text_edits::{Document, Encoding, Range};
 
-// An error ("DiagnosticSeverity").
-const ERROR: u8 = 1;
-
-/// What is told as the source of each diagnostic.
-pub const SOURCE: &str = "gql";
-
 /// The range of a text between two offsets in bytes, with columns in units of the encoding.
 pub fn range_of(encoding: Encoding, document: &Document, start: usize, end: usize) -> Range
     ensures starts { result.start ≡ position_of encoding document.now start }
@@ -75,20 +69,19 @@ pub fn diagnostics_of<'a>(
     let found = found_in(alloc, language, document)?;
     let mut diagnostics = Vec::new(alloc);
     for diagnosis in found {
-        diagnostics.push(diagnostic_of(alloc, uri, encoding, document, diagnosis)?)?;
+        diagnostics.push(diagnostic_of(uri, encoding, document, diagnosis))?;
     }
     Ok(diagnostics)
 }
 
 /// A diagnosis as a diagnostic of the text.
 pub fn diagnostic_of<'a>(
-    alloc: Global,
     uri: &'a str,
     encoding: Encoding,
     document: &Document,
     diagnosis: Diagnosis,
-) -> Result<Diagnostic<'a>, AllocError>
-    ensures { IfOk result (IsDiagnosticOf encoding document.now) }
+) -> Diagnostic<'a>
+    ensures { IsDiagnosticOf encoding document.now result }
 {
     let Diagnosis {
         span,
@@ -97,22 +90,20 @@ pub fn diagnostic_of<'a>(
         other,
         fix: _,
     } = diagnosis;
-    let mut related = Vec::new(alloc);
-    if let Some(other) = other {
-        related.push(Related {
+    let related = match other {
+        None => None,
+        Some(other) => Some(Related {
             location: Location {
                 uri,
                 range: range_of(encoding, document, other.span.start, other.span.end),
             },
             message: other.message,
-        })?;
-    }
-    Ok(Diagnostic {
+        }),
+    };
+    Diagnostic {
         range: range_of(encoding, document, span.start, span.end),
-        severity: ERROR,
         code: status,
-        source: SOURCE,
         message,
-        related_information: related,
-    })
+        related,
+    }
 }

@@ -1,9 +1,8 @@
 //! How one text differs from another, line by line.
 
-ghost use Rattle.std.specs.Prelude.{IfOk, IfSome, string_bytes, ◌≡◌};
+ghost use Rattle.std.specs.Prelude.{IfOk, IsTrue};
 ghost use Rattle.graphql_server.specs.Edited.{IsEdited};
 
-use memchr::memchr_iter;
 use std::alloc::{AllocError, Global};
 
 /// A part of a new text that is put in the place of a part of an old one, each from one offset in bytes up to another.
@@ -22,9 +21,7 @@ pub fn edits_between(alloc: Global, old: &str, new: &str) -> Result<Vec<Edit>, A
     ensures { IfOk result (λ edits. IsEdited old.now new.now edits.items new.now) }
 {
     let edits = line_edits(alloc, old, new)?;
-    if let Some(text) = edited(alloc, old, new, edits.as_slice())?
-        && text.as_str() == new
-    {
+    if are_edits(old, new, edits.as_slice()) {
         return Ok(edits);
     }
     whole_edit(alloc, old, new)
@@ -44,31 +41,27 @@ fn whole_edit(alloc: Global, old: &str, new: &str) -> Result<Vec<Edit>, AllocErr
     Ok(edits)
 }
 
-// The text after these edits; None if they are in another order than the text.
-fn edited(alloc: Global, old: &str, new: &str, edits: &[Edit]) -> Result<Option<String>, AllocError>
-    ensures { IfOk result (λ found. IfSome found (λ text. IsEdited old.now new.now edits.now (string_bytes text))) }
+// Whether these edits make the new text of the old one, and are in the order of the text.
+fn are_edits(old: &str, new: &str, edits: &[Edit]) -> bool
+    ensures { IsTrue result → IsEdited old.now new.now edits.now new.now }
 {
-    let mut text = String::with_capacity(alloc, new.len())?;
     let mut passed = 0usize;
+    let mut made = 0usize;
     for edit in edits {
-        let Some(kept) = old.get(passed..edit.start) else {
-            return Ok(None);
+        let (Some(kept), Some(same)) = (old.get(passed..edit.start), new.get(made..edit.new_start))
+        else {
+            return false;
         };
-        let Some(put) = new.get(edit.new_start..edit.new_end) else {
-            return Ok(None);
-        };
-        if edit.end < edit.start {
-            return Ok(None);
+        if kept != same || edit.end < edit.start || edit.new_end < edit.new_start {
+            return false;
         }
-        text.push_str(kept)?;
-        text.push_str(put)?;
         passed = edit.end;
+        made = edit.new_end;
     }
-    let Some((_, rest)) = old.split_at_checked(passed) else {
-        return Ok(None);
-    };
-    text.push_str(rest)?;
-    Ok(Some(text))
+    match (old.get(passed..), new.get(made..)) {
+        (Some(old), Some(new)) => old == new,
+        _ => false,
+    }
 }
 
 // ---- lines
@@ -85,14 +78,11 @@ impl<'a> Lines<'a> {
     fn new(alloc: Global, text: &'a str) -> Result<Lines<'a>, AllocError> {
         let mut starts = Vec::new(alloc);
         starts.push(0)?;
-        for feed in memchr_iter(b'\n', text.as_bytes()) {
-            let start = feed.saturating_add(1);
-            if start < text.len() {
-                starts.push(start)?;
+        for (at, byte) in text.as_bytes().iter().enumerate() {
+            let end = at.saturating_add(1);
+            if *byte == b'\n' || end == text.len() {
+                starts.push(end)?;
             }
-        }
-        if !text.is_empty() {
-            starts.push(text.len())?;
         }
         Ok(Lines { text, starts })
     }

@@ -1,79 +1,77 @@
 //! What mends a text (Language Server Protocol 3.17, "Code Action Request").
 
-use crate::client::Client;
 use crate::diagnostics::{diagnostic_of, found_in, range_of};
 use crate::line_ends::{line_end_of, with_line_end};
-use crate::messages::{write_diagnostics, write_edit};
+use crate::messages::{write_diagnostic, write_edit};
+use crate::results::Asked;
 use crate::writer::JsonWriter;
-use graphql_texts::{Diagnosis, Fix, Language};
-use std::alloc::{AllocError, Global};
-use std::slice;
-use text_edits::{Document, Range};
+use graphql_texts::{Diagnosis, Fix};
+use std::alloc::AllocError;
+use text_edits::Range;
 
 /// The kind of all actions ("CodeActionKind").
 pub const QUICK_FIX: &str = "quickfix";
-
-/// Whether quick fixes are among the actions of this kind: a kind stands for those below it too.
-pub fn has_fixes(kind: &str) -> bool {
-    kind.is_empty() || kind == QUICK_FIX
-}
 
 /// Writes the quick fixes of the diagnostics that touch this range of the text.
 ///
 /// It fails only where memory runs out.
 pub fn write_fixes(
-    alloc: Global,
-    uri: &str,
-    language: Language,
-    client: &Client,
-    document: &Document,
-    asked: Range,
+    asked: Asked<'_>,
+    range: Range,
     json: &mut JsonWriter,
 ) -> Result<(), AllocError> {
-    let start = document.offset_of(client.encoding, asked.start);
-    let end = document.offset_of(client.encoding, asked.end);
+    let start = asked.offset_of(range.start);
+    let end = asked.offset_of(range.end);
     json.begin_list();
-    for diagnosis in found_in(alloc, language, document)? {
-        if diagnosis.span.start > end || diagnosis.span.end < start {
-            continue;
-        }
-        let mut diagnosis = diagnosis;
-        if let Some(fix) = diagnosis.fix.take() {
-            write_action(alloc, uri, client, document, diagnosis, &fix, json)?;
+    for diagnosis in found_in(asked.alloc, asked.language()?, &asked.text.document)? {
+        if diagnosis.span.start <= end && diagnosis.span.end >= start {
+            write_action(asked, diagnosis, json)?;
         }
     }
     json.end_list();
     Ok(())
 }
 
-// Writes a "CodeAction", whose "WorkspaceEdit" is of one text.
+// Writes a "CodeAction" if this has a fix. Its "WorkspaceEdit" is of one text.
 fn write_action(
-    alloc: Global,
-    uri: &str,
-    client: &Client,
-    document: &Document,
+    asked: Asked<'_>,
     diagnosis: Diagnosis,
-    fix: &Fix,
     json: &mut JsonWriter,
 ) -> Result<(), AllocError> {
-    let encoding = client.encoding;
-    let diagnostic = diagnostic_of(alloc, uri, encoding, document, diagnosis)?;
-    let range = range_of(encoding, document, fix.span.start, fix.span.end);
-    let new = with_line_end(alloc, fix.new.as_str(), line_end_of(document.text()))?;
+    let mut diagnosis = diagnosis;
+    let Some(fix) = diagnosis.fix.take() else {
+        return Ok(());
+    };
+    let document = &asked.text.document;
+    let encoding = asked.client.encoding;
+    let diagnostic = diagnostic_of(asked.uri, encoding, document, diagnosis);
     json.begin_object();
     json.text_member("title", fix.title.as_str());
     json.text_member("kind", QUICK_FIX);
-    write_diagnostics("diagnostics", slice::from_ref(&diagnostic), client, json);
+    json.list_member("diagnostics");
+    write_diagnostic(&diagnostic, asked.client, json);
+    json.end_list();
     json.boolean_member("isPreferred", true);
-    json.name("edit");
-    json.begin_object();
-    json.name("changes");
-    json.begin_object();
-    json.name(uri);
-    json.begin_list();
+    write_fix(asked, &fix, json)?;
+    json.end_object();
+    Ok(())
+}
+
+// Writes what a fix changes.
+fn write_fix(asked: Asked<'_>, fix: &Fix, json: &mut JsonWriter) -> Result<(), AllocError> {
+    let document = &asked.text.document;
+    let range = range_of(
+        asked.client.encoding,
+        document,
+        fix.span.start,
+        fix.span.end,
+    );
+    let new = with_line_end(asked.alloc, fix.new.as_str(), line_end_of(asked.text()))?;
+    json.object_member("edit");
+    json.object_member("changes");
+    json.list_member(asked.uri);
     write_edit(range, new.as_str(), json);
     json.end_list();
-    json.end_object();
     json.end_object();
     json.end_object();
     Ok(())

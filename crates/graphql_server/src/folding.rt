@@ -3,16 +3,10 @@
 use crate::places::Places;
 use crate::writer::JsonWriter;
 use graphql_editor::{FoldKind, Structure};
-use std::alloc::{AllocError, Global};
-use text_edits::Encoding;
 
 /// Writes the folds of a text: from its first line to its last one, or, where a bracket stands last, to the line before that, so that
 /// the bracket stays in view.
-///
-/// It fails only where memory runs out.
-pub fn write_folds(alloc: Global, text: &str, json: &mut JsonWriter) -> Result<(), AllocError> {
-    let structure = Structure::new(alloc, text)?;
-    let mut places = Places::new(alloc, Encoding::Utf8, text)?;
+pub fn write_folds(structure: &Structure, places: &Places<'_>, json: &mut JsonWriter) {
     json.begin_list();
     for fold in structure.folds() {
         let first = places.position_of(fold.span.start).line;
@@ -32,5 +26,4 @@ pub fn write_folds(alloc: Global, text: &str, json: &mut JsonWriter) -> Result<(
         }
     }
     json.end_list();
-    Ok(())
 }

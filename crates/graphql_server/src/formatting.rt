@@ -1,11 +1,12 @@
 //! Texts laid out anew, as edits of the lines that change (Language Server Protocol 3.17, "Document Formatting Request", "Document
 //! Range Formatting Request").
 
-use crate::diagnostics::range_of;
 use crate::differences::edits_between;
 use crate::line_ends::{line_end_of, with_line_end};
 use crate::messages::write_edit;
 use crate::outline::slice_of;
+use crate::places::Places;
+use crate::results::Asked;
 use crate::writer::JsonWriter;
 use graphql_editor::{Span, Structure};
 use graphql_parser::{Limits, Memory};
@@ -14,68 +15,81 @@ use graphql_texts::check::error_of;
 use graphql_texts::errors::{Names, Source};
 use graphql_texts::rewriting::laid_out;
 use std::alloc::{AllocError, Global};
-use text_edits::{Document, Encoding, Range};
+use text_edits::Range;
 
 /// Writes what changes a text into what `gql format` makes of it: an edit for each run of lines that change. Null where the text has an
 /// error.
 ///
 /// It fails only where memory runs out.
-pub fn write_formatted(
-    alloc: Global,
-    language: Language,
-    encoding: Encoding,
-    document: &Document,
+pub fn write_layout(
+    asked: Asked<'_>,
+    places: &Places<'_>,
     json: &mut JsonWriter,
 ) -> Result<(), AllocError> {
-    let text = document.text();
-    match formatted(alloc, language, text)? {
-        None => json.null(),
+    let text = asked.text();
+    match formatted(asked.alloc, asked.language()?, text)? {
+        None => {
+            json.null();
+            Ok(())
+        }
         Some(new) => {
             json.begin_list();
-            write_edits(alloc, encoding, document, 0, text, new.as_str(), json)?;
+            write_edits(asked.alloc, places, 0, text, new.as_str(), json)?;
             json.end_list();
+            Ok(())
         }
     }
-    Ok(())
 }
 
 /// Writes the same of each definition that touches the range, which is laid out as if it stood alone, with the line ends of the text;
 /// one that has an error stays as it is.
 ///
 /// It fails only where memory runs out.
-pub fn write_formatted_range(
-    alloc: Global,
-    language: Language,
-    encoding: Encoding,
-    document: &Document,
-    asked: Range,
+pub fn write_layout_of(
+    asked: Asked<'_>,
+    structure: &Structure,
+    places: &Places<'_>,
+    range: Range,
     json: &mut JsonWriter,
 ) -> Result<(), AllocError> {
-    let text = document.text();
-    let start = document.offset_of(encoding, asked.start);
-    let end = document.offset_of(encoding, asked.end);
-    let line_end = line_end_of(text);
-    let structure = Structure::new(alloc, text)?;
+    let language = asked.language()?;
+    let start = asked.offset_of(range.start);
+    let end = asked.offset_of(range.end);
     json.begin_list();
     for definition in structure.definitions() {
-        let Span {
-            start: first,
-            end: last,
-        } = *definition;
-        if first > end || last < start {
-            continue;
-        }
-        let Some(old) = text.get(first..last) else {
-            continue;
-        };
-        if let Some(new) = formatted(alloc, language, old)? {
-            let new = new.as_str().trim_end_matches('\n');
-            let new = with_line_end(alloc, new, line_end)?;
-            write_edits(alloc, encoding, document, first, old, new.as_str(), json)?;
+        if definition.start <= end && definition.end >= start {
+            write_definition(asked, language, places, *definition, json)?;
         }
     }
     json.end_list();
     Ok(())
+}
+
+// Writes the edits that lay out a definition.
+fn write_definition(
+    asked: Asked<'_>,
+    language: Language,
+    places: &Places<'_>,
+    definition: Span,
+    json: &mut JsonWriter,
+) -> Result<(), AllocError> {
+    let old = slice_of(asked.text(), definition);
+    let Some(new) = formatted(asked.alloc, language, old)? else {
+        return Ok(());
+    };
+    let new = with_line_end(
+        asked.alloc,
+        new.as_str().trim_end_matches('\n'),
+        line_end_of(asked.text()),
+    )?;
+    write_edits(
+        asked.alloc,
+        places,
+        definition.start,
+        old,
+        new.as_str(),
+        json,
+    )
 }
 
 // The text laid out anew, if it is good.
@@ -98,8 +112,7 @@ fn formatted(alloc: Global, language: Language, text: &str) -> Result<Option<Str
 // Writes the edits that change `old`, which stands at that offset of the text, into `new`.
 fn write_edits(
     alloc: Global,
-    encoding: Encoding,
-    document: &Document,
+    places: &Places<'_>,
     offset: usize,
     old: &str,
     new: &str,
@@ -112,8 +125,7 @@ fn write_edits(
             start: edit.new_start,
             end: edit.new_end,
         };
-        let range = range_of(encoding, document, start, end);
-        write_edit(range, slice_of(new, put), json);
+        write_edit(places.range_of(start, end), slice_of(new, put), json);
     }
     Ok(())
 }

@@ -12,9 +12,6 @@ pub const LONGEST_CONTENT: usize = 64 * 1024 * 1024;
 // After a fault, reading goes on where this stands next.
 const LENGTH_FIELD: &[u8] = b"Content-Length:";
 
-// So much memory is kept for the bytes to come once a longer message is done with.
-const KEPT: usize = 1024 * 1024;
-
 /// What stands next in the bytes that arrived.
 #[derive(Clone, Copy)]
 pub enum Piece {
@@ -65,8 +62,11 @@ impl Frames {
     }
 
     /// The bytes of a content.
-    pub fn content(&self, start: usize, end: usize) -> &[u8] {
-        self.pending.as_slice().get(start..end).unwrap_or(&[])
+    pub fn content(&mut self, start: usize, end: usize) -> &mut [u8] {
+        self.pending
+            .as_mut_slice()
+            .get_mut(start..end)
+            .unwrap_or(&mut [])
     }
 
     /// What stands next; None where more bytes have to come first.
@@ -75,9 +75,9 @@ impl Frames {
             if self.is_lost && !self.finds_header() {
                 return None;
             }
-            match headers_of(self.rest()) {
-                Headers::Partial => return None,
-                Headers::Wrong(why) => {
+            match header_of(self.rest()) {
+                Ok(header) => return self.cut(header?),
+                Err(why) => {
                     self.pass(1);
                     self.is_lost = true;
                     if !self.is_told {
@@ -85,7 +85,6 @@ impl Frames {
                         return Some(Piece::Fault(why));
                     }
                 }
-                Headers::Whole(header) => return self.cut(header),
             }
         }
         None
@@ -93,15 +92,10 @@ impl Frames {
 
     /// Lets go of the bytes that are done with.
     pub fn settle(&mut self) {
-        let left = self.rest().len();
-        if left == 0 {
-            if self.pending.capacity() > KEPT {
-                self.pending = Vec::new(self.alloc);
-            }
-            self.pending.clear();
+        if self.passed >= self.pending.len() {
+            self.pending = Vec::new(self.alloc);
         } else if self.passed > 0 {
-            let passed = self.passed.min(self.pending.len());
-            let _ = self.pending.drain(..passed);
+            let _ = self.pending.drain(..self.passed);
         }
         self.passed = 0;
     }
@@ -135,7 +129,7 @@ impl Frames {
 
     // The content that comes after this header part, if it has come.
     fn cut(&mut self, header: Header) -> Option<Piece> {
-        let length = header.bytes.saturating_add(header.length);
+        let length = header.bytes.saturating_add(header.length.unwrap_or(0));
         if self.rest().len() < length {
             return None;
         }
@@ -155,55 +149,35 @@ impl Frames {
 #[derive(Clone, Copy)]
 struct Header {
     bytes: usize,
-    length: usize,
+    length: Option<usize>,
     is_utf8: bool,
 }
 
-enum Headers {
-    // More bytes have to come.
-    Partial,
-    Wrong(&'static str),
-    Whole(Header),
-}
-
-// The header part with which these bytes begin.
-fn headers_of(bytes: &[u8]) -> Headers {
-    let front = match bytes.get(..LONGEST_HEADERS) {
-        Some(front) => front,
-        None => bytes,
+// The header part with which these bytes begin; None if more bytes have to come, or why it is wrong.
+fn header_of(bytes: &[u8]) -> Result<Option<Header>, &'static str> {
+    let front = bytes.get(..LONGEST_HEADERS).unwrap_or(bytes);
+    let mut header = Header {
+        bytes: 0,
+        length: None,
+        is_utf8: true,
     };
-    let mut length = None;
-    let mut is_utf8 = true;
-    let mut passed = 0usize;
     for _ in 0..LONGEST_HEADERS {
-        let Some(line) = line_at(front, passed) else {
+        let Some(line) = line_at(front, header.bytes) else {
             break;
         };
-        passed = passed.saturating_add(line.len()).saturating_add(2);
+        header.bytes = header.bytes.saturating_add(line.len()).saturating_add(2);
         if line.is_empty() {
-            return match length {
-                Some(length) => Headers::Whole(Header {
-                    bytes: passed,
-                    length,
-                    is_utf8,
-                }),
-                None => Headers::Wrong("a header part has no Content-Length"),
+            return match header.length {
+                Some(_) => Ok(Some(header)),
+                None => Err("a header part has no Content-Length"),
             };
         }
-        match field_of(line) {
-            Field::Length(_) if length.is_some() => {
-                return Headers::Wrong("a header part has two fields Content-Length");
-            }
-            Field::Length(said) => length = Some(said),
-            Field::Charset(said) => is_utf8 = said,
-            Field::Other => {}
-            Field::Wrong(why) => return Headers::Wrong(why),
-        }
+        header.take(line)?;
     }
     if front.len() < LONGEST_HEADERS {
-        Headers::Partial
+        Ok(None)
     } else {
-        Headers::Wrong("a header part is longer than 1024 bytes")
+        Err("a header part is longer than 1024 bytes")
     }
 }
 
@@ -214,39 +188,34 @@ fn line_at(bytes: &[u8], start: usize) -> Option<&[u8]> {
     rest.get(..end)
 }
 
-// What a header field says.
-enum Field {
-    Length(usize),
-    // Whether the characters are coded in UTF-8.
-    Charset(bool),
-    // A field that says nothing here.
-    Other,
-    Wrong(&'static str),
-}
-
-fn field_of(line: &[u8]) -> Field {
-    let Ok(line) = std::str::from_utf8(line) else {
-        return Field::Wrong("a header field is not ASCII");
-    };
-    let Some((name, value)) = line.split_once(':') else {
-        return Field::Wrong("a header field has no colon");
-    };
-    if name.eq_ignore_ascii_case("Content-Length") {
-        length_of(value.trim())
-    } else if name.eq_ignore_ascii_case("Content-Type") {
-        Field::Charset(is_utf8(value))
-    } else {
-        Field::Other
+impl Header {
+    // Takes what a header field says.
+    fn take(&mut self, line: &[u8]) -> Result<(), &'static str> {
+        let Ok(line) = std::str::from_utf8(line) else {
+            return Err("a header field is not ASCII");
+        };
+        let Some((name, value)) = line.split_once(':') else {
+            return Err("a header field has no colon");
+        };
+        if name.eq_ignore_ascii_case("Content-Length") {
+            if self.length.is_some() {
+                return Err("a header part has two fields Content-Length");
+            }
+            self.length = Some(length_of(value.trim())?);
+        } else if name.eq_ignore_ascii_case("Content-Type") {
+            self.is_utf8 = is_utf8(value);
+        }
+        Ok(())
     }
 }
 
-fn length_of(value: &str) -> Field {
-    if value.is_empty() || !value.bytes().all(|byte| byte.is_ascii_digit()) {
-        return Field::Wrong("a Content-Length is no number");
-    }
+// A length in digits alone.
+fn length_of(value: &str) -> Result<usize, &'static str> {
     match value.parse::<usize>() {
-        Ok(length) if length <= LONGEST_CONTENT => Field::Length(length),
-        _ => Field::Wrong("a Content-Length is greater than 64 MiB"),
+        Ok(length) if length <= LONGEST_CONTENT && !matches!(value.as_bytes(), [b'+', ..]) => {
+            Ok(length)
+        }
+        _ => Err("a Content-Length is no number up to 67108864"),
     }
 }
 

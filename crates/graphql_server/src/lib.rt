@@ -1,12 +1,12 @@
 //! The language server of `gql lsp`, over bytes in and out (Language Server Protocol 3.17).
 //!
-//! [`Server::receive`] takes the bytes that a client sent, in whatever parts they arrive, and gives the bytes that are sent back. The
-//! modules have its parts: messages are cut from the bytes ([`framing`]). What each asks for ([`envelope`], [`methods`]) and its
-//! parameters ([`params`], [`members`]) are read value by value ([`reader`]), and what is sent ([`messages`]) is written so
-//! ([`writer`]). A session ([`session`]) keeps the open texts ([`texts`]) and answers each request, about diagnostics
-//! ([`diagnostics`]), quick fixes ([`fixes`]), the outline ([`outline`]), folding and selection ranges ([`folding`], [`selection`]),
-//! names ([`navigation`]) and layout ([`formatting`], [`differences`]); what it can do is told at the beginning ([`capabilities`]), and what it sends is
-//! what the client can take ([`client`]).
+//! [`Server::receive`] takes the bytes that a client sent, in whatever parts they arrive, and [`Server::output`] is what is sent back.
+//! The modules have its parts: messages are cut from the bytes ([`framing`]). What each is ([`messages`], [`methods`]) and its
+//! parameters ([`params`]) are found in the JSON by the paths of its members ([`members`]), and what is sent ([`answers`]) is written
+//! value by value ([`writer`]). A session ([`session`]) keeps the open texts ([`texts`]) and answers each request ([`results`]), about
+//! diagnostics ([`diagnostics`]), quick fixes ([`fixes`]), the outline ([`outline`]), folding and selection ranges ([`folding`],
+//! [`selection`]), names ([`navigation`]) and layout ([`formatting`], [`differences`]); what it can do is told at the beginning
+//! ([`capabilities`]), and what it sends is what the client can take ([`client`]).
 //!
 //! Proved: it is safe and ends on every input. A text after a change is what the protocol says, as `text_edits` has it; each range of
 //! a diagnostic is one of positions of the text; what is published of a text is made from that text alone, and is nothing only where
@@ -18,11 +18,11 @@ pub mod capabilities;
 pub mod client;
 pub mod diagnostics;
 pub mod differences;
-pub mod envelope;
 pub mod fixes;
 pub mod folding;
 pub mod formatting;
 pub mod framing;
+mod halves;
 mod line_ends;
 pub mod members;
 pub mod messages;
@@ -31,11 +31,10 @@ pub mod navigation;
 pub mod outline;
 pub mod params;
 pub mod places;
-pub mod reader;
+mod results;
 pub mod selection;
 mod server;
 mod session;
-mod surrogates;
 pub mod texts;
 pub mod writer;
 

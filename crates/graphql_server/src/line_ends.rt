@@ -1,15 +1,18 @@
 //! How the lines of a text end (Language Server Protocol 3.17, "Text Documents").
 
-use memchr::{memchr, memchr2};
+use memchr::memchr;
 use std::alloc::{AllocError, Global};
 
 /// How the lines of a text end: as the first one does, or with a line feed if there is one line.
 pub fn line_end_of(text: &str) -> &'static str {
-    let bytes = text.as_bytes();
-    match memchr2(b'\n', b'\r', bytes) {
-        Some(end) if is_alone(bytes, end) => "\r",
-        Some(end) if bytes.get(end) == Some(&b'\r') => "\r\n",
-        _ => "\n",
+    let (line, end) = match text.split_once('\n') {
+        Some((line, _)) => (line, "\r\n"),
+        None => (text, "\r"),
+    };
+    match line.split_once('\r') {
+        None => "\n",
+        Some((_, "")) => end,
+        Some(_) => "\r",
     }
 }
 
@@ -26,38 +29,28 @@ pub fn with_line_end(alloc: Global, text: &str, line_end: &str) -> Result<String
 ///
 /// It fails only where memory runs out.
 pub fn with_line_feeds(alloc: Global, text: &str) -> Result<Option<String>, AllocError> {
-    let mut end = next_alone(text, 0);
-    if end.is_none() {
+    if memchr(b'\r', text.as_bytes()).is_none() {
         return Ok(None);
     }
-    let mut whole = String::with_capacity(alloc, text.len())?;
-    let mut passed = 0usize;
-    for _ in 0..text.len() {
-        let Some(at) = end else {
-            break;
-        };
-        whole.push_str(text.get(passed..at).unwrap_or(""))?;
-        whole.push('\n')?;
-        passed = at.saturating_add(1);
-        end = next_alone(text, passed);
+    let mut bytes = text.as_bytes().to_vec(alloc)?;
+    if !put_line_feeds(bytes.as_mut_slice()) {
+        return Ok(None);
     }
-    whole.push_str(text.get(passed..).unwrap_or(""))?;
-    Ok(Some(whole))
+    Ok(String::from_utf8(bytes).ok())
 }
 
-// Where the next carriage return stands that ends a line alone, from this offset on.
-fn next_alone(text: &str, from: usize) -> Option<usize> {
-    let bytes = text.as_bytes();
-    let mut at = from;
-    for _ in 0..bytes.len() {
-        let length = memchr(b'\r', bytes.get(at..)?)?;
-        at = at.saturating_add(length);
-        if is_alone(bytes, at) {
-            return Some(at);
+// Puts a line feed in the place of each carriage return that ends a line alone. Whether there is one.
+fn put_line_feeds(bytes: &mut [u8]) -> bool {
+    let mut has_one = false;
+    for at in 0..bytes.len() {
+        if is_alone(bytes, at)
+            && let Some(byte) = bytes.get_mut(at)
+        {
+            *byte = b'\n';
+            has_one = true;
         }
-        at = at.saturating_add(1);
     }
-    None
+    has_one
 }
 
 // Whether a carriage return without a line feed stands at this offset.

@@ -1,154 +1,229 @@
-//! The members of the objects that a client sends (Language Server Protocol 3.17).
+//! The members of a message that a client sent, found by their paths.
 
-/// A member that is read.
+use crate::writer::JsonWriter;
+use json::Value;
+
+/// What is wrong with a member.
 #[derive(Clone, Copy)]
-pub enum Member {
-    // Of a message
-    Jsonrpc,
-    Id,
-    Method,
-    Params,
-    Result,
-    Error,
-    // Of parameters
-    Capabilities,
-    TextDocument,
-    Position,
-    Range,
-    Positions,
-    Context,
-    ContentChanges,
-    // Of capabilities
-    General,
-    PositionEncodings,
-    Diagnostic,
-    PublishDiagnostics,
-    RelatedInformation,
-    DocumentSymbol,
-    HierarchicalDocumentSymbolSupport,
-    SymbolKind,
-    ValueSet,
-    Hover,
-    ContentFormat,
-    CodeAction,
-    CodeActionLiteralSupport,
-    // Of a text, and of its changes
-    Uri,
-    LanguageId,
-    Version,
-    Text,
-    // Of a position and a range
-    Line,
-    Character,
-    Start,
-    End,
-    // Of a context
-    Only,
-    IncludeDeclaration,
+pub enum Wrong {
+    Missing,
+    Twice,
+    NotObject,
+    NotList,
+    NotText,
+    NotSize,
+    NotInteger,
+    NotBoolean,
 }
 
-impl Member {
-    pub fn name(self) -> &'static str {
+impl Wrong {
+    fn words(self) -> &'static str {
         match self {
-            Member::Jsonrpc => "jsonrpc",
-            Member::Id => "id",
-            Member::Method => "method",
-            Member::Params => "params",
-            Member::Result => "result",
-            Member::Error => "error",
-            Member::Capabilities => "capabilities",
-            Member::TextDocument => "textDocument",
-            Member::Position => "position",
-            Member::Range => "range",
-            Member::Positions => "positions",
-            Member::Context => "context",
-            Member::ContentChanges => "contentChanges",
-            Member::General => "general",
-            Member::PositionEncodings => "positionEncodings",
-            Member::Diagnostic => "diagnostic",
-            Member::PublishDiagnostics => "publishDiagnostics",
-            Member::RelatedInformation => "relatedInformation",
-            Member::DocumentSymbol => "documentSymbol",
-            Member::HierarchicalDocumentSymbolSupport => "hierarchicalDocumentSymbolSupport",
-            Member::SymbolKind => "symbolKind",
-            Member::ValueSet => "valueSet",
-            Member::Hover => "hover",
-            Member::ContentFormat => "contentFormat",
-            Member::CodeAction => "codeAction",
-            Member::CodeActionLiteralSupport => "codeActionLiteralSupport",
-            Member::Uri => "uri",
-            Member::LanguageId => "languageId",
-            Member::Version => "version",
-            Member::Text => "text",
-            Member::Line => "line",
-            Member::Character => "character",
-            Member::Start => "start",
-            Member::End => "end",
-            Member::Only => "only",
-            Member::IncludeDeclaration => "includeDeclaration",
+            Wrong::Missing => " is missing",
+            Wrong::Twice => " is there twice",
+            Wrong::NotObject => " is not an object",
+            Wrong::NotList => " is not a list",
+            Wrong::NotText => " is not a string",
+            Wrong::NotSize => " is not an unsigned integer",
+            Wrong::NotInteger => " is not an integer",
+            Wrong::NotBoolean => " is not true or false",
         }
-    }
-
-    fn bit(self) -> u64 {
-        1u64.wrapping_shl(self as u32)
     }
 }
 
-/// Which members of an object are read, and which of them were read already.
+// The list that an item is in, by its path, and which item it is.
 #[derive(Clone, Copy)]
-pub struct Members {
-    wanted: &'static [Member],
-    // A list is read in the place of the object.
-    is_list: bool,
-    // How many values of the list were read.
-    passed: usize,
-    // Those that were read, each as a bit.
-    seen: u64,
+struct Item {
+    list: &'static str,
+    index: usize,
 }
 
-impl Members {
-    /// Of an object of which nothing was read yet.
-    pub fn new(wanted: &'static [Member], is_list: bool) -> Members {
-        Members {
-            wanted,
-            is_list,
-            passed: 0,
-            seen: 0,
-        }
-    }
+/// A member that is wrong.
+#[derive(Clone, Copy)]
+pub struct Fault {
+    item: Option<Item>,
+    path: &'static str,
+    wrong: Wrong,
+}
 
-    /// Whether a list is read in the place of the object.
-    pub fn is_list(&self) -> bool {
-        self.is_list
-    }
-
-    /// Whether this member was read.
-    pub fn has(&self, member: Member) -> bool {
-        self.seen & member.bit() != 0
-    }
-
-    /// The member of this name, if it is one of those that are read.
-    pub fn find(&self, key: &str) -> Option<Member> {
-        for member in self.wanted {
-            if member.name() == key {
-                return Some(*member);
+impl Fault {
+    /// Adds what is wrong to the words of a text: the path of the member, and what is wrong with it.
+    pub fn write(self, json: &mut JsonWriter) {
+        if let Some(item) = self.item {
+            json.words(item.list);
+            json.number_in_brackets(item.index);
+            if !self.path.is_empty() {
+                json.words(".");
             }
         }
-        None
+        json.words(self.path);
+        json.words(self.wrong.words());
+    }
+}
+
+/// A value of a message, and where it is.
+#[derive(Clone, Copy)]
+pub struct Member<'v, 'a> {
+    value: &'v Value<'a>,
+    item: Option<Item>,
+    // From the message or the item.
+    path: &'static str,
+}
+
+impl<'v, 'a> Member<'v, 'a> {
+    /// A message itself.
+    pub fn of(message: &'v Value<'a>) -> Member<'v, 'a> {
+        Member {
+            value: message,
+            item: None,
+            path: "",
+        }
     }
 
-    /// Adds a member to those that were read, and returns whether it was one of them before.
-    pub fn note(&mut self, member: Member) -> bool {
-        let has = self.has(member);
-        self.seen = self.seen | member.bit();
-        has
+    /// The value at a path, as `params.textDocument.uri`, of a message or an item of a list.
+    pub fn at(self, path: &'static str) -> Result<Member<'v, 'a>, Fault> {
+        let mut value = self.value;
+        let mut passed = 0usize;
+        for name in path.split('.') {
+            let end = passed.saturating_add(name.len());
+            value = match member_of(value, name) {
+                Ok(member) => member,
+                Err(Wrong::NotObject) => {
+                    return Err(self.fault_at(path, passed.saturating_sub(1), Wrong::NotObject));
+                }
+                Err(wrong) => return Err(self.fault_at(path, end, wrong)),
+            };
+            passed = end.saturating_add(1);
+        }
+        Ok(Member {
+            value,
+            item: self.item,
+            path,
+        })
     }
 
-    /// The member whose value is next in the list; None after the last.
-    pub fn pass(&mut self) -> Option<Member> {
-        let member = *self.wanted.get(self.passed)?;
-        self.passed = self.passed.saturating_add(1);
-        let _ = self.note(member);
-        Some(member)
+    /// The same, if it is there and not null.
+    pub fn get(self, path: &'static str) -> Result<Option<Member<'v, 'a>>, Fault> {
+        match self.at(path) {
+            Ok(member) => Ok(match member.value {
+                Value::Null => None,
+                _ => Some(member),
+            }),
+            Err(fault) => match fault.wrong {
+                Wrong::Missing => Ok(None),
+                _ => Err(fault),
+            },
+        }
     }
+
+    // The fault of the member whose path is this one up to that byte.
+    fn fault_at(self, path: &'static str, end: usize, wrong: Wrong) -> Fault {
+        Fault {
+            item: self.item,
+            path: path.get(..end).unwrap_or(path),
+            wrong,
+        }
+    }
+
+    fn fault(self, wrong: Wrong) -> Fault {
+        Fault {
+            item: self.item,
+            path: self.path,
+            wrong,
+        }
+    }
+
+    pub fn text(self) -> Result<&'a str, Fault> {
+        match self.value {
+            Value::String(text) => Ok(*text),
+            _ => Err(self.fault(Wrong::NotText)),
+        }
+    }
+
+    /// An integer that isn't negative.
+    pub fn size(self) -> Result<usize, Fault> {
+        if let Value::Number(digits) = self.value
+            && let Ok(size) = digits.parse::<usize>()
+        {
+            return Ok(size);
+        }
+        Err(self.fault(Wrong::NotSize))
+    }
+
+    pub fn integer(self) -> Result<i64, Fault> {
+        if let Value::Number(digits) = self.value
+            && let Ok(integer) = digits.parse::<i64>()
+        {
+            return Ok(integer);
+        }
+        Err(self.fault(Wrong::NotInteger))
+    }
+
+    pub fn boolean(self) -> Result<bool, Fault> {
+        match self.value {
+            Value::Bool(value) => Ok(*value),
+            _ => Err(self.fault(Wrong::NotBoolean)),
+        }
+    }
+
+    /// Checks that it is an object.
+    pub fn object(self) -> Result<(), Fault> {
+        match self.value {
+            Value::Object(_) => Ok(()),
+            _ => Err(self.fault(Wrong::NotObject)),
+        }
+    }
+
+    /// The items of a list.
+    pub fn items(self) -> Result<&'v [Value<'a>], Fault> {
+        match self.value {
+            Value::Array(items) => Ok(items.as_slice()),
+            _ => Err(self.fault(Wrong::NotList)),
+        }
+    }
+
+    /// An item of this list.
+    pub fn item(self, index: usize, value: &'v Value<'a>) -> Member<'v, 'a> {
+        Member {
+            value,
+            item: Some(Item {
+                list: self.path,
+                index,
+            }),
+            path: "",
+        }
+    }
+
+    /// The first text of this list that is one of these; nothing if there is none.
+    pub fn first_of(self, known: &[&'static str]) -> Result<Option<&'static str>, Fault> {
+        let mut first = None;
+        for (index, value) in self.items()?.iter().enumerate() {
+            let text = self.item(index, value).text()?;
+            for name in known {
+                if first.is_none() && *name == text {
+                    first = Some(*name);
+                }
+            }
+        }
+        Ok(first)
+    }
+}
+
+// The member of this name. Null has none.
+fn member_of<'v, 'a>(value: &'v Value<'a>, name: &str) -> Result<&'v Value<'a>, Wrong> {
+    let members = match value {
+        Value::Object(members) => members,
+        Value::Null => return Err(Wrong::Missing),
+        _ => return Err(Wrong::NotObject),
+    };
+    let mut found = None;
+    for member in members {
+        if member.0 == name {
+            if found.is_some() {
+                return Err(Wrong::Twice);
+            }
+            found = Some(&member.1);
+        }
+    }
+    found.ok_or(Wrong::Missing)
 }

@@ -1,27 +1,78 @@
-//! What the server sends, as it is written in JSON (Language Server Protocol 3.17).
+//! What a message of a client is, and parts of those that the server sends (Language Server Protocol 3.17, "Base Protocol").
 
+use crate::answers::Failure;
 use crate::client::Client;
+use crate::methods::Method;
 use crate::writer::JsonWriter;
+use json::Value;
 use text_edits::{Position, Range};
 
 /// The name of a request, which its answer has too ("Request Message"); null where a message is none.
-#[derive(Drop)]
-pub enum Id {
+#[derive(Clone, Copy)]
+pub enum Id<'a> {
     Number(i64),
-    Text(String),
+    Text(&'a str),
     Null,
 }
 
-impl Id {
-    /// Writes it.
-    pub fn write(&self, json: &mut JsonWriter) {
+impl Id<'_> {
+    /// Writes the member that has it.
+    pub fn write(self, json: &mut JsonWriter) {
+        json.name("id");
         match self {
-            Id::Number(number) => json.integer(*number),
-            Id::Text(text) => json.text(text.as_str()),
+            Id::Number(number) => json.integer(number),
+            Id::Text(text) => json.text(text),
             Id::Null => json.null(),
         }
     }
 }
+
+/// What a message is.
+#[derive(Clone, Copy)]
+pub enum Message<'a> {
+    Request(Id<'a>, Method),
+    /// With the name of its method.
+    Notice(Method, &'a str),
+    /// What has a result or an error: the answer to a request, of which the server has made none.
+    Answer,
+    /// It is no message, and has this id.
+    Wrong(Id<'a>, Failure<'a>),
+}
+
+/// What a message is ("Abstract Message", "Request Message", "Notification Message", "Response Message").
+pub fn message_of<'a>(message: &Value<'a>) -> Message<'a> {
+    if message.get("result").is_some() || message.get("error").is_some() {
+        return Message::Answer;
+    }
+    let id = match message.get("id") {
+        None => None,
+        Some(id) => match id_of(id) {
+            Some(id) => Some(id),
+            None => return Message::Wrong(Id::Null, Failure::NoId),
+        },
+    };
+    match (text_of(message, "jsonrpc"), text_of(message, "method")) {
+        (Some("2.0"), Some(name)) => match id {
+            Some(id) => Message::Request(id, Method::of(name)),
+            None => Message::Notice(Method::of(name), name),
+        },
+        _ => Message::Wrong(id.unwrap_or(Id::Null), Failure::NotMessage),
+    }
+}
+
+fn id_of<'a>(id: &Value<'a>) -> Option<Id<'a>> {
+    match id {
+        Value::String(text) => Some(Id::Text(*text)),
+        Value::Number(digits) => Some(Id::Number(digits.parse::<i64>().ok()?)),
+        _ => None,
+    }
+}
+
+fn text_of<'a>(message: &Value<'a>, name: &str) -> Option<&'a str> {
+    message.get(name)?.as_str()
+}
+
+// ---- What is sent
 
 fn write_position(position: Position, json: &mut JsonWriter) {
     json.begin_object();
@@ -32,8 +83,7 @@ fn write_position(position: Position, json: &mut JsonWriter) {
 
 /// Writes a member that is a range of a text.
 pub fn write_range(name: &str, range: Range, json: &mut JsonWriter) {
-    json.name(name);
-    json.begin_object();
+    json.object_member(name);
     json.name("start");
     write_position(range.start, json);
     json.name("end");
@@ -45,12 +95,13 @@ pub fn write_range(name: &str, range: Range, json: &mut JsonWriter) {
 #[derive(Drop)]
 pub struct Diagnostic<'a> {
     pub range: Range,
-    pub severity: u8,
     pub code: &'static str,
-    pub source: &'static str,
     pub message: String,
-    pub related_information: Vec<Related<'a>>,
+    pub related: Option<Related<'a>>,
 }
+
+// An error ("DiagnosticSeverity").
+const ERROR: usize = 1;
 
 /// Writes a member that is a list of diagnostics for a client.
 pub fn write_diagnostics(
@@ -59,31 +110,30 @@ pub fn write_diagnostics(
     client: &Client,
     json: &mut JsonWriter,
 ) {
-    json.name(name);
-    json.begin_list();
+    json.list_member(name);
     for diagnostic in diagnostics {
         write_diagnostic(diagnostic, client, json);
     }
     json.end_list();
 }
 
-fn write_diagnostic(diagnostic: &Diagnostic<'_>, client: &Client, json: &mut JsonWriter) {
+/// Writes a diagnostic for a client.
+pub fn write_diagnostic(diagnostic: &Diagnostic<'_>, client: &Client, json: &mut JsonWriter) {
     json.begin_object();
     write_range("range", diagnostic.range, json);
-    json.size_member("severity", usize::from(diagnostic.severity));
+    json.size_member("severity", ERROR);
     json.text_member("code", diagnostic.code);
-    json.text_member("source", diagnostic.source);
+    json.text_member("source", "gql");
     json.text_member("message", diagnostic.message.as_str());
-    if client.shows_related && !diagnostic.related_information.is_empty() {
-        json.name("relatedInformation");
-        json.begin_list();
-        for related in &diagnostic.related_information {
-            json.begin_object();
-            json.name("location");
-            write_location(related.location, json);
-            json.text_member("message", related.message);
-            json.end_object();
-        }
+    if client.shows_related
+        && let Some(related) = diagnostic.related
+    {
+        json.list_member("relatedInformation");
+        json.begin_object();
+        json.name("location");
+        write_location(related.location, json);
+        json.text_member("message", related.message);
+        json.end_object();
         json.end_list();
     }
     json.end_object();

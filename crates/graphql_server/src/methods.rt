@@ -24,11 +24,6 @@ pub enum Method {
 }
 
 impl Method {
-    /// Whether parameters of it are read.
-    pub fn has_params(self) -> bool {
-        !matches!(self, Method::Shutdown | Method::Exit | Method::Other)
-    }
-
     /// The method of this name.
     pub fn of(name: &str) -> Method {
         match name {

@@ -1,175 +1,81 @@
 //! The outline of a text (Language Server Protocol 3.17, "Document Symbols Request").
 
-use crate::client::{Client, SymbolKinds};
-use crate::messages::{Location, write_location, write_range};
+use crate::messages::write_range;
+use crate::navigation::write_span;
 use crate::places::Places;
+use crate::results::Asked;
 use crate::writer::JsonWriter;
 use graphql_editor::{Span, Structure, Symbol, SymbolKind};
-use std::alloc::{AllocError, Global};
-use text_edits::Range;
+use std::alloc::AllocError;
 
 /// Writes the symbols of a text for a client: each with those inside of it, or one after another if it doesn't show them so.
 ///
 /// It fails only where memory runs out.
 pub fn write_outline(
-    alloc: Global,
-    uri: &str,
-    client: &Client,
-    text: &str,
+    asked: Asked<'_>,
+    structure: &Structure,
+    places: &Places<'_>,
     json: &mut JsonWriter,
 ) -> Result<(), AllocError> {
-    let structure = Structure::new(alloc, text)?;
-    let symbols = structure.symbols();
-    let mut places = Places::new(alloc, client.encoding, text)?;
-    let ranges = ranges_of(alloc, symbols, &mut places)?;
-    let outline = Outline {
-        uri,
-        text,
-        kinds: &client.kinds,
-    };
     json.begin_list();
-    if client.nests_symbols {
-        outline.write_nested(symbols, ranges.as_slice(), json);
+    if asked.client.nests_symbols {
+        write_nested(asked, structure.symbols(), places, json);
     } else {
-        outline.write_flat(alloc, symbols, ranges.as_slice(), json)?;
+        write_flat(asked, structure.symbols(), places, json)?;
     }
     json.end_list();
     Ok(())
 }
 
-// The ranges of a symbol.
-#[derive(Clone, Copy)]
-struct Ranges {
-    whole: Range,
-    name: Range,
-}
-
-// The ranges of symbols. Their offsets rise: each symbol ends after those inside of it.
-fn ranges_of(
-    alloc: Global,
-    symbols: &[Symbol],
-    places: &mut Places<'_>,
-) -> Result<Vec<Ranges>, AllocError> {
-    let mut ranges = Vec::with_capacity(alloc, symbols.len())?;
-    // The symbols that are open, the inmost last.
-    let mut open = Vec::new(alloc);
-    for (index, symbol) in symbols.iter().enumerate() {
-        end_to(
-            symbol.depth,
-            symbols,
-            &mut open,
-            ranges.as_mut_slice(),
-            places,
-        );
-        let start = places.position_of(symbol.whole.start);
-        ranges.push(Ranges {
-            whole: Range { start, end: start },
-            name: places.range_of(symbol.name.start, symbol.name.end),
-        })?;
-        open.push(index)?;
-    }
-    end_to(0, symbols, &mut open, ranges.as_mut_slice(), places);
-    Ok(ranges)
-}
-
-// Finds where each symbol ends that is open and not around this depth.
-fn end_to(
-    depth: usize,
-    symbols: &[Symbol],
-    open: &mut Vec<usize>,
-    ranges: &mut [Ranges],
-    places: &mut Places<'_>,
-) {
-    for _ in depth..open.len() {
-        if let Some(index) = open.pop()
-            && let Some(symbol) = symbols.get(index)
-            && let Some(ranges) = ranges.get_mut(index)
-        {
-            ranges.whole.end = places.position_of(symbol.whole.end);
-        }
-    }
-}
-
-// What symbols are written with.
-#[derive(Clone, Copy)]
-struct Outline<'a> {
-    uri: &'a str,
-    text: &'a str,
-    // Those that the client knows.
-    kinds: &'a SymbolKinds,
-}
-
-impl Outline<'_> {
-    // Writes each symbol with those inside of it.
-    fn write_nested(&self, symbols: &[Symbol], ranges: &[Ranges], json: &mut JsonWriter) {
-        // How many symbols are open: the one that was met last, and those around it.
-        let mut open = 0usize;
-        for (symbol, ranges) in symbols.iter().zip(ranges) {
-            close_to(symbol.depth, open, json);
-            self.begin_symbol(symbol, ranges, json);
-            open = open.min(symbol.depth).saturating_add(1);
-        }
-        close_to(0, open, json);
-    }
-
-    // Writes a "DocumentSymbol" up to those inside of it.
-    fn begin_symbol(&self, symbol: &Symbol, ranges: &Ranges, json: &mut JsonWriter) {
-        json.begin_object();
-        json.text_member("name", slice_of(self.text, symbol.name));
+// Writes each symbol with those inside of it ("DocumentSymbol").
+fn write_nested(asked: Asked<'_>, symbols: &[Symbol], places: &Places<'_>, json: &mut JsonWriter) {
+    // How many symbols are open: the one that was met last, and those around it.
+    let mut open = 0usize;
+    for symbol in symbols {
+        close_to(symbol.depth, open, json);
+        begin_symbol(asked, symbol, json);
         if let Some(detail) = symbol.detail {
-            json.text_member("detail", slice_of(self.text, detail));
+            json.text_member("detail", slice_of(asked.text(), detail));
         }
-        json.size_member("kind", self.kind_of(symbol));
-        write_range("range", ranges.whole, json);
-        write_range("selectionRange", ranges.name, json);
-        json.name("children");
-        json.begin_list();
+        let Symbol { whole, name, .. } = *symbol;
+        write_range("range", places.range_of(whole.start, whole.end), json);
+        let name = places.range_of(name.start, name.end);
+        write_range("selectionRange", name, json);
+        json.list_member("children");
+        open = open.min(symbol.depth).saturating_add(1);
     }
+    close_to(0, open, json);
+}
 
-    // Writes each symbol as a "SymbolInformation", with the name of the one around it.
-    fn write_flat(
-        &self,
-        alloc: Global,
-        symbols: &[Symbol],
-        ranges: &[Ranges],
-        json: &mut JsonWriter,
-    ) -> Result<(), AllocError> {
-        let mut around: Vec<&str> = Vec::new(alloc);
-        for (symbol, ranges) in symbols.iter().zip(ranges) {
-            let name = slice_of(self.text, symbol.name);
-            around.truncate(symbol.depth);
-            json.begin_object();
-            json.text_member("name", name);
-            json.size_member("kind", self.kind_of(symbol));
-            json.name("location");
-            let location = Location {
-                uri: self.uri,
-                range: ranges.whole,
-            };
-            write_location(location, json);
-            if let Some(outer) = around.last() {
-                json.text_member("containerName", outer);
-            }
-            json.end_object();
-            around.push(name)?;
+// Writes each symbol with the name of the one around it ("SymbolInformation").
+fn write_flat(
+    asked: Asked<'_>,
+    symbols: &[Symbol],
+    places: &Places<'_>,
+    json: &mut JsonWriter,
+) -> Result<(), AllocError> {
+    let mut around: Vec<Span> = Vec::new(asked.alloc);
+    for symbol in symbols {
+        around.truncate(symbol.depth);
+        begin_symbol(asked, symbol, json);
+        json.name("location");
+        write_span(asked, places, symbol.whole, json);
+        if let Some(outer) = around.last() {
+            json.text_member("containerName", slice_of(asked.text(), *outer));
         }
-        Ok(())
+        json.end_object();
+        around.push(symbol.name)?;
     }
+    Ok(())
+}
 
-    // The number of a symbol's kind, or of one of the protocol's first version that is like it if the client doesn't know that one.
-    fn kind_of(&self, symbol: &Symbol) -> usize {
-        let kind = kind_of(symbol.kind);
-        if self.kinds.has(kind) {
-            return kind;
-        }
-        match kind {
-            OBJECT => FIELD,
-            ENUM_MEMBER => CONSTANT,
-            EVENT => FUNCTION,
-            STRUCT | TYPE_PARAMETER => CLASS,
-            _ => kind,
-        }
-    }
+// Begins a symbol with its name and its kind.
+fn begin_symbol(asked: Asked<'_>, symbol: &Symbol, json: &mut JsonWriter) {
+    json.begin_object();
+    json.text_member("name", slice_of(asked.text(), symbol.name));
+    let (kind, older) = kinds_of(symbol.kind);
+    let is_known = asked.client.kinds.has(kind);
+    json.size_member("kind", if is_known { kind } else { older });
 }
 
 // Ends each symbol that is open and not around this depth.
@@ -185,25 +91,23 @@ pub fn slice_of(text: &str, span: Span) -> &str {
     text.get(span.start..span.end).unwrap_or("")
 }
 
-// What editors show for a symbol ("SymbolKind"; which one for what is this project's choice).
-fn kind_of(kind: SymbolKind) -> usize {
+// What editors show for a symbol, and what those show that don't know that kind: one of the protocol's first version that is like it
+// ("SymbolKind"; which one for what is this project's choice).
+fn kinds_of(kind: SymbolKind) -> (usize, usize) {
     match kind {
-        SymbolKind::Query | SymbolKind::Mutation | SymbolKind::Subscription => FUNCTION,
-        SymbolKind::Fragment => CLASS,
-        SymbolKind::Variable | SymbolKind::Argument => VARIABLE,
-        SymbolKind::SelectedField => FIELD,
-        SymbolKind::InlineFragment | SymbolKind::Spread => OBJECT,
-        SymbolKind::Schema => MODULE,
-        SymbolKind::RootOperation => PROPERTY,
-        SymbolKind::Scalar => TYPE_PARAMETER,
-        SymbolKind::ObjectType => CLASS,
-        SymbolKind::Interface => INTERFACE,
-        SymbolKind::Union => ENUM,
-        SymbolKind::Enum => ENUM,
-        SymbolKind::EnumValue => ENUM_MEMBER,
-        SymbolKind::Input => STRUCT,
-        SymbolKind::InputField | SymbolKind::Field => FIELD,
-        SymbolKind::Directive => EVENT,
+        SymbolKind::Query | SymbolKind::Mutation | SymbolKind::Subscription => (FUNCTION, FUNCTION),
+        SymbolKind::Fragment | SymbolKind::ObjectType => (CLASS, CLASS),
+        SymbolKind::Variable | SymbolKind::Argument => (VARIABLE, VARIABLE),
+        SymbolKind::SelectedField | SymbolKind::InputField | SymbolKind::Field => (FIELD, FIELD),
+        SymbolKind::InlineFragment | SymbolKind::Spread => (OBJECT, FIELD),
+        SymbolKind::Schema => (MODULE, MODULE),
+        SymbolKind::RootOperation => (PROPERTY, PROPERTY),
+        SymbolKind::Scalar => (TYPE_PARAMETER, CLASS),
+        SymbolKind::Interface => (INTERFACE, INTERFACE),
+        SymbolKind::Union | SymbolKind::Enum => (ENUM, ENUM),
+        SymbolKind::EnumValue => (ENUM_MEMBER, CONSTANT),
+        SymbolKind::Input => (STRUCT, CLASS),
+        SymbolKind::Directive => (EVENT, FUNCTION),
     }
 }
 

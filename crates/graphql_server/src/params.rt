@@ -1,521 +1,229 @@
 //! The parameters of the messages of a client (Language Server Protocol 3.17).
 
 use crate::answers::Failure;
-use crate::client::{Client, Markup, SymbolKinds};
-use crate::fixes::has_fixes;
-use crate::members::Member;
+use crate::client::{Client, SymbolKinds};
+use crate::fixes::QUICK_FIX;
+use crate::members::{Fault, Member};
 use crate::methods::Method;
-use crate::reader::{DEEPEST, Fault, JsonReader, line_and_column};
 use crate::texts::{Change, said_by};
 use graphql_texts::Language;
-use json::{Scratch, Token};
-use std::alloc::{AllocError, Global};
+use json::Value;
+use std::alloc::Global;
 use text_edits::{Encoding, Position, Range};
 
-/// The parameters of a message. What the method doesn't have, or the client left out, is empty.
-#[derive(Drop)]
-pub struct Params {
-    /// The text that the message is about ("TextDocumentIdentifier").
-    pub uri: String,
-    /// The version of the text, if the client counts versions.
-    pub version: Option<i64>,
-    /// The language that the client says the text is in ("TextDocumentItem").
-    pub said: Option<Language>,
-    pub text: String,
-    pub position: Position,
-    pub positions: Vec<Position>,
-    pub range: Range,
-    /// "TextDocumentContentChangeEvent"
-    pub changes: Vec<Change>,
-    /// Whether quick fixes are asked for ("CodeActionContext").
-    pub wants_fixes: bool,
+/// The URI of the text that a message is about ("TextDocumentIdentifier").
+pub fn uri_of<'a>(message: Member<'_, 'a>) -> Result<&'a str, Fault> {
+    message.at("params.textDocument.uri")?.text()
+}
+
+/// The version of that text, if the client counts versions.
+pub fn version_of(message: Member<'_, '_>) -> Result<Option<i64>, Fault> {
+    match message.get("params.textDocument.version")? {
+        None => Ok(None),
+        Some(version) => Ok(Some(version.integer()?)),
+    }
+}
+
+/// The language that the client says that text is in ("TextDocumentItem"), if it is one that the server knows.
+pub fn language_of(message: Member<'_, '_>) -> Result<Option<Language>, Fault> {
+    match message.get("params.textDocument.languageId")? {
+        None => Ok(None),
+        Some(id) => Ok(said_by(id.text()?)),
+    }
+}
+
+/// What is asked about a text.
+#[derive(Clone, Copy)]
+pub enum Query<'v, 'a> {
+    Diagnostics,
+    Outline,
+    Folds,
+    /// Around the positions of a list.
+    Selections(Member<'v, 'a>),
+    Layout,
+    LayoutOf(Range),
+    /// Whether fixes are among the actions that are asked for ("CodeActionContext").
+    Actions(Range, bool),
+    Definition(Position),
     /// Whether definitions are among the references that are asked for ("ReferenceContext").
-    pub takes_definitions: bool,
-    /// What the client can do ("ClientCapabilities").
-    pub client: Client,
+    References(Position, bool),
+    Hover(Position),
 }
 
-const START: Position = Position {
-    line: 0,
-    character: 0,
-};
-
-impl Params {
-    /// Those of which nothing was read.
-    pub fn new(alloc: Global) -> Params {
-        Params {
-            uri: String::new(alloc),
-            version: None,
-            said: None,
-            text: String::new(alloc),
-            position: START,
-            positions: Vec::new(alloc),
-            range: Range {
-                start: START,
-                end: START,
-            },
-            changes: Vec::new(alloc),
-            wants_fixes: true,
-            takes_definitions: false,
-            client: Client::new(),
+/// What a request of this method asks about a text.
+pub fn query_of<'v, 'a>(method: Method, message: Member<'v, 'a>) -> Result<Query<'v, 'a>, Fault> {
+    Ok(match method {
+        Method::DocumentSymbol => Query::Outline,
+        Method::FoldingRange => Query::Folds,
+        Method::SelectionRange => Query::Selections(message.at("params.positions")?),
+        Method::Formatting => Query::Layout,
+        Method::RangeFormatting => Query::LayoutOf(range_of(message)?),
+        Method::CodeAction => Query::Actions(range_of(message)?, wants_fixes(message)?),
+        Method::Definition => Query::Definition(position_of(message)?),
+        Method::Hover => Query::Hover(position_of(message)?),
+        Method::References => {
+            let position = position_of(message)?;
+            let all = message.at("params.context.includeDeclaration")?.boolean()?;
+            Query::References(position, all)
         }
-    }
+        _ => Query::Diagnostics,
+    })
 }
 
-/// Reads the parameters of a message from its content.
-pub fn params_of(alloc: Global, method: Method, content: &str) -> Result<Params, Failure> {
-    let mut scratch = Scratch::new(alloc);
-    let mut reader = JsonReader::new(alloc, content, &mut scratch)?;
-    let params = read_message(&mut reader, method);
-    match reader.fault() {
-        None => Ok(params),
-        Some(Fault::OutOfMemory) => Err(Failure::OutOfMemory),
-        Some(fault) => {
-            let place = line_and_column(content, reader.place());
-            Err(Failure::WrongParams(message_for(alloc, fault, place)?))
-        }
+// Whether quick fixes are among the kinds that are asked for: a kind stands for those below it too, and null for all.
+fn wants_fixes(message: Member<'_, '_>) -> Result<bool, Fault> {
+    message.at("params.context")?.object()?;
+    match message.get("params.context.only")? {
+        None => Ok(true),
+        Some(only) => Ok(only.first_of(&["", QUICK_FIX])?.is_some()),
     }
-}
-
-// The message for a fault at this line and column.
-fn message_for(alloc: Global, fault: Fault, place: (usize, usize)) -> Result<String, AllocError> {
-    let (line, column) = place;
-    let what = match fault {
-        Fault::Missing(_) => "missing field",
-        Fault::Duplicate(_) => "duplicate field",
-        Fault::WrongType => "invalid type",
-        Fault::WrongNumber => "invalid value",
-        Fault::WrongLength => "invalid length",
-        Fault::NotObject => "expected an object",
-        Fault::NotJson | Fault::OutOfMemory => "invalid JSON",
-    };
-    let mut message = String::from_str(alloc, what)?;
-    if let Fault::Missing(member) | Fault::Duplicate(member) = fault {
-        message.push_str(" `")?;
-        push_field(member, &mut message)?;
-        message.push('`')?;
-    }
-    write!(message, " at line {line} column {column}")?;
-    Ok(message)
-}
-
-// A member's name as the name of a field: `text_document` for `textDocument`.
-fn push_field(member: Member, out: &mut String) -> Result<(), AllocError> {
-    for c in member.name().chars() {
-        if c.is_ascii_uppercase() {
-            out.push('_')?;
-        }
-        out.push(c.to_ascii_lowercase())?;
-    }
-    Ok(())
-}
-
-fn read_message(reader: &mut JsonReader<'_>, method: Method) -> Params {
-    let mut params = Params::new(reader.alloc());
-    let mut members = reader.begin_object(&[Member::Params], DEEPEST - 1);
-    for _ in 0..u64::MAX {
-        if reader.next_member(&mut members).is_none() {
-            break;
-        }
-        read_params(reader, method, &mut params);
-    }
-    reader.require(&members, Member::Params);
-    reader.end();
-    params
-}
-
-// The members that the parameters of a method have.
-fn wanted(method: Method) -> &'static [Member] {
-    match method {
-        Method::Initialize => &[Member::Capabilities],
-        Method::DidChange => &[Member::TextDocument, Member::ContentChanges],
-        Method::Definition | Method::Hover => &[Member::TextDocument, Member::Position],
-        Method::References => &[Member::TextDocument, Member::Position, Member::Context],
-        Method::SelectionRange => &[Member::TextDocument, Member::Positions],
-        Method::RangeFormatting => &[Member::TextDocument, Member::Range],
-        Method::CodeAction => &[Member::TextDocument, Member::Range, Member::Context],
-        _ => &[Member::TextDocument],
-    }
-}
-
-/// Reads the parameters of a method, which are the next value.
-pub fn read_params(reader: &mut JsonReader<'_>, method: Method, params: &mut Params) {
-    let wanted = wanted(method);
-    let mut members = reader.begin_object(wanted, DEEPEST - 2);
-    for _ in 0..u64::MAX {
-        let Some(member) = reader.next_member(&mut members) else {
-            break;
-        };
-        read_param(reader, method, member, params);
-    }
-    if !matches!(method, Method::Initialize) {
-        for member in wanted {
-            reader.require(&members, *member);
-        }
-    }
-}
-
-fn read_param(reader: &mut JsonReader<'_>, method: Method, member: Member, params: &mut Params) {
-    match member {
-        Member::TextDocument => read_text_document(reader, method, params),
-        Member::Position => params.position = read_position(reader),
-        Member::Positions => read_positions(reader, &mut params.positions),
-        Member::Range => {
-            let token = reader.next();
-            params.range = read_range(reader, token);
-        }
-        Member::Context => read_context(reader, method, params),
-        Member::ContentChanges => read_changes(reader, &mut params.changes),
-        Member::Capabilities => read_capabilities(reader, &mut params.client),
-        _ => reader.skip(DEEPEST - 2),
-    }
-}
-
-fn read_text_document(reader: &mut JsonReader<'_>, method: Method, params: &mut Params) {
-    let token = reader.next();
-    let mut members = reader.begin(
-        token,
-        match method {
-            Method::DidOpen => &[
-                Member::Uri,
-                Member::LanguageId,
-                Member::Version,
-                Member::Text,
-            ],
-            Method::DidChange => &[Member::Uri, Member::Version],
-            _ => &[Member::Uri],
-        },
-    );
-    for _ in 0..u64::MAX {
-        match reader.next_member(&mut members) {
-            None => break,
-            Some(Member::LanguageId) => params.said = read_language(reader),
-            Some(Member::Version) => params.version = reader.integer_or_null(),
-            Some(Member::Text) => params.text = reader.string(),
-            Some(_) => params.uri = reader.string(),
-        }
-    }
-    reader.require(&members, Member::Uri);
-    if matches!(method, Method::DidOpen) {
-        reader.require(&members, Member::Text);
-    }
-}
-
-// The language that a text is said to be in, if it is one that the server knows.
-fn read_language(reader: &mut JsonReader<'_>) -> Option<Language> {
-    said_by(reader.text_or_null()?)
 }
 
 // ---- Positions
 
-fn read_position(reader: &mut JsonReader<'_>) -> Position {
-    let mut position = START;
-    let token = reader.next();
-    let mut members = reader.begin(token, &[Member::Line, Member::Character]);
-    for _ in 0..u64::MAX {
-        match reader.next_member(&mut members) {
-            None => break,
-            Some(Member::Line) => position.line = reader.size(),
-            Some(_) => position.character = reader.size(),
-        }
-    }
-    reader.require(&members, Member::Line);
-    reader.require(&members, Member::Character);
-    position
+fn position_at(
+    member: Member<'_, '_>,
+    line: &'static str,
+    character: &'static str,
+) -> Result<Position, Fault> {
+    Ok(Position {
+        line: member.at(line)?.size()?,
+        character: member.at(character)?.size()?,
+    })
 }
 
-fn read_positions(reader: &mut JsonReader<'_>, positions: &mut Vec<Position>) {
-    let token = reader.next();
-    reader.begin_list(token);
-    for _ in 0..u64::MAX {
-        if !reader.next_item() {
-            break;
-        }
-        let position = read_position(reader);
-        if positions.push(position).is_err() {
-            reader.fail(Fault::OutOfMemory);
-        }
-    }
+fn position_of(message: Member<'_, '_>) -> Result<Position, Fault> {
+    position_at(message, "params.position.line", "params.position.character")
 }
 
-fn read_range(reader: &mut JsonReader<'_>, token: Option<Token<'_>>) -> Range {
-    let mut range = Range {
-        start: START,
-        end: START,
-    };
-    let mut members = reader.begin(token, &[Member::Start, Member::End]);
-    for _ in 0..u64::MAX {
-        match reader.next_member(&mut members) {
-            None => break,
-            Some(Member::Start) => range.start = read_position(reader),
-            Some(_) => range.end = read_position(reader),
-        }
-    }
-    reader.require(&members, Member::Start);
-    reader.require(&members, Member::End);
-    range
+fn range_of(message: Member<'_, '_>) -> Result<Range, Fault> {
+    Ok(Range {
+        start: position_at(
+            message,
+            "params.range.start.line",
+            "params.range.start.character",
+        )?,
+        end: position_at(
+            message,
+            "params.range.end.line",
+            "params.range.end.character",
+        )?,
+    })
+}
+
+/// A position of a list.
+pub fn position_in(
+    list: Member<'_, '_>,
+    index: usize,
+    value: &Value<'_>,
+) -> Result<Position, Fault> {
+    position_at(list.item(index, value), "line", "character")
 }
 
 // ---- Changes
 
-fn read_changes(reader: &mut JsonReader<'_>, changes: &mut Vec<Change>) {
-    let token = reader.next();
-    reader.begin_list(token);
-    for _ in 0..u64::MAX {
-        if !reader.next_item() {
-            break;
-        }
-        let change = read_change(reader);
+/// The changes of a text.
+pub fn changes_of<'a>(
+    alloc: Global,
+    message: Member<'_, 'a>,
+) -> Result<Vec<Change<'a>>, Failure<'a>> {
+    let list = message.at("params.contentChanges")?;
+    let items = list.items()?;
+    let mut changes = Vec::new(alloc);
+    for (index, value) in items.iter().enumerate() {
+        let change = change_of(list.item(index, value))?;
         if changes.push(change).is_err() {
-            reader.fail(Fault::OutOfMemory);
+            return Err(Failure::OutOfMemory);
         }
     }
+    Ok(changes)
 }
 
-fn read_change(reader: &mut JsonReader<'_>) -> Change {
-    let mut change = Change {
-        range: None,
-        text: String::new(reader.alloc()),
+fn change_of<'a>(item: Member<'_, 'a>) -> Result<Change<'a>, Fault> {
+    let range = match item.get("range")? {
+        None => None,
+        Some(_) => Some(Range {
+            start: position_at(item, "range.start.line", "range.start.character")?,
+            end: position_at(item, "range.end.line", "range.end.character")?,
+        }),
     };
-    let token = reader.next();
-    let mut members = reader.begin(token, &[Member::Range, Member::Text]);
-    for _ in 0..u64::MAX {
-        match reader.next_member(&mut members) {
-            None => break,
-            Some(Member::Range) => match reader.next() {
-                Some(Token::Null) => {}
-                token => change.range = Some(read_range(reader, token)),
-            },
-            Some(_) => change.text = reader.string(),
-        }
-    }
-    reader.require(&members, Member::Text);
-    change
-}
-
-// ---- Contexts
-
-fn read_context(reader: &mut JsonReader<'_>, method: Method, params: &mut Params) {
-    let token = reader.next();
-    if matches!(method, Method::CodeAction) {
-        let mut members = reader.begin(token, &[Member::Only]);
-        for _ in 0..u64::MAX {
-            if reader.next_member(&mut members).is_none() {
-                break;
-            }
-            params.wants_fixes = read_kinds(reader);
-        }
-    } else {
-        let mut members = reader.begin(token, &[Member::IncludeDeclaration]);
-        for _ in 0..u64::MAX {
-            if reader.next_member(&mut members).is_none() {
-                break;
-            }
-            params.takes_definitions = reader.boolean();
-        }
-        reader.require(&members, Member::IncludeDeclaration);
-    }
-}
-
-// Whether quick fixes are among the kinds that are asked for: a kind stands for those below it too, and null for all.
-fn read_kinds(reader: &mut JsonReader<'_>) -> bool {
-    let token = reader.next();
-    if let Some(Token::Null) = token {
-        return true;
-    }
-    let mut wants_fixes = false;
-    reader.begin_list(token);
-    for _ in 0..u64::MAX {
-        if !reader.next_item() {
-            break;
-        }
-        let kind = reader.text();
-        wants_fixes = wants_fixes || has_fixes(kind);
-    }
-    wants_fixes
+    Ok(Change {
+        range,
+        text: item.at("text")?.text()?,
+    })
 }
 
 // ---- Capabilities
 
-fn read_capabilities(reader: &mut JsonReader<'_>, client: &mut Client) {
-    let token = reader.next();
-    let mut members = reader.begin(token, &[Member::General, Member::TextDocument]);
-    for _ in 0..u64::MAX {
-        match reader.next_member(&mut members) {
-            None => break,
-            Some(Member::General) => read_general(reader, client),
-            Some(_) => read_text_capabilities(reader, client),
-        }
-    }
-    reader.require_in_list(&members, Member::General);
-    reader.require_in_list(&members, Member::TextDocument);
+/// What a client can do ("ClientCapabilities"). One that has the capabilities of diagnostics asks for them itself.
+pub fn client_of(message: Member<'_, '_>) -> Result<Client, Fault> {
+    message.at("params")?.object()?;
+    Ok(Client {
+        encoding: encoding_of(message)?,
+        asks_for_diagnostics: has(message, "params.capabilities.textDocument.diagnostic")?,
+        shows_related: is_true(
+            message,
+            "params.capabilities.textDocument.publishDiagnostics.relatedInformation",
+        )?,
+        takes_fixes: has(
+            message,
+            "params.capabilities.textDocument.codeAction.codeActionLiteralSupport",
+        )?,
+        nests_symbols: is_true(
+            message,
+            "params.capabilities.textDocument.documentSymbol.hierarchicalDocumentSymbolSupport",
+        )?,
+        kinds: kinds_of(message)?,
+        likes_markdown: likes_markdown(message)?,
+    })
 }
 
-fn read_general(reader: &mut JsonReader<'_>, client: &mut Client) {
-    let token = reader.next();
-    if let Some(Token::Null) = token {
-        return;
-    }
-    let mut members = reader.begin(token, &[Member::PositionEncodings]);
-    for _ in 0..u64::MAX {
-        if reader.next_member(&mut members).is_none() {
-            break;
-        }
-        client.encoding = read_first_named(reader, encoding_named).unwrap_or(Encoding::Utf16);
-    }
-    reader.require_in_list(&members, Member::PositionEncodings);
+fn encoding_of(message: Member<'_, '_>) -> Result<Encoding, Fault> {
+    let known = match message.get("params.capabilities.general.positionEncodings")? {
+        None => None,
+        Some(names) => names.first_of(&["utf-8", "utf-16", "utf-32"])?,
+    };
+    Ok(match known {
+        Some("utf-8") => Encoding::Utf8,
+        Some("utf-32") => Encoding::Utf32,
+        _ => Encoding::Utf16,
+    })
 }
 
-// The first of a list of names that the server knows; None if there is none, and for null.
-fn read_first_named<T: Copy, F: Fn(&str) -> Option<T>>(
-    reader: &mut JsonReader<'_>,
-    named: F,
-) -> Option<T>
-    requires { F.IsAlwaysCallable named }
-{
-    let token = reader.next();
-    if let Some(Token::Null) = token {
-        return None;
-    }
-    let mut first = None;
-    reader.begin_list(token);
-    for _ in 0..u64::MAX {
-        if !reader.next_item() {
-            break;
-        }
-        let name = reader.text();
-        if first.is_none() {
-            first = named(name);
-        }
-    }
-    first
-}
-
-fn encoding_named(name: &str) -> Option<Encoding> {
-    match name {
-        "utf-8" => Some(Encoding::Utf8),
-        "utf-16" => Some(Encoding::Utf16),
-        "utf-32" => Some(Encoding::Utf32),
-        _ => None,
+fn likes_markdown(message: Member<'_, '_>) -> Result<bool, Fault> {
+    match message.get("params.capabilities.textDocument.hover.contentFormat")? {
+        None => Ok(false),
+        Some(names) => Ok(names.first_of(&["plaintext", "markdown"])? == Some("markdown")),
     }
 }
 
-// The members of "TextDocumentClientCapabilities" that are read.
-const TEXT_CAPABILITIES: &[Member] = &[
-    Member::Diagnostic,
-    Member::PublishDiagnostics,
-    Member::DocumentSymbol,
-    Member::Hover,
-    Member::CodeAction,
-];
-
-// A client that has the capabilities of diagnostics asks for them itself.
-fn read_text_capabilities(reader: &mut JsonReader<'_>, client: &mut Client) {
-    let token = reader.next();
-    if let Some(Token::Null) = token {
-        return;
-    }
-    let mut members = reader.begin(token, TEXT_CAPABILITIES);
-    for _ in 0..u64::MAX {
-        let Some(member) = reader.next_member(&mut members) else {
-            break;
-        };
-        match member {
-            Member::Diagnostic => client.asks_for_diagnostics = read_presence(reader),
-            capability => read_capability(reader, capability, client),
-        }
-    }
-    reader.require_in_list(&members, Member::Diagnostic);
-}
-
-// The members that are read of a capability.
-fn wanted_of(capability: Member) -> &'static [Member] {
-    match capability {
-        Member::PublishDiagnostics => &[Member::RelatedInformation],
-        Member::DocumentSymbol => &[
-            Member::HierarchicalDocumentSymbolSupport,
-            Member::SymbolKind,
-        ],
-        Member::Hover => &[Member::ContentFormat],
-        _ => &[Member::CodeActionLiteralSupport],
-    }
-}
-
-// Reads a capability that is an object of others.
-fn read_capability(reader: &mut JsonReader<'_>, capability: Member, client: &mut Client) {
-    let token = reader.next();
-    if let Some(Token::Null) = token {
-        return;
-    }
-    let mut members = reader.begin(token, wanted_of(capability));
-    for _ in 0..u64::MAX {
-        match reader.next_member(&mut members) {
-            None => break,
-            Some(Member::RelatedInformation) => client.shows_related = read_flag(reader),
-            Some(Member::HierarchicalDocumentSymbolSupport) => {
-                client.nests_symbols = read_flag(reader);
-            }
-            Some(Member::SymbolKind) => read_symbol_kinds(reader, client),
-            Some(Member::ContentFormat) => {
-                client.markup = read_first_named(reader, Markup::named).unwrap_or(Markup::Plain);
-            }
-            Some(_) => client.takes_fixes = read_presence(reader),
-        }
-    }
-}
-
-fn read_symbol_kinds(reader: &mut JsonReader<'_>, client: &mut Client) {
-    let token = reader.next();
-    if let Some(Token::Null) = token {
-        return;
-    }
-    let mut members = reader.begin(token, &[Member::ValueSet]);
-    for _ in 0..u64::MAX {
-        if reader.next_member(&mut members).is_none() {
-            break;
-        }
-        if let Some(kinds) = read_kinds_known(reader) {
-            client.kinds = kinds;
-        }
-    }
-}
-
-// The kinds of symbols of a list of numbers; None for null.
-fn read_kinds_known(reader: &mut JsonReader<'_>) -> Option<SymbolKinds> {
-    let token = reader.next();
-    if let Some(Token::Null) = token {
-        return None;
-    }
+fn kinds_of(message: Member<'_, '_>) -> Result<SymbolKinds, Fault> {
+    let path = "params.capabilities.textDocument.documentSymbol.symbolKind.valueSet";
+    let Some(list) = message.get(path)? else {
+        return Ok(SymbolKinds::first());
+    };
     let mut kinds = SymbolKinds::none();
-    reader.begin_list(token);
-    for _ in 0..u64::MAX {
-        if !reader.next_item() {
-            break;
-        }
-        kinds.add(reader.size());
+    for (index, value) in list.items()?.iter().enumerate() {
+        kinds.add(list.item(index, value).size()?);
     }
-    Some(kinds)
+    Ok(kinds)
 }
 
-// Whether the value is true; null is not.
-fn read_flag(reader: &mut JsonReader<'_>) -> bool {
-    match reader.next() {
-        Some(Token::Bool(value)) => value,
-        Some(Token::Null) => false,
-        _ => {
-            reader.fail(Fault::WrongType);
-            false
+// Whether this member is an object.
+fn has(message: Member<'_, '_>, path: &'static str) -> Result<bool, Fault> {
+    match message.get(path)? {
+        None => Ok(false),
+        Some(member) => {
+            member.object()?;
+            Ok(true)
         }
     }
 }
 
-// Whether the value is an object, of which no member is read, and not null.
-fn read_presence(reader: &mut JsonReader<'_>) -> bool {
-    let token = reader.next();
-    if let Some(Token::Null) = token {
-        return false;
+// Whether this member is true.
+fn is_true(message: Member<'_, '_>, path: &'static str) -> Result<bool, Fault> {
+    match message.get(path)? {
+        None => Ok(false),
+        Some(member) => member.boolean(),
     }
-    let mut members = reader.begin(token, &[]);
-    let _ = reader.next_member(&mut members);
-    true
 }

@@ -4,19 +4,16 @@ use std::alloc::{AllocError, Global};
 use text_edits::{Encoding, Position, Range};
 
 // The position is kept of each so many bytes.
-const STEP: usize = 256;
+const STEP: usize = 32;
 
-/// The positions of a text's offsets, each found in the same time however long its line is, and those of offsets that rise in one
-/// pass over the text. (A `text_edits::Document` goes over the line; the positions are the same.)
+/// The positions of a text's offsets, each found in the same time however long its line is. (A `text_edits::Document` goes over the
+/// line; the positions are the same.)
 #[derive(Drop)]
 pub struct Places<'a> {
     text: &'a str,
     encoding: Encoding,
     // The positions of the offsets 0, STEP, 2 * STEP ..
     marks: Vec<Position>,
-    // The offset that was found last, and its position.
-    last: usize,
-    found: Position,
 }
 
 impl<'a> Places<'a> {
@@ -25,10 +22,7 @@ impl<'a> Places<'a> {
     /// It fails only where memory runs out.
     pub fn new(alloc: Global, encoding: Encoding, text: &'a str) -> Result<Places<'a>, AllocError> {
         let mut marks = Vec::new(alloc);
-        let mut here = Position {
-            line: 0,
-            character: 0,
-        };
+        let mut here = START;
         let mut next = 0usize;
         for (offset, c) in text.char_indices() {
             let end = offset.saturating_add(c.len_utf8());
@@ -38,53 +32,40 @@ impl<'a> Places<'a> {
             }
             here = after(here, c, byte_at(text, end), encoding);
         }
-        if next <= text.len() {
-            marks.push(here)?;
-        }
+        marks.push(here)?;
         Ok(Places {
             text,
             encoding,
             marks,
-            last: 0,
-            found: Position {
-                line: 0,
-                character: 0,
-            },
         })
     }
 
     /// The position of an offset in bytes. One beyond the end of the text is its end, one inside of a character is where the character
     /// begins, and one inside of a `\r\n` is where that begins.
-    pub fn position_of(&mut self, offset: usize) -> Position {
-        let text = self.text;
-        let end = text.floor_char_boundary(offset);
-        let (start, mut here) = self.nearest(end);
-        for (at, c) in text.get(start..end).unwrap_or("").char_indices() {
+    pub fn position_of(&self, offset: usize) -> Position {
+        let end = self.text.floor_char_boundary(offset);
+        let start = self.text.floor_char_boundary(end - end % STEP);
+        let mut here = self.marks.get(end / STEP).copied().unwrap_or(START);
+        for (at, c) in self.text.get(start..end).unwrap_or("").char_indices() {
             let passed = start.saturating_add(at).saturating_add(c.len_utf8());
-            here = after(here, c, byte_at(text, passed), self.encoding);
+            here = after(here, c, byte_at(self.text, passed), self.encoding);
         }
-        self.last = end;
-        self.found = here;
         here
     }
 
-    // The nearest offset up to this one whose position is known: that which was found last, or that of a mark.
-    fn nearest(&self, end: usize) -> (usize, Position) {
-        let start = self.text.floor_char_boundary(end - end % STEP);
-        match self.marks.as_slice().get(end / STEP) {
-            Some(mark) if self.last < start || end < self.last => (start, *mark),
-            _ => (self.last, self.found),
-        }
-    }
-
     /// The range between two offsets.
-    pub fn range_of(&mut self, start: usize, end: usize) -> Range {
+    pub fn range_of(&self, start: usize, end: usize) -> Range {
         Range {
             start: self.position_of(start),
             end: self.position_of(end),
         }
     }
 }
+
+const START: Position = Position {
+    line: 0,
+    character: 0,
+};
 
 fn byte_at(text: &str, offset: usize) -> Option<u8> {
     text.as_bytes().get(offset).copied()

@@ -23,60 +23,57 @@ impl Server {
         }
     }
 
-    /// Takes the bytes that arrived, in whatever parts, does what the messages that are whole then ask for, and adds what is to be
-    /// sent back to `out`: [`Server::add`], and then [`Server::answer`] until no message is left.
-    ///
-    /// It fails where one of these does, and the other messages are answered all the same.
-    pub fn receive(&mut self, bytes: &[u8], out: &mut Vec<u8>) -> Result<(), AllocError> {
-        self.add(bytes)?;
-        let mut taken = Ok(());
-        for _ in 0..u64::MAX {
-            match self.answer(out) {
-                Ok(true) => {}
-                Ok(false) => break,
-                Err(error) => taken = Err(error),
-            }
-        }
-        taken
+    /// What is to be sent, messages with their header parts, since [`Server::clear`].
+    pub fn output(&self) -> &[u8] {
+        self.session.outbox.bytes.as_slice()
     }
 
-    /// Takes the bytes that arrived.
-    ///
-    /// It fails only where there is no memory for them. The server goes on then, and no text is open, since one of them may be changed.
-    pub fn add(&mut self, bytes: &[u8]) -> Result<(), AllocError> {
-        if self.has_ended().is_some() {
-            return Ok(());
-        }
-        let added = self.frames.add(bytes);
-        if added.is_err() {
-            self.session.forget();
-        }
-        added
+    /// Drops what was sent.
+    pub fn clear(&mut self) {
+        self.session.outbox.clear();
     }
 
-    /// Does what the next message asks for that is whole, and adds what is to be sent back to `out`, each message with its header
-    /// part. Whether there was one; if there was none, what is wrong with a text that was changed is added, unless it was before.
+    /// Takes the bytes that arrived, in whatever parts, and does what the messages that are whole then ask for. If none is left, what is
+    /// wrong with a text that was changed is published, unless it was before.
     ///
     /// A request is answered before the next message is read. A header part that is wrong, or a length beyond 64 MiB, is logged, and
     /// reading goes on at the next `Content-Length:`. A content that is no JSON is answered by an error without id. Either may have been
     /// a change, so no text is open from then on.
     ///
-    /// It fails only where there is no memory even for an error in the place of an answer. The server goes on then. If a message is
-    /// lost that may have changed a text, no text is open from then on.
-    pub fn answer(&mut self, out: &mut Vec<u8>) -> Result<bool, AllocError> {
-        if self.session.status().is_some() {
-            return Ok(false);
+    /// It fails only where there is no memory for the bytes, or even for an error in the place of an answer. The server goes on then, and
+    /// the other messages are answered all the same. If a message is lost that may have changed a text, no text is open from then on.
+    pub fn receive(&mut self, bytes: &[u8]) -> Result<(), AllocError> {
+        if self.has_ended().is_some() {
+            return Ok(());
         }
-        match self.frames.next() {
-            Some(piece) => {
-                self.take(piece, out)?;
-                Ok(true)
+        if let Err(error) = self.frames.add(bytes) {
+            self.session.forget();
+            return Err(error);
+        }
+        let mut taken = Ok(());
+        for _ in 0..u64::MAX {
+            let Some(piece) = self.frames.next() else {
+                break;
+            };
+            let before = self.session.outbox.bytes.len();
+            if let Err(error) = self.take(piece) {
+                self.session.outbox.bytes.truncate(before);
+                taken = Err(error);
             }
-            None => {
-                self.frames.settle();
-                self.session.publish_changed(out)?;
-                Ok(false)
+            if self.has_ended().is_some() {
+                return taken;
             }
+        }
+        self.frames.settle();
+        self.session.publish_changed()?;
+        taken
+    }
+
+    fn take(&mut self, piece: Piece) -> Result<(), AllocError> {
+        match piece {
+            Piece::Content { start, end } => self.session.take(self.frames.content(start, end)),
+            Piece::OtherCharset => self.session.refuse_content(Failure::OtherCharset),
+            Piece::Fault(why) => self.session.take_fault(why),
         }
     }
 
@@ -91,16 +88,5 @@ impl Server {
         ensures { IfSome result (λ status. status ≤ 1) }
     {
         self.session.status()
-    }
-
-    fn take(&mut self, piece: Piece, out: &mut Vec<u8>) -> Result<(), AllocError> {
-        match piece {
-            Piece::Content { start, end } => {
-                let content = self.frames.content(start, end);
-                self.session.take(content, out)
-            }
-            Piece::OtherCharset => self.session.refuse_content(Failure::OtherCharset, out),
-            Piece::Fault(why) => self.session.take_fault(why, out),
-        }
     }
 }

@@ -2,26 +2,20 @@
 
 ghost use Rattle.std.specs.Prelude.{◌≤◌, IfSome};
 
-use crate::answers::{Failure, Weight, begin_answer, begin_notice, log, refuse, send};
+use crate::answers::{Failure, NOT_OPEN, Outbox};
 use crate::capabilities::write_initialized;
 use crate::client::Client;
-use crate::diagnostics::diagnostics_of;
-use crate::envelope::{Asked, Message, message_of};
-use crate::fixes::write_fixes;
-use crate::folding::write_folds;
-use crate::formatting::{write_formatted, write_formatted_range};
-use crate::messages::{Diagnostic, Id, write_diagnostics};
+use crate::halves::replace_halves;
+use crate::members::Member;
+use crate::messages::{Id, Message, message_of};
 use crate::methods::Method;
-use crate::navigation::{write_definitions, write_hover, write_references};
-use crate::outline::write_outline;
-use crate::params::{Params, params_of};
-use crate::selection::{are_too_many, write_selections};
-use crate::surrogates::without_halves;
-use crate::texts::{OpenText, Texts, are_known, change_all, is_known};
-use crate::writer::JsonWriter;
+use crate::params::{changes_of, client_of, language_of, query_of, uri_of, version_of};
+use crate::results::{Asked, RANGE_CLIPPED};
+use crate::texts::{OpenText, change_all, index_of};
+use graphql_texts::Language;
+use json::{Error, Scratch, Value};
 use std::alloc::{AllocError, Global};
-use std::mem;
-use text_edits::{Document, Position, Range};
+use text_edits::Document;
 
 // How far a session is.
 #[derive(Clone, Copy)]
@@ -43,26 +37,21 @@ pub struct Session {
     alloc: Global,
     phase: Phase,
     client: Client,
-    texts: Texts,
+    // The texts that are open, each with another URI. Nothing is kept of texts that are closed.
+    texts: Vec<OpenText>,
     // The text that was changed last, unless its diagnostics are published.
     changed: Option<String>,
+    /// What is sent.
+    pub outbox: Outbox,
 }
 
 // What is logged of a text.
-const NOT_OPEN: &str = "the text isn't open";
-
 const OPEN_BEFORE: &str = "the text was open before";
 
 const LOST: &str = "the text is closed, since a change of it may be lost";
 
-const POSITION_CLIPPED: &str =
-    "a position is on a line that the text doesn't have, or inside of a character";
-
-const RANGE_CLIPPED: &str =
-    "a range begins or ends on a line that the text doesn't have, or inside of a character";
-
-// What is done with a request: its answer is added, or it fails.
-type Outcome = Result<(), Failure>;
+// What is done with a message: it has its effect, and its answer is added, or it fails.
+type Outcome<'a> = Result<(), Failure<'a>>;
 
 impl Session {
     /// A session before its first message. It takes no memory.
@@ -71,8 +60,9 @@ impl Session {
             alloc,
             phase: Phase::Fresh,
             client: Client::new(),
-            texts: Texts::new(alloc),
+            texts: Vec::new(alloc),
             changed: None,
+            outbox: Outbox::new(alloc),
         }
     }
 
@@ -94,308 +84,155 @@ impl Session {
         }
     }
 
-    /// Does what a message asks for, and adds its answer, if it is a request.
+    /// Does what a message asks for, and answers it, if it is a request.
     ///
-    /// It fails only where there is no memory for an error in the place of an answer, and then nothing is added.
-    pub fn take(&mut self, content: &[u8], out: &mut Vec<u8>) -> Result<(), AllocError> {
-        let before = out.len();
-        let taken = self.take_content(content, out);
-        if taken.is_err() {
-            out.truncate(before);
+    /// It fails only where there is no memory for an error in the place of an answer.
+    pub fn take(&mut self, content: &mut [u8]) -> Result<(), AllocError> {
+        replace_halves(content);
+        let Ok(content) = std::str::from_utf8(content) else {
+            return self.refuse_content(Failure::NotUtf8);
+        };
+        let mut scratch = Scratch::new(self.alloc);
+        match Value::parse(self.alloc, content, &mut scratch) {
+            Ok(message) => self.take_message(&message),
+            Err(Error::OutOfMemory) => self.refuse_content(Failure::OutOfMemory),
+            Err(_) => self.refuse_content(Failure::NotJson),
         }
-        taken
+    }
+
+    fn take_message(&mut self, message: &Value<'_>) -> Result<(), AllocError> {
+        let kind = message_of(message);
+        if !matches!(kind, Message::Notice(Method::DidChange, _)) {
+            self.publish_changed()?;
+        }
+        match kind {
+            Message::Request(id, method) => self.answer_request(id, method, Member::of(message)),
+            Message::Notice(method, name) => self.take_notice(method, name, Member::of(message)),
+            Message::Answer => Ok(()),
+            Message::Wrong(id, failure) => self.refuse_message(id, failure),
+        }
     }
 
     /// A message is lost for want of memory, which may have changed a text: no text is open from then on, until the client opens it
     /// again.
     pub fn forget(&mut self) {
-        self.texts = Texts::new(self.alloc);
-    }
-
-    fn take_content(&mut self, content: &[u8], out: &mut Vec<u8>) -> Result<(), AllocError> {
-        let Ok(content) = std::str::from_utf8(content) else {
-            return self.refuse_content(Failure::NotUtf8, out);
-        };
-        match without_halves(self.alloc, content) {
-            Ok(Some(whole)) => self.take_text(whole.as_str(), out),
-            Ok(None) => self.take_text(content, out),
-            Err(_) => self.refuse_content(Failure::OutOfMemory, out),
-        }
-    }
-
-    fn take_text(&mut self, content: &str, out: &mut Vec<u8>) -> Result<(), AllocError> {
-        let message = message_of(self.alloc, content);
-        if !matches!(&message, Ok(message) if message.is_change()) {
-            self.publish_changed(out)?;
-        }
-        match message {
-            Ok(Message::Request(id, asked)) => self.answer_request(content, asked, &id, out),
-            Ok(Message::Notice(asked)) => self.take_notice(content, asked, out),
-            Ok(Message::Answer) => Ok(()),
-            Ok(Message::Wrong(id)) => self.refuse_message(id, Failure::NotMessage, out),
-            Err(failure) => self.refuse_content(failure, out),
-        }
+        self.texts = Vec::new(self.alloc);
     }
 
     /// Logs what is wrong with a header part. The message may have changed a text: none is open from then on.
-    pub fn take_fault(&mut self, why: &str, out: &mut Vec<u8>) -> Result<(), AllocError> {
-        self.publish_changed(out)?;
-        self.log(Weight::Error, why, out)?;
-        self.lose_all(out)
+    pub fn take_fault(&mut self, why: &str) -> Result<(), AllocError> {
+        self.publish_changed()?;
+        if self.is_initialized() {
+            self.outbox.log(why)?;
+        }
+        self.lose_all()
     }
 
     /// Answers a content by an error without an id, and logs it. If it can't be read it may have changed a text: none is open from
     /// then on.
-    pub fn refuse_content(
-        &mut self,
-        failure: Failure,
-        out: &mut Vec<u8>,
-    ) -> Result<(), AllocError> {
+    pub fn refuse_content(&mut self, failure: Failure<'_>) -> Result<(), AllocError> {
         if failure.is_of_memory() {
             self.forget();
         }
-        self.publish_changed(out)?;
-        let is_unread = failure.is_unread();
-        self.refuse_message(Id::Null, failure, out)?;
-        if is_unread {
-            self.lose_all(out)?;
+        self.publish_changed()?;
+        self.refuse_message(Id::Null, failure)?;
+        if failure.is_unread() {
+            self.lose_all()?;
         }
         Ok(())
     }
 
     // Answers a message that is none by an error, and logs it.
-    fn refuse_message(
-        &self,
-        id: Id,
-        failure: Failure,
-        out: &mut Vec<u8>,
-    ) -> Result<(), AllocError> {
-        self.log(Weight::Error, failure.message(), out)?;
-        refuse(self.alloc, &id, &failure, out)
+    fn refuse_message(&mut self, id: Id<'_>, failure: Failure<'_>) -> Result<(), AllocError> {
+        if self.is_initialized() {
+            self.outbox.log_failure("", failure)?;
+        }
+        self.outbox.refuse(id, failure)
     }
 
-    // Adds a message for the client's log, unless `initialize` wasn't answered yet: nothing but answers is sent before that.
-    fn log(&self, weight: Weight, message: &str, out: &mut Vec<u8>) -> Result<(), AllocError> {
-        match self.phase {
-            Phase::Fresh => Ok(()),
-            _ => log(self.alloc, weight, message, out),
-        }
+    // Whether `initialize` was answered: nothing but answers is sent before that.
+    fn is_initialized(&self) -> bool {
+        !matches!(self.phase, Phase::Fresh)
     }
 
     // ---- Requests
 
     fn answer_request(
         &mut self,
-        content: &str,
-        asked: Asked,
-        id: &Id,
-        out: &mut Vec<u8>,
+        id: Id<'_>,
+        method: Method,
+        message: Member<'_, '_>,
     ) -> Result<(), AllocError> {
-        let before = out.len();
-        let outcome = match (self.phase, asked.method) {
-            (Phase::Fresh, Method::Initialize) => self.initialize(content, asked, id, out),
+        let before = self.outbox.bytes.len();
+        let outcome = match (self.phase, method) {
+            (Phase::Fresh, Method::Initialize) => self.initialize(id, message),
             (Phase::Fresh, _) => Err(Failure::NotInitialized),
-            (Phase::Running, _) => self.answer_running(content, asked, id, out),
+            (Phase::Running, Method::Initialize) => Err(Failure::InitializedTwice),
+            (Phase::Running, Method::Shutdown) => self.shut_down(id),
+            (
+                Phase::Running,
+                Method::Exit
+                | Method::DidOpen
+                | Method::DidChange
+                | Method::DidClose
+                | Method::Other,
+            ) => Err(Failure::NoSuchRequest),
+            (Phase::Running, _) => self.answer_about_text(id, method, message),
             (Phase::ShutDown | Phase::Ended | Phase::CutShort, _) => Err(Failure::ShutDown),
         };
         match outcome {
             Ok(()) => Ok(()),
             Err(failure) => {
                 if failure.is_of_memory() {
-                    out.truncate(before);
+                    self.outbox.bytes.truncate(before);
                 }
-                refuse(self.alloc, id, &failure, out)
+                self.outbox.refuse(id, failure)
             }
         }
     }
 
-    fn initialize(&mut self, content: &str, asked: Asked, id: &Id, out: &mut Vec<u8>) -> Outcome {
-        let params = asked.params(self.alloc, content)?;
-        let mut answer = begin_answer(self.alloc, id);
-        write_initialized(&params.client, &mut answer);
-        send(self.alloc, answer, out)?;
-        self.client = params.client;
+    fn initialize<'a>(&mut self, id: Id<'_>, message: Member<'_, 'a>) -> Outcome<'a> {
+        let client = client_of(message)?;
+        self.outbox.begin_answer(id);
+        write_initialized(&client, &mut self.outbox.json);
+        self.outbox.send()?;
+        self.client = client;
         self.phase = Phase::Running;
         Ok(())
     }
 
-    fn answer_running(
-        &mut self,
-        content: &str,
-        asked: Asked,
-        id: &Id,
-        out: &mut Vec<u8>,
-    ) -> Outcome {
-        match asked.method {
-            Method::Shutdown => {
-                let mut answer = begin_answer(self.alloc, id);
-                answer.null();
-                send(self.alloc, answer, out)?;
-                self.phase = Phase::ShutDown;
-                self.forget();
-                Ok(())
-            }
-            Method::Initialize => Err(Failure::InitializedTwice),
-            Method::Exit | Method::DidOpen | Method::DidChange | Method::DidClose | Method::Other =>
-                Err(Failure::NoSuchRequest),
-            _ => self.answer_about_text(content, asked, id, out),
-        }
+    fn shut_down<'a>(&mut self, id: Id<'_>) -> Outcome<'a> {
+        self.outbox.begin_answer(id);
+        self.outbox.json.null();
+        self.outbox.send()?;
+        self.phase = Phase::ShutDown;
+        self.forget();
+        Ok(())
     }
 
     // Answers a request that is about one text.
-    fn answer_about_text(
-        &self,
-        content: &str,
-        asked: Asked,
-        id: &Id,
-        out: &mut Vec<u8>,
-    ) -> Outcome {
-        let method = asked.method;
-        let params = asked.params(self.alloc, content)?;
-        let text = self.text(params.uri.as_str(), out)?;
-        self.log_places(method, &params, &text.document, out)?;
-        let mut answer = begin_answer(self.alloc, id);
-        self.write_result(method, &params, text, &mut answer)?;
-        Ok(send(self.alloc, answer, out)?)
-    }
-
-    // Writes the result of a request that is about this text.
-    fn write_result(
-        &self,
+    fn answer_about_text<'a>(
+        &mut self,
+        id: Id<'_>,
         method: Method,
-        params: &Params,
-        text: &OpenText,
-        json: &mut JsonWriter,
-    ) -> Result<(), AllocError> {
-        let (alloc, client, document) = (self.alloc, &self.client, &text.document);
-        let (uri, position, range) = (params.uri.as_str(), params.position, params.range);
-        let encoding = client.encoding;
-        match method {
-            Method::CodeAction if params.wants_fixes && client.takes_fixes => {
-                let language = text.language(alloc, uri)?;
-                write_fixes(alloc, uri, language, client, document, range, json)
-            }
-            Method::DocumentSymbol => write_outline(alloc, uri, client, document.text(), json),
-            Method::FoldingRange => write_folds(alloc, document.text(), json),
-            Method::SelectionRange => {
-                write_selections(alloc, encoding, document, params.positions.as_slice(), json)
-            }
-            Method::Formatting => {
-                let language = text.language(alloc, uri)?;
-                write_formatted(alloc, language, encoding, document, json)
-            }
-            Method::RangeFormatting => {
-                let language = text.language(alloc, uri)?;
-                write_formatted_range(alloc, language, encoding, document, range, json)
-            }
-            Method::Definition => {
-                write_definitions(alloc, uri, encoding, document, position, json)
-            }
-            Method::References => {
-                let all = params.takes_definitions;
-                write_references(alloc, uri, encoding, document, position, all, json)
-            }
-            Method::Hover => write_hover(alloc, client, document, position, json),
-            Method::Diagnostic => self.write_report(uri, text, json),
-            _ => {
-                // No action is asked for that the server has.
-                json.begin_list();
-                json.end_list();
-                Ok(())
-            }
-        }
-    }
-
-    // Writes what is wrong with a text ("FullDocumentDiagnosticReport").
-    fn write_report(
-        &self,
-        uri: &str,
-        text: &OpenText,
-        json: &mut JsonWriter,
-    ) -> Result<(), AllocError> {
-        let diagnostics = self.diagnostics(uri, text)?;
-        json.begin_object();
-        json.text_member("kind", "full");
-        write_diagnostics("items", diagnostics.as_slice(), &self.client, json);
-        json.end_object();
-        Ok(())
-    }
-
-    // The text that a request speaks of.
-    fn text(&self, uri: &str, out: &mut Vec<u8>) -> Result<&OpenText, Failure> {
-        match self.texts.get(uri) {
-            Some(text) => Ok(text),
-            None => Err(Failure::NotOpen(self.warn(NOT_OPEN, uri, out)?)),
-        }
-    }
-
-    // Logs the places that a request speaks of and that the text doesn't have: they are clipped.
-    fn log_places(
-        &self,
-        method: Method,
-        params: &Params,
-        document: &Document,
-        out: &mut Vec<u8>,
-    ) -> Outcome {
-        let uri = params.uri.as_str();
-        match method {
-            Method::SelectionRange => {
-                if are_too_many(params.positions.len(), document.text()) {
-                    return Err(Failure::TooManyPositions);
-                }
-                for position in &params.positions {
-                    self.log_position(uri, document, *position, out)?;
-                }
-            }
-            Method::Definition | Method::References | Method::Hover => self.log_position(
-                uri,
-                document,
-                params.position,
-                out,
-            )?,
-            Method::CodeAction | Method::RangeFormatting => self.log_range(
-                uri,
-                document,
-                params.range,
-                out,
-            )?,
-            _ => {}
-        }
-        Ok(())
-    }
-
-    fn log_position(
-        &self,
-        uri: &str,
-        document: &Document,
-        position: Position,
-        out: &mut Vec<u8>,
-    ) -> Result<(), AllocError> {
-        if !is_known(document, self.client.encoding, position) {
-            let _ = self.warn(POSITION_CLIPPED, uri, out)?;
-        }
-        Ok(())
-    }
-
-    fn log_range(
-        &self,
-        uri: &str,
-        document: &Document,
-        range: Range,
-        out: &mut Vec<u8>,
-    ) -> Result<(), AllocError> {
-        if !are_known(document, self.client.encoding, range) {
-            let _ = self.warn(RANGE_CLIPPED, uri, out)?;
-        }
-        Ok(())
-    }
-
-    // Logs what is odd about a text, and returns what is logged.
-    fn warn(&self, what: &str, uri: &str, out: &mut Vec<u8>) -> Result<String, AllocError> {
-        let alloc = self.alloc;
-        let message = format!(in alloc; "{what}: {uri}")?;
-        self.log(Weight::Warning, message.as_str(), out)?;
-        Ok(message)
+        message: Member<'_, 'a>,
+    ) -> Outcome<'a> {
+        let uri = uri_of(message)?;
+        let query = query_of(method, message)?;
+        let Some(index) = index_of(self.texts.as_slice(), uri) else {
+            self.outbox.warn(NOT_OPEN, uri)?;
+            return Err(Failure::NotOpen(uri));
+        };
+        let asked = Asked {
+            alloc: self.alloc,
+            client: &self.client,
+            uri,
+            text: &self.texts[index],
+        };
+        asked.log_clipped(query, &mut self.outbox)?;
+        self.outbox.begin_answer(id);
+        asked.write(query, &mut self.outbox.json)?;
+        Ok(self.outbox.send()?)
     }
 
     // ---- Notifications
@@ -404,11 +241,10 @@ impl Session {
     // next message is read.
     fn take_notice(
         &mut self,
-        content: &str,
-        asked: Asked,
-        out: &mut Vec<u8>,
+        method: Method,
+        name: &str,
+        message: Member<'_, '_>,
     ) -> Result<(), AllocError> {
-        let method = asked.method;
         if let Method::Exit = method {
             self.phase = match self.phase {
                 Phase::ShutDown => Phase::Ended,
@@ -419,176 +255,135 @@ impl Session {
         let Phase::Running = self.phase else {
             return Ok(());
         };
-        let before = out.len();
+        let before = self.outbox.bytes.len();
         let outcome = match method {
-            Method::DidOpen => self.did_open(content, asked, out),
-            Method::DidChange => self.did_change(content, asked, out),
-            Method::DidClose => self.did_close(content, asked, out),
-            _ => return Ok(()),
+            Method::DidOpen => self.did_open(message),
+            Method::DidChange => self.did_change(message),
+            Method::DidClose => self.did_close(message),
+            _ => Ok(()),
         };
-        match outcome {
-            Ok(()) => Ok(()),
-            Err(failure) => {
-                if failure.is_of_memory() {
-                    out.truncate(before);
-                }
-                self.log_failure(method, &failure, out)?;
-                if !failure.is_of_memory() {
-                    self.lose_changed(content, method, out)?;
-                }
-                Ok(())
-            }
-        }
-    }
-
-    // Logs why a notification has no effect.
-    fn log_failure(
-        &self,
-        method: Method,
-        failure: &Failure,
-        out: &mut Vec<u8>,
-    ) -> Result<(), AllocError> {
-        let alloc = self.alloc;
-        let name = match method {
-            Method::DidOpen => "textDocument/didOpen",
-            Method::DidChange => "textDocument/didChange",
-            _ => "textDocument/didClose",
-        };
-        let why = failure.message();
-        let message = format!(in alloc; "{name}: {why}")?;
-        self.log(Weight::Error, message.as_str(), out)
-    }
-
-    fn did_open(&mut self, content: &str, asked: Asked, out: &mut Vec<u8>) -> Outcome {
-        let params = asked.params(self.alloc, content)?;
-        let Params {
-            uri,
-            version,
-            said,
-            text,
-            ..
-        } = params;
-        let opened = OpenText {
-            said,
-            version,
-            document: Document::new(self.alloc, text)?,
-        };
-        if self.texts.open(uri.clone()?, opened)? {
-            let _ = self.warn(OPEN_BEFORE, uri.as_str(), out)?;
-        }
-        self.publish(uri.as_str(), out)
-    }
-
-    // Changes a text, whose diagnostics are published before the next message that is no change of it, or once no message is left.
-    fn did_change(&mut self, content: &str, asked: Asked, out: &mut Vec<u8>) -> Outcome {
-        let (alloc, encoding) = (self.alloc, self.client.encoding);
-        let params = asked.params(alloc, content);
-        if let Err(failure) = &params
-            && failure.is_of_memory()
-        {
-            self.forget();
-        }
-        let Params {
-            uri,
-            version,
-            changes,
-            ..
-        } = params?;
-        if !self.is_changed(uri.as_str()) {
-            self.publish_changed(out)?;
-        }
-        let Some(text) = self.texts.get_mut(uri.as_str()) else {
-            let _ = self.warn(NOT_OPEN, uri.as_str(), out)?;
+        let Err(failure) = outcome else {
             return Ok(());
         };
-        let changed = change_all(alloc, encoding, &mut text.document, changes);
-        text.version = version;
-        if changed.is_err() {
-            // The text is no longer the client's.
-            let _ = self.texts.close(uri.as_str());
+        if failure.is_of_memory() {
+            self.outbox.bytes.truncate(before);
         }
-        for _ in 0..changed? {
-            let _ = self.warn(RANGE_CLIPPED, uri.as_str(), out)?;
+        self.outbox.log_failure(name, failure)?;
+        self.lose_changed(method, message)
+    }
+
+    fn did_open<'a>(&mut self, message: Member<'_, 'a>) -> Outcome<'a> {
+        let uri = uri_of(message)?;
+        let said = language_of(message)?;
+        let version = version_of(message)?;
+        let text = message.at("params.textDocument.text")?.text()?;
+        if self.close(uri) {
+            self.outbox.warn(OPEN_BEFORE, uri)?;
         }
-        self.changed = Some(uri);
+        self.open(uri, said, version, text)?;
+        Ok(self.publish(uri)?)
+    }
+
+    // Opens a text, which isn't open.
+    fn open(
+        &mut self,
+        uri: &str,
+        said: Option<Language>,
+        version: Option<i64>,
+        text: &str,
+    ) -> Result<(), AllocError> {
+        let uri = String::from_str(self.alloc, uri)?;
+        let document = Document::new(self.alloc, String::from_str(self.alloc, text)?)?;
+        self.texts.push(OpenText {
+            uri,
+            said,
+            version,
+            document,
+        })?;
         Ok(())
     }
 
-    fn did_close(&mut self, content: &str, asked: Asked, out: &mut Vec<u8>) -> Outcome {
-        let params = asked.params(self.alloc, content)?;
-        let uri = params.uri.as_str();
-        if !self.texts.close(uri) {
-            let _ = self.warn(NOT_OPEN, uri, out)?;
-        } else if self.publishes() {
-            self.publish_list(uri, None, &[], out)?;
+    // Closes a text. Whether it was open.
+    fn close(&mut self, uri: &str) -> bool {
+        match index_of(self.texts.as_slice(), uri) {
+            Some(index) => {
+                let _ = self.texts.remove(index);
+                true
+            }
+            None => false,
+        }
+    }
+
+    // Changes a text, whose diagnostics are published before the next message that is no change of it, or once no message is left.
+    fn did_change<'a>(&mut self, message: Member<'_, 'a>) -> Outcome<'a> {
+        let uri = uri_of(message)?;
+        let version = version_of(message)?;
+        if !self.is_changed(uri) {
+            self.publish_changed()?;
+            self.changed = Some(String::from_str(self.alloc, uri)?);
+        }
+        let changes = changes_of(self.alloc, message)?;
+        let Some(index) = index_of(self.texts.as_slice(), uri) else {
+            return Ok(self.outbox.warn(NOT_OPEN, uri)?);
+        };
+        let text = &mut self.texts[index];
+        text.version = version;
+        let clipped = change_all(
+            self.alloc,
+            self.client.encoding,
+            &mut text.document,
+            changes,
+        )?;
+        for _ in 0..clipped {
+            self.outbox.warn(RANGE_CLIPPED, uri)?;
+        }
+        Ok(())
+    }
+
+    fn did_close<'a>(&mut self, message: Member<'_, 'a>) -> Outcome<'a> {
+        let uri = uri_of(message)?;
+        if !self.close(uri) {
+            self.outbox.warn(NOT_OPEN, uri)?;
+        } else {
+            self.publish_none(uri)?;
         }
         Ok(())
     }
 
     // ---- Lost changes
 
-    // Closes what a notification with wrong parameters may have changed: the text that it names, or any if that can't be read.
-    fn lose_changed(
-        &mut self,
-        content: &str,
-        method: Method,
-        out: &mut Vec<u8>,
-    ) -> Result<(), AllocError> {
-        match (method, params_of(self.alloc, Method::DidClose, content)) {
-            (Method::DidOpen | Method::DidChange, Ok(params)) => {
-                let uri = params.uri.as_str();
-                if self.texts.close(uri) {
-                    self.tell_lost(uri, out)?;
+    // Closes what a notification without an effect may have changed: the text that it names, or any if that can't be read.
+    fn lose_changed(&mut self, method: Method, message: Member<'_, '_>) -> Result<(), AllocError> {
+        match (method, uri_of(message)) {
+            (Method::DidOpen | Method::DidChange, Ok(uri)) => {
+                if self.close(uri) {
+                    self.report_lost(uri)?;
                 }
                 Ok(())
             }
-            (Method::DidChange, Err(_)) => self.lose_all(out),
+            (Method::DidChange, Err(_)) => self.lose_all(),
             _ => Ok(()),
         }
     }
 
-    // Closes each text that is open.
-    fn lose_all(&mut self, out: &mut Vec<u8>) -> Result<(), AllocError> {
-        let mut lost = mem::replace(&mut self.texts, Texts::new(self.alloc));
+    // Closes each text that is open, the one that was opened last first.
+    fn lose_all(&mut self) -> Result<(), AllocError> {
         for _ in 0..u64::MAX {
-            let Some(uri) = lost.close_first() else {
+            let Some(text) = self.texts.pop() else {
                 break;
             };
-            self.tell_lost(uri.as_str(), out)?;
+            self.report_lost(text.uri.as_str())?;
         }
         Ok(())
     }
 
     // Logs that a text is closed, and takes back what was published of it.
-    fn tell_lost(&self, uri: &str, out: &mut Vec<u8>) -> Result<(), AllocError> {
-        let _ = self.warn(LOST, uri, out)?;
-        if self.publishes() {
-            self.publish_list(uri, None, &[], out)?;
-        }
-        Ok(())
+    fn report_lost(&mut self, uri: &str) -> Result<(), AllocError> {
+        self.outbox.warn(LOST, uri)?;
+        self.publish_none(uri)
     }
 
     // ---- Diagnostics
-
-    // Whether diagnostics are published, since the client doesn't ask for them.
-    fn publishes(&self) -> bool {
-        !self.client.asks_for_diagnostics
-    }
-
-    fn diagnostics<'a>(
-        &self,
-        uri: &'a str,
-        text: &OpenText,
-    ) -> Result<Vec<Diagnostic<'a>>, AllocError> {
-        let language = text.language(self.alloc, uri)?;
-        diagnostics_of(
-            self.alloc,
-            uri,
-            language,
-            self.client.encoding,
-            &text.document,
-        )
-    }
 
     // Whether this text is changed, and its diagnostics are to be published.
     fn is_changed(&self, uri: &str) -> bool {
@@ -601,49 +396,49 @@ impl Session {
     /// Publishes what is wrong with the text that was changed last, unless that was published.
     ///
     /// It fails only where there is no memory for a message that says so.
-    pub fn publish_changed(&mut self, out: &mut Vec<u8>) -> Result<(), AllocError> {
+    pub fn publish_changed(&mut self) -> Result<(), AllocError> {
         let Some(uri) = self.changed.take() else {
             return Ok(());
         };
-        let before = out.len();
-        match self.publish(uri.as_str(), out) {
+        let before = self.outbox.bytes.len();
+        match self.publish(uri.as_str()) {
             Ok(()) => Ok(()),
-            Err(failure) => {
-                out.truncate(before);
-                self.log_failure(Method::DidChange, &failure, out)
+            Err(_) => {
+                self.outbox.bytes.truncate(before);
+                self.outbox
+                    .log_failure("textDocument/didChange", Failure::OutOfMemory)
             }
         }
     }
 
-    // Publishes what is wrong with a text that is open.
-    fn publish(&self, uri: &str, out: &mut Vec<u8>) -> Outcome {
-        let Some(text) = self.texts.get(uri) else {
+    // Publishes what is wrong with a text that is open, unless the client asks for it.
+    fn publish(&mut self, uri: &str) -> Result<(), AllocError> {
+        if self.client.asks_for_diagnostics {
+            return Ok(());
+        }
+        let Some(index) = index_of(self.texts.as_slice(), uri) else {
             return Ok(());
         };
-        if !self.publishes() {
-            return Ok(());
-        }
-        let diagnostics = self.diagnostics(uri, text)?;
-        Ok(self.publish_list(uri, text.version, diagnostics.as_slice(), out)?)
+        let asked = Asked {
+            alloc: self.alloc,
+            client: &self.client,
+            uri,
+            text: &self.texts[index],
+        };
+        let diagnostics = asked.diagnostics()?;
+        self.outbox.publish(
+            uri,
+            asked.text.version,
+            diagnostics.as_slice(),
+            &self.client,
+        )
     }
 
-    // Publishes these diagnostics ("PublishDiagnosticsParams").
-    fn publish_list(
-        &self,
-        uri: &str,
-        version: Option<i64>,
-        diagnostics: &[Diagnostic<'_>],
-        out: &mut Vec<u8>,
-    ) -> Result<(), AllocError> {
-        let mut notice = begin_notice(self.alloc, "textDocument/publishDiagnostics");
-        notice.begin_object();
-        notice.text_member("uri", uri);
-        if let Some(version) = version {
-            notice.name("version");
-            notice.integer(version);
+    // Takes back what was published of a text.
+    fn publish_none(&mut self, uri: &str) -> Result<(), AllocError> {
+        if self.client.asks_for_diagnostics {
+            return Ok(());
         }
-        write_diagnostics("diagnostics", diagnostics, &self.client, &mut notice);
-        notice.end_object();
-        send(self.alloc, notice, out)
+        self.outbox.publish(uri, None, &[], &self.client)
     }
 }

@@ -1,19 +1,19 @@
 //! The texts that are open, and how changes change them (Language Server Protocol 3.17, "Text Document Synchronization").
 
-ghost use Rattle.std.specs.Prelude.{◌≡◌, ◌↔◌, IfSome, IsTrue, OnOk, string_bytes};
+ghost use Rattle.std.specs.Prelude.{◌≡◌, ◌↔◌, ◌<◌, IfSome, IsTrue, OnOk, length};
 ghost use Rattle.text_edits.specs.Positions.{IsPosition};
 ghost use Rattle.graphql_server.specs.Changes.{AreChanged, IsChanged};
 ghost use Rattle.graphql_server.specs.Ranges.{IsRange};
 
 use graphql_texts::Language;
-use graphql_texts::language::read_as;
 use std::alloc::{AllocError, Global};
-use std::collections::BTreeMap;
 use text_edits::{Document, Encoding, Position, Range};
 
 /// A text that a client has open.
 #[derive(Drop)]
 pub struct OpenText {
+    /// Its URI.
+    pub uri: String,
     /// The language that its `languageId` says, if it says one.
     pub said: Option<Language>,
     /// Its version, if the client counts versions.
@@ -22,13 +22,16 @@ pub struct OpenText {
     pub document: Document,
 }
 
-impl OpenText {
-    /// What the text is read as: what its `languageId` says, else by the extension of its file, else as the text tells itself.
-    ///
-    /// It fails only where memory runs out.
-    pub fn language(&self, alloc: Global, uri: &str) -> Result<Language, AllocError> {
-        read_as(alloc, self.said, uri, self.document.text())
+/// Where the text of this URI is among those that are open; None if it isn't open.
+pub fn index_of(texts: &[OpenText], uri: &str) -> Option<usize>
+    ensures { IfSome result (λ index. index < length texts.now) }
+{
+    for (index, text) in texts.iter().enumerate() {
+        if text.uri.as_str() == uri {
+            return Some(index);
+        }
     }
+    None
 }
 
 /// The language that a `languageId` says (this project's choice). `graphql`, which is what editors have, says nothing.
@@ -40,58 +43,13 @@ pub fn said_by(language_id: &str) -> Option<Language> {
     }
 }
 
-/// The texts that are open, by their URIs. Nothing is kept of texts that are closed.
-#[derive(Drop)]
-pub struct Texts {
-    open: BTreeMap<String, OpenText>,
-}
-
-impl Texts {
-    /// No text. It takes no memory.
-    pub fn new(alloc: Global) -> Texts {
-        Texts {
-            open: BTreeMap::new(alloc),
-        }
-    }
-
-    /// Opens a text, and gives whether the same one was open before, which it takes the place of.
-    ///
-    /// It fails only where memory runs out, and then no text of this URI is open.
-    pub fn open(&mut self, uri: String, text: OpenText) -> Result<bool, AllocError> {
-        let was_open = self.close(uri.as_str());
-        let _ = self.open.insert(uri, text)?;
-        Ok(was_open)
-    }
-
-    /// Closes a text, and gives whether it was open.
-    pub fn close(&mut self, uri: &str) -> bool {
-        self.open.remove(uri).is_some()
-    }
-
-    /// Closes the first text that is open, and returns its URI.
-    pub fn close_first(&mut self) -> Option<String> {
-        let (uri, _) = self.open.pop_first()?;
-        Some(uri)
-    }
-
-    /// The text of this URI, if it is open.
-    pub fn get(&self, uri: &str) -> Option<&OpenText> {
-        self.open.get(uri)
-    }
-
-    /// The same, to be changed.
-    pub fn get_mut(&mut self, uri: &str) -> Option<&mut OpenText> {
-        self.open.get_mut(uri)
-    }
-}
-
 /// What is put in the place of a range of a text, or of the whole text ("TextDocumentContentChangeEvent").
-#[derive(Drop)]
-pub struct Change {
+#[derive(Clone, Copy)]
+pub struct Change<'a> {
     /// What is replaced, in units of the session's encoding; None for the whole text.
     pub range: Option<Range>,
     /// What is put there.
-    pub text: String,
+    pub text: &'a str,
 }
 
 /// Changes a text by one change after another, each of which speaks of the text as the one before it left it ("DidChangeTextDocument
@@ -103,7 +61,7 @@ pub fn change_all(
     alloc: Global,
     encoding: Encoding,
     document: &mut Document,
-    changes: Vec<Change>,
+    changes: Vec<Change<'_>>,
 ) -> Result<usize, AllocError>
     ensures { OnOk result (AreChanged encoding document.old changes.items document.new) }
 {
@@ -124,15 +82,15 @@ fn change_by(
     alloc: Global,
     encoding: Encoding,
     document: &mut Document,
-    change: Change,
+    change: Change<'_>,
 ) -> Result<(), AllocError>
     ensures { OnOk result (IsChanged encoding document.old change document.new) }
 {
     let Change { range, text } = change;
     match range {
-        Some(range) => document.apply(alloc, encoding, range, text.as_str()),
+        Some(range) => document.apply(alloc, encoding, range, text),
         None => {
-            *document = Document::new(alloc, text)?;
+            *document = Document::new(alloc, String::from_str(alloc, text)?)?;
             Ok(())
         }
     }

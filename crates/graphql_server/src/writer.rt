@@ -6,6 +6,8 @@ use std::alloc::{AllocError, Global};
 #[derive(Drop)]
 pub struct JsonWriter {
     tokens: json::Writer,
+    // The words of the text that is written next.
+    said: String,
     has_failed: bool,
 }
 
@@ -14,6 +16,7 @@ impl JsonWriter {
     pub fn new(alloc: Global) -> JsonWriter {
         JsonWriter {
             tokens: json::Writer::new(Vec::new(alloc)),
+            said: String::new(alloc),
             has_failed: false,
         }
     }
@@ -22,7 +25,11 @@ impl JsonWriter {
     ///
     /// It fails only where memory has run out.
     pub fn finish(self) -> Result<Vec<u8>, AllocError> {
-        let JsonWriter { tokens, has_failed } = self;
+        let JsonWriter {
+            tokens,
+            has_failed,
+            ..
+        } = self;
         if has_failed {
             return Err(AllocError);
         }
@@ -85,7 +92,40 @@ impl JsonWriter {
         self.note(written);
     }
 
+    // ---- Texts in parts
+
+    /// Adds words to the text that [`JsonWriter::said_member`] writes.
+    pub fn words(&mut self, words: &str) {
+        let said = self.said.push_str(words);
+        self.note(said);
+    }
+
+    /// Adds a number in brackets to the same text.
+    pub fn number_in_brackets(&mut self, number: usize) {
+        let said = write!(self.said, "[{number}]");
+        self.note(said);
+    }
+
+    /// Writes a member whose value is the words that were added.
+    pub fn said_member(&mut self, name: &str) {
+        self.name(name);
+        let written = self.tokens.string(self.said.as_str());
+        self.note(written);
+    }
+
     // ---- Members of an object
+
+    /// Begins a member that is an object.
+    pub fn object_member(&mut self, name: &str) {
+        self.name(name);
+        self.begin_object();
+    }
+
+    /// Begins a member that is a list.
+    pub fn list_member(&mut self, name: &str) {
+        self.name(name);
+        self.begin_list();
+    }
 
     pub fn text_member(&mut self, name: &str, text: &str) {
         self.name(name);

@@ -25,7 +25,7 @@ fn write_of_document(shown: &mut Shown, document: &Document) {
 fn write_differing(shown: &mut Shown, encoding: Encoding, document: &Document) {
     let text = document.text();
     match Places::new(shown.alloc(), encoding, text) {
-        Ok(mut places) => {
+        Ok(places) => {
             for offset in 0..=text.len() {
                 if places.position_of(offset) != document.position_of(encoding, offset) {
                     shown.debugged("", &encoding);
