@@ -287,13 +287,18 @@ def is_alike(answer, other):
     return seen(answer) == seen(other)
 
 
+def without_hint(report):
+    """A report without what only a call that looks for later errors says of a block string."""
+    return re.sub(rb" \(the block string that begins at \d+:\d+ is probably not closed\)\n", b"\n", report)
+
+
 def agrees(answer, finding):
     """Whether the check of a text says what its tree or error does."""
     status, out, err = answer
     if finding is None:
         return status == 0 and out != b"" and err == b""
     place = f":{finding['line']}:{finding['column']}" if "line" in finding else ""
-    said = f"{place}: {finding['message']}\n".encode()
+    said = without_hint(f"{place}: {finding['message']}\n".encode())
     return status == 1 and out == b"" and re.sub(rb"^text\d+", b"", err).startswith(said)
 
 
@@ -321,7 +326,7 @@ def is_anew(answer, written):
     has_no_operation = answer[2].endswith(b": document does not contain an operation\n")
     if answer[0] == 0 or (has_no_operation and status == 0):
         return status == 0 and err == b""
-    return status == 1 and err.startswith(answer[2])
+    return status == 1 and without_hint(err).startswith(answer[2])
 
 
 IGNORED = re.compile("(?:[\ufeff \t\n\r,]|#[^\n\r]*)*")
