@@ -53,15 +53,16 @@ pub fn check_files<T: Texts, E: Write>(
         (map string_bytes files.now) texts.new }
 {
     let mut worst: u8 = 0;
-    for name in files {
+    for file in files {
         if teller.put_reports(err).is_err() {
             return 2;
         }
-        let text = texts.text(teller.alloc, name.as_str());
-        let found = check_text(call, name.as_str(), &text, teller);
+        let name = file.as_str();
+        let text = texts.text(teller.alloc, name);
+        let found = check_text(call, name, &text, teller);
         worst = worst.max(found.status());
         if let Found::Good = found {
-            teller.tell_done(name.as_str(), ": good\n", call.is_verbose);
+            teller.tell_done(name, ": good\n", call.is_verbose);
         }
     }
     worst
@@ -87,7 +88,7 @@ fn check_text(
 }
 
 // What is found of this text of a file of this name.
-fn check_read(call: &Call<'_>, name: &str, text: &str, teller: &mut Teller) -> Found
+fn check_read<'a>(call: &Call<'_>, name: &'a str, text: &'a str, teller: &mut Teller) -> Found
     ensures { (result ≡ Good) →
         IsGoodFile call.now.language call.now.takes_fragments call.now.limits name.now text.now
         ⊎ ((call.now.takes_fragments ≡ true) × IsBlank text.now) }

@@ -208,7 +208,7 @@ fn print_text(call: &Call<'_>, name: &str, text: &str, teller: &mut Teller) -> u
 }
 
 // `tree`: the tree of the text, or what is wrong with it.
-fn print_tree(call: &Call<'_>, name: &str, text: &str, teller: &mut Teller) -> u8
+fn print_tree<'a>(call: &Call<'_>, name: &'a str, text: &'a str, teller: &mut Teller) -> u8
     ensures { result ≤ 2 }
 {
     let Ok(language) = read_as(teller.alloc, call.language, name, text) else {

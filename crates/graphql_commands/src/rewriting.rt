@@ -1,7 +1,8 @@
 //! Writing texts anew: files in their places, and one text, or its tree, for standard output.
-ghost use Rattle.std.specs.Prelude.{◌≡◌, ◌≤◌, IfOk, Ok, string_bytes};
+ghost use Rattle.std.specs.Prelude.{◌≡◌, ◌≤◌, true, IfOk, string_bytes};
 ghost use Rattle.graphql_layout.specs.texts.LaidOut.{IsLaidOut};
 ghost use Rattle.graphql_report.specs.declared.fronts.Language.{Language as Lang};
+ghost use Rattle.graphql_texts.specs.checked.Good.{IsGoodText};
 ghost use Rattle.graphql_texts.specs.checked.Rewritten.{MeanTheSameAs, PrintsAs};
 
 use crate::check::{Found, check_source, is_blank, names_of};
@@ -28,10 +29,10 @@ pub fn found_by(error: &Error, source: &Source<'_>, teller: &mut Teller) -> Foun
 /// The text that the command writes in the place of this one, of a file of this name: laid out anew, its tree as text, or
 /// minified with a line feed after it. What was found of the text where it isn't good, which is reported; to print it, it needs an
 /// operation too, since a parse gives no tree of fragments alone.
-pub fn written_anew(
+pub fn written_anew<'a>(
     call: &Call<'_>,
-    name: &str,
-    text: &str,
+    name: &'a str,
+    text: &'a str,
     teller: &mut Teller,
 ) -> Result<String, Found>
     ensures laid_out { call.now.command ≡ Command.Format →
@@ -100,11 +101,11 @@ pub fn format_files<T: Texts, E: Write>(
     ensures { result ≤ 2 }
 {
     let mut worst: u8 = 0;
-    for name in files {
+    for file in files {
         if teller.put_reports(err).is_err() {
             return 2;
         }
-        worst = worst.max(format_file(call, name.as_str(), texts, teller));
+        worst = worst.max(format_file(call, file.as_str(), texts, teller));
     }
     worst
 }
